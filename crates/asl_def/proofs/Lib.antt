@@ -1,0 +1,11 @@
+pub mod Clean
+pub mod Roots
+pub mod Least
+pub mod Steps
+pub mod Canons
+pub mod Tables
+pub mod Builds
+pub mod Names
+pub mod Pointing
+pub mod Orders
+pub mod Firsts

@@ -1,0 +1,8 @@
+use Rattle.std.proofs.Common.{◌∙◌, ap, List, ℕ}
+use Rattle.std.specs.Prelude.{Some}
+use Rattle.asl_json.specs.Data.{text}
+use Rattle.asl_def.proofs.Names.{start_named}
+use Rattle.asl_def.proofs.machine.Machine.start.Goals as goal
+
+pub returns : goal.returns
+returns c = rw (← c.self.view_is) (ap (λ (n : List ℕ). Some (text n)) c.as_str.ensures ∙ start_named c.self.inside.table c.self.inside.root)

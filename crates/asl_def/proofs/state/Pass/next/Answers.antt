@@ -1,0 +1,11 @@
+use Rattle.std.proofs.Common.{refl}
+use Rattle.std.specs.Prelude.{codes}
+use Rattle.asl_def.specs.Show.{next_shown, end_shown, pass_members}
+use Rattle.asl_def.proofs.Names.{named}
+use Rattle.asl_def.proofs.state.Pass.next.Goals as goal
+
+pub returns-clause-next : goal.returns-clause-next
+returns-clause-next c = named (codes "Next") (next_shown c.args.self.now.next) (pass_members c.args.self.now) refl
+
+pub returns-clause-end : goal.returns-clause-end
+returns-clause-end c = named (codes "End") (end_shown c.args.self.now.next) (pass_members c.args.self.now) refl

@@ -1,0 +1,12 @@
+pub mod Members
+pub mod Faults
+pub mod Order
+pub mod Pointers
+pub mod Answer
+pub mod Show
+pub mod Canon
+pub mod Machines
+pub mod Rows
+pub mod Fault
+pub mod Table
+pub mod Built

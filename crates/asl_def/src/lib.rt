@@ -1,0 +1,22 @@
+//! Definitions of state machines, compiled.
+//!
+//! Modules in reading order: `state` and `machine` are the types and `parse`; `sort` and `fields` the table of members;
+//! `fault` and `check` find the first fault, whose place `pointer` writes; `table` and `build` make the machine.
+#![tactic(auto)]
+
+mod build;
+mod check;
+mod fault;
+mod fields;
+mod machine;
+mod pointer;
+mod sort;
+mod state;
+mod table;
+
+pub use machine::{Machine, parse};
+pub use pointer::{DefFault, Pointer};
+pub use state::{Next, Pass, PathField, State, Succeed, Target};
+
+#[cfg(test)]
+mod tests;

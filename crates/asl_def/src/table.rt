@@ -1,0 +1,71 @@
+// The states of a whole definition in one table.
+ghost use Rattle.std.specs.Prelude.{◌≡◌, ◌∷◌, ◌++◌, [], Some, false, length, slice_get, string_bytes, IfSome, IfNone, OnOk, OnErr, ◌≤◌, option_map};
+ghost use Rattle.asl_json.specs.Data.{pairs};
+ghost use Rattle.asl_json.specs.Distinct.{has_key};
+ghost use Rattle.asl_json.specs.Meaning.{value_at};
+ghost use Rattle.asl_def.specs.Show.{state_of, StateIsWithin};
+
+use crate::state::State;
+use indexmap::IndexMap;
+use std::alloc::{AllocError, Global};
+use std::marker::Model;
+
+/// The states of a definition, by name and by number. A machine inside a state stands before that state, and the states of
+/// one machine stand together. Contracts see the list of their names and canonical objects.
+#[derive(Drop)]
+pub(crate) struct Table {
+    states: IndexMap<String, State>,
+}
+
+impl Model for Table {
+    ghost use Rattle.std.specs.Prelude.{List, ℕ};
+    ghost use Rattle.asl_json.specs.Data.{Data};
+    ghost use Rattle.asl_json.specs.Code.{coded_members};
+
+    ghost Value = { List (List ℕ × Data) };
+
+    ghost coded = { coded_members };
+
+    ghost use Rattle.asl_def.specs.Table.{named, IsTable};
+
+    ghost view = { named };
+
+    ghost invariant = { IsTable };
+}
+
+impl Table {
+    pub(crate) fn new(alloc: Global) -> Table
+        ensures { result ≡ [] }
+    {
+        Table {
+            states: IndexMap::new(alloc),
+        }
+    }
+
+    pub(crate) fn len(&self) -> usize
+        ensures { result ≡ length self.now }
+    {
+        self.states.len()
+    }
+
+    /// The state of this name, by a hash.
+    pub(crate) fn state(&self, name: &str) -> Option<&State>
+        ensures { option_map (λ s. state_of self.now s.now) result ≡ value_at name.now (pairs self.now) }
+    {
+        self.states.get(name)
+    }
+
+    /// A state goes last. Inner machines stand before it.
+    pub(crate) fn push(&mut self, name: String, state: State) -> Result<(), AllocError>
+        requires new { has_key (string_bytes name) self.old ≡ false }
+        requires within { StateIsWithin (length self.old) state }
+        ensures ok { OnOk result (self.new ≡ self.old ++ (string_bytes name, state_of self.old state) ∷ []) }
+        ensures err { OnErr result (self.new ≡ self.old) }
+    {
+        let old = self.states.insert(name, state)?;
+        let_go(old);
+        Ok(())
+    }
+}
+
+fn let_go(_old: Option<State>) {}

@@ -1,0 +1,206 @@
+// Fault lines, and what a machine lends.
+use crate::{DefFault, Machine, Next, PathField, State, parse};
+use asl_json::{Json, read};
+use std::test::Fail;
+
+fn value(rt: &HostRuntime, text: &str) -> Option<Json> {
+    read(rt.alloc(), text.as_bytes()).ok()
+}
+
+fn machine(rt: &HostRuntime, text: &str) -> Option<Machine> {
+    let value = value(rt, text)?;
+    parse(rt.alloc(), &value).ok()
+}
+
+fn fault(rt: &HostRuntime, text: &str) -> Option<DefFault> {
+    let value = value(rt, text)?;
+    parse(rt.alloc(), &value).err()
+}
+
+fn is_refused(rt: &HostRuntime, text: &str, line: &str) -> bool {
+    match fault(rt, text) {
+        Some(fault) => match fault.text(rt.alloc()) {
+            Ok(told) => told.as_str() == line,
+            Err(_) => false,
+        },
+        None => false,
+    }
+}
+
+/// A definition whose one state A has these members.
+fn with_state(rt: &HostRuntime, members: &str) -> Option<String> {
+    let mut text = String::new(rt.alloc());
+    text.push_str("{\"StartAt\":\"A\",\"States\":{\"A\":{")
+        .ok()?;
+    text.push_str(members).ok()?;
+    text.push_str("}}}").ok()?;
+    Some(text)
+}
+
+fn is_refused_in_state(rt: &HostRuntime, members: &str, line: &str) -> bool {
+    match with_state(rt, members) {
+        Some(text) => is_refused(rt, text.as_str(), line),
+        None => false,
+    }
+}
+
+fn is_accepted(rt: &HostRuntime, members: &str) -> bool {
+    match with_state(rt, members) {
+        Some(text) => machine(rt, text.as_str()).is_some(),
+        None => false,
+    }
+}
+
+#[test]
+fn faults_of_objects(rt: HostRuntime) -> Result<(), Fail> {
+    assert!(rt; is_refused(&rt, "1", "F2 NotObject"));
+    assert!(rt; is_refused(&rt, "{\"StartAt\":\"A\"}", "F3 Missing /States"));
+    assert!(rt; is_refused(&rt, "{}", "F3 Missing /StartAt"));
+    assert!(rt; is_refused_in_state(&rt, "\"Next\":\"X\"", "F3 Missing /States/A/Type"));
+    assert!(rt;
+        is_refused_in_state(
+            &rt,
+            "\"Type\":\"Pass\",\"Next\":\"X\",\"Foo\":1",
+            "F4 UnknownField /States/A/Foo"
+        )
+    );
+    assert!(rt;
+        is_refused_in_state(
+            &rt,
+            "\"Type\":\"Succeed\",\"a/b~c\":1",
+            "F4 UnknownField /States/A/a~1b~0c"
+        )
+    );
+    assert!(rt;
+        is_refused_in_state(
+            &rt,
+            "\"Type\":\"Foo\",\"Bar\":1",
+            "F5 Unsupported /States/A/Type"
+        )
+    );
+    assert!(rt; is_refused_in_state(&rt, "\"Type\":1,\"Bar\":1", "F6 WrongType /States/A/Type"));
+    assert!(rt;
+        is_refused_in_state(
+            &rt,
+            "\"Type\":\"Pass\",\"End\":0",
+            "F6 WrongType /States/A/End"
+        )
+    );
+    Ok(())
+}
+
+#[test]
+fn faults_of_states(rt: HostRuntime) -> Result<(), Fail> {
+    assert!(rt;
+        is_refused(
+            &rt,
+            "{\"StartAt\":\"\",\"States\":{\"\":{\"Type\":\"Succeed\"}}}",
+            "F7 Range /States/"
+        )
+    );
+    assert!(rt;
+        is_refused_in_state(
+            &rt,
+            "\"Type\":\"Pass\",\"Next\":\"A\",\"End\":true",
+            "F8 Both /States/A/End"
+        )
+    );
+    assert!(rt;
+        is_refused_in_state(
+            &rt,
+            "\"Type\":\"Pass\",\"End\":true,\"Next\":\"A\"",
+            "F8 Both /States/A/Next"
+        )
+    );
+    assert!(rt;
+        is_refused_in_state(
+            &rt,
+            "\"Type\":\"Pass\",\"End\":false",
+            "F9 Neither /States/A"
+        )
+    );
+    assert!(rt;
+        is_refused_in_state(
+            &rt,
+            "\"Type\":\"Pass\",\"Next\":\"X\"",
+            "F10 NoTarget /States/A/Next"
+        )
+    );
+    assert!(rt;
+        is_refused(
+            &rt,
+            "{\"StartAt\":\"A\",\"States\":{}}",
+            "F10 NoTarget /StartAt"
+        )
+    );
+    assert!(rt;
+        is_refused_in_state(
+            &rt,
+            "\"Type\":\"Succeed\",\"InputPath\":\"$.a[*]\"",
+            "F13 Path /States/A/InputPath"
+        )
+    );
+    assert!(rt;
+        is_refused_in_state(
+            &rt,
+            "\"Type\":\"Pass\",\"ResultPath\":\"$$.a\",\"End\":true",
+            "F13 Path /States/A/ResultPath"
+        )
+    );
+    Ok(())
+}
+
+#[test]
+fn accepted_definitions(rt: HostRuntime) -> Result<(), Fail> {
+    assert!(rt;
+        is_accepted(
+            &rt,
+            "\"Type\":\"Succeed\",\"InputPath\":\"$$.a\",\"OutputPath\":null"
+        )
+    );
+    assert!(rt;
+        is_accepted(
+            &rt,
+            "\"Type\":\"Pass\",\"End\":false,\"Next\":\"A\",\"Result\":{\"Type\":1}"
+        )
+    );
+    Ok(())
+}
+
+fn goes_to(machine: &Machine, name: &str, next: &str) -> bool {
+    match machine.state(name) {
+        Some(State::Pass(pass)) => match pass.next() {
+            Next::To(target) => target.name.as_str() == next,
+            Next::End => false,
+        },
+        _ => false,
+    }
+}
+
+fn reads_whole_input(machine: &Machine, name: &str) -> bool {
+    match machine.state(name) {
+        Some(State::Pass(pass)) => matches!(pass.input_path(), PathField::Whole),
+        Some(State::Succeed(succeed)) => matches!(succeed.input_path(), PathField::Whole),
+        None => false,
+    }
+}
+
+fn lends_its_states(machine: &Machine) -> bool {
+    machine.start() == "P"
+        && goes_to(machine, "P", "S")
+        && !reads_whole_input(machine, "P")
+        && reads_whole_input(machine, "S")
+        && machine.state("Q").is_none()
+}
+
+#[test]
+fn states_by_name(rt: HostRuntime) -> Result<(), Fail> {
+    let text =
+        "{\"StartAt\":\"P\",\"States\":{\"P\":{\"Type\":\"Pass\",\"Next\":\"S\",\"InputPath\":null},\"S\":{\"Type\":\"Succeed\"}}}";
+    let lent = match machine(&rt, text) {
+        Some(machine) => lends_its_states(&machine),
+        None => false,
+    };
+    assert!(rt; lent);
+    Ok(())
+}

@@ -1,0 +1,37 @@
+-- The names of the kinds of events (Step Functions Developer Guide, HistoryEvent, `type`).
+use Rattle.std.specs.Prelude.{ℕ, List, codes}
+use Rattle.asl_history.specs.declared.kind.EventKind.{EventKind}
+use Rattle.asl_history.specs.declared.kind.EventKind.TheVariants.{ExecutionStarted, ExecutionSucceeded, ExecutionFailed, PassStateEntered, TaskStateEntered, ChoiceStateEntered, WaitStateEntered, SucceedStateEntered, FailStateEntered, ParallelStateEntered, MapStateEntered, PassStateExited, TaskStateExited, ChoiceStateExited, WaitStateExited, SucceedStateExited, ParallelStateExited, MapStateExited, TaskScheduled, TaskStarted, TaskSucceeded, TaskFailed, ParallelStateStarted, ParallelStateSucceeded, ParallelStateFailed, MapStateStarted, MapStateSucceeded, MapStateFailed, MapIterationStarted, MapIterationSucceeded, MapIterationFailed}
+
+abbrev pub kind_name : EventKind → List ℕ
+kind_name ExecutionStarted = codes "ExecutionStarted"
+kind_name ExecutionSucceeded = codes "ExecutionSucceeded"
+kind_name ExecutionFailed = codes "ExecutionFailed"
+kind_name PassStateEntered = codes "PassStateEntered"
+kind_name TaskStateEntered = codes "TaskStateEntered"
+kind_name ChoiceStateEntered = codes "ChoiceStateEntered"
+kind_name WaitStateEntered = codes "WaitStateEntered"
+kind_name SucceedStateEntered = codes "SucceedStateEntered"
+kind_name FailStateEntered = codes "FailStateEntered"
+kind_name ParallelStateEntered = codes "ParallelStateEntered"
+kind_name MapStateEntered = codes "MapStateEntered"
+kind_name PassStateExited = codes "PassStateExited"
+kind_name TaskStateExited = codes "TaskStateExited"
+kind_name ChoiceStateExited = codes "ChoiceStateExited"
+kind_name WaitStateExited = codes "WaitStateExited"
+kind_name SucceedStateExited = codes "SucceedStateExited"
+kind_name ParallelStateExited = codes "ParallelStateExited"
+kind_name MapStateExited = codes "MapStateExited"
+kind_name TaskScheduled = codes "TaskScheduled"
+kind_name TaskStarted = codes "TaskStarted"
+kind_name TaskSucceeded = codes "TaskSucceeded"
+kind_name TaskFailed = codes "TaskFailed"
+kind_name ParallelStateStarted = codes "ParallelStateStarted"
+kind_name ParallelStateSucceeded = codes "ParallelStateSucceeded"
+kind_name ParallelStateFailed = codes "ParallelStateFailed"
+kind_name MapStateStarted = codes "MapStateStarted"
+kind_name MapStateSucceeded = codes "MapStateSucceeded"
+kind_name MapStateFailed = codes "MapStateFailed"
+kind_name MapIterationStarted = codes "MapIterationStarted"
+kind_name MapIterationSucceeded = codes "MapIterationSucceeded"
+kind_name MapIterationFailed = codes "MapIterationFailed"

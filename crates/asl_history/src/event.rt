@@ -1,0 +1,44 @@
+// Events of an execution.
+ghost use Rattle.std.specs.Prelude.{◌≡◌, IfOk};
+
+use crate::kind::EventKind;
+use crate::place::Place;
+use asl_json::{Json, Txt};
+use asl_time::Moment;
+use std::alloc::{AllocError, Global};
+
+/// Something that happened in an execution (Step Functions Developer Guide, HistoryEvent).
+#[derive(Drop)]
+pub struct Event {
+    /// The number of the event in its history, from 1.
+    pub id: u64,
+    /// The number of the last event before it along its place: at that place, above it or under it; 0 for none.
+    pub previous: u64,
+    pub at: Moment,
+    pub kind: EventKind,
+    /// The place of the branch that it happened in; of an iteration's event, the iteration's.
+    pub place: Place,
+    /// The name of the state; of an iteration's event, the Map's; empty for an event of the execution.
+    pub name: Txt,
+    pub body: Json,
+}
+
+impl Event {
+    /// An equal event. The error is that memory ran out.
+    pub fn try_clone(&self, alloc: Global) -> Result<Event, AllocError>
+        ensures { IfOk result (λ e. e ≡ self.now) }
+    {
+        let place = self.place.try_clone(alloc)?;
+        let name = self.name.try_clone(alloc)?;
+        let body = self.body.try_clone(alloc)?;
+        Ok(Event {
+            id: self.id,
+            previous: self.previous,
+            at: self.at,
+            kind: self.kind,
+            place,
+            name,
+            body,
+        })
+    }
+}

@@ -1,0 +1,191 @@
+// What no clause says: lines and links from worked examples, and that calls succeed with ample memory.
+use crate::{Event, EventKind, History, Memory, Place, Sink, SinkFault, WriteFault, line};
+use asl_json::{Json, Txt, read};
+use asl_time::{Moment, read_stamp};
+use std::alloc::Global;
+use std::test::Fail;
+
+/// A sink that takes so many bytes, at most so many at once, and then fails.
+#[derive(Drop)]
+struct Narrow {
+    memory: Memory,
+    room: usize,
+    width: usize,
+    failures: u64,
+}
+
+impl Sink for Narrow {
+    ghost taken = { λ n. n.memory.bytes.items };
+
+    ghost failures = { λ n. n.failures };
+
+    fn write(&mut self, bytes: &[u8]) -> Result<usize, SinkFault> {
+        let count = bytes.len().min(self.width).min(self.room);
+        if count == 0 && !bytes.is_empty() {
+            self.failures = self.failures.wrapping_add(1);
+            return Err(SinkFault);
+        }
+        match self.memory.write(&bytes[..count]) {
+            Ok(taken) => {
+                self.room -= taken;
+                Ok(taken)
+            }
+            Err(fault) => {
+                self.failures = self.failures.wrapping_add(1);
+                Err(fault)
+            }
+        }
+    }
+}
+
+fn make_narrow(alloc: Global, room: usize, width: usize) -> Narrow {
+    Narrow {
+        memory: Memory::new(alloc),
+        room,
+        width,
+        failures: 0,
+    }
+}
+
+fn place(alloc: Global, text: &str) -> Option<Place> {
+    Place::read(alloc, text).ok()?
+}
+
+/// The text of the place that a text spells.
+fn spelled_again(alloc: Global, text: &str) -> Option<String> {
+    place(alloc, text)?.write(alloc).ok()
+}
+
+/// Adds an event at the start of 2024.
+fn add(
+    alloc: Global,
+    history: &mut History,
+    at: &str,
+    kind: EventKind,
+    name: &str,
+    body: &str,
+) -> Option<()> {
+    let moment = read_stamp("2024-01-01T00:00:00.000Z")?;
+    let place = place(alloc, at)?;
+    let name = Txt::new(String::from_str(alloc, name).ok()?);
+    let body = read(alloc, body.as_bytes()).ok()?;
+    history.reserve(1).ok()?;
+    history.append(moment, kind, place, name, body);
+    Some(())
+}
+
+/// The events of a Pass `P` and a Succeed `S` after it.
+fn pass_and_succeed(alloc: Global) -> Option<History> {
+    let mut history = History::new(alloc);
+    let told = [
+        (EventKind::ExecutionStarted, "", "{}"),
+        (EventKind::PassStateEntered, "P", "{}"),
+        (EventKind::PassStateExited, "P", "{\"a\":{\"b\":7}}"),
+        (EventKind::SucceedStateEntered, "S", "{\"a\":{\"b\":7}}"),
+        (EventKind::SucceedStateExited, "S", "{\"a\":{\"b\":7}}"),
+        (EventKind::ExecutionSucceeded, "", "{\"a\":{\"b\":7}}"),
+    ];
+    for (kind, name, body) in told {
+        add(alloc, &mut history, "/", kind, name, body)?;
+    }
+    Some(history)
+}
+
+const LINES: &str =
+    "1 0 2024-01-01T00:00:00.000Z / ExecutionStarted \"\" {}\n2 1 2024-01-01T00:00:00.000Z / PassStateEntered \"P\" {}\n3 2 2024-01-01T00:00:00.000Z / PassStateExited \"P\" {\"a\":{\"b\":7}}\n4 3 2024-01-01T00:00:00.000Z / SucceedStateEntered \"S\" {\"a\":{\"b\":7}}\n5 4 2024-01-01T00:00:00.000Z / SucceedStateExited \"S\" {\"a\":{\"b\":7}}\n6 5 2024-01-01T00:00:00.000Z / ExecutionSucceeded \"\" {\"a\":{\"b\":7}}\n";
+
+/// What a sink has after a history is written to it, and the fault.
+fn written(history: &History, sink: &mut Narrow) -> Option<WriteFault> {
+    history.write_all_lines(sink).err()
+}
+
+/// The line of the event of this number, counted from 0.
+fn line_at(alloc: Global, history: &History, at: usize) -> Option<String> {
+    line(alloc, history.events().get(at)?).ok()
+}
+
+#[test]
+fn a_pass_and_a_succeed_have_six_lines(rt: HostRuntime) -> Result<(), Fail> {
+    let history = pass_and_succeed(rt.alloc()).ok_or("no history")?;
+    let copy = history.try_clone()?;
+    let mut sink = make_narrow(rt.alloc(), 1000, 1);
+    assert!(rt; written(&copy, &mut sink) == None);
+    assert!(rt; sink.memory.bytes() == LINES.as_bytes());
+    let second = line_at(rt.alloc(), &history, 1).ok_or("no line")?;
+    assert_eq!(rt;
+        second.as_str(),
+        "2 1 2024-01-01T00:00:00.000Z / PassStateEntered \"P\" {}\n"
+    );
+    assert_eq!(rt; history.len(), 6);
+    Ok(())
+}
+
+#[test]
+fn a_sink_that_fails_has_a_beginning(rt: HostRuntime) -> Result<(), Fail> {
+    let history = pass_and_succeed(rt.alloc()).ok_or("no history")?;
+    for (room, width) in [(10, 1000), (10, 3), (0, 1), (70, 7)] {
+        let mut sink = make_narrow(rt.alloc(), room, width);
+        let fault = written(&history, &mut sink);
+        assert!(rt;
+            fault == Some(WriteFault::Write { sent: room as u128 }),
+            "{room}"
+        );
+        assert!(rt;
+            sink.memory.bytes().len() == room && LINES.as_bytes().starts_with(sink.memory.bytes()),
+            "{room}"
+        );
+    }
+    Ok(())
+}
+
+#[test]
+fn links_go_along_places(rt: HostRuntime) -> Result<(), Fail> {
+    let mut history = History::new(rt.alloc());
+    for at in [
+        "/", "/", "/", "/1", "/1", "/0", "/0", "/0", "/0", "/1", "/1", "/", "/", "/",
+    ] {
+        add(
+            rt.alloc(),
+            &mut history,
+            at,
+            EventKind::TaskStarted,
+            "T",
+            "{}",
+        )
+        .ok_or("no event")?;
+    }
+    let previous = [0, 1, 2, 3, 4, 3, 6, 7, 8, 5, 10, 11, 12, 13];
+    for (event, want) in history.events().iter().zip(previous) {
+        assert_eq!(rt; event.previous, want, "{}", event.id);
+    }
+    Ok(())
+}
+
+#[test]
+fn places_are_read_as_they_are_written(rt: HostRuntime) -> Result<(), Fail> {
+    for text in ["/", "/0", "/1/0/2", "/999999999", "/10/0"] {
+        let again = spelled_again(rt.alloc(), text).ok_or("no place")?;
+        assert_eq!(rt; again.as_str(), text);
+    }
+    for text in [
+        "",
+        "0",
+        "//",
+        "/0/",
+        "/01",
+        "/00",
+        "/1000000000",
+        "/-1",
+        "/+1",
+        "/1 ",
+        "/a",
+    ] {
+        assert!(rt; place(rt.alloc(), text) == None, "{text}");
+    }
+    let root = Place::root(rt.alloc());
+    let child = root.child(rt.alloc(), 3)?;
+    assert!(rt; root.is_parent_of(&child) && root.is_prefix_of(&child) && root.is_root());
+    assert!(rt; child.try_clone(rt.alloc())? == child && child != root);
+    assert!(rt; child.is_beside(&root.child(rt.alloc(), 4)?));
+    Ok(())
+}

@@ -1,0 +1,21 @@
+use Rattle.std.proofs.Common.{take}
+use Rattle.std.proofs.lemmas.List.{take_rest}
+use Rattle.asl_json.proofs.Figures.{number_utf8}
+use Rattle.asl_json.proofs.Fronts.{utf8_past}
+use Rattle.asl_json.proofs.Numbers.{front_over, front_fits}
+use Rattle.asl_json.proofs.number.number.Goals as goal
+
+pub returns-in_default-clause-run : goal.returns-in_default-clause-run
+returns-in_default-clause-run c = λ st. front_over c.args.bytes.now c.in_ok-end.end st c.in_ok-end.ensures.found c.in_default.ensures
+
+pub txt-requires : goal.txt-requires
+txt-requires c = number_utf8 (take c.in_ok-end.end c.args.bytes.now) c.in_ok-end.ensures.found.number_is
+
+pub returns-clause-run : goal.returns-clause-run
+returns-clause-run c = λ st. rw (take_rest, c.in_ok-spelled.ensures.found) (front_fits c.args.bytes.now c.in_ok-end.end st c.in_ok-end.ensures.found c.in-Some.ensures.1)
+
+pub returns-clause-utf8 : goal.returns-clause-utf8
+returns-clause-utf8 c =
+    let front = c.in_ok-end.ensures.found in
+    let s = take c.in_ok-end.end c.args.bytes.now in
+    rw take_rest (utf8_past c.args.bytes.now s c.in_ok-end.end c.requires.utf8 (number_utf8 s front.number_is) front.within (λ i. s))

@@ -1,0 +1,101 @@
+use Rattle.std.proofs.Common.{List, [], ◌∷◌, ◌++◌, true, length, arith, ap, sym, subst, ◌∙◌}
+use Rattle.std.proofs.lemmas.Result.{err_from_is_err_and}
+use Rattle.asl_json.specs.Data.{dict, pairs}
+use Rattle.asl_json.specs.View.{data_of, members_of}
+use Rattle.asl_json.specs.Machine.{key, after, value, run}
+use Rattle.asl_json.specs.Distinct.{Members}
+use Rattle.asl_json.specs.Keys.{Knows}
+use Rattle.asl_json.specs.declared.value.Member.{Member}
+use Rattle.asl_json.proofs.Fronts.{skips_shorter}
+use Rattle.asl_json.proofs.Turns.{one_member, pushed, still_distinct}
+use Rattle.asl_json.proofs.Stretches.{first_closes, first_key, after_closes, after_goes_on, after_halts, text_fails, text_reads, brace_deep, brace_reads, skip_run, fails_along}
+use Rattle.asl_json.proofs.reading.+read.Goals as goal
+
+pub members-returns-in-Some-clause-run : goal.members-returns-in-Some-clause-run
+members-returns-in-Some-clause-run t c = λ st h.
+    rw c.new-members.ensures.items (first_closes st c.args.bytes.now _ c.in-Some.behind.now c.skip_spaces-rest.ensures.skips c.in-Some.ensures.found)
+
+pub members-loop-keys-init : goal.members-loop-keys-init
+members-loop-keys-init t c =
+    (λ st h. rw c.new-members.ensures.items (first_key st c.args.bytes.now _ c.skip_spaces-rest.ensures.skips c.in_default.ensures.none), skips_shorter _ _ c.skip_spaces-rest.ensures.skips, c.skip_spaces-rest.ensures.utf8 c.requires, rw c.new-members.ensures.items tt, rw (c.new-members.ensures.items, c.new-keys.ensures) tt)
+
+pub members-returns-in-Some-after_byte-clause-run : goal.members-returns-in-Some-after_byte-clause-run
+members-returns-in-Some-after_byte-clause-run t c = λ st h.
+    let ms = c.loop-keys.members.items in
+    let k = c.in_ok-name.name in
+    let d = data_of c.in_ok-member.member in
+    one_member c.deref.result.now ms k d st c.args.bytes.now c.loop-keys.rest.now c.in_ok-name.behind.now c.in_ok-member.behind.now c.deref.ensures.value (c.loop-keys.invariant.0 st h) (c.in_ok-name.ensures.run st) (c.in_ok-member.ensures.run ((members_of ms, k) ∷ st) (omega arith))
+    ∙ after_closes (members_of ms) k d st c.in_ok-member.behind.now _ c.in-Some-after_byte.closed.now c.skip_spaces-behind.ensures.skips c.in-Some-after_byte.ensures.found
+    ∙ ap (λ (x : Members). run true (after (dict (pairs x))) st c.in-Some-after_byte.closed.now) (pushed ms c.push.new.self.items _ c.in_ok-push.ensures.items)
+
+pub members-returns-in_default-after_byte-2-clause-run : goal.members-returns-in_default-after_byte-2-clause-run
+members-returns-in_default-after_byte-2-clause-run t c = λ st h.
+    let ms = c.loop-keys.members.items in
+    let k = c.in_ok-name.name in
+    let d = data_of c.in_ok-member.member in
+    rw c.syntax.ensures (one_member c.deref.result.now ms k d st c.args.bytes.now c.loop-keys.rest.now c.in_ok-name.behind.now c.in_ok-member.behind.now c.deref.ensures.value (c.loop-keys.invariant.0 st h) (c.in_ok-name.ensures.run st) (c.in_ok-member.ensures.run ((members_of ms, k) ∷ st) (omega arith))
+    ∙ after_halts (members_of ms) k d st c.in_ok-member.behind.now _ c.skip_spaces-behind.ensures.skips c.in_default-after_byte.ensures.none c.in_default-after_byte-2.ensures.none)
+
+pub members-loop-keys-preserved : goal.members-loop-keys-preserved
+members-loop-keys-preserved t c =
+    let ms = c.loop-keys.members.items in
+    let k = c.in_ok-name.name in
+    let d = data_of c.in_ok-member.member in (
+      λ st h.
+          one_member c.deref.result.now ms k d st c.args.bytes.now c.loop-keys.rest.now c.in_ok-name.behind.now c.in_ok-member.behind.now c.deref.ensures.value (c.loop-keys.invariant.0 st h) (c.in_ok-name.ensures.run st) (c.in_ok-member.ensures.run ((members_of ms, k) ∷ st) (omega arith))
+          ∙ after_goes_on (members_of ms) k d st c.in_ok-member.behind.now _ c.in-Some-after_byte-2.next.now c.skip_spaces-behind.ensures.skips c.in-Some-after_byte-2.ensures.found
+          ∙ ap (λ (x : Members). run true (key x) st c.in-Some-after_byte-2.next.now) (pushed ms c.push.new.self.items _ c.in_ok-push.ensures.items),
+      omega (arith, ap length c.in-Some-after_byte-2.ensures.found, skips_shorter _ _ c.skip_spaces-behind.ensures.skips, c.in_ok-member.ensures.shorter, c.in_ok-name.ensures.shorter, c.loop-keys.invariant.1),
+      c.in-Some-after_byte-2.ensures.utf8 (c.skip_spaces-behind.ensures.utf8 c.in_ok-member.ensures.utf8),
+      still_distinct c.deref.result.now c.loop-keys.members.items c.push.new.self.items _ c.deref.ensures.value c.in_ok-push.ensures.items c.loop-keys.invariant.3 c.in_ok-name.ensures.new,
+      subst (Knows c.add.new.self.names) (ap (λ (ms : List Member). members_of ms ++ (k, d) ∷ []) c.deref-in-loop-keys.ensures.value ∙ pushed ms c.push.new.self.items _ c.in_ok-push.ensures.items) (c.in_ok-add.ensures.keys d),
+    )
+
+pub value-returns-in_err-content-clause-run : goal.value-returns-in_err-content-clause-run
+value-returns-in_err-content-clause-run t c = λ st h.
+    let p = err_from_is_err_and c.from_residual.result c.from_residual.ensures.1 in
+    rw (p.1, p.2) (text_fails st c.args.bytes.now _ c.in-Some.inside.now c.in_err-content.field-0.0 c.skip_spaces-rest.ensures.skips c.in-Some.ensures.found c.in_err-content.ensures.broken)
+
+pub value-returns-in-Some-clause-run : goal.value-returns-in-Some-clause-run
+value-returns-in-Some-clause-run t c = λ st h.
+    text_reads st c.args.bytes.now _ c.in-Some.inside.now c.in_ok-content.content c.in_ok-content.behind.now c.skip_spaces-rest.ensures.skips c.in-Some.ensures.found c.in_ok-content.ensures.found
+
+pub value-returns-then-levels-eq0-clause-run : goal.value-returns-then-levels-eq0-clause-run
+value-returns-then-levels-eq0-clause-run t c = λ st h.
+    brace_deep st c.args.bytes.now _ c.in-Some-after_byte.inside.now c.args.levels c.skip_spaces-rest.ensures.skips c.in-Some-after_byte.ensures.found c.if-levels-eq0.true h
+
+pub value-returns-in_err-members-clause-run : goal.value-returns-in_err-members-clause-run
+value-returns-in_err-members-clause-run t c = λ st h.
+    let p = err_from_is_err_and c.from_residual-in_err-members.result c.from_residual-in_err-members.ensures.1 in
+    rw (p.1, p.2) (fails_along c.in_err-members.field-0.0 _ _ (brace_reads st c.args.bytes.now _ c.in-Some-after_byte.inside.now c.args.levels c.skip_spaces-rest.ensures.skips c.in-Some-after_byte.ensures.found c.if-levels-eq0.false h) (c.in_err-members.ensures.run st (omega arith)))
+
+pub value-returns-in-Some-after_byte-clause-run : goal.value-returns-in-Some-after_byte-clause-run
+value-returns-in-Some-after_byte-clause-run t c = λ st h.
+    brace_reads st c.args.bytes.now _ c.in-Some-after_byte.inside.now c.args.levels c.skip_spaces-rest.ensures.skips c.in-Some-after_byte.ensures.found c.if-levels-eq0.false h ∙ c.in_ok-members.ensures.run st (omega arith)
+
+pub value-returns-clause-run : goal.value-returns-clause-run
+value-returns-clause-run t c = λ st h.
+    rw (skip_run true value st c.args.bytes.now _ tt c.skip_spaces-rest.ensures.skips) (c.word_value.ensures.run st c.skip_spaces-rest.ensures.skips.stops c.in_default.ensures.none c.in_default-after_byte.ensures.none (sym c.begins_number.ensures ∙ c.if-begins_number.false))
+
+pub members-invariant_of-result-in-Some-after_byte : goal.members-invariant_of-result-in-Some-after_byte
+members-invariant_of-result-in-Some-after_byte t c = still_distinct c.deref.result.now c.loop-keys.members.items c.push.new.self.items _ c.deref.ensures.value c.in_ok-push.ensures.items c.loop-keys.invariant.3 c.in_ok-name.ensures.new
+
+pub members-key-requires-clause-known : goal.members-key-requires-clause-known
+members-key-requires-clause-known t c = subst (λ (ms : List Member). Knows c.loop-keys.keys.names (members_of ms)) (sym c.deref.ensures.value) c.loop-keys.invariant.4
+
+pub members-add-requires : goal.members-add-requires
+members-add-requires t c = subst (λ (ms : List Member). Knows c.loop-keys.keys.names (members_of ms)) (sym c.deref-in-loop-keys.ensures.value) c.loop-keys.invariant.4
+
+pub members-returns-in_err-add-clause-run : goal.members-returns-in_err-add-clause-run
+members-returns-in_err-add-clause-run t c = λ st h.
+    let p = err_from_is_err_and c.from_residual-in_err-add.result c.from_residual-in_err-add.ensures.1 in
+    rw (p.1, p.2, c.in_err-add.ensures.memory) tt
+
+pub value-returns-in_err-found-clause-run : goal.value-returns-in_err-found-clause-run
+value-returns-in_err-found-clause-run t c = λ st h.
+    let p = err_from_is_err_and c.from_residual-in_err-found.result c.from_residual-in_err-found.ensures.1 in
+    rw (p.1, p.2) (fails_along c.in_err-found.field-0.0 _ _ (skip_run true value st c.args.bytes.now _ tt c.skip_spaces-rest.ensures.skips) (c.in_err-found.ensures.run st))
+
+pub value-returns-then-begins_number-clause-run : goal.value-returns-then-begins_number-clause-run
+value-returns-then-begins_number-clause-run t c = λ st h.
+    skip_run true value st c.args.bytes.now _ tt c.skip_spaces-rest.ensures.skips ∙ c.in_ok-found.ensures.run st

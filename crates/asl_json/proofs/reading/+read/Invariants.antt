@@ -1,0 +1,27 @@
+use Rattle.std.proofs.Common.{◌≡◌, ◌+◌, ◌*◌, ◌≤◌, length, List, true}
+use Rattle.std.specs.Str.{IsUtf8}
+use Rattle.asl_json.specs.View.{members_of}
+use Rattle.asl_json.specs.Machine.{key, first, run}
+use Rattle.asl_json.specs.Limits.{max_depth}
+use Rattle.asl_json.specs.Open.{Frame}
+use Rattle.asl_json.specs.Distinct.{AreDistinct}
+use Rattle.asl_json.specs.Keys.{Knows}
+use Rattle.std.specs.Prelude.{[]}
+use Rattle.asl_json.proofs.reading.+read.Given as goal
+
+abbrev pub decreases-value : goal.decreases-value
+decreases-value l = 2 * l.levels
+
+abbrev pub decreases-members : goal.decreases-members
+decreases-members l = 2 * l.levels + 1
+
+abbrev pub invariant-members-loop-keys : goal.invariant-members-loop-keys
+invariant-members-loop-keys l =
+    ((st : List Frame) → length st + l.levels + 1 ≡ max_depth → run true first st l.bytes ≡ run true (key (members_of l.members.items)) st l.rest)
+    × (length l.rest ≤ length l.bytes)
+    × IsUtf8 l.rest
+    × AreDistinct [] (members_of l.members.items)
+    × Knows l.keys.names (members_of l.members.items)
+
+abbrev pub decreases-members-loop-keys : goal.decreases-members-loop-keys
+decreases-members-loop-keys l = length l.rest

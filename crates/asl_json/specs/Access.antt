@@ -1,0 +1,15 @@
+-- Reaching a part of a list or an object.
+use Rattle.std.specs.Prelude.{ℕ, zero, suc, List, [], ◌∷◌, Option, Some, None, if◌then◌else◌, option_map, nat_eq}
+use Rattle.std.specs.Cmp.Lexicographic.{pointwise}
+use Rattle.asl_json.specs.Data.{Data}
+
+-- the number of the member with this key
+abbrev pub key_index : List ℕ → List (List ℕ × Data) → Option ℕ
+key_index k [] = None
+key_index k (m ∷ ms) = if pointwise nat_eq k m.0 then Some 0 else option_map suc (key_index k ms)
+
+-- these members with another value at number i
+abbrev pub with_value : List (List ℕ × Data) → ℕ → Data → List (List ℕ × Data)
+with_value [] i d = []
+with_value (m ∷ ms) zero d = (m.0, d) ∷ ms
+with_value (m ∷ ms) (suc i) d = m ∷ with_value ms i d

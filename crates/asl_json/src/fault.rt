@@ -1,0 +1,67 @@
+// Why bytes aren't read.
+
+use std::alloc::{AllocError, AllocFailed};
+
+/// What is wrong at a place of a text.
+#[derive(Clone, Copy, Debug, PartialEq, Eq)]
+pub(crate) enum Kind {
+    Syntax,
+    Duplicate,
+    Depth,
+    Number,
+}
+
+/// Why bytes are not a JSON text, with how many bytes there are from the place to the end.
+#[derive(Clone, Copy, Debug, PartialEq, Eq)]
+pub(crate) struct Fault {
+    pub kind: Kind,
+    pub left: usize,
+}
+
+/// Why a part of a text was not read.
+#[derive(Clone, Copy, Debug)]
+pub(crate) enum Stop {
+    Memory,
+    Fault(Fault),
+}
+
+impl From<AllocError> for Stop {
+    ghost use Rattle.std.specs.Prelude.{◌≡◌};
+    ghost use Rattle.asl_json.specs.declared.fault.Stop.TheVariants.{Memory};
+
+    ghost from_gives = { λ _ e. e ≡ Memory };
+
+    fn from(_: AllocError) -> Stop {
+        Stop::Memory
+    }
+}
+
+impl<T: Drop> From<AllocFailed<T>> for Stop {
+    ghost use Rattle.std.specs.Prelude.{◌≡◌};
+    ghost use Rattle.asl_json.specs.declared.fault.Stop.TheVariants.{Memory};
+
+    ghost from_gives = { λ _ e. e ≡ Memory };
+
+    fn from(_: AllocFailed<T>) -> Stop {
+        Stop::Memory
+    }
+}
+
+/// Why bytes aren't read as a JSON text. Places are offsets in bytes from 0.
+#[derive(Clone, Copy, Debug, PartialEq, Eq)]
+pub enum JsonFault {
+    /// J1: the first byte with which the text is no longer the front of a JSON text, or the length where it ends early.
+    Syntax(usize),
+    /// J2: the opening quote of a key that the object has already.
+    Duplicate(usize),
+    /// J3: the bracket that opens a level too many.
+    Depth(usize),
+    /// J4: the first byte of a number past the limits.
+    Number(usize),
+    /// J5: there are more bytes than a text may have.
+    Size,
+    /// J6: the first byte of the first malformed UTF-8 sequence.
+    Utf8(usize),
+    /// J7: memory ran out.
+    OutOfMemory,
+}

@@ -1,0 +1,100 @@
+// What stands in front of bytes.
+ghost use Rattle.std.specs.Prelude.{◌≡◌, ◌<◌, ◌≤◌, ◌∷◌, false, length, take, slice_index, IfOk, IfErr, IfSome, IfNone};
+ghost use Rattle.std.specs.Str.{IsUtf8};
+ghost use Rattle.asl_json.specs.Grammar.{is_space as spec_space, is_plain as spec_plain, AreSpaces, ArePlain};
+ghost use Rattle.asl_json.specs.Machine.{fault};
+ghost use Rattle.asl_json.specs.Leads.{Skips, FirstIsNot};
+
+use crate::fault::{Fault, Kind, Stop};
+use crate::value::Txt;
+use std::alloc::Global;
+
+#[tactic(auto, unfolding(crate::specs::Grammar::is_space))]
+fn is_space(byte: u8) -> bool
+    ensures { result ≡ spec_space byte }
+{
+    byte == b' ' || byte == b'\t' || byte == b'\n' || byte == b'\r'
+}
+
+#[tactic(auto, unfolding(crate::specs::Grammar::is_plain))]
+fn is_plain(byte: u8) -> bool
+    ensures { result ≡ spec_plain byte }
+{
+    byte >= b' ' && byte != b'"' && byte != b'\\'
+}
+
+/// How many spaces there are at the front.
+fn space_len(bytes: &[u8]) -> usize
+    ensures spaces { AreSpaces (take result bytes.now) }
+    ensures within { result ≤ length bytes.now }
+    ensures stops { result < length bytes.now → spec_space (slice_index bytes.now result) ≡ false }
+{
+    let mut end = 0;
+    while end < bytes.len() {
+        if !is_space(bytes[end]) {
+            return end;
+        }
+        end += 1;
+    }
+    end
+}
+
+/// What follows the spaces at the front.
+pub(crate) fn skip_spaces(bytes: &[u8]) -> &[u8]
+    ensures skips { Skips bytes.now result.now }
+    ensures utf8 { IsUtf8 bytes.now → IsUtf8 result.now }
+{
+    let end = space_len(bytes);
+    &bytes[end..]
+}
+
+/// What follows this byte, where it stands first.
+pub(crate) fn after_byte(bytes: &[u8], byte: u8) -> Option<&[u8]>
+    requires { byte < 128 }
+    ensures found { IfSome result (λ rest. bytes.now ≡ byte ∷ rest.now) }
+    ensures none { IfNone result (FirstIsNot byte bytes.now) }
+    ensures utf8 { IfSome result (λ rest. IsUtf8 bytes.now → IsUtf8 rest.now) }
+{
+    if bytes.len() > 0 && bytes[0] == byte {
+        return Some(&bytes[1..]);
+    }
+    None
+}
+
+/// How many bytes at the front may stand in a text as they are.
+pub(crate) fn plain_len(bytes: &[u8]) -> usize
+    ensures plain { ArePlain (take result bytes.now) }
+    ensures within { result ≤ length bytes.now }
+    ensures stops { result < length bytes.now → spec_plain (slice_index bytes.now result) ≡ false }
+{
+    let mut end = 0;
+    while end < bytes.len() {
+        if !is_plain(bytes[end]) {
+            return end;
+        }
+        end += 1;
+    }
+    end
+}
+
+/// That a text breaks off where the rest begins.
+pub(crate) fn syntax(rest: &[u8]) -> Stop
+    ensures { result ≡ Stop.Fault (fault Kind.Syntax (length rest.now)) }
+{
+    Stop::Fault(Fault {
+        kind: Kind::Syntax,
+        left: rest.len(),
+    })
+}
+
+/// A text of these bytes.
+pub(crate) fn txt(alloc: Global, bytes: &[u8]) -> Result<Txt, Stop>
+    requires { IsUtf8 bytes.now }
+    ensures found { IfOk result (λ t. t ≡ bytes.now) }
+    ensures memory { IfErr result (λ e. e ≡ Stop.Memory) }
+{
+    match String::from_utf8(bytes.to_vec(alloc)?) {
+        Ok(string) => Ok(Txt::new(string)),
+        Err(_) => unreachable!(),
+    }
+}

@@ -1,0 +1,100 @@
+// Reading bytes as a JSON value.
+ghost use Rattle.std.specs.Prelude.{◌≡◌, ◌<◌, ◌≤◌, ℕ, List, length, take, IfOk, IfErr};
+ghost use Rattle.std.specs.Str.{IsUtf8};
+ghost use Rattle.std.specs.Str.Lossy.{utf8_valid_len};
+ghost use Rattle.asl_json.specs.Data.{Data};
+ghost use Rattle.asl_json.specs.View.{data_of};
+ghost use Rattle.asl_json.specs.Limits.{max_len};
+ghost use Rattle.asl_json.specs.Wrong.{ReadsAs, HasFault, IsFaultOf, IsFirstOf, IsRead, placed as spec_placed, FitsIn, at_end};
+ghost use Rattle.asl_json.specs.declared.fault.JsonFault.{JsonFault};
+
+use crate::fault::{JsonFault, Kind, Stop};
+use crate::reading::whole;
+use crate::value::Json;
+use std::alloc::Global;
+use std::str;
+
+const MAX_LEN: usize = 1048576;
+
+/// The fault at its place from the start.
+fn placed(len: usize, stop: Stop) -> JsonFault
+    requires { FitsIn len stop }
+    ensures { result ≡ spec_placed len stop }
+{
+    match stop {
+        Stop::Memory => JsonFault::OutOfMemory,
+        Stop::Fault(fault) => {
+            let at = len - fault.left;
+            match fault.kind {
+                Kind::Syntax => JsonFault::Syntax(at),
+                Kind::Duplicate => JsonFault::Duplicate(at),
+                Kind::Depth => JsonFault::Depth(at),
+                Kind::Number => JsonFault::Number(at),
+            }
+        }
+    }
+}
+
+/// Whether a fault stands at the end.
+fn is_at_end(stop: Stop) -> bool
+    ensures { result ≡ at_end stop }
+{
+    match stop {
+        Stop::Memory => false,
+        Stop::Fault(fault) => fault.left == 0,
+    }
+}
+
+/// What is wrong with bytes of which only a front is UTF-8.
+fn malformed(alloc: Global, bytes: &[u8], end: usize) -> JsonFault
+    requires end_is { end ≡ utf8_valid_len bytes.now }
+    requires inside { end < length bytes.now }
+    requires small { length bytes.now ≤ max_len }
+    requires utf8 { IsUtf8 (take end bytes.now) }
+    ensures fault { IsFaultOf bytes.now result }
+    ensures first { IsFirstOf bytes.now result }
+{
+    let Err(stop) = whole(alloc, &bytes[..end]) else {
+        return JsonFault::Utf8(end);
+    };
+    if is_at_end(stop) {
+        return JsonFault::Utf8(end);
+    }
+    placed(end, stop)
+}
+
+/// Reads bytes as a JSON text (RFC 8259) of this profile: at most 1,048,576 bytes in UTF-8, at most 64 lists and objects
+/// in one another, numbers of at most 40 bytes and an amount below 10^18, and no key twice in an object.
+///
+/// Lists, backslashes in texts, fractions and exponents aren't read yet: each is `J1 Syntax` at its first byte.
+///
+/// Of the faults of the bytes the answer is `J5 Size`, else the one with the least place, and at one place the first of
+/// `J6 Utf8`, `J1 Syntax`, `J3 Depth`, `J4 Number` and `J2 Duplicate`.
+pub fn read(alloc: Global, bytes: &[u8]) -> Result<Json, JsonFault>
+    // What is read is a text of the value.
+    ensures found { IfOk result (λ v. ReadsAs bytes.now (data_of v)) }
+    // Each such text is read so, unless memory runs out.
+    ensures only { (v : Data) → ReadsAs bytes.now v → IsRead data_of v result }
+    // The fault is there.
+    ensures fault { IfErr result (IsFaultOf bytes.now) }
+    // None comes before it.
+    ensures first { IfErr result (IsFirstOf bytes.now) }
+    // What is read has none.
+    ensures faultless { IfOk result (λ _. (f : JsonFault) → HasFault bytes.now f → ⊥) }
+{
+    if bytes.len() > MAX_LEN {
+        return Err(JsonFault::Size);
+    }
+    if let Err(error) = str::from_utf8(bytes) {
+        return Err(malformed(alloc, bytes, error.valid_up_to()));
+    }
+    match whole(alloc, bytes) {
+        Ok(value) => Ok(value),
+        Err(stop) => Err(placed(bytes.len(), stop)),
+    }
+}
+
+/// A text is read as at most one value. The law has no code.
+pub fn a_text_is_read_as_one_value()
+    ensures { (b : List ℕ) (v w : Data) → ReadsAs b v → ReadsAs b w → v ≡ w }
+{}

@@ -1,0 +1,26 @@
+//! JSON values: reading, writing, comparing and reaching into them.
+//!
+//! Modules in reading order: `value` and `fault` are the types; `front`, `number`, `keys` and `reading` the reader, which
+//! `judging` turns into `read`; `writing` the printer; `equal` and `sameness` compare; `access` reaches into a value.
+#![tactic(auto)]
+
+mod access;
+mod equal;
+mod fault;
+mod front;
+mod judging;
+mod keys;
+mod number;
+mod reading;
+mod sameness;
+mod value;
+mod writing;
+
+pub use fault::JsonFault;
+pub use judging::{a_text_is_read_as_one_value, read};
+pub use sameness::same;
+pub use value::{Dec, Items, Json, Member, Members, Txt};
+pub use writing::write;
+
+#[cfg(test)]
+mod tests;

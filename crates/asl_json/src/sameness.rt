@@ -1,0 +1,77 @@
+// Whether two values mean the same.
+ghost use Rattle.std.specs.Prelude.{◌≡◌, ◌&&◌, ◌==◌, false, length, option_map};
+ghost use Rattle.std.specs.Option.{option_map_or};
+ghost use Rattle.asl_json.specs.View.{data_of};
+ghost use Rattle.asl_json.specs.Data.{chain, pairs};
+ghost use Rattle.asl_json.specs.Number.{units_of};
+ghost use Rattle.asl_json.specs.Meaning.{same as spec_same, same_items, each_in, count, value_at};
+
+use crate::value::{Items, Json, Members};
+
+impl Members {
+    /// How many members there are.
+    pub fn len(&self) -> usize
+        ensures { result ≡ length self.now }
+    {
+        self.members.len()
+    }
+
+    /// The value of the member with this key.
+    pub fn find(&self, key: &str) -> Option<&Json>
+        ensures { option_map (λ v. data_of v.now) result ≡ value_at key.now (pairs self.now) }
+    {
+        for member in &self.members {
+            if key == member.key.as_str() {
+                return Some(&member.value);
+            }
+        }
+        None
+    }
+}
+
+/// Whether two values mean the same: numbers by their value, lists item by item, objects as sets of pairs.
+#[cycle(same)]
+#[tactic(auto, using(crate::proofs::Counting::count_pairs, crate::proofs::Counting::and_off))]
+pub fn same(a: &Json, b: &Json) -> bool
+    ensures { result ≡ spec_same (data_of a.now) (data_of b.now) }
+{
+    match (a, b) {
+        (Json::Null, Json::Null) => true,
+        (Json::Bool(x), Json::Bool(y)) => *x == *y,
+        (Json::Num(x), Json::Num(y)) => x.units() == y.units(),
+        (Json::Text(x), Json::Text(y)) => *x == *y,
+        (Json::List(x), Json::List(y)) => same_lists(x, y),
+        (Json::Dict(x), Json::Dict(y)) => x.len() == y.len() && has_each(x, y),
+        _ => false,
+    }
+}
+
+#[cycle(same)]
+fn same_lists(a: &Items, b: &Items) -> bool
+    ensures { result ≡ same_items (chain a.now) (chain b.now) }
+{
+    if a.len() != b.len() {
+        return false;
+    }
+    for i in 0..a.values.len() {
+        if !same(&a.values[i], &b.values[i]) {
+            return false;
+        }
+    }
+    true
+}
+
+#[cycle(same)]
+fn has_each(a: &Members, b: &Members) -> bool
+    ensures { result ≡ each_in (pairs a.now) (pairs b.now) }
+{
+    for member in &a.members {
+        let Some(other) = b.find(member.key.as_str()) else {
+            return false;
+        };
+        if !same(&member.value, other) {
+            return false;
+        }
+    }
+    true
+}

@@ -1,0 +1,190 @@
+// What no clause says: which values and faults texts from outside give, and that calls succeed with ample memory.
+use crate::{Json, JsonFault, read, same, write};
+use std::alloc::Global;
+use std::test::Fail;
+
+fn fault_of(alloc: Global, text: &[u8]) -> Option<JsonFault> {
+    read(alloc, text).err()
+}
+
+/// A text, or nothing where it isn't read.
+fn value_of(alloc: Global, text: &str) -> Option<Json> {
+    read(alloc, text.as_bytes()).ok()
+}
+
+/// The compact text of what a text is read as.
+fn compact_of(alloc: Global, text: &str) -> Option<String> {
+    write(alloc, &value_of(alloc, text)?).ok()
+}
+
+/// The units of a number at a key.
+fn units_at(alloc: Global, text: &str, key: &str) -> Option<i128> {
+    match value_of(alloc, text)?.get(key)? {
+        Json::Num(number) => Some(number.units()),
+        _ => None,
+    }
+}
+
+/// Whether two texts are read as values that mean the same, and whether as equal ones.
+fn compared(alloc: Global, one: &str, other: &str) -> Option<(bool, bool)> {
+    let one = value_of(alloc, one)?;
+    let other = value_of(alloc, other)?;
+    Some((same(&one, &other), one == other))
+}
+
+/// Whether a clone of what a text is read as is equal to it.
+fn clones(alloc: Global, text: &str) -> Option<bool> {
+    let value = value_of(alloc, text)?;
+    let copy = value.try_clone(alloc).ok()?;
+    Some(copy == value)
+}
+
+fn repeated(alloc: Global, piece: &[u8], count: usize) -> Option<Vec<u8>> {
+    let mut text = Vec::new(alloc);
+    for _ in 0..count {
+        text.extend_from_slice(piece).ok()?;
+    }
+    Some(text)
+}
+
+#[test]
+fn faults_of_syntax(rt: HostRuntime) -> Result<(), Fail> {
+    let alloc = rt.alloc();
+    let rows: [(&[u8], usize); 14] = [
+        (b"", 0),
+        (b"nul", 3),
+        (b"null x", 5),
+        (b"{x\xff", 1),
+        (b"{\"a\":1,\"a", 9),
+        (b"-", 1),
+        (b"-x", 1),
+        (b"01", 1),
+        (b"{\"a\":1", 6),
+        (b"[1,2", 0),
+        (b"1.5", 1),
+        (b"1e3", 1),
+        (b"\"\\n\"", 1),
+        (b"\xef\xbb\xbf{}", 0),
+    ];
+    for (text, at) in rows {
+        assert_eq!(rt; fault_of(alloc, text), Some(JsonFault::Syntax(at)));
+    }
+    Ok(())
+}
+
+#[test]
+fn faults_of_limits_and_utf8(rt: HostRuntime) -> Result<(), Fail> {
+    let alloc = rt.alloc();
+    let rows: [(&[u8], JsonFault); 9] = [
+        (b"{\"a\":1,\"a\":2}", JsonFault::Duplicate(7)),
+        (b"{\"a\":1,\"a\"", JsonFault::Duplicate(7)),
+        (b"1000000000000000000", JsonFault::Number(0)),
+        (b"-1000000000000000000", JsonFault::Number(0)),
+        (b"{\"a\":1000000000000000000x", JsonFault::Number(5)),
+        (b"nul\xff", JsonFault::Utf8(3)),
+        (b"{\"\xff\":tru}", JsonFault::Utf8(2)),
+        (b"\"\xc3", JsonFault::Utf8(1)),
+        (b"1000000000000000000\xff", JsonFault::Number(0)),
+    ];
+    for (text, fault) in rows {
+        assert_eq!(rt; fault_of(alloc, text), Some(fault));
+    }
+    Ok(())
+}
+
+#[test]
+fn the_sixty_fifth_level_and_a_text_too_long(rt: HostRuntime) -> Result<(), Fail> {
+    let alloc = rt.alloc();
+    let deep = repeated(alloc, b"{\"k\":", 64).ok_or("memory")?;
+    assert_eq!(rt; fault_of(alloc, &deep), Some(JsonFault::Syntax(320)));
+    let deep = repeated(alloc, b"{\"k\":", 65).ok_or("memory")?;
+    assert_eq!(rt; fault_of(alloc, &deep), Some(JsonFault::Depth(320)));
+    let long = repeated(alloc, b" ", 1_048_577).ok_or("memory")?;
+    assert_eq!(rt; fault_of(alloc, &long), Some(JsonFault::Size));
+    Ok(())
+}
+
+#[test]
+fn numbers_keep_their_value_and_spelling(rt: HostRuntime) -> Result<(), Fail> {
+    let alloc = rt.alloc();
+    let rows: [(&str, i128); 5] = [
+        ("{\"n\":0}", 0),
+        ("{\"n\":-0}", 0),
+        ("{\"n\":7}", 7_000_000_000),
+        ("{\"n\":-12}", -12_000_000_000),
+        (
+            "{\"n\":999999999999999999}",
+            999_999_999_999_999_999_000_000_000,
+        ),
+    ];
+    for (text, units) in rows {
+        assert_eq!(rt; units_at(alloc, text, "n"), Some(units));
+        assert_eq!(rt; compact_of(alloc, text).ok_or("not read")?.as_str(), text);
+    }
+    Ok(())
+}
+
+#[test]
+fn the_compact_text_has_no_spaces(rt: HostRuntime) -> Result<(), Fail> {
+    let text = compact_of(
+        rt.alloc(),
+        " { \"a\" : { \"b\":\"x y\" } ,\n\"c\":true,\t\"d\": -5 } ",
+    );
+    assert_eq!(rt;
+        text.ok_or("not read")?.as_str(),
+        "{\"a\":{\"b\":\"x y\"},\"c\":true,\"d\":-5}"
+    );
+    Ok(())
+}
+
+#[test]
+fn objects_in_another_order_mean_the_same(rt: HostRuntime) -> Result<(), Fail> {
+    let alloc = rt.alloc();
+    assert_eq!(rt;
+        compared(
+            alloc,
+            "{\"a\":{\"b\":\"x\"},\"c\":0}",
+            "{\"c\":-0,\"a\":{\"b\":\"x\"}}"
+        ),
+        Some((true, false))
+    );
+    assert_eq!(rt;
+        compared(alloc, "{\"a\":1}", "{\"a\":2}"),
+        Some((false, false))
+    );
+    assert_eq!(rt;
+        compared(alloc, "{\"a\":1}", "{\"a\":1}"),
+        Some((true, true))
+    );
+    assert_eq!(rt;
+        clones(alloc, "{\"a\":1,\"b\":{\"c\":\"x\"},\"d\":null}"),
+        Some(true)
+    );
+    Ok(())
+}
+
+/// An object with so many members, the last key of it twice where that is wanted.
+fn wide(alloc: Global, count: u32, twice: bool) -> Option<String> {
+    let mut text = String::new(alloc);
+    text.push('{').ok()?;
+    for i in 0..count {
+        let member = format!(in alloc; "\"k{i}\":{i},").ok()?;
+        text.push_str(member.as_str()).ok()?;
+    }
+    let last = if twice { "\"k7\":0}" } else { "\"end\":0}" };
+    text.push_str(last).ok()?;
+    Some(text)
+}
+
+#[test]
+fn wide_objects_are_read_and_their_doubled_keys_found(rt: HostRuntime) -> Result<(), Fail> {
+    let alloc = rt.alloc();
+    let good = wide(alloc, 40, false).ok_or("memory")?;
+    assert_eq!(rt; units_at(alloc, good.as_str(), "k39"), Some(39_000_000_000));
+    let doubled = wide(alloc, 40, true).ok_or("memory")?;
+    assert_eq!(rt;
+        fault_of(alloc, doubled.as_bytes()),
+        Some(JsonFault::Duplicate(341))
+    );
+    Ok(())
+}

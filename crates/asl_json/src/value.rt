@@ -1,0 +1,264 @@
+// A JSON value. Contracts see a list as the list of its items and an object as the list of its pairs.
+ghost use Rattle.std.specs.Prelude.{◌≡◌, length, IfOk, slice_get, option_map, string_bytes};
+ghost use Rattle.asl_json.specs.View.{data_of};
+ghost use Rattle.asl_json.specs.Number.{units_of};
+ghost use Rattle.asl_json.specs.Meaning.{value_in};
+
+use std::alloc::{AllocError, Global};
+use std::marker::Model;
+
+/// A text in UTF-8. Contracts see it as its bytes.
+#[derive(Drop)]
+pub struct Txt {
+    string: String,
+}
+
+impl Model for Txt {
+    ghost use Rattle.std.specs.Prelude.{List, ℕ, string_bytes, nat_eq};
+
+    ghost Value = { List ℕ };
+
+    ghost view = { λ a. string_bytes a.string };
+}
+
+/// A number as it is spelled (RFC 8259, section 6), with its value in units of 10^-9. Contracts see it as its spelling,
+/// which is always a number in the limits: at most 40 bytes, and an amount below 10^18.
+#[derive(Drop)]
+pub struct Dec {
+    pub(crate) units: i128,
+    pub(crate) spelled: Txt,
+}
+
+impl Model for Dec {
+    ghost use Rattle.std.specs.Prelude.{List, ℕ, ◌≡◌};
+    ghost use Rattle.asl_json.specs.Number.{units_of, IsNumber};
+
+    ghost Value = { List ℕ };
+
+    ghost view = { λ a. a.spelled };
+
+    ghost invariant = { λ a. IsNumber a.spelled × (a.units ≡ units_of a.spelled) };
+}
+
+/// A JSON value (RFC 8259, section 3). Numbers keep their spelling, objects the order of their members.
+#[cycle(json)]
+#[derive(Drop)]
+pub enum Json {
+    Null,
+    Bool(bool),
+    Num(Dec),
+    Text(Txt),
+    List(Items),
+    Dict(Members),
+}
+
+/// The items of a list. Contracts see them as the list of their values.
+#[cycle(json)]
+#[derive(Drop)]
+pub struct Items {
+    pub(crate) values: Vec<Json>,
+}
+
+/// The members of an object in order, no key twice. Contracts see them as the list of pairs of key and value.
+#[cycle(json)]
+#[derive(Drop)]
+pub struct Members {
+    pub(crate) members: Vec<Member>,
+}
+
+/// A member of an object.
+#[cycle(json)]
+#[derive(Drop)]
+pub struct Member {
+    pub key: Txt,
+    pub value: Json,
+}
+
+impl Model for Items {
+    ghost use Rattle.std.specs.Prelude.{List};
+    ghost use Rattle.asl_json.specs.Data.{Data, items_size};
+    ghost use Rattle.asl_json.specs.Code.{coded_items};
+
+    ghost Value = { List Data };
+
+    ghost coded = { coded_items };
+
+    ghost use Rattle.asl_json.specs.View.{items_of};
+
+    ghost view = { λ a. items_of a.values.items };
+
+    ghost size = { items_size };
+
+    ghost use Rattle.asl_json.specs.Falls.{items_fall};
+
+    ghost size_decreases = { λ a h. items_fall a.values.items };
+}
+
+impl Model for Members {
+    ghost use Rattle.std.specs.Prelude.{List, [], ℕ};
+    ghost use Rattle.asl_json.specs.Data.{Data, members_size};
+    ghost use Rattle.asl_json.specs.Code.{coded_members};
+
+    ghost Value = { List (List ℕ × Data) };
+
+    ghost coded = { coded_members };
+
+    ghost use Rattle.asl_json.specs.View.{members_of};
+
+    ghost view = { λ a. members_of a.members.items };
+
+    ghost use Rattle.asl_json.specs.Distinct.{AreDistinct};
+
+    ghost invariant = { λ a. AreDistinct [] (members_of a.members.items) };
+
+    ghost size = { members_size };
+
+    ghost use Rattle.asl_json.specs.Falls.{members_fall};
+
+    ghost size_decreases = { λ a h. members_fall a.members.items };
+}
+
+impl Txt {
+    pub fn new(string: String) -> Txt
+        ensures { result ≡ string_bytes string }
+    {
+        Txt { string }
+    }
+
+    pub fn as_str(&self) -> &str
+        ensures { result.now ≡ self.now }
+    {
+        self.string.as_str()
+    }
+
+    /// Gives the text back, without memory.
+    pub fn into_string(self) -> String
+        ensures { string_bytes result ≡ self }
+    {
+        let Txt { string: text } = self;
+        text
+    }
+
+    /// An equal text. The error is that memory ran out.
+    pub fn try_clone(&self, alloc: Global) -> Result<Txt, AllocError>
+        ensures { IfOk result (λ t. t ≡ self.now) }
+    {
+        Ok(Txt {
+            string: String::from_str(alloc, self.as_str())?,
+        })
+    }
+}
+
+impl PartialEq for Txt {
+    ghost use Rattle.std.specs.Prelude.{nat_eq};
+    ghost use Rattle.std.specs.Cmp.Lexicographic.{pointwise};
+    ghost use Rattle.std.specs.Cmp.{partial_equiv_from_equiv};
+    ghost use Rattle.std.proofs.lemmas.Cmp.{nat_list_eq_equiv};
+
+    ghost eq = { pointwise nat_eq };
+
+    ghost laws = { partial_equiv_from_equiv nat_list_eq_equiv };
+
+    fn eq(&self, other: &Txt) -> bool {
+        self.as_str() == other.as_str()
+    }
+}
+
+impl Eq for Txt {
+    ghost use Rattle.std.proofs.lemmas.Cmp.{nat_list_eq_equiv};
+
+    ghost laws = { nat_list_eq_equiv };
+}
+
+impl Dec {
+    /// The value in units of 10^-9.
+    pub fn units(&self) -> i128
+        ensures { result ≡ units_of self.now }
+    {
+        self.units
+    }
+
+    pub fn spelling(&self) -> &str
+        ensures { result.now ≡ self.now }
+    {
+        self.spelled.as_str()
+    }
+
+    /// An equal number with the same spelling. The error is that memory ran out.
+    pub fn try_clone(&self, alloc: Global) -> Result<Dec, AllocError>
+        ensures { IfOk result (λ d. d ≡ self.now) }
+    {
+        let Dec { units, spelled } = self;
+        Ok(Dec {
+            units: *units,
+            spelled: spelled.try_clone(alloc)?,
+        })
+    }
+}
+
+impl Json {
+    /// The value of the member with this key, where this is an object that has it.
+    pub fn get(&self, key: &str) -> Option<&Json>
+        ensures { option_map (λ v. data_of v.now) result ≡ value_in key.now (data_of self.now) }
+    {
+        match self {
+            Json::Dict(members) => members.find(key),
+            _ => None,
+        }
+    }
+
+    /// An equal value, numbers with their spelling. The error is that memory ran out.
+    #[cycle(clone)]
+    pub fn try_clone(&self, alloc: Global) -> Result<Json, AllocError>
+        ensures { IfOk result (λ v. v ≡ self.now) }
+    {
+        match self {
+            Json::Null => Ok(Json::Null),
+            Json::Bool(b) => Ok(Json::Bool(*b)),
+            Json::Num(d) => Ok(Json::Num(d.try_clone(alloc)?)),
+            Json::Text(t) => Ok(Json::Text(t.try_clone(alloc)?)),
+            Json::List(items) => Ok(Json::List(items.try_clone(alloc)?)),
+            Json::Dict(members) => Ok(Json::Dict(members.try_clone(alloc)?)),
+        }
+    }
+}
+
+impl Items {
+    pub fn len(&self) -> usize
+        ensures { result ≡ length self.now }
+    {
+        self.values.len()
+    }
+
+    pub fn get(&self, i: usize) -> Option<&Json>
+        ensures { option_map (λ v. data_of v.now) result ≡ slice_get self.now i }
+    {
+        self.values.get(i)
+    }
+
+    #[cycle(clone)]
+    pub fn try_clone(&self, alloc: Global) -> Result<Items, AllocError>
+        ensures { IfOk result (λ v. v ≡ self.now) }
+    {
+        let mut values = Vec::new(alloc);
+        for v in &self.values {
+            values.push(v.try_clone(alloc)?)?;
+        }
+        Ok(Items { values })
+    }
+}
+
+impl Members {
+    #[cycle(clone)]
+    pub fn try_clone(&self, alloc: Global) -> Result<Members, AllocError>
+        ensures { IfOk result (λ v. v ≡ self.now) }
+    {
+        let mut members = Vec::new(alloc);
+        for m in &self.members {
+            let key = m.key.try_clone(alloc)?;
+            let value = m.value.try_clone(alloc)?;
+            members.push(Member { key, value })?;
+        }
+        Ok(Members { members })
+    }
+}

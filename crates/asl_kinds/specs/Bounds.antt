@@ -1,0 +1,17 @@
+-- What holds of each effect, whatever the kind.
+use Rattle.std.specs.Prelude.{Bool, true, false, [], ◌≡◌, ◌<◌, ◌≤◌, length, IsSome}
+use Rattle.asl_kinds.specs.Outputs.{is_finished}
+use Rattle.asl_kinds.specs.Seen.{Seen}
+use Rattle.asl_kinds.specs.declared.effect.Effect.{Effect}
+
+-- the bounds that hold of an effect at a place
+pub record IsBounded (v : Seen) (invoking : Bool) (e : Effect) : Type 0 where
+  -- no more than eight events
+  pub few : length e.events ≤ 8
+  -- a count is raised only by a kind that invokes, and this is told
+  pub raises : e.raises ≡ true → invoking ≡ true
+  pub tells : e.raises ≡ true → 0 < length e.events
+  -- the outcome is given at the root alone
+  pub at_root : IsSome e.outcome → v.place ≡ []
+  -- and it is given where the branch there ends
+  pub ends : v.place ≡ [] → is_finished v.current ≡ false → is_finished e.after ≡ true → IsSome e.outcome

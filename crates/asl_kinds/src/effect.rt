@@ -1,0 +1,101 @@
+// What a step does.
+ghost use Rattle.std.specs.Prelude.{◌≡◌, [], ◌∷◌, ◌++◌, IfOk};
+
+use crate::record::{ErrorOut, Record};
+use asl_history::EventKind;
+use asl_json::{Json, Txt};
+use std::alloc::{AllocError, Global};
+use std::marker::Model;
+
+/// An event before it has a place, a moment and a number.
+#[derive(Drop)]
+pub struct Draft {
+    pub kind: EventKind,
+    pub name: Txt,
+    pub body: Json,
+}
+
+/// Some drafts, in order.
+#[derive(Drop)]
+pub struct Drafts {
+    pub list: Vec<Draft>,
+}
+
+impl Model for Drafts {
+    ghost use Rattle.std.specs.Prelude.{List};
+    ghost use Rattle.asl_kinds.specs.declared.effect.Draft.{Draft};
+
+    ghost Value = { List Draft };
+
+    ghost use Rattle.std.specs.Coded.{coded_list};
+    ghost use Rattle.asl_kinds.specs.contracts.effect.Draft as draft_row;
+
+    ghost coded = { coded_list draft_row.the_row.coded };
+
+    ghost view = { λ d. d.list.items };
+}
+
+impl Drafts {
+    pub fn new(alloc: Global) -> Drafts
+        ensures { result ≡ [] }
+    {
+        Drafts {
+            list: Vec::new(alloc),
+        }
+    }
+
+    /// These drafts and one more.
+    pub fn and(self, kind: EventKind, name: Txt, body: Json) -> Result<Drafts, AllocError>
+        ensures { IfOk result (λ d. d ≡ self ++ record { kind = kind; name = name; body = body } ∷ []) }
+    {
+        let mut list = self.list;
+        list.push(Draft { kind, name, body })?;
+        Ok(Drafts { list })
+    }
+}
+
+/// Some records, in order.
+#[derive(Drop)]
+pub struct Records {
+    pub list: Vec<Record>,
+}
+
+impl Model for Records {
+    ghost use Rattle.std.specs.Prelude.{List};
+    ghost use Rattle.asl_kinds.specs.declared.record.Record.{Record};
+
+    ghost Value = { List Record };
+
+    ghost use Rattle.std.specs.Coded.{coded_list};
+    ghost use Rattle.asl_kinds.specs.contracts.record.Record as record_row;
+
+    ghost coded = { coded_list record_row.the_row.coded };
+
+    ghost view = { λ r. r.list.items };
+}
+
+/// What becomes of the places under the one that steps.
+#[derive(Drop)]
+pub enum Children {
+    Kept,
+    Removed,
+    Forked(Records),
+}
+
+/// How an execution ended.
+#[derive(Drop)]
+pub enum Ended {
+    Succeeded(Json),
+    Failed(ErrorOut),
+}
+
+/// What a step does: what its branch is doing then, what becomes of the places under it, whether the state's count is raised,
+/// what is told, and the outcome where the execution ends.
+#[derive(Drop)]
+pub struct Effect {
+    pub after: Record,
+    pub children: Children,
+    pub raises: bool,
+    pub events: Drafts,
+    pub outcome: Option<Ended>,
+}

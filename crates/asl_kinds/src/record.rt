@@ -1,0 +1,120 @@
+// What a branch is doing.
+ghost use Rattle.std.specs.Prelude.{◌≡◌, IfOk};
+
+use asl_json::{Items, Json, Txt};
+use asl_time::Moment;
+use std::alloc::{AllocError, Global};
+use std::marker::Model;
+
+/// Why a branch failed: an error's name and its cause, each where there is one. (ASL, "Errors".)
+#[derive(Drop)]
+pub struct ErrorOut {
+    pub error: Option<Txt>,
+    pub cause: Option<Txt>,
+}
+
+/// How often each retrier of a state was used since the state was entered.
+#[derive(Drop)]
+pub struct Uses {
+    pub counts: Vec<u32>,
+}
+
+impl Model for Uses {
+    ghost use Rattle.std.specs.Prelude.{List, ℕ};
+
+    ghost Value = { List ℕ };
+
+    ghost view = { λ u. u.counts.items };
+}
+
+/// What a branch is doing. The text is the name of its state, the value the state's raw input, `since` the moment of the
+/// state's first step.
+#[derive(Drop)]
+pub enum Record {
+    /// An iteration of a Map that hasn't begun.
+    New(Txt, Json),
+    /// About to enter its state.
+    Ready(Txt, Json),
+    /// Waiting until a moment: `since`, then until when.
+    Pausing(Txt, Json, Moment, Moment),
+    /// About to be retried: `since`, the uses, then until when it waits.
+    Again(Txt, Json, Moment, Uses, Moment),
+    /// Waiting for its children: `since`, the uses, and a Map's items.
+    Forked(Txt, Json, Moment, Uses, Items),
+    /// Ended with this output.
+    Done(Json),
+    /// Failed with this error.
+    Failed(ErrorOut),
+}
+
+fn clone_text(alloc: Global, text: &Option<Txt>) -> Result<Option<Txt>, AllocError>
+    ensures { IfOk result (λ t. t ≡ text.now) }
+{
+    match text {
+        Some(text) => Ok(Some(text.try_clone(alloc)?)),
+        None => Ok(None),
+    }
+}
+
+impl ErrorOut {
+    /// An equal error. What fails is memory.
+    pub fn try_clone(&self, alloc: Global) -> Result<ErrorOut, AllocError>
+        ensures { IfOk result (λ e. e ≡ self.now) }
+    {
+        let error = clone_text(alloc, &self.error)?;
+        let cause = clone_text(alloc, &self.cause)?;
+        Ok(ErrorOut { error, cause })
+    }
+}
+
+impl Uses {
+    fn try_clone(&self, alloc: Global) -> Result<Uses, AllocError>
+        ensures { IfOk result (λ u. u ≡ self.now) }
+    {
+        Ok(Uses {
+            counts: Vec::from_slice(alloc, &self.counts)?,
+        })
+    }
+}
+
+impl Record {
+    /// An equal record. What fails is memory.
+    pub fn try_clone(&self, alloc: Global) -> Result<Record, AllocError>
+        ensures { IfOk result (λ r. r ≡ self.now) }
+    {
+        Ok(match self {
+            Record::New(state, input) => Record::New(
+                state.try_clone(alloc)?,
+                input.try_clone(alloc)?,
+            ),
+            Record::Ready(state, input) => Record::Ready(
+                state.try_clone(alloc)?,
+                input.try_clone(alloc)?,
+            ),
+            Record::Pausing(state, input, since, until) => {
+                Record::Pausing(
+                    state.try_clone(alloc)?,
+                    input.try_clone(alloc)?,
+                    *since,
+                    *until,
+                )
+            }
+            Record::Again(state, input, since, uses, until) => Record::Again(
+                state.try_clone(alloc)?,
+                input.try_clone(alloc)?,
+                *since,
+                uses.try_clone(alloc)?,
+                *until,
+            ),
+            Record::Forked(state, input, since, uses, items) => Record::Forked(
+                state.try_clone(alloc)?,
+                input.try_clone(alloc)?,
+                *since,
+                uses.try_clone(alloc)?,
+                items.try_clone(alloc)?,
+            ),
+            Record::Done(output) => Record::Done(output.try_clone(alloc)?),
+            Record::Failed(error) => Record::Failed(error.try_clone(alloc)?),
+        })
+    }
+}

@@ -1,0 +1,9 @@
+pub mod Walking
+pub mod Putting
+pub mod Apart
+pub mod Opening
+pub mod Stretch
+pub mod Passing
+pub mod Fronts
+pub mod Judging
+pub mod Spelling

@@ -1,0 +1,8 @@
+pub mod Grammar
+pub mod Walk
+pub mod Paths
+pub mod Faults
+pub mod Laws
+pub mod Steps
+pub mod Leads
+pub mod Opened

@@ -1,0 +1,196 @@
+// What no clause says: outside rows, and each call once with ample memory.
+use crate::{PathFault, PutFault, RefPath, Root};
+use asl_json::{Items, Json, read, write};
+use std::alloc::Global;
+use std::mem;
+use std::test::Fail;
+
+fn fault_at(alloc: Global, text: &str) -> Option<usize> {
+    match RefPath::read(alloc, text) {
+        Err(PathFault::PathProfile(at)) => Some(at),
+        _ => None,
+    }
+}
+
+fn is_path(alloc: Global, text: &str) -> bool {
+    RefPath::read(alloc, text).is_ok()
+}
+
+fn starts_from(alloc: Global, text: &str, root: Root) -> bool {
+    match RefPath::read(alloc, text) {
+        Ok(path) => path.root() == root && path.text() == text,
+        Err(_) => false,
+    }
+}
+
+fn are_equal(alloc: Global, one: &str, other: &str) -> bool {
+    match (RefPath::read(alloc, one), RefPath::read(alloc, other)) {
+        (Ok(one), Ok(other)) => one == other,
+        _ => false,
+    }
+}
+
+fn equals_its_copy(alloc: Global, text: &str) -> bool {
+    let Ok(path) = RefPath::read(alloc, text) else {
+        return false;
+    };
+    match path.try_clone(alloc) {
+        Ok(copy) => copy == path && copy.text() == text && copy.root() == path.root(),
+        Err(_) => false,
+    }
+}
+
+/// The value of a text, or a list of true and null.
+fn value(alloc: Global, text: &str) -> Option<Json> {
+    if text != "[true,null]" {
+        return read(alloc, text.as_bytes()).ok();
+    }
+    let mut values = Vec::new(alloc);
+    values.push(Json::Bool(true)).ok()?;
+    values.push(Json::Null).ok()?;
+    Some(Json::List(Items::of_values(values)))
+}
+
+/// The text of the part at a path.
+fn part_text(alloc: Global, text: &str, base: &str) -> Option<String> {
+    let path = RefPath::read(alloc, text).ok()?;
+    let base = value(alloc, base)?;
+    match path.get(&base) {
+        Some(part) => write(alloc, part).ok(),
+        None => String::from_str(alloc, "nothing").ok(),
+    }
+}
+
+/// The texts of two values, one behind the other.
+fn both(alloc: Global, one: &Json, other: &Json) -> Option<String> {
+    let mut text = write(alloc, one).ok()?;
+    text.push(' ').ok()?;
+    text.push_str(write(alloc, other).ok()?.as_str()).ok()?;
+    Some(text)
+}
+
+/// The text of a value with another at a path, or of both where there is no such place.
+fn put_text(alloc: Global, text: &str, base: &str, part: &str) -> Option<String> {
+    let path = RefPath::read(alloc, text).ok()?;
+    match path.put(alloc, value(alloc, base)?, value(alloc, part)?) {
+        Ok(whole) => write(alloc, &whole).ok(),
+        Err(PutFault::NoMatch(base, part)) => both(alloc, &base, &part),
+        Err(PutFault::OutOfMemory(_, _)) => None,
+    }
+}
+
+fn names(alloc: Global, text: &str, base: &str, expected: &str) -> bool {
+    match part_text(alloc, text, base) {
+        Some(part) => part.as_str() == expected,
+        None => false,
+    }
+}
+
+fn puts(alloc: Global, text: &str, base: &str, part: &str, expected: &str) -> bool {
+    match put_text(alloc, text, base, part) {
+        Some(whole) => whole.as_str() == expected,
+        None => false,
+    }
+}
+
+/// Whether a value that is put at a path of so many names is found again.
+fn leads_far(alloc: Global, count: usize) -> Option<bool> {
+    let mut text = String::from_str(alloc, "$").ok()?;
+    for _ in 0..count {
+        text.push_str(".a").ok()?;
+    }
+    let path = RefPath::read(alloc, text.as_str()).ok()?;
+    let whole = path.put(alloc, value(alloc, "{}")?, Json::Null).ok()?;
+    let found = path.get(&whole).is_some();
+    // To drop a value that nests so deep would need a deep stack.
+    mem::forget(whole);
+    Some(found)
+}
+
+#[test]
+fn the_first_byte_that_cannot_go_on(rt: HostRuntime) -> Result<(), Fail> {
+    let alloc = rt.alloc();
+    assert_eq!(rt; fault_at(alloc, "$.a[*]"), Some(4));
+    assert_eq!(rt; fault_at(alloc, "$..a"), Some(2));
+    assert_eq!(rt; fault_at(alloc, "$[-1]"), Some(2));
+    assert_eq!(rt; fault_at(alloc, "$."), Some(2));
+    assert_eq!(rt; fault_at(alloc, "x"), Some(0));
+    assert_eq!(rt; fault_at(alloc, ""), Some(0));
+    assert_eq!(rt; fault_at(alloc, "$[1234567890]"), Some(11));
+    assert_eq!(rt; fault_at(alloc, "$['a\\b']"), Some(4));
+    assert_eq!(rt; fault_at(alloc, "$['a"), Some(4));
+    assert_eq!(rt; fault_at(alloc, "$['ä'x"), Some(6));
+    assert_eq!(rt; fault_at(alloc, "$$$"), Some(2));
+    Ok(())
+}
+
+#[test]
+fn texts_that_are_paths(rt: HostRuntime) -> Result<(), Fail> {
+    let alloc = rt.alloc();
+    assert!(rt; starts_from(alloc, "$", Root::Input));
+    assert!(rt; starts_from(alloc, "$$.Task[0]", Root::Context));
+    assert!(rt; is_path(alloc, "$.a-b_1.ä['']"));
+    assert!(rt; is_path(alloc, "$[\"it's\"][007][999999999]"));
+    Ok(())
+}
+
+#[test]
+fn equal_paths_have_one_text(rt: HostRuntime) -> Result<(), Fail> {
+    let alloc = rt.alloc();
+    assert!(rt; equals_its_copy(alloc, "$$.a['b'][3]"));
+    assert!(rt; !are_equal(alloc, "$.a", "$['a']"));
+    Ok(())
+}
+
+#[test]
+fn the_part_that_a_path_names(rt: HostRuntime) -> Result<(), Fail> {
+    let alloc = rt.alloc();
+    assert!(rt; names(alloc, "$.a['b c']", "{\"a\":{\"b c\":true}}", "true"));
+    assert!(rt; names(alloc, "$.a", "{\"a\":{\"b c\":true}}", "{\"b c\":true}"));
+    assert!(rt; names(alloc, "$.a.b", "{\"a\":null}", "nothing"));
+    assert!(rt; names(alloc, "$[001]", "[true,null]", "null"));
+    assert!(rt; names(alloc, "$[2]", "[true,null]", "nothing"));
+    Ok(())
+}
+
+#[test]
+fn a_value_is_put_where_a_path_leads(rt: HostRuntime) -> Result<(), Fail> {
+    let alloc = rt.alloc();
+    assert!(rt; puts(alloc, "$['a b'].c", "{}", "true", "{\"a b\":{\"c\":true}}"));
+    assert!(rt;
+        puts(
+            alloc,
+            "$.a.b",
+            "{\"a\":{\"b\":true,\"c\":true},\"d\":true}",
+            "null",
+            "{\"a\":{\"b\":null,\"c\":true},\"d\":true}"
+        )
+    );
+    assert!(rt; puts(alloc, "$", "null", "true", "true"));
+    assert!(rt; puts(alloc, "$[1]", "[true,null]", "false", "[true,false]"));
+    Ok(())
+}
+
+#[test]
+fn both_values_come_back_where_no_place_is(rt: HostRuntime) -> Result<(), Fail> {
+    let alloc = rt.alloc();
+    assert!(rt; puts(alloc, "$[2]", "[true,null]", "null", "[true,null] null"));
+    assert!(rt; puts(alloc, "$[1].a", "[true,null]", "true", "[true,null] true"));
+    assert!(rt; puts(alloc, "$.a[0]", "{}", "true", "{} true"));
+    assert!(rt;
+        puts(
+            alloc,
+            "$.a.b.c",
+            "{\"a\":{\"b\":true}}",
+            "null",
+            "{\"a\":{\"b\":true}} null"
+        )
+    );
+    Ok(())
+}
+
+#[test]
+fn a_long_path_needs_no_deep_stack(rt: HostRuntime) -> Result<(), Fail> {
+    assert_eq!(rt; leads_far(rt.alloc(), 300_000), Some(true));
+    Ok(())
+}

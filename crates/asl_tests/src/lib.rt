@@ -1,0 +1,5 @@
+//! Tests across crates: what the product reads against what libraries that aren't ours read.
+#![tactic(auto)]
+
+#[cfg(test)]
+mod second_reader;

@@ -1,0 +1,48 @@
+// `serde_json` as a second reader of JSON texts.
+use asl_json::{Json, read};
+use serde_json::Value;
+use std::alloc::Global;
+use std::test::Fail;
+
+/// Whether our number and the other reader's are one, as far as it keeps whole numbers.
+fn agrees_number(ours: i128, theirs: &Value) -> bool {
+    match theirs.as_i64() {
+        Some(number) => i128::from(number) * 1_000_000_000 == ours,
+        None => false,
+    }
+}
+
+/// Whether the other reader has this value at this key.
+fn agrees_at(ours: &Json, theirs: &Value) -> bool {
+    match ours {
+        Json::Null => theirs.is_null(),
+        Json::Bool(truth) => theirs.as_bool() == Some(*truth),
+        Json::Num(number) => agrees_number(number.units(), theirs),
+        Json::Text(text) => theirs.as_str() == Some(text.as_str()),
+        _ => false,
+    }
+}
+
+/// Whether both readers read the text, and have equal values at these keys.
+fn agree(alloc: Global, text: &str, keys: &[&str]) -> Option<bool> {
+    let ours = read(alloc, text.as_bytes()).ok()?;
+    let theirs = Value::from_str(alloc, text).ok()?;
+    for key in keys {
+        if !agrees_at(ours.get(*key)?, theirs.get(*key)?) {
+            return Some(false);
+        }
+    }
+    Some(true)
+}
+
+#[test]
+fn both_readers_read_one_value(rt: HostRuntime) -> Result<(), Fail> {
+    let alloc = rt.alloc();
+    assert_eq!(rt;
+        agree(alloc, "{\"a\":1,\"b\":\"x\"}", &["a", "b"]),
+        Some(true)
+    );
+    let text = " { \"n\" : -12, \"t\":true,\n\"z\":null, \"u\":\"\u{e9}\" } ";
+    assert_eq!(rt; agree(alloc, text, &["n", "t", "z", "u"]), Some(true));
+    Ok(())
+}

@@ -1,0 +1,11 @@
+pub mod One
+pub mod Spelling
+pub mod Parts
+pub mod Rounding
+pub mod Offsets
+pub mod Fractions
+pub mod Readings
+pub mod Back
+pub mod Moments
+pub mod Delays
+pub mod StampTexts

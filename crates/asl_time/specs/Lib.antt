@@ -1,0 +1,5 @@
+pub mod Stamp
+pub mod StampText
+pub mod Timestamp
+pub mod Delay
+pub mod Parts

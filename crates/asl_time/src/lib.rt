@@ -1,0 +1,19 @@
+//! Moments to the millisecond; their texts, the timestamps of the Amazon States Language, which are those of RFC 3339,
+//! section 5.6, with `T` and `Z` in upper case; and the delays before retries.
+#![tactic(auto)]
+
+mod calendar;
+mod digits;
+mod fraction;
+mod moment;
+mod offset;
+mod print;
+mod rate;
+mod read;
+#[cfg(test)]
+mod tests;
+
+pub use moment::{Moment, add};
+pub use print::{print_stamp, stamps_show_their_moments};
+pub use rate::{Rate, delay};
+pub use read::read_stamp;
