@@ -5,16 +5,16 @@ top=$(cd "$(dirname "$0")" && pwd)
 crate=$top/crates/asl_cli
 program=$crate/out/asl_cli
 
-if [ ! -d "$crate/src" ]; then
-  echo "asl: the program isn't there yet; README.md, \"What is coming\", says what is" >&2
-  exit 2
-fi
-if ! command -v rt > /dev/null; then
-  echo "asl: building needs Rattle's command rt on the PATH" >&2
-  exit 2
-fi
-if [ ! -x "$program" ] ||
-  [ -n "$(find "$top/crates" "$top/crates.txt" -newer "$program" \( -name '*.rt' -o -name '*.antt' -o -name crates.txt \) -not -path '*/out/*' -print -quit)" ]; then
+is_current() {
+  [ -x "$program" ] && [ -z "$(find "$top/crates" "$top/crates.txt" -name out -prune -o \
+    -newer "$program" \( -name '*.rt' -o -name '*.antt' -o -name crates.txt \) -print -quit)" ]
+}
+
+if ! is_current; then
+  if ! command -v rt > /dev/null; then
+    echo "asl: building needs Rattle's command rt on the PATH" >&2
+    exit 2
+  fi
   echo "asl: building (the first build proves everything and takes minutes)" >&2
   if ! (cd "$crate" && rt run -- --help) > "$crate/out.log" 2>&1 < /dev/null; then
     tail -n 20 "$crate/out.log" >&2
@@ -22,5 +22,6 @@ if [ ! -x "$program" ] ||
     exit 2
   fi
   rm -f "$crate/out.log"
+  touch "$program" # where a source was only touched, it is built already
 fi
 exec "$program" "$@"

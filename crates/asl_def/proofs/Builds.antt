@@ -9,7 +9,7 @@ use Rattle.asl_json.specs.Meaning.{value_at}
 use Rattle.asl_json.specs.View.{data_of, members_of, member_of}
 use Rattle.asl_json.specs.declared.value.Member.{Member}
 use Rattle.asl_def.specs.declared.sort.Sort.{Sort}
-use Rattle.asl_def.specs.declared.sort.Sort.TheVariants.{Text, Truth, Path, ReferencePath, KindName, Target, States, Definition, Any, State as state_sort}
+use Rattle.asl_def.specs.declared.sort.Sort.TheVariants.{Text, Truth, ReferencePath, KindName, Target, States, Definition, Any, State as state_sort}
 use Rattle.asl_def.specs.declared.sort.Kind.{Kind}
 use Rattle.asl_def.specs.declared.sort.Kind.TheVariants.{Pass as pass_kind, Succeed as succeed_kind}
 use Rattle.asl_def.specs.Members.{Shape, kind_named, kind_rows, state_shape, shape_of, shape_in, definition_rows}
@@ -21,7 +21,7 @@ use Rattle.asl_def.specs.declared.state.Body.{Body}
 use Rattle.asl_def.specs.Show.{Named, opt, state_of, pass_object, succeed_object, path_shown, next_shown, end_shown, StateIsWithin}
 use Rattle.asl_def.specs.Canon.{kept, canon, canon_members, picked, picked_at, kept_at}
 use Rattle.asl_def.specs.Built.{Fits, GoesOneWay, IsCleanInside, IsBody, canon_row, canon_rows}
-use Rattle.asl_def.proofs.Clean.{fits_at, reference_fits}
+use Rattle.asl_def.proofs.Clean.{fits_at}
 use Rattle.asl_def.proofs.Canons.{picked-canon}
 
 -- a state's canonical object, by its type
@@ -61,7 +61,7 @@ succeed_named (Some (text t)) e = by (bytes_eq t (codes "Pass")) (bytes_eq t (co
 type_kept : (ms : Pairs) (name : List ℕ) → value_at (codes "Type") ms ≡ Some (text name) → Some (text name) ≡ kept_at (codes "Type") KindName ms
 type_kept ms name e = sym (ap (λ (o : Option Data). kept (codes "Type") (option_map (canon KindName) o)) e)
 
-pub path_kept : (k : List ℕ) (s : Sort) (o : Option Data) → Fits Path o → kept k (option_map (canon s) o) ≡ o
+pub path_kept : (k : List ℕ) (s : Sort) (o : Option Data) → Fits ReferencePath o → kept k (option_map (canon s) o) ≡ o
 path_kept k s None h = refl
 path_kept k s (Some null) h = refl
 path_kept k s (Some (text t)) h = refl
@@ -102,7 +102,7 @@ end_on next (Some (list ds)) h e = absurd (let x = h.fits in cc)
 end_on next (Some (dict ms)) h e = absurd (let x = h.fits in cc)
 
 -- a path at a name
-path_at : (k : List ℕ) (s : Sort) (ms : Pairs) (shown : Option Data) → Fits Path (value_at k ms) → shown ≡ value_at k ms → shown ≡ kept_at k s ms
+path_at : (k : List ℕ) (s : Sort) (ms : Pairs) (shown : Option Data) → Fits ReferencePath (value_at k ms) → shown ≡ value_at k ms → shown ≡ kept_at k s ms
 path_at k s ms shown h e = e ∙ sym (path_kept k s (value_at k ms) h)
 
 pub pass_shows : (ms : Pairs) (p : PassState) → kind_named (value_at (codes "Type") ms) ≡ Some pass_kind → IsCleanInside (state_shape (Some pass_kind)) ms
@@ -116,9 +116,9 @@ pub pass_shows : (ms : Pairs) (p : PassState) → kind_named (value_at (codes "T
     → pass_object p ≡ canon state_sort (dict ms)
 pass_shows ms p kind c e1 e2 e3 e4 e5 e6 e7 =
     let sh = state_shape (Some pass_kind) in
-    let p2 = path_at (codes "InputPath") Path ms (path_shown p.input_path) (fits_at sh ms (codes "InputPath") c) e2 in
-    let p4 = path_at (codes "ResultPath") ReferencePath ms (path_shown p.result_path) (reference_fits (value_at (codes "ResultPath") ms) (fits_at sh ms (codes "ResultPath") c)) e4 in
-    let p5 = path_at (codes "OutputPath") Path ms (path_shown p.output_path) (fits_at sh ms (codes "OutputPath") c) e5 in
+    let p2 = path_at (codes "InputPath") ReferencePath ms (path_shown p.input_path) (fits_at sh ms (codes "InputPath") c) e2 in
+    let p4 = path_at (codes "ResultPath") ReferencePath ms (path_shown p.result_path) (fits_at sh ms (codes "ResultPath") c) e4 in
+    let p5 = path_at (codes "OutputPath") ReferencePath ms (path_shown p.output_path) (fits_at sh ms (codes "OutputPath") c) e5 in
     (λ i. dict (pairs (opt (codes "Type") (type_kept ms (codes "Pass") (pass_named (value_at (codes "Type") ms) kind) i) ++ (opt (codes "Comment") (e1 i) ++ (opt (codes "InputPath") (p2 i) ++ (opt (codes "Result") (e3 i) ++ (opt (codes "ResultPath") (p4 i) ++ (opt (codes "OutputPath") (p5 i) ++ (opt (codes "Next") (e6 i) ++ (opt (codes "End") (e7 i) ++ [])))))))))) ∙ sym (kind_is ms pass_kind kind)
 
 pub succeed_shows : (ms : Pairs) (p : SucceedState) → kind_named (value_at (codes "Type") ms) ≡ Some succeed_kind → IsCleanInside (state_shape (Some succeed_kind)) ms
@@ -128,8 +128,8 @@ pub succeed_shows : (ms : Pairs) (p : SucceedState) → kind_named (value_at (co
     → succeed_object p ≡ canon state_sort (dict ms)
 succeed_shows ms p kind c e1 e2 e3 =
     let sh = state_shape (Some succeed_kind) in
-    let p2 = path_at (codes "InputPath") Path ms (path_shown p.input_path) (fits_at sh ms (codes "InputPath") c) e2 in
-    let p3 = path_at (codes "OutputPath") Path ms (path_shown p.output_path) (fits_at sh ms (codes "OutputPath") c) e3 in
+    let p2 = path_at (codes "InputPath") ReferencePath ms (path_shown p.input_path) (fits_at sh ms (codes "InputPath") c) e2 in
+    let p3 = path_at (codes "OutputPath") ReferencePath ms (path_shown p.output_path) (fits_at sh ms (codes "OutputPath") c) e3 in
     (λ i. dict (pairs (opt (codes "Type") (type_kept ms (codes "Succeed") (succeed_named (value_at (codes "Type") ms) kind) i) ++ (opt (codes "Comment") (e1 i) ++ (opt (codes "InputPath") (p2 i) ++ (opt (codes "OutputPath") (p3 i) ++ [])))))) ∙ sym (kind_is ms succeed_kind kind)
 
 pub always_within : (n : ℕ) (s : State) → StateIsWithin n s

@@ -10,16 +10,15 @@ use Rattle.asl_json.specs.Meaning.{value_at, count}
 use Rattle.asl_json.specs.Distinct.{has_key, AreDistinct}
 use Rattle.asl_json.specs.View.{data_of, members_of}
 use Rattle.asl_json.specs.declared.value.Member.{Member}
-use Rattle.asl_path.specs.declared.step.Root.{Root}
 use Rattle.asl_def.specs.declared.fault.FaultKind.{FaultKind}
 use Rattle.asl_def.specs.declared.fault.Step.{Step}
 use Rattle.asl_def.specs.declared.sort.Sort.{Sort}
-use Rattle.asl_def.specs.declared.sort.Sort.TheVariants.{Definition, States, State, KindName, Text, Target, Path, ReferencePath}
+use Rattle.asl_def.specs.declared.sort.Sort.TheVariants.{Definition, States, State, KindName, Text, Target}
 use Rattle.asl_def.specs.declared.sort.Kind.{Kind}
 use Rattle.asl_def.specs.declared.sort.Kind.TheVariants.{Pass, Succeed}
 use Rattle.asl_def.specs.Show.{Named}
 use Rattle.asl_def.specs.Members.{Row, Shape, row, required_row, kind_rows, sort_at, state_shape, shape_in, kind_named}
-use Rattle.asl_def.specs.Faults.{Found, step, under, here, own_fault, target_fault, at_value, at_member, name_fault, both, neither, counts, is_ending, root_in, lack, missing, found, found_members, found_inside, found_object, targets_in, no_names, faults_of}
+use Rattle.asl_def.specs.Faults.{Found, step, under, here, own_fault, target_fault, at_value, at_member, name_fault, both, neither, counts, is_ending, lack, missing, found, found_members, found_inside, found_object, targets_in, no_names, faults_of}
 use Rattle.asl_def.specs.Built.{IsClean, IsCleanInside, AreClean, Fits, IsThere, GoesOneWay, canon_rows}
 
 both_none : {X : Type 0} (xs ys : List X) → xs ++ ys ≡ [] → (xs ≡ []) × (ys ≡ [])
@@ -240,28 +239,6 @@ distinct_at seen (x ∷ ms) (suc i) m h lt e = rw append_assoc at (distinct_at (
 
 pub new_key : (ms : List Member) (i : ℕ) (m : Member) (t : List Named) (name : List ℕ) → AreDistinct [] (members_of ms) → i < length ms → m ≡ get_or ms i m → t ≡ canon_rows (members_of (take i ms)) → name ≡ m.key → has_key name t ≡ false
 new_key ms i m t name h lt e is named = rw (is, named) (canon_key m.key (members_of (take i ms)) ∙ distinct_at [] ms i m h lt e)
-
--- what readers of a path take
-
-pub reference_fits : (o : Option Data) → Fits ReferencePath o → Fits Path o
-reference_fits None h = tt
-reference_fits (Some null) h = refl
-reference_fits (Some (boolean b)) h = absurd cc
-reference_fits (Some (number n)) h = absurd cc
-reference_fits (Some (list ds)) h = absurd cc
-reference_fits (Some (dict ms)) h = absurd cc
-reference_fits (Some (text t)) h = by (root_in t) refl
-  where
-    by : (r : Option Root) → root_in t ≡ r → own_fault Path (text t) ≡ None
-    by None e = absurd (let x = rw e at h in cc)
-    by (Some r) e = rw e refl
-
-pub path_there : (t : List ℕ) → own_fault Path (text t) ≡ None → is_some (root_in t) ≡ true
-path_there t h = by (root_in t) refl
-  where
-    by : (r : Option Root) → root_in t ≡ r → is_some (root_in t) ≡ true
-    by None e = absurd (let x = rw e at h in cc)
-    by (Some r) e = rw e refl
 
 -- the same value, by the pairs of its members
 

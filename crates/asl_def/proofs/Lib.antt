@@ -9,3 +9,5 @@ pub mod Names
 pub mod Pointing
 pub mod Orders
 pub mod Firsts
+pub mod Meets
+pub mod Copies

@@ -1,15 +1,17 @@
 -- The list that a table shows.
-use Rattle.std.proofs.Common.{◌≡◌, ℕ, suc, ◌+◌, ◌≤◌, Bool, true, false, ◌||◌, List, [], ◌∷◌, ◌++◌, length, take, drop, refl, sym, ◌∙◌, ap, add-zero, arith, append_assoc, length-append}
-use Rattle.std.specs.Prelude.{Option, Some, None, is_some, string_bytes, String, nat_eq, if◌then◌else◌, option_map}
+use Rattle.std.proofs.Common.{◌≡◌, ℕ, suc, ◌+◌, ◌≤◌, Bool, true, false, cond, not, nat_lt, ◌||◌, List, [], ◌∷◌, ◌++◌, length, take, drop, refl, sym, ◌∙◌, ap, add-zero, arith, append_assoc, length-append, tests}
+use Rattle.std.specs.Prelude.{Option, Some, None, is_some, string_bytes, String, nat_eq, if◌then◌else◌, option_map, position}
+use Rattle.std.specs.List.{position_or_len}
 use Rattle.std.specs.Cmp.Lexicographic.{pointwise}
-use Rattle.std.specs.Map.{lookup}
-use Rattle.std.proofs.lemmas.List.{append-nil, take-append-le, drop-append-le, length-drop}
+use Rattle.std.specs.Map.{lookup, keys_of}
+use Rattle.std.proofs.lemmas.List.{append-nil, map-append, take-append-le, drop-append-le, length-drop}
 use Rattle.asl_json.specs.Data.{Data, pairs}
 use Rattle.asl_json.specs.Meaning.{value_at}
 use Rattle.asl_json.specs.Distinct.{has_key}
 use Rattle.asl_def.specs.declared.state.State.{State}
 use Rattle.asl_def.specs.declared.state.State.TheVariants.{Pass, Succeed}
 use Rattle.asl_def.specs.declared.state.Body.{Body}
+use Rattle.asl_def.specs.Machines.{number_at}
 use Rattle.asl_def.specs.Show.{Named, body_of, state_of, shown, IsWithin, StateIsWithin, AreInOrder}
 
 -- what goes on behind does not change what is shown
@@ -30,7 +32,7 @@ or_found true false v o = refl
 or_found false true v o = refl
 or_found false false v o = refl
 
-has_key-append : (k : List ℕ) (t r : List Named) → has_key k (t ++ r) ≡ (has_key k t || has_key k r)
+pub has_key-append : (k : List ℕ) (t r : List Named) → has_key k (t ++ r) ≡ (has_key k t || has_key k r)
 has_key-append k [] r = refl
 has_key-append k (m ∷ ms) r = rw (has_key-append k ms r) (or_assoc (pointwise nat_eq k m.0) (has_key k ms) (has_key k r))
   where
@@ -58,6 +60,22 @@ value_at-front k (x ∷ t) r d e = by (pointwise nat_eq k x.0) refl (value_at-fr
     by : (b : Bool) → pointwise nat_eq k x.0 ≡ b → (value_at k (pairs t) ≡ Some d → value_at k (pairs (t ++ r)) ≡ Some d) → (if pointwise nat_eq k x.0 then Some x.1 else value_at k (pairs (t ++ r))) ≡ Some d
     by true at rest = rw at (rw at at e)
     by false at rest = rw at (rest (rw at at e))
+
+-- the first of some names that is this one
+abbrev numbered : List ℕ → List (List ℕ) → Option ℕ
+numbered k [] = None
+numbered k (n ∷ ns) = if pointwise nat_eq k n then Some 0 else option_map suc (numbered k ns)
+
+number_named : (k : List ℕ) (xs : List Named) → number_at k (pairs xs) ≡ numbered k (keys_of xs)
+number_named k [] = refl
+number_named k (x ∷ xs) = ap (λ (o : Option ℕ). if pointwise nat_eq k x.0 then Some 0 else option_map suc o) (number_named k xs)
+
+position_next : {X : Type 0} (p : X → Bool) (x : X) (xs : List X) → position p (x ∷ xs) ≡ (if p x then Some 0 else option_map suc (position p xs))
+position_next p x xs = by (p x)
+  where
+    by : (b : Bool) → cond (nat_lt (cond (not b) (1 + position_or_len p xs) 0) (suc (length xs))) (Some (cond (not b) (1 + position_or_len p xs) 0)) None ≡ (if b then Some 0 else option_map suc (position p xs))
+    by true = grind (arith, tests)
+    by false = grind (arith, tests)
 
 module _ {Z : Type 0} where
   pub shown-append : (t : List Named) (es fs : List (String Z × State)) → shown t (es ++ fs) ≡ shown (shown t es) fs
@@ -125,3 +143,21 @@ module _ {Z : Type 0} where
       twice : (r : Option R) → option_map (λ s. state_of (shown [] es) (f s)) r ≡ option_map (state_of (shown [] es)) (option_map f r)
       twice None = refl
       twice (Some x) = refl
+
+  abbrev names_of : List (String Z × State) → List (List ℕ)
+  names_of [] = []
+  names_of (e ∷ es) = string_bytes e.0 ∷ names_of es
+
+  keys_shown : (t : List Named) (es : List (String Z × State)) → keys_of (shown t es) ≡ keys_of t ++ names_of es
+  keys_shown t [] = sym (append-nil (keys_of t))
+  keys_shown t (e ∷ es) =
+      let x : Named = (string_bytes e.0, state_of t e.1) in
+      keys_shown (t ++ x ∷ []) es ∙ ap (λ (ks : List (List ℕ)). ks ++ names_of es) (map-append (λ (m : Named). m.0) t (x ∷ [])) ∙ append_assoc (keys_of t) (string_bytes e.0 ∷ []) (names_of es)
+
+  numbered_names : (k : List ℕ) (es : List (String Z × State)) → numbered k (names_of es) ≡ position (λ (s : String Z). pointwise nat_eq k (string_bytes s)) (keys_of es)
+  numbered_names k [] = refl
+  numbered_names k (e ∷ es) = ap (λ (o : Option ℕ). if pointwise nat_eq k (string_bytes e.0) then Some 0 else option_map suc o) (numbered_names k es) ∙ sym (position_next (λ (s : String Z). pointwise nat_eq k (string_bytes s)) e.0 (keys_of es))
+
+  -- the number of an entry is that of its name in what the table shows
+  pub number_shown : (k : List ℕ) (es : List (String Z × State)) → position (λ (s : String Z). pointwise nat_eq k (string_bytes s)) (keys_of es) ≡ number_at k (pairs (shown [] es))
+  number_shown k es = sym (number_named k (shown [] es) ∙ ap (numbered k) (keys_shown [] es) ∙ numbered_names k es)

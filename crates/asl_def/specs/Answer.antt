@@ -5,8 +5,9 @@ use Rattle.asl_def.specs.declared.fault.FaultKind.{FaultKind}
 use Rattle.asl_def.specs.declared.fault.FaultKind.TheVariants as kind
 use Rattle.asl_def.specs.declared.pointer.DefFault.{DefFault}
 use Rattle.asl_def.specs.declared.pointer.DefFault.TheVariants.{NotObject, Missing, UnknownField, Unsupported, WrongType, Range, Both, Neither, NoTarget, Path, OutOfMemory}
-use Rattle.asl_def.specs.Faults.{Found, faults_of}
-use Rattle.asl_def.specs.Order.{Among, IsAtMost}
+use Rattle.asl_def.specs.Faults.{Found}
+use Rattle.asl_def.specs.Order.{IsAtMost}
+use Rattle.asl_def.specs.Sentences.{IsFault}
 use Rattle.asl_def.specs.Pointers.{pointer_text}
 
 -- the answer tells of this fault at the place of this text
@@ -25,8 +26,8 @@ Tells k p OutOfMemory = Unit {0}
 
 -- a fault of the definition, before which no other comes
 pub record IsFirst (d : Data) (f : Found) : Type 0 where
-  pub is_fault : Among f (faults_of d)
-  pub least : (g : Found) → Among g (faults_of d) → IsAtMost f g
+  pub is_fault : IsFault d f
+  pub least : (g : Found) → IsFault d g → IsAtMost f g
 
 -- the first fault, of which the answer tells
 pub record IsTold (d : Data) (e : DefFault) : Type 0 where

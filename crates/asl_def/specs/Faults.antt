@@ -11,7 +11,7 @@ use Rattle.asl_def.specs.declared.fault.Step.{Step}
 use Rattle.asl_def.specs.declared.fault.FaultKind.{FaultKind}
 use Rattle.asl_def.specs.declared.fault.FaultKind.TheVariants.{NotObject, Missing, UnknownField, Unsupported, WrongType, Range, Both, Neither, NoTarget, Path as NoPath}
 use Rattle.asl_def.specs.declared.sort.Sort.{Sort}
-use Rattle.asl_def.specs.declared.sort.Sort.TheVariants.{Definition, States, State, KindName, Text, Truth, Target, Path, ReferencePath, Any, Unknown}
+use Rattle.asl_def.specs.declared.sort.Sort.TheVariants.{Definition, States, State, KindName, Text, Truth, Target, ReferencePath, Any, Unknown}
 use Rattle.asl_def.specs.Members.{Row, Shape, kind_of, shape_in, sort_at}
 
 abbrev pub number_of : FaultKind → ℕ
@@ -71,7 +71,6 @@ fits KindName d = is_text d
 fits Text d = is_text d
 fits Truth d = is_truth d
 fits Target d = is_text d
-fits Path d = is_text d || is_null d
 fits ReferencePath d = is_text d || is_null d
 fits Any d = true
 fits Unknown d = true
@@ -95,7 +94,6 @@ is_input None = false
 
 abbrev pub text_fault : Sort → List ℕ → Option FaultKind
 text_fault KindName t = if is_some (kind_of t) then None else Some Unsupported
-text_fault Path t = if is_some (root_in t) then None else Some NoPath
 text_fault ReferencePath t = if is_input (root_in t) then None else Some NoPath
 text_fault _ t = None
 
@@ -220,6 +218,6 @@ no_names k = false
 abbrev pub faults_of : Data → List Found
 faults_of d = found no_names Definition d
 
--- a definition without faults
-abbrev pub Accepted : Data → Type 0
-Accepted d = faults_of d ≡ []
+-- the walk finds none
+abbrev pub IsFaultless : Data → Type 0
+IsFaultless d = faults_of d ≡ []

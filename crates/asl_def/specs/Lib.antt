@@ -1,6 +1,7 @@
 pub mod Members
 pub mod Faults
 pub mod Order
+pub mod Sentences
 pub mod Pointers
 pub mod Answer
 pub mod Show

@@ -5,7 +5,7 @@ use Rattle.asl_json.specs.Data.{Data, text, Pairs}
 use Rattle.asl_json.specs.Same.{bytes_eq}
 use Rattle.asl_json.specs.Meaning.{value_at}
 use Rattle.asl_def.specs.declared.sort.Sort.{Sort}
-use Rattle.asl_def.specs.declared.sort.Sort.TheVariants.{Definition, States, State, KindName, Text, Truth, Target, Path, ReferencePath, Any, Unknown}
+use Rattle.asl_def.specs.declared.sort.Sort.TheVariants.{Definition, States, State, KindName, Text, Truth, Target, ReferencePath, Any, Unknown}
 use Rattle.asl_def.specs.declared.sort.Kind.{Kind}
 use Rattle.asl_def.specs.declared.sort.Kind.TheVariants.{Pass, Succeed}
 
@@ -29,8 +29,8 @@ abbrev pub untyped_rows : List Row
 untyped_rows = required_row (codes "Type") KindName ∷ []
 
 abbrev pub kind_rows : Kind → List Row
-kind_rows Pass = required_row (codes "Type") KindName ∷ row (codes "Comment") Text ∷ row (codes "InputPath") Path ∷ row (codes "Result") Any ∷ row (codes "ResultPath") ReferencePath ∷ row (codes "OutputPath") Path ∷ row (codes "Next") Target ∷ row (codes "End") Truth ∷ []
-kind_rows Succeed = required_row (codes "Type") KindName ∷ row (codes "Comment") Text ∷ row (codes "InputPath") Path ∷ row (codes "OutputPath") Path ∷ []
+kind_rows Pass = required_row (codes "Type") KindName ∷ row (codes "Comment") Text ∷ row (codes "InputPath") ReferencePath ∷ row (codes "Result") Any ∷ row (codes "ResultPath") ReferencePath ∷ row (codes "OutputPath") ReferencePath ∷ row (codes "Next") Target ∷ row (codes "End") Truth ∷ []
+kind_rows Succeed = required_row (codes "Type") KindName ∷ row (codes "Comment") Text ∷ row (codes "InputPath") ReferencePath ∷ row (codes "OutputPath") ReferencePath ∷ []
 
 -- the states that go on by exactly one of Next and a true End
 abbrev pub moves : Kind → Bool

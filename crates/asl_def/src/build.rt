@@ -3,12 +3,12 @@ ghost use Rattle.std.specs.Prelude.{◌≡◌, ℕ, List, [], Some, IfOk, IsTrue
 ghost use Rattle.asl_json.specs.View.{data_of, members_of};
 ghost use Rattle.asl_json.specs.Meaning.{value_at};
 ghost use Rattle.asl_json.specs.Data.{text, dict, pairs};
-ghost use Rattle.asl_def.specs.declared.sort.Sort.TheVariants.{Text, Truth, Path, Target as target_sort, Definition, State as state_sort, States as states_sort, Any};
+ghost use Rattle.asl_def.specs.declared.sort.Sort.TheVariants.{Text, Truth, ReferencePath, Target as target_sort, Definition, State as state_sort, States as states_sort, Any};
 ghost use Rattle.asl_def.specs.declared.sort.Kind.TheVariants.{Pass as pass_kind, Succeed as succeed_kind};
 ghost use Rattle.asl_def.specs.Members.{state_shape, kind_named};
 ghost use Rattle.asl_def.specs.Show.{next_shown, end_shown, path_shown, pass_object, succeed_object, state_of, Named};
 ghost use Rattle.asl_def.specs.Canon.{kept_at, canon, canonical};
-ghost use Rattle.asl_def.specs.Faults.{Accepted, root_in};
+ghost use Rattle.asl_def.specs.Faults.{IsFaultless, root_in};
 ghost use Rattle.asl_def.specs.Built.{Fits, GoesOneWay, IsClean, IsCleanInside, AreClean, IsThere, IsBody, canon_rows};
 
 use crate::fields::{find, kind_named};
@@ -51,7 +51,7 @@ fn path(alloc: Global, text: &str) -> Result<RefPath, AllocError>
 }
 
 fn path_field(alloc: Global, value: Option<&Json>) -> Result<PathField, AllocError>
-    requires { Fits Path (option_map (λ v. data_of v.now) value) }
+    requires { Fits ReferencePath (option_map (λ v. data_of v.now) value) }
     ensures { IfOk result (λ p. path_shown p ≡ option_map (λ v. data_of v.now) value.entry) }
 {
     match value {
@@ -166,7 +166,7 @@ fn table_in(alloc: Global, members: &[Member]) -> Result<Table, AllocError>
 
 /// The table of a definition's states, and the machine on the outside.
 pub(crate) fn build(alloc: Global, definition: &Json) -> Result<(Table, Body), AllocError>
-    requires { Accepted (data_of definition.now) }
+    requires { IsFaultless (data_of definition.now) }
     ensures { IfOk result (λ x. IsBody x.0 (data_of definition.now) x.1) }
 {
     let Json::Dict(members) = definition else {

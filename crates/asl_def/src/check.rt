@@ -24,9 +24,7 @@ fn fits(sort: Sort, value: &Json) -> bool
         Sort::Definition | Sort::States | Sort::State => matches!(value, Json::Dict(_)),
         Sort::KindName | Sort::Text | Sort::Target => matches!(value, Json::Text(_)),
         Sort::Truth => matches!(value, Json::Bool(_)),
-        Sort::Path | Sort::ReferencePath => {
-            matches!(value, Json::Text(_)) || matches!(value, Json::Null)
-        }
+        Sort::ReferencePath => matches!(value, Json::Text(_)) || matches!(value, Json::Null),
         Sort::Any | Sort::Unknown => true,
     }
 }
@@ -62,10 +60,6 @@ fn text_fault(alloc: Global, sort: Sort, text: &str) -> Result<Option<FaultKind>
             }
             Ok(Some(FaultKind::Unsupported))
         }
-        Sort::Path => match root_of(alloc, text)? {
-            Some(_) => Ok(None),
-            None => Ok(Some(FaultKind::Path)),
-        },
         Sort::ReferencePath => match root_of(alloc, text)? {
             Some(Root::Input) => Ok(None),
             _ => Ok(Some(FaultKind::Path)),

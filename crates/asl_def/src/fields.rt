@@ -64,7 +64,7 @@ const PASS: &[Field] = &[
     Field {
         name: "InputPath",
         required: false,
-        sort: Sort::Path,
+        sort: Sort::ReferencePath,
     },
     Field {
         name: "Result",
@@ -79,7 +79,7 @@ const PASS: &[Field] = &[
     Field {
         name: "OutputPath",
         required: false,
-        sort: Sort::Path,
+        sort: Sort::ReferencePath,
     },
     Field {
         name: "Next",
@@ -107,12 +107,12 @@ const SUCCEED: &[Field] = &[
     Field {
         name: "InputPath",
         required: false,
-        sort: Sort::Path,
+        sort: Sort::ReferencePath,
     },
     Field {
         name: "OutputPath",
         required: false,
-        sort: Sort::Path,
+        sort: Sort::ReferencePath,
     },
 ];
 

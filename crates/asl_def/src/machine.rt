@@ -1,13 +1,13 @@
 // A definition, compiled.
-ghost use Rattle.std.specs.Prelude.{◌≡◌, Some, codes, option_map, IfOk, IfErr};
+ghost use Rattle.std.specs.Prelude.{◌≡◌, ◌<◌, Some, codes, option_map, IfOk, IfErr, IfSome};
 ghost use Rattle.asl_json.specs.View.{data_of};
 ghost use Rattle.asl_json.specs.Data.{text};
 ghost use Rattle.asl_json.specs.Meaning.{value_in};
 ghost use Rattle.asl_def.specs.Show.{object_of};
 ghost use Rattle.asl_def.specs.Canon.{canonical};
-ghost use Rattle.asl_def.specs.Faults.{Accepted};
+ghost use Rattle.asl_def.specs.Sentences.{Accepted};
 ghost use Rattle.asl_def.specs.Answer.{IsAnswer};
-ghost use Rattle.asl_def.specs.Machines.{state_object};
+ghost use Rattle.asl_def.specs.Machines.{state_object, state_number, state_count};
 
 use crate::build::build;
 use crate::check::first_fault;
@@ -15,7 +15,7 @@ use crate::pointer::{DefFault, answer};
 use crate::state::{Body, State};
 use crate::table::Table;
 use asl_json::Json;
-use std::alloc::Global;
+use std::alloc::{AllocError, Global};
 use std::marker::Model;
 
 /// A state machine, compiled from a definition without faults. (Amazon States Language, "Structure of a State Machine".)
@@ -56,6 +56,33 @@ impl Machine {
     {
         self.table.state(name)
     }
+
+    /// How many states it has.
+    pub fn len(&self) -> usize
+        ensures { result ≡ state_count self.now }
+    {
+        self.table.len()
+    }
+
+    /// The state of this name, and its number among the states in the order of the definition, counted from 0. One hash
+    /// finds both.
+    pub fn find(&self, name: &str) -> Option<(usize, &State)>
+        ensures number { option_map (λ f. f.0) result ≡ state_number name.now self.now }
+        ensures within { IfSome result (λ f. f.0 < state_count self.now) }
+        ensures object { option_map (λ f. object_of f.1.now) result ≡ state_object name.now self.now }
+    {
+        self.table.find(name)
+    }
+
+    /// A machine of its own, equal to this one. The error is that memory ran out.
+    pub fn try_clone(&self, alloc: Global) -> Result<Machine, AllocError>
+        ensures { IfOk result (λ m. m ≡ self.now) }
+    {
+        Ok(Machine {
+            table: self.table.try_clone(alloc)?,
+            root: self.root.try_clone(alloc)?,
+        })
+    }
 }
 
 /// The machine of a definition.
@@ -71,7 +98,7 @@ pub fn parse(alloc: Global, definition: &Json) -> Result<Machine, DefFault>
     ensures accepted { IfOk result (λ _. Accepted (data_of definition.now)) }
     // and one without a fault is, unless memory runs out.
     ensures only { Accepted (data_of definition.now) → IfErr result (λ e. e ≡ DefFault.OutOfMemory) }
-    // What is answered is a fault of the definition, and the first one.
+    // What is answered is a fault of the definition, and no other fault comes before it.
     ensures fault { IfErr result (λ e. IsAnswer (data_of definition.now) e) }
 {
     match first_fault(alloc, definition)? {

@@ -52,7 +52,7 @@ pub enum DefFault {
     Neither(Pointer),
     /// F10: `StartAt` or `Next` names no state of the same machine.
     NoTarget(Pointer),
-    /// F13: a text that isn't a path, or a `ResultPath` that starts from the Context Object.
+    /// F13: a text that isn't a path, or a path into the Context Object, which isn't there yet.
     Path(Pointer),
     /// Memory ran out.
     OutOfMemory,
@@ -162,7 +162,9 @@ pub(crate) fn pointer_of(alloc: Global, steps: &[Step]) -> Result<Pointer, Alloc
 }
 
 fn at_place(kind: FaultKind, place: Pointer) -> DefFault
-    ensures { Tells kind place result }
+    ensures fault { Tells kind place result }
+    // It takes no memory, so it never tells of want of it.
+    ensures told { result ≡ DefFault.OutOfMemory → ⊥ }
 {
     match kind {
         FaultKind::NotObject => DefFault::NotObject,

@@ -17,9 +17,7 @@ pub enum Sort {
     Truth,
     /// The name of a state of the same machine.
     Target,
-    /// A path, or null.
-    Path,
-    /// A path that starts from the input, or null.
+    /// A path into the input, or null. There is no Context Object yet, into which a path could lead.
     ReferencePath,
     /// Any value. It isn't searched.
     Any,

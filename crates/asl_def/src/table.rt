@@ -1,8 +1,9 @@
 // The states of a whole definition in one table.
-ghost use Rattle.std.specs.Prelude.{◌≡◌, ◌∷◌, ◌++◌, [], Some, false, length, slice_get, string_bytes, IfSome, IfNone, OnOk, OnErr, ◌≤◌, option_map};
+ghost use Rattle.std.specs.Prelude.{◌≡◌, ◌∷◌, ◌++◌, [], Some, false, length, slice_get, string_bytes, IfSome, IfNone, OnOk, OnErr, ◌≤◌, option_map, IfOk};
 ghost use Rattle.asl_json.specs.Data.{pairs};
 ghost use Rattle.asl_json.specs.Distinct.{has_key};
 ghost use Rattle.asl_json.specs.Meaning.{value_at};
+ghost use Rattle.asl_def.specs.Machines.{number_at};
 ghost use Rattle.asl_def.specs.Show.{state_of, StateIsWithin};
 
 use crate::state::State;
@@ -55,6 +56,15 @@ impl Table {
         self.states.get(name)
     }
 
+    /// The state of this name and its number, by one look-up of a hash.
+    pub(crate) fn find(&self, name: &str) -> Option<(usize, &State)>
+        ensures number { option_map (λ f. f.0) result ≡ number_at name.now (pairs self.now) }
+        ensures state { option_map (λ f. state_of self.now f.1.now) result ≡ value_at name.now (pairs self.now) }
+    {
+        let (number, _, state) = self.states.get_full(name)?;
+        Some((number, state))
+    }
+
     /// A state goes last. Inner machines stand before it.
     pub(crate) fn push(&mut self, name: String, state: State) -> Result<(), AllocError>
         requires new { has_key (string_bytes name) self.old ≡ false }
@@ -65,6 +75,18 @@ impl Table {
         let old = self.states.insert(name, state)?;
         let_go(old);
         Ok(())
+    }
+
+    /// A table of its own, equal to this one. The error is that memory ran out.
+    pub(crate) fn try_clone(&self, alloc: Global) -> Result<Table, AllocError>
+        ensures { IfOk result (λ t. t ≡ self.now) }
+    {
+        let mut copy = Table::new(alloc);
+        for (name, state) in &self.states {
+            let name = String::from_str(alloc, name.as_str())?;
+            copy.push(name, state.try_clone(alloc)?)?;
+        }
+        Ok(copy)
     }
 }
 

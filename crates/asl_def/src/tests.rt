@@ -147,6 +147,20 @@ fn faults_of_states(rt: HostRuntime) -> Result<(), Fail> {
             "F13 Path /States/A/ResultPath"
         )
     );
+    assert!(rt;
+        is_refused_in_state(
+            &rt,
+            "\"Type\":\"Pass\",\"InputPath\":\"$$.x\",\"End\":true",
+            "F13 Path /States/A/InputPath"
+        )
+    );
+    assert!(rt;
+        is_refused_in_state(
+            &rt,
+            "\"Type\":\"Succeed\",\"OutputPath\":\"$$\"",
+            "F13 Path /States/A/OutputPath"
+        )
+    );
     Ok(())
 }
 
@@ -155,7 +169,7 @@ fn accepted_definitions(rt: HostRuntime) -> Result<(), Fail> {
     assert!(rt;
         is_accepted(
             &rt,
-            "\"Type\":\"Succeed\",\"InputPath\":\"$$.a\",\"OutputPath\":null"
+            "\"Type\":\"Succeed\",\"InputPath\":\"$.a\",\"OutputPath\":null"
         )
     );
     assert!(rt;
@@ -166,6 +180,9 @@ fn accepted_definitions(rt: HostRuntime) -> Result<(), Fail> {
     );
     Ok(())
 }
+
+const TWO_STATES: &str =
+    "{\"StartAt\":\"P\",\"States\":{\"P\":{\"Type\":\"Pass\",\"Next\":\"S\",\"InputPath\":null},\"S\":{\"Type\":\"Succeed\"}}}";
 
 fn goes_to(machine: &Machine, name: &str, next: &str) -> bool {
     match machine.state(name) {
@@ -185,8 +202,24 @@ fn reads_whole_input(machine: &Machine, name: &str) -> bool {
     }
 }
 
+/// The number of the state of this name, where it is found with a Succeed state.
+fn number_of_succeed(machine: &Machine, name: &str) -> Option<usize> {
+    match machine.find(name) {
+        Some((number, State::Succeed(_))) => Some(number),
+        _ => None,
+    }
+}
+
+fn numbers_its_states(machine: &Machine) -> bool {
+    machine.len() == 2
+        && number_of_succeed(machine, "S") == Some(1)
+        && matches!(machine.find("P"), Some((0, State::Pass(_))))
+        && machine.find("Q").is_none()
+}
+
 fn lends_its_states(machine: &Machine) -> bool {
     machine.start() == "P"
+        && numbers_its_states(machine)
         && goes_to(machine, "P", "S")
         && !reads_whole_input(machine, "P")
         && reads_whole_input(machine, "S")
@@ -195,10 +228,25 @@ fn lends_its_states(machine: &Machine) -> bool {
 
 #[test]
 fn states_by_name(rt: HostRuntime) -> Result<(), Fail> {
-    let text =
-        "{\"StartAt\":\"P\",\"States\":{\"P\":{\"Type\":\"Pass\",\"Next\":\"S\",\"InputPath\":null},\"S\":{\"Type\":\"Succeed\"}}}";
-    let lent = match machine(&rt, text) {
+    let lent = match machine(&rt, TWO_STATES) {
         Some(machine) => lends_its_states(&machine),
+        None => false,
+    };
+    assert!(rt; lent);
+    Ok(())
+}
+
+fn copy_lends_its_states(rt: &HostRuntime, machine: &Machine) -> bool {
+    match machine.try_clone(rt.alloc()) {
+        Ok(copy) => lends_its_states(&copy),
+        Err(_) => false,
+    }
+}
+
+#[test]
+fn copies_lend_the_same_states(rt: HostRuntime) -> Result<(), Fail> {
+    let lent = match machine(&rt, TWO_STATES) {
+        Some(machine) => copy_lends_its_states(&rt, &machine),
         None => false,
     };
     assert!(rt; lent);

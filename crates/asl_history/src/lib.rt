@@ -23,4 +23,5 @@ pub use history::History;
 pub use kind::EventKind;
 pub use place::Place;
 pub use printing::line;
+pub use send::write_all;
 pub use sink::{Memory, Sink, SinkFault};

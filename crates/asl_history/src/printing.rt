@@ -55,17 +55,9 @@ fn put_number(out: &mut String, number: u64) -> Result<(), AllocError>
 fn put_stamp(alloc: Global, out: &mut String, moment: Moment) -> Result<(), AllocError>
     ensures { OnOk result (string_bytes out.new ≡ string_bytes out.old ++ (stamp_of moment ++ 32 ∷ [])) }
 {
-    let stamp = stamp(alloc, moment)?;
+    let stamp = print_stamp(alloc, moment)?;
     out.push_str(stamp.as_str())?;
     out.push(' ')
-}
-
-/// The stamp of a moment.
-fn stamp(alloc: Global, moment: Moment) -> Result<String, AllocError>
-    ensures { IfOk result (λ t. string_bytes t ≡ stamp_of moment) }
-{
-    let _bound = moment.millis();
-    print_stamp(alloc, moment)
 }
 
 /// Appends name and body, a space between and a line feed behind.

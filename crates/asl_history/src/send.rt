@@ -57,14 +57,14 @@ fn write_line<W: Sink>(
     if put_line(alloc, buffer, event).is_err() {
         return Err(WriteFault::OutOfMemory { sent: 0 });
     }
-    match write_piece(sink, buffer.as_bytes()) {
+    match write_all(sink, buffer.as_bytes()) {
         Ok(()) => Ok(buffer.len()),
         Err(sent) => Err(WriteFault::Write { sent: sent as u128 }),
     }
 }
 
-/// Writes a piece. The error is that the sink failed, and tells how many bytes of the piece went out before.
-fn write_piece<W: Sink>(sink: &mut W, bytes: &[u8]) -> Result<(), usize>
+/// Writes the whole of a piece. The error is that the sink failed, and tells how many bytes of the piece went out before.
+pub fn write_all<W: Sink>(sink: &mut W, bytes: &[u8]) -> Result<(), usize>
     ensures ok { OnOk result (W.taken sink.new ≡ W.taken sink.old ++ bytes.now) }
     ensures quiet { OnOk result (W.failures sink.new ≡ W.failures sink.old) }
     ensures part { IfErr result (λ n. W.taken sink.new ≡ W.taken sink.old ++ take n bytes.now) }

@@ -18,3 +18,4 @@ pub mod Lending
 pub mod Machine
 pub mod Leads
 pub mod Keys
+pub mod FaultText

@@ -1,6 +1,8 @@
 // Why bytes aren't read.
+ghost use Rattle.std.specs.Prelude.{◌≡◌, IfOk, string_bytes};
+ghost use Rattle.asl_json.specs.FaultText.{fault_words, place_in, fault_text};
 
-use std::alloc::{AllocError, AllocFailed};
+use std::alloc::{AllocError, AllocFailed, Global};
 
 /// What is wrong at a place of a text.
 #[derive(Clone, Copy, Debug, PartialEq, Eq)]
@@ -64,4 +66,46 @@ pub enum JsonFault {
     Utf8(usize),
     /// J7: memory ran out.
     OutOfMemory,
+}
+
+impl JsonFault {
+    /// The number and the name that its text begins with.
+    fn words(&self) -> &'static str
+        ensures { result.now ≡ fault_words self.now }
+    {
+        match self {
+            JsonFault::Syntax(_) => "J1 Syntax",
+            JsonFault::Duplicate(_) => "J2 Duplicate",
+            JsonFault::Depth(_) => "J3 Depth",
+            JsonFault::Number(_) => "J4 Number",
+            JsonFault::Size => "J5 Size",
+            JsonFault::Utf8(_) => "J6 Utf8",
+            JsonFault::OutOfMemory => "J7 OutOfMemory",
+        }
+    }
+
+    /// Where the fault is.
+    fn place(&self) -> Option<usize>
+        ensures { result ≡ place_in self.now }
+    {
+        match self {
+            JsonFault::Syntax(at)
+            | JsonFault::Duplicate(at)
+            | JsonFault::Depth(at)
+            | JsonFault::Number(at)
+            | JsonFault::Utf8(at) => Some(*at),
+            JsonFault::Size | JsonFault::OutOfMemory => None,
+        }
+    }
+
+    /// The text of the fault, as `J1 Syntax 5`. The error is that memory ran out.
+    pub fn text(&self, alloc: Global) -> Result<String, AllocError>
+        ensures { IfOk result (λ t. string_bytes t ≡ fault_text self.now) }
+    {
+        let mut text = String::from_str(alloc, self.words())?;
+        if let Some(place) = self.place() {
+            write!(text, " {place}")?;
+        }
+        Ok(text)
+    }
 }

@@ -1,5 +1,5 @@
 // What no clause says: which values and faults texts from outside give, and that calls succeed with ample memory.
-use crate::{Json, JsonFault, read, same, write};
+use crate::{Items, Json, JsonFault, Members, read, same, write};
 use std::alloc::Global;
 use std::test::Fail;
 
@@ -186,5 +186,45 @@ fn wide_objects_are_read_and_their_doubled_keys_found(rt: HostRuntime) -> Result
         fault_of(alloc, doubled.as_bytes()),
         Some(JsonFault::Duplicate(341))
     );
+    Ok(())
+}
+
+/// A list of two values.
+fn list_of(alloc: Global, one: Json, other: Json) -> Option<Items> {
+    let mut values = Vec::new(alloc);
+    values.push(one).ok()?;
+    values.push(other).ok()?;
+    Some(Items::of_values(values))
+}
+
+/// Whether the members are `a`, of whatever value, and then `b`, which is null.
+fn are_a_and_null_b(members: &Members) -> bool {
+    match members.members() {
+        [first, second] => {
+            first.key.as_str() == "a" && second.key.as_str() == "b" && second.value == Json::Null
+        }
+        _ => false,
+    }
+}
+
+#[test]
+fn parts_of_lists_and_objects(rt: HostRuntime) -> Result<(), Fail> {
+    let alloc = rt.alloc();
+    let one = value_of(alloc, "{\"a\":1,\"b\":null}").ok_or("not read")?;
+    let Json::Dict(members) = &one else {
+        return Err(Fail::from("no object"));
+    };
+    assert_eq!(rt; members.len(), 2);
+    assert_eq!(rt; are_a_and_null_b(members), true);
+    assert_eq!(rt; members.position("b"), Some(1));
+    assert_eq!(rt; members.position("c"), None);
+    assert_eq!(rt; members.find("b") == Some(&Json::Null), true);
+    let copy = one.try_clone(alloc).ok().ok_or("memory")?;
+    let items = list_of(alloc, copy, Json::Bool(true)).ok_or("memory")?;
+    assert_eq!(rt; items.len(), 2);
+    assert_eq!(rt; items.values().len(), 2);
+    assert_eq!(rt; items.values()[0] == one, true);
+    assert_eq!(rt; items.get(1) == Some(&Json::Bool(true)), true);
+    assert_eq!(rt; items.get(2) == None, true);
     Ok(())
 }

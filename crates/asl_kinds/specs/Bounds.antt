@@ -1,13 +1,22 @@
 -- What holds of each effect, whatever the kind.
-use Rattle.std.specs.Prelude.{Bool, true, false, [], ◌≡◌, ◌<◌, ◌≤◌, length, IsSome}
+use Rattle.std.specs.Prelude.{Bool, true, false, [], ◌≡◌, ◌<◌, ◌≤◌, ◌^◌, length, IsSome}
 use Rattle.asl_kinds.specs.Outputs.{is_finished}
 use Rattle.asl_kinds.specs.Seen.{Seen}
+use Rattle.asl_kinds.specs.declared.effect.Children.{Children}
+use Rattle.asl_kinds.specs.declared.effect.Children.TheVariants.{Kept, Removed, Forked}
 use Rattle.asl_kinds.specs.declared.effect.Effect.{Effect}
+
+-- each new child has a number below 10^9
+abbrev pub AreFew : Children → Type 0
+AreFew Kept = Unit {0}
+AreFew Removed = Unit {0}
+AreFew (Forked rs) = length rs ≤ 10 ^ 9
 
 -- the bounds that hold of an effect at a place
 pub record IsBounded (v : Seen) (invoking : Bool) (e : Effect) : Type 0 where
-  -- no more than eight events
+  -- no more than eight events, and no more children than a place has numbers for
   pub few : length e.events ≤ 8
+  pub fits : AreFew e.children
   -- a count is raised only by a kind that invokes, and this is told
   pub raises : e.raises ≡ true → invoking ≡ true
   pub tells : e.raises ≡ true → 0 < length e.events

@@ -50,6 +50,7 @@ failed-ends (i ∷ p) e root = (cc)
 leaving-bounded : (v : Seen) (invoking : Bool) (exited : EventKind) (name : List ℕ) (next : Option (List ℕ)) (events : List Draft) (x : Json) → length events ≤ 6 → IsBounded v invoking (leaving v.place exited name next events x)
 leaving-bounded v invoking exited name next events x short = record {
   few = omega (arith, length-append {A = Draft}, success-short next v.place x);
+  fits = tt;
   raises = λ e. (cc);
   tells = λ e. (cc);
   at_root = ended-root next v.place x;
@@ -59,6 +60,7 @@ leaving-bounded v invoking exited name next events x short = record {
 failing-bounded : (v : Seen) (invoking : Bool) (events : List Draft) (e : ErrorOut) → length events ≤ 6 → IsBounded v invoking (failing v.place events e)
 failing-bounded v invoking events e short = record {
   few = omega (arith, length-append {A = Draft}, failure-short v.place e);
+  fits = tt;
   raises = λ e. (cc);
   tells = λ e. (cc);
   at_root = failed-root v.place e;
@@ -69,9 +71,10 @@ passed-bounded : (v : Seen) (invoking : Bool) (exited : EventKind) (name : List 
 passed-bounded v invoking exited name next events (Ok z) short = leaving-bounded v invoking exited name next events z short
 passed-bounded v invoking exited name next events (Err e) short = failing-bounded v invoking events e short
 
-idle-bounded : (v : Seen) (invoking : Bool) (r : Record) → v.current ≡ r → IsBounded v invoking (idle r)
+pub idle-bounded : (v : Seen) (invoking : Bool) (r : Record) → v.current ≡ r → IsBounded v invoking (idle r)
 idle-bounded v invoking r e = record {
   few = omega arith;
+  fits = tt;
   raises = λ h. (cc);
   tells = λ h. (cc);
   at_root = λ h. (cc);

@@ -24,6 +24,6 @@ pub trait StateKind {
     fn invokes(&self) -> bool
         ensures { result ≡ is_invoking self.now };
 
-    /// At most eight events, a count only where the kind invokes, the outcome exactly where the branch at the root ends.
+    /// At most eight events, no more children than there are numbers for, a count only where the kind invokes, the outcome exactly where the branch at the root ends.
     ghost bounded: { (k : Self) (v : Seen) → IsBounded v (is_invoking k) (effect k v) };
 }

@@ -7,16 +7,15 @@ use std::alloc::{AllocError, Global};
 
 impl StateKind for State {
     ghost use Rattle.std.specs.Prelude.{false};
-    ghost use Rattle.std.specs.Prelude.{[]};
-    ghost use Rattle.asl_def.specs.Show.{state_of};
+    ghost use Rattle.asl_def.specs.Show.{object_of};
     ghost use Rattle.asl_kinds.specs.Table.{state_effect};
     ghost use Rattle.asl_kinds.specs.Laws.{state-bounded};
 
-    ghost effect = { λ k. state_effect (state_of [] k) };
+    ghost effect = { λ k. state_effect (object_of k) };
 
     ghost is_invoking = { λ k. false };
 
-    ghost bounded = { λ k. state-bounded (state_of [] k) };
+    ghost bounded = { λ k. state-bounded (object_of k) };
 
     fn visit(&self, alloc: Global, visit: &Visit) -> Result<Effect, AllocError> {
         match self {

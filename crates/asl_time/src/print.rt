@@ -70,6 +70,7 @@ fn spell(alloc: Global, shown: DateTime) -> Result<String, AllocError>
 /// `read_stamp` reads the moment back from it.
 pub fn print_stamp(alloc: Global, moment: Moment) -> Result<String, AllocError>
     ensures text { IfOk result (λ t. IsStampOf moment (string_bytes t)) }
+    ensures stamp { IfOk result (λ t. string_bytes t ≡ stamp_of moment) }
     // It reads back.
     ensures back { IfOk result (λ t. IsTimestamp (string_bytes t) moment) }
     // There is no other.

@@ -2,11 +2,11 @@ use Rattle.std.proofs.Common.{◌∙◌, subst, sym}
 use Rattle.std.specs.Prelude.{codes, Option, Some}
 use Rattle.asl_json.specs.Data.{Data, pairs}
 use Rattle.asl_json.specs.View.{members_of}
-use Rattle.asl_def.specs.declared.sort.Sort.TheVariants.{Path}
+use Rattle.asl_def.specs.declared.sort.Sort.TheVariants.{ReferencePath}
 use Rattle.asl_def.specs.declared.sort.Kind.TheVariants.{Pass}
 use Rattle.asl_def.specs.Members.{state_shape}
 use Rattle.asl_def.specs.Built.{Fits}
-use Rattle.asl_def.proofs.Clean.{fits_at, reference_fits, one_way}
+use Rattle.asl_def.proofs.Clean.{fits_at, one_way}
 use Rattle.asl_def.proofs.Builds.{pass_shows}
 use Rattle.asl_def.proofs.build.pass.Goals as goal
 
@@ -14,13 +14,13 @@ pub comment-requires : goal.comment-requires
 comment-requires c = fits_at (state_shape (Some Pass)) (pairs (members_of c.args.members.now)) (codes "Comment") c.requires.clean
 
 pub path_field-requires : goal.path_field-requires
-path_field-requires c = subst (λ (o : Option Data). Fits Path o) (sym c.find.ensures) (fits_at (state_shape (Some Pass)) (pairs (members_of c.args.members.now)) (codes "InputPath") c.requires.clean)
+path_field-requires c = subst (λ (o : Option Data). Fits ReferencePath o) (sym c.find.ensures) (fits_at (state_shape (Some Pass)) (pairs (members_of c.args.members.now)) (codes "InputPath") c.requires.clean)
 
 pub path_field-requires-2 : goal.path_field-requires-2
-path_field-requires-2 c = subst (λ (o : Option Data). Fits Path o) (sym c.find-2.ensures) (reference_fits _ (fits_at (state_shape (Some Pass)) (pairs (members_of c.args.members.now)) (codes "ResultPath") c.requires.clean))
+path_field-requires-2 c = subst (λ (o : Option Data). Fits ReferencePath o) (sym c.find-2.ensures) (fits_at (state_shape (Some Pass)) (pairs (members_of c.args.members.now)) (codes "ResultPath") c.requires.clean)
 
 pub path_field-requires-3 : goal.path_field-requires-3
-path_field-requires-3 c = subst (λ (o : Option Data). Fits Path o) (sym c.find-3.ensures) (fits_at (state_shape (Some Pass)) (pairs (members_of c.args.members.now)) (codes "OutputPath") c.requires.clean)
+path_field-requires-3 c = subst (λ (o : Option Data). Fits ReferencePath o) (sym c.find-3.ensures) (fits_at (state_shape (Some Pass)) (pairs (members_of c.args.members.now)) (codes "OutputPath") c.requires.clean)
 
 pub next-requires-clause-target : goal.next-requires-clause-target
 next-requires-clause-target c = fits_at (state_shape (Some Pass)) (pairs (members_of c.args.members.now)) (codes "Next") c.requires.clean

@@ -1,0 +1,53 @@
+-- What is read for a run, what is emulated then, and why nothing is.
+use Rattle.std.specs.Prelude.{ℕ, Bool, List, ◌≡◌, ◌++◌, ◌⊎◌, ⊤, codes}
+use Rattle.asl_exec.specs.declared.fault.EmulateFault.{EmulateFault}
+use Rattle.asl_exec.specs.Emulations.{IsRunOf, IsRefused}
+use Rattle.asl_exec.specs.Texts.{Unless, refusal_line}
+use Rattle.asl_cli.specs.declared.refusal.Refusal.{Refusal}
+use Rattle.asl_cli.specs.declared.refusal.Refusal.TheVariants.{File, Emulation, OutOfMemory}
+use Rattle.asl_cli.specs.declared.words.RunWords.{RunWords}
+
+-- the files that the words name may give these bytes: a definition, mocks, an input and steps
+abbrev pub IsGiven : (List ℕ → List ℕ → Type 0) → RunWords → List ℕ → List ℕ → List ℕ → List ℕ → Type 0
+IsGiven gives w definition mocks input steps =
+    gives w.definition.now definition × gives w.mocks.now mocks × gives w.input.now input × gives w.steps.now steps
+
+-- the run of what the files may give prints this text and is good or not
+pub record IsEmulated (gives : List ℕ → List ℕ → Type 0) (w : RunWords) (text : List ℕ) (good : Bool) : Type 0 where
+  pub definition : List ℕ
+  pub mocks : List ℕ
+  pub input : List ℕ
+  pub steps : List ℕ
+  pub given : IsGiven gives w definition mocks input steps
+  pub is_run : IsRunOf definition mocks w.chosen.now input steps text good
+
+-- what the files may give is refused for this fault
+pub record IsRefusedFor (gives : List ℕ → List ℕ → Type 0) (w : RunWords) (fault : EmulateFault) : Type 0 where
+  pub definition : List ℕ
+  pub mocks : List ℕ
+  pub input : List ℕ
+  pub steps : List ℕ
+  pub given : IsGiven gives w definition mocks input steps
+  pub refused : Unless (IsRefused definition mocks w.chosen.now input steps) fault
+
+-- a file that can't be read is the one of this name
+abbrev pub IsNamedAs : List ℕ → Refusal → Type 0
+IsNamedAs wanted (File name) = name.now ≡ wanted
+IsNamedAs wanted (Emulation fault) = ⊥
+IsNamedAs wanted OutOfMemory = ⊤
+
+-- why nothing is emulated: a file that the words name can't be read, what was read is refused, or memory ran out
+abbrev pub IsReason : (List ℕ → List ℕ → Type 0) → RunWords → Refusal → Type 0
+IsReason gives w (File name) = (name.now ≡ w.definition.now) ⊎ (name.now ≡ w.mocks.now) ⊎ (name.now ≡ w.input.now) ⊎ (name.now ≡ w.steps.now)
+IsReason gives w (Emulation fault) = IsRefusedFor gives w fault
+IsReason gives w OutOfMemory = ⊤
+
+-- the text of a refusal
+abbrev pub reason_text : Refusal → List ℕ
+reason_text (File name) = codes "file " ++ name.now
+reason_text (Emulation fault) = refusal_line fault
+reason_text OutOfMemory = codes "OutOfMemory"
+
+-- the text that is told, where memory may run out before it is made
+abbrev pub Tells : Refusal → List ℕ → Type 0
+Tells r text = (text ≡ reason_text r) ⊎ (text ≡ codes "OutOfMemory")

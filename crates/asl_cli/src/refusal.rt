@@ -1,0 +1,77 @@
+// Why nothing was emulated, and the line that tells it.
+ghost use Rattle.std.specs.Prelude.{◌≡◌, ◌++◌, List, ℕ, codes, IfOk, OnOk, OnErr, string_bytes};
+ghost use Rattle.asl_cli.specs.Outcomes.{fault_line, IsWhole, IsBroken, IsTold};
+ghost use Rattle.asl_cli.specs.Refusals.{reason_text, Tells};
+
+use asl_exec::EmulateFault;
+use asl_history::{Sink, SinkFault, write_all};
+use std::alloc::{AllocError, Global};
+
+/// Why nothing was emulated.
+#[derive(Drop)]
+pub enum Refusal<'a> {
+    /// The file of this name can't be read.
+    File(&'a str),
+    /// What was read is refused.
+    Emulation(EmulateFault),
+    OutOfMemory,
+}
+
+impl<'a> Refusal<'a> {
+    /// Writes the refusal's line.
+    pub fn write<E: Sink>(&self, alloc: Global, err: &mut E)
+        ensures { (t : List ℕ) × Tells self.now t × IsTold E.taken E.failures err.old err.new (fault_line t) }
+    {
+        match self.text(alloc) {
+            Ok(text) => tell_fault(err, text.as_str()),
+            Err(_) => tell_fault(err, "OutOfMemory"),
+        }
+    }
+
+    /// What stands behind `fault: `.
+    fn text(&self, alloc: Global) -> Result<String, AllocError>
+        ensures { IfOk result (λ t. string_bytes t ≡ reason_text self.now) }
+    {
+        match self {
+            Refusal::File(name) => file_text(alloc, name),
+            Refusal::Emulation(fault) => fault.text(alloc),
+            Refusal::OutOfMemory => String::from_str(alloc, "OutOfMemory"),
+        }
+    }
+}
+
+fn file_text(alloc: Global, name: &str) -> Result<String, AllocError>
+    ensures { IfOk result (λ t. string_bytes t ≡ codes "file " ++ name.now) }
+{
+    let mut text = String::from_str(alloc, "file ")?;
+    text.push_str(name)?;
+    Ok(text)
+}
+
+/// Writes the line of a fault, as far as the sink takes it: `fault: `, its text and a line feed.
+pub fn tell_fault<E: Sink>(err: &mut E, text: &str)
+    ensures { IsTold E.taken E.failures err.old err.new (fault_line text.now) }
+{
+    // A sink that fails has no other way to tell it: the status is the same.
+    let _ = write_fault(err, text);
+}
+
+fn write_fault<E: Sink>(err: &mut E, text: &str) -> Result<(), SinkFault>
+    ensures ok { OnOk result (IsWhole E.taken E.failures err.old err.new (fault_line text.now)) }
+    ensures err { OnErr result (IsBroken E.taken E.failures err.old err.new (fault_line text.now)) }
+{
+    write_piece(err, "fault: ")?;
+    write_piece(err, text)?;
+    write_piece(err, "\n")
+}
+
+/// Writes a text.
+pub fn write_piece<W: Sink>(sink: &mut W, text: &str) -> Result<(), SinkFault>
+    ensures ok { OnOk result (IsWhole W.taken W.failures sink.old sink.new text.now) }
+    ensures err { OnErr result (IsBroken W.taken W.failures sink.old sink.new text.now) }
+{
+    match write_all(sink, text.as_bytes()) {
+        Ok(()) => Ok(()),
+        Err(_) => Err(SinkFault),
+    }
+}

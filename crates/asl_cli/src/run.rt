@@ -1,0 +1,178 @@
+// The program behind its words, files and streams.
+ghost use Rattle.std.specs.Prelude.{◌≡◌, ◌≤◌, ◌⊎◌, Bool, List, ℕ, string_bytes, IfOk, IfErr, OnOk};
+ghost use Rattle.asl_cli.specs.Outcomes.{status_of, fault_line, IsPrinted, IsTold};
+ghost use Rattle.asl_cli.specs.Refusals.{IsEmulated, IsReason, IsNamedAs, Tells};
+
+use crate::files::{Files, ReadFault};
+use crate::refusal::{Refusal, tell_fault, write_piece};
+use crate::words::{GivenFault, RunWords, Words, malformed_word, read_words};
+use asl_exec::{EmulateFault, Emulated, emulate};
+use asl_history::Sink;
+use clap::Error;
+use clap::error::ErrorKind;
+use std::alloc::Global;
+use std::convert::AsStr;
+
+/// The status where all is good, or help was asked for.
+const GOOD: u8 = 0;
+/// The status where an execution didn't end in success.
+const FAILED: u8 = 1;
+/// The status where a command line, a file or its content is refused, or a write fails.
+const REFUSED: u8 = 2;
+
+/// The whole program: does what the words ask for, of which the first is the program's name, and tells its status.
+pub fn run_words<S: AsStr, F: Files, O: Sink, E: Sink>(
+    alloc: Global,
+    words: &[S],
+    files: &mut F,
+    out: &mut O,
+    err: &mut E,
+) -> u8
+    // A text was printed, or one was told and the status is 2.
+    ensures { ((t : List ℕ) × (s : ℕ) × (s ≤ 1) × (err.new ≡ err.old) × IsPrinted O.taken O.failures out.old out.new t s result)
+        ⊎ ((t : List ℕ) × (out.new ≡ out.old) × (result ≡ 2) × IsTold E.taken E.failures err.old err.new t) }
+{
+    match read_words(alloc, words) {
+        Ok(Words::Run(words)) => run(alloc, &words, files, out, err),
+        Err(error) => answer_words(alloc, &error, out, err),
+    }
+}
+
+/// Tells that the program's words can't be had.
+pub fn refuse_words<E: Sink>(alloc: Global, fault: GivenFault, err: &mut E) -> u8
+    ensures status { result ≡ 2 }
+    ensures told { (t : List ℕ) × IsTold E.taken E.failures err.old err.new t }
+{
+    match (fault, malformed_word(alloc)) {
+        (GivenFault::Malformed, Ok(error)) => tell_error(alloc, &error, err),
+        _ => tell_fault(err, "OutOfMemory"),
+    }
+    REFUSED
+}
+
+/// The command `run`: emulates an execution and prints what it did.
+pub fn run<F: Files, O: Sink, E: Sink>(
+    alloc: Global,
+    words: &RunWords<'_>,
+    files: &mut F,
+    out: &mut O,
+    err: &mut E,
+) -> u8
+    // What was emulated was printed and gave its status, or a fault was told and the status is 2.
+    ensures { ((text : List ℕ) × (good : Bool) × IsEmulated (F.gives files.old) words.now text good
+        × (err.new ≡ err.old) × IsPrinted O.taken O.failures out.old out.new text (status_of good) result)
+        ⊎ ((r : Refusal) × (t : List ℕ) × IsReason (F.gives files.old) words.now r × Tells r t
+        × (out.new ≡ out.old) × (result ≡ 2) × IsTold E.taken E.failures err.old err.new (fault_line t)) }
+{
+    match emulate_files(alloc, words, files) {
+        Ok(emulated) => show(&emulated, out),
+        Err(refusal) => {
+            refusal.write(alloc, err);
+            REFUSED
+        }
+    }
+}
+
+/// Reads the files, in the order of the words, and emulates.
+fn emulate_files<'a, F: Files>(
+    alloc: Global,
+    words: &RunWords<'a>,
+    files: &mut F,
+) -> Result<Emulated, Refusal<'a>>
+    ensures emulated { IfOk result (λ e. IsEmulated (F.gives files.old) words.now (string_bytes e.text) e.good) }
+    ensures refused { IfErr result (IsReason (F.gives files.old) words.now) }
+{
+    let definition = read_file(alloc, files, words.definition)?;
+    let mocks = read_file(alloc, files, words.mocks)?;
+    let input = read_file(alloc, files, words.input)?;
+    let steps = read_file(alloc, files, words.steps)?;
+    let answer = emulate(
+        alloc,
+        definition.as_slice(),
+        mocks.as_slice(),
+        words.chosen,
+        input.as_slice(),
+        steps.as_slice(),
+    );
+    match answer {
+        Ok(emulated) => Ok(emulated),
+        Err(EmulateFault::OutOfMemory) => Err(Refusal::OutOfMemory),
+        Err(fault) => Err(Refusal::Emulation(fault)),
+    }
+}
+
+/// Reads a file that a word names.
+fn read_file<'a, F: Files>(
+    alloc: Global,
+    files: &mut F,
+    name: &'a str,
+) -> Result<Vec<u8>, Refusal<'a>>
+    ensures given { IfOk result (λ r. F.gives files.old name.now r.items) }
+    ensures kept { (n b : List ℕ) → F.gives files.new n b → F.gives files.old n b }
+    ensures named { IfErr result (λ r. IsNamedAs name.now r) }
+{
+    match files.read(alloc, name) {
+        Ok(bytes) => Ok(bytes),
+        Err(ReadFault::Unreadable) => Err(Refusal::File(name)),
+        Err(ReadFault::OutOfMemory) => Err(Refusal::OutOfMemory),
+    }
+}
+
+/// Prints what was emulated, and tells whether it ended in success.
+fn show<O: Sink>(emulated: &Emulated, out: &mut O) -> u8
+    ensures { IsPrinted O.taken O.failures out.old out.new (string_bytes emulated.now.text) (status_of emulated.now.good) result }
+{
+    match write_piece(out, emulated.text.as_str()) {
+        Ok(()) if emulated.good => GOOD,
+        Ok(()) => FAILED,
+        Err(_) => REFUSED,
+    }
+}
+
+/// Prints what the command line's reader answers in place of words: help that was asked for, or what is wrong.
+fn answer_words<O: Sink, E: Sink>(alloc: Global, error: &Error, out: &mut O, err: &mut E) -> u8
+    ensures { ((t : List ℕ) × (err.new ≡ err.old) × IsPrinted O.taken O.failures out.old out.new t 0 result)
+        ⊎ ((t : List ℕ) × (out.new ≡ out.old) × (result ≡ 2) × IsTold E.taken E.failures err.old err.new t) }
+{
+    if error.use_stderr() {
+        tell_error(alloc, error, err);
+        return REFUSED;
+    }
+    match error.to_string(alloc) {
+        Ok(text) => print_help(text.as_str(), out),
+        Err(_) => {
+            tell_fault(err, "OutOfMemory");
+            REFUSED
+        }
+    }
+}
+
+/// Prints help that was asked for.
+fn print_help<O: Sink>(text: &str, out: &mut O) -> u8
+    ensures { IsPrinted O.taken O.failures out.old out.new text.now 0 result }
+{
+    match write_piece(out, text) {
+        Ok(()) => GOOD,
+        Err(_) => REFUSED,
+    }
+}
+
+/// Tells what is wrong with a command line.
+fn tell_error<E: Sink>(alloc: Global, error: &Error, err: &mut E)
+    ensures { (t : List ℕ) × IsTold E.taken E.failures err.old err.new t }
+{
+    if error.kind() == ErrorKind::OutOfMemory {
+        return tell_fault(err, "OutOfMemory");
+    }
+    match error.to_string(alloc) {
+        Ok(text) => tell_text(err, text.as_str()),
+        Err(_) => tell_fault(err, "OutOfMemory"),
+    }
+}
+
+/// Writes a text as far as the sink takes it.
+fn tell_text<E: Sink>(err: &mut E, text: &str)
+    ensures { IsTold E.taken E.failures err.old err.new text.now }
+{
+    let _ = write_piece(err, text);
+}

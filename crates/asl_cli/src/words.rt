@@ -1,0 +1,108 @@
+// The command line.
+use clap::error::ErrorKind;
+use clap::{Arg, ArgMatches, Command, Error};
+use std::alloc::{AllocError, Global};
+use std::convert::AsStr;
+use std::rt::Env;
+use std::{env, io};
+
+/// What a command line asks for.
+#[derive(Clone, Copy)]
+pub enum Words<'a> {
+    /// An execution is to be emulated.
+    Run(RunWords<'a>),
+}
+
+/// The words of `run`: names of files, and the machine and the case that are chosen.
+#[derive(Clone, Copy)]
+pub struct RunWords<'a> {
+    pub definition: &'a str,
+    pub mocks: &'a str,
+    pub chosen: &'a str,
+    pub input: &'a str,
+    pub steps: &'a str,
+}
+
+/// Why the program's words can't be had.
+#[derive(Clone, Copy)]
+pub enum GivenFault {
+    /// A word isn't UTF-8, or the system doesn't give it.
+    Malformed,
+    OutOfMemory,
+}
+
+/// The words that the program was started with, the first its own name.
+pub fn given<R: Env + AllocGlobal>(rt: &R) -> Result<Vec<String>, GivenFault> {
+    let words = match env::args(rt) {
+        Ok(words) => words,
+        Err(error) if error.kind() == io::ErrorKind::OutOfMemory => {
+            return Err(GivenFault::OutOfMemory);
+        }
+        Err(_) => return Err(GivenFault::Malformed),
+    };
+    words
+        .collect(rt.alloc())
+        .map_err(|_| GivenFault::OutOfMemory)
+}
+
+/// Reads the words, of which the first is the program's name. The error tells of a wrong command line, is help that was
+/// asked for, or want of memory.
+pub fn read_words<'a, S: AsStr>(alloc: Global, words: &'a [S]) -> Result<Words<'a>, Error> {
+    let mut command = asl_command(alloc)?;
+    let matches = command.try_get_matches_from_mut(words)?;
+    match matches.subcommand_matches("run").and_then(run_words_of) {
+        Some(words) => Ok(Words::Run(words)),
+        None => Err(command.error(ErrorKind::MissingSubcommand, "no command was given")?),
+    }
+}
+
+/// The error that tells of a word that isn't UTF-8.
+pub fn malformed_word(alloc: Global) -> Result<Error, Error> {
+    let mut command = asl_command(alloc)?;
+    let message = "invalid UTF-8 was detected in one or more arguments";
+    Ok(command.error(ErrorKind::InvalidValue, message)?)
+}
+
+fn run_words_of<'a>(matches: &ArgMatches<'a>) -> Option<RunWords<'a>> {
+    Some(RunWords {
+        definition: matches.get_str("DEF")?,
+        mocks: matches.get_str("MOCKS")?,
+        chosen: matches.get_str("CHOSEN")?,
+        input: matches.get_str("INPUT")?,
+        steps: matches.get_str("steps")?,
+    })
+}
+
+/// The program's command line.
+fn asl_command<'a>(alloc: Global) -> Result<Command<'a>, AllocError> {
+    let asl = Command::new(alloc, "asl")
+        .bin_name("asl")?
+        .about("Emulates state machines of the Amazon States Language")
+        .version("0.1.0")
+        .subcommand_required(true);
+    asl.subcommand(run_command(alloc)?)
+}
+
+fn run_command<'a>(alloc: Global) -> Result<Command<'a>, AllocError> {
+    let steps = Arg::new(alloc, "steps")
+        .long("steps")
+        .value_name("FILE")
+        .required(true)
+        .help("The file of the steps to take");
+    Command::new(alloc, "run")
+        .about("Runs an execution and prints its replies, its history and its status")
+        .arg(word(alloc, "DEF", "The file of the state machine's definition"))?
+        .arg(word(alloc, "MOCKS", "The file of the mocked tasks"))?
+        .arg(word(
+            alloc,
+            "CHOSEN",
+            "The machine's name, or the machine's and a case's as Machine#Case",
+        ))?
+        .arg(word(alloc, "INPUT", "The file of the execution's input"))?
+        .arg(steps)
+}
+
+/// An argument that is required.
+fn word<'a>(alloc: Global, name: &'a str, help: &'a str) -> Arg<'a> {
+    Arg::new(alloc, name).required(true).help(help)
+}

@@ -1,0 +1,17 @@
+use Rattle.std.proofs.Common.{sym, false}
+use Rattle.asl_kinds.specs.Bounds.{IsBounded}
+use Rattle.asl_exec.specs.Steps.{seen_at}
+use Rattle.asl_exec.proofs.Accepting.{accepted-room, effect-bounded}
+use Rattle.asl_exec.proofs.execution.Execution.step.Goals as goal
+
+pub apply-requires-clause-room : goal.apply-requires-clause-room
+apply-requires-clause-room c = accepted-room c.args.self.now.run c.args.place.now c.args.moment (sym c.in_default.ensures)
+
+pub apply-requires-clause-few : goal.apply-requires-clause-few
+apply-requires-clause-few c = rw c.in-Ok.ensures.effect (effect-bounded c.args.self.now.setup.machine (seen_at c.args.self.now.setup.machine c.args.self.now.run c.args.place.now c.present-now.result c.in-Some-record_at.current.now)).few
+
+pub apply-requires-clause-fits : goal.apply-requires-clause-fits
+apply-requires-clause-fits c = rw c.in-Ok.ensures.effect (effect-bounded c.args.self.now.setup.machine (seen_at c.args.self.now.setup.machine c.args.self.now.run c.args.place.now c.present-now.result c.in-Some-record_at.current.now)).fits
+
+pub apply-requires-clause-tells : goal.apply-requires-clause-tells
+apply-requires-clause-tells c = rw c.in-Ok.ensures.effect (effect-bounded c.args.self.now.setup.machine (seen_at c.args.self.now.setup.machine c.args.self.now.run c.args.place.now c.present-now.result c.in-Some-record_at.current.now)).tells

@@ -1,0 +1,36 @@
+-- What an emulation answers, by its texts alone.
+use Rattle.std.specs.Prelude.{◌≡◌, List, ℕ, [], Bool}
+use Rattle.asl_json.specs.Data.{Data}
+use Rattle.asl_json.specs.declared.value.Json.{Json}
+use Rattle.asl_exec.specs.declared.fault.EmulateFault.{EmulateFault}
+use Rattle.asl_exec.specs.declared.setup.Setup.{Setup}
+use Rattle.asl_exec.specs.declared.step_at.StepAt.{StepAt}
+use Rattle.asl_exec.specs.RunText.{run_text, is_success}
+use Rattle.asl_exec.specs.Steps.{opening, world_after}
+use Rattle.asl_exec.specs.StepsFile.{IsStepsFile}
+use Rattle.asl_exec.specs.Texts.{IsMachineOf, IsDefinition, AreNoMocks, case_name, IsInputOf, IsInput, setup_for, IsBadDefinition, AreBadMocks, IsBadCase, IsBadInput, AreBadSteps}
+
+-- the texts spell this machine, input and steps
+pub record AreTextsOf (definition mocks chosen input steps : List ℕ) (m : Data) (x : Json) (ss : List StepAt) : Type 0 where
+  pub machine : IsMachineOf definition m
+  pub no_mocks : AreNoMocks mocks
+  pub no_case : case_name chosen ≡ []
+  pub input_is : IsInputOf input x
+  pub steps_are : IsStepsFile steps ss
+
+-- the text is that of the run that the texts spell, and says whether the execution has succeeded then
+pub record IsRunOf (definition mocks chosen input steps text : List ℕ) (good : Bool) : Type 0 where
+  pub machine : Data
+  pub value : Json
+  pub list : List StepAt
+  pub texts : AreTextsOf definition mocks chosen input steps machine value list
+  pub text_is : text ≡ run_text (setup_for machine chosen value list) list
+  pub good_is : good ≡ is_success (world_after machine (opening (setup_for machine chosen value list)) list).outcome
+
+-- the fault of the first text, in this order, that is refused
+pub data IsRefused (definition mocks chosen input steps : List ℕ) (f : EmulateFault) : Type 0 where
+  by_definition : IsBadDefinition definition f → IsRefused definition mocks chosen input steps f
+  by_mocks : IsDefinition definition → AreBadMocks mocks f → IsRefused definition mocks chosen input steps f
+  by_case : IsDefinition definition → AreNoMocks mocks → IsBadCase chosen f → IsRefused definition mocks chosen input steps f
+  by_input : IsDefinition definition → AreNoMocks mocks → case_name chosen ≡ [] → IsBadInput input f → IsRefused definition mocks chosen input steps f
+  by_steps : IsDefinition definition → AreNoMocks mocks → case_name chosen ≡ [] → IsInput input → AreBadSteps steps f → IsRefused definition mocks chosen input steps f

@@ -1,0 +1,9 @@
+pub mod World
+pub mod Steps
+pub mod Order
+pub mod Rebuilds
+pub mod Views
+pub mod RunText
+pub mod StepsFile
+pub mod Texts
+pub mod Emulations
