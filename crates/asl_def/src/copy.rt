@@ -2,17 +2,8 @@
 ghost use Rattle.std.specs.Prelude.{◌≡◌, IfOk};
 
 use crate::state::{Body, Next, Pass, PathField, State, Succeed, Target};
-use asl_json::{Json, Txt};
+use asl_json::{Json, clone_text};
 use std::alloc::{AllocError, Global};
-
-fn comment(alloc: Global, comment: &Option<Txt>) -> Result<Option<Txt>, AllocError>
-    ensures { IfOk result (λ c. c ≡ comment.now) }
-{
-    match comment {
-        Some(text) => Ok(Some(text.try_clone(alloc)?)),
-        None => Ok(None),
-    }
-}
 
 fn result_of(alloc: Global, value: &Option<Json>) -> Result<Option<Json>, AllocError>
     ensures { IfOk result (λ v. v ≡ value.now) }
@@ -61,7 +52,7 @@ impl Pass {
         ensures { IfOk result (λ p. p ≡ self.now) }
     {
         Ok(Pass {
-            comment: comment(alloc, &self.comment)?,
+            comment: clone_text(alloc, &self.comment)?,
             input_path: self.input_path.try_clone(alloc)?,
             result: result_of(alloc, &self.result)?,
             result_path: self.result_path.try_clone(alloc)?,
@@ -76,7 +67,7 @@ impl Succeed {
         ensures { IfOk result (λ s. s ≡ self.now) }
     {
         Ok(Succeed {
-            comment: comment(alloc, &self.comment)?,
+            comment: clone_text(alloc, &self.comment)?,
             input_path: self.input_path.try_clone(alloc)?,
             output_path: self.output_path.try_clone(alloc)?,
         })
@@ -99,7 +90,7 @@ impl Body {
         ensures { IfOk result (λ b. b ≡ self.now) }
     {
         Ok(Body {
-            comment: comment(alloc, &self.comment)?,
+            comment: clone_text(alloc, &self.comment)?,
             start: self.start.try_clone(alloc)?,
             first: self.first,
             count: self.count,

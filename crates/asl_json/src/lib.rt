@@ -19,7 +19,7 @@ mod writing;
 pub use fault::JsonFault;
 pub use judging::{a_text_is_read_as_one_value, read};
 pub use sameness::same;
-pub use value::{Dec, Items, Json, Member, Members, Txt};
+pub use value::{Dec, Items, Json, Member, Members, Txt, clone_text};
 pub use writing::write;
 
 #[cfg(test)]

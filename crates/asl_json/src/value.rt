@@ -262,3 +262,13 @@ impl Members {
         Ok(Members { members })
     }
 }
+
+/// An equal text, where there is one. The error is that memory ran out.
+pub fn clone_text(alloc: Global, text: &Option<Txt>) -> Result<Option<Txt>, AllocError>
+    ensures { IfOk result (λ t. t ≡ text.now) }
+{
+    match text {
+        Some(text) => Ok(Some(text.try_clone(alloc)?)),
+        None => Ok(None),
+    }
+}

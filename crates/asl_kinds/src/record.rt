@@ -1,7 +1,7 @@
 // What a branch is doing.
 ghost use Rattle.std.specs.Prelude.{◌≡◌, IfOk};
 
-use asl_json::{Items, Json, Txt};
+use asl_json::{Items, Json, Txt, clone_text};
 use asl_time::Moment;
 use std::alloc::{AllocError, Global};
 use std::marker::Model;
@@ -45,15 +45,6 @@ pub enum Record {
     Done(Json),
     /// Failed with this error.
     Failed(ErrorOut),
-}
-
-fn clone_text(alloc: Global, text: &Option<Txt>) -> Result<Option<Txt>, AllocError>
-    ensures { IfOk result (λ t. t ≡ text.now) }
-{
-    match text {
-        Some(text) => Ok(Some(text.try_clone(alloc)?)),
-        None => Ok(None),
-    }
 }
 
 impl ErrorOut {
