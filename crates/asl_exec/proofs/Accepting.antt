@@ -1,6 +1,6 @@
 -- What holds of an accepted step.
-use Rattle.std.proofs.Common.{ℕ, ◌≡◌, ◌≤◌, Bool, true, false, List, length, refl, sym, arith, max, Option, Some, None, if◌then◌else◌}
-use Rattle.std.specs.Prelude.{nat_lt}
+use Rattle.std.proofs.Common.{ℕ, ◌≡◌, ◌≤◌, Bool, true, false, List, length, refl, arith, max, Option, Some, None, if◌then◌else◌}
+use Rattle.std.specs.Prelude.{nat_lt, is_none}
 use Rattle.std.proofs.lemmas.Bool.Decides.{nat_tests}
 use Rattle.asl_json.specs.Data.{Data}
 use Rattle.asl_kinds.specs.declared.record.Record.{Record}
@@ -9,8 +9,8 @@ use Rattle.asl_kinds.specs.Bounds.{IsBounded}
 use Rattle.asl_kinds.specs.Laws.{idle-bounded, state-bounded}
 use Rattle.asl_kinds.specs.Seen.{Seen}
 use Rattle.asl_exec.specs.declared.refusal.Refusal.{Refusal}
-use Rattle.asl_exec.specs.World.{World, record_at, children_at, is_over}
-use Rattle.asl_exec.specs.Steps.{is_stopped, is_busy, refusal_if_full, refusal_before, refusal_by, refusal_at, refusal_of, object_in, effect_by, effect_in}
+use Rattle.asl_exec.specs.World.{World, record_at, children_at, is_over, world_with}
+use Rattle.asl_exec.specs.Steps.{is_stopped, is_busy, refusal_if_full, refusal_by, refusal_at, refusal_of, object_in, effect_by, effect_in, number_in, seen_at, step}
 
 -- ---- there is room for its events
 
@@ -38,7 +38,24 @@ room-at w p now None h = (cc)
 room-at w p now (Some r) h = room-by w p now r (otherwise (is_stopped p w.branches) _ (refusal_by w p now r) h)
 
 pub accepted-room : (w : World) (p : List ℕ) (t : ℕ) → refusal_of w p t ≡ None → length w.events ≤ 24992
+unfolding refusal_of
 accepted-room w p t h = room-at w p (max w.last t) (record_at p w.branches) (otherwise (is_over w.outcome) _ (refusal_at w p (max w.last t) (record_at p w.branches)) h)
+
+-- a branch runs there
+pub has_place : (w : World) (p : List ℕ) (t : ℕ) → refusal_of w p t ≡ None → record_at p w.branches ≡ None → ⊥
+unfolding refusal_of
+has_place w p t e n = let some : Some _ ≡ None = rw n at (otherwise (is_over w.outcome) _ (refusal_at w p (max w.last t) (record_at p w.branches)) e) in (cc)
+
+-- ---- the world after a step, by its reply
+
+pub step_refused : (d : Data) (w : World) (p : List ℕ) (t : ℕ) → is_none (refusal_of w p t) ≡ false → step d w p t ≡ w
+unfolding step
+step_refused d w p t e = rw e refl
+
+pub step_taken : (d : Data) (w : World) (p : List ℕ) (t : ℕ) (r : Record) → refusal_of w p t ≡ None → record_at p w.branches ≡ Some r
+    → step d w p t ≡ world_with p (number_in d r) (max w.last t) (effect_in d (seen_at d w p (max w.last t) r)) w
+unfolding step
+step_taken d w p t r e f = rw (e, f) refl
 
 -- ---- its effect has the bounds that all kinds have
 

@@ -1,6 +1,7 @@
 -- What happens at a place keeps the branches in order.
 use Rattle.std.proofs.Common.{ℕ, ◌≡◌, ◌+◌, ◌<◌, ◌==◌, ◌&&◌, ◌||◌, Bool, true, false, not, List, [], ◌∷◌, ◌++◌, refl, sym, ap, subst, arith, cond}
 use Rattle.std.specs.Prelude.{nat_lt}
+use Rattle.std.proofs.lemmas.Bool.{eqb-true, eq-eqb}
 use Rattle.std.proofs.lemmas.Bool.Decides.{nat_tests}
 use Rattle.std.specs.List.{AllByRecursion}
 use Rattle.asl_kinds.specs.declared.effect.Effect.{Effect}
@@ -12,7 +13,7 @@ use Rattle.asl_exec.specs.declared.branch.Branch.{Branch}
 use Rattle.asl_exec.specs.World.{same_place, numbered, made, are_kept, family, branch_after, branches_after}
 use Rattle.asl_exec.specs.Order.{is_before, AllAfter, AreInOrder}
 use Rattle.asl_exec.specs.Rebuilds.{rebuilt}
-use Rattle.asl_exec.proofs.Places.{and-left, and-right, true-eq, eq-true, same-eq}
+use Rattle.asl_exec.proofs.Places.{and-left, and-right, same-eq}
 use Rattle.asl_exec.proofs.Families.{Under, family-under}
 
 lt-self : (x : ℕ) → nat_lt x x ≡ false
@@ -20,7 +21,7 @@ lt-self x = grind (arith, nat_tests)
 
 pub before-self : (p : List ℕ) → is_before p p ≡ false
 before-self [] = refl
-before-self (x ∷ xs) = rw (lt-self x, eq-true x) (before-self xs)
+before-self (x ∷ xs) = rw (lt-self x, eq-eqb x x refl) (before-self xs)
 
 before-other : (c : Bool) (p q : List ℕ) → is_before p q ≡ true → same_place p q ≡ c → c ≡ false
 before-other true p q h e = let s : is_before p p ≡ true = subst (λ z. is_before p z ≡ true) (sym (same-eq p q e)) h in let n = before-self p in (cc)
@@ -39,7 +40,7 @@ before-into [] (z ∷ zs) (y ∷ ys) h u = refl
 before-into (x ∷ xs) [] r h u = (cc)
 before-into (x ∷ xs) (z ∷ zs) [] h u = (cc)
 before-into (x ∷ xs) (z ∷ zs) (y ∷ ys) h u =
-    let e : z ≡ y = true-eq z y (and-left (z == y) (is_prefix zs ys) u) in
+    let e : z ≡ y = eqb-true z y (and-left (z == y) (is_prefix zs ys) u) in
     rw (← e) (step-into (nat_lt x z) (x == z) (is_before xs zs) (is_before xs ys) h (λ b. before-into xs zs ys b (and-right (z == y) (is_prefix zs ys) u)))
 
 step-out : (a c b d m : Bool) → (a || (c && b)) ≡ true → (c && m) ≡ false → (b ≡ true → m ≡ false → d ≡ true) → (a || (c && d)) ≡ true
@@ -53,21 +54,21 @@ before-out [] c r h n u = (cc)
 before-out (x ∷ xs) [] r h n u = (cc)
 before-out (x ∷ xs) (z ∷ zs) [] h n u = (cc)
 before-out (x ∷ xs) (z ∷ zs) (y ∷ ys) h n u =
-    let e : x ≡ y = true-eq x y (and-left (x == y) (is_prefix xs ys) u) in
+    let e : x ≡ y = eqb-true x y (and-left (x == y) (is_prefix xs ys) u) in
     rw (← e) (step-out (nat_lt x z) (x == z) (is_before xs zs) (is_before ys zs) (is_prefix xs zs) h n (λ b m. before-out xs zs ys b m (and-right (x == y) (is_prefix xs ys) u)))
 
 -- ---- the new children
 
 before-child : (p : List ℕ) (i : ℕ) → is_before p (p ++ i ∷ []) ≡ true
 before-child [] i = refl
-before-child (x ∷ xs) i = rw (lt-self x, eq-true x) (before-child xs i)
+before-child (x ∷ xs) i = rw (lt-self x, eq-eqb x x refl) (before-child xs i)
 
 lt-true : (i j : ℕ) → i < j → nat_lt i j ≡ true
 lt-true i j h = grind (arith, nat_tests)
 
 before-sibling : (p : List ℕ) (i j : ℕ) → i < j → is_before (p ++ i ∷ []) (p ++ j ∷ []) ≡ true
 before-sibling [] i j h = rw (lt-true i j h) refl
-before-sibling (x ∷ xs) i j h = rw (lt-self x, eq-true x) (before-sibling xs i j h)
+before-sibling (x ∷ xs) i j h = rw (lt-self x, eq-eqb x x refl) (before-sibling xs i j h)
 
 later-siblings : (p : List ℕ) (i j : ℕ) (rs : List Record) → i < j → AllAfter (p ++ i ∷ []) (numbered p j rs)
 later-siblings p i j [] h = tt

@@ -1,6 +1,6 @@
 -- Places at or under one another.
-use Rattle.std.proofs.Common.{ℕ, ◌≡◌, ◌==◌, ◌&&◌, Bool, true, false, List, [], ◌∷◌, ◌++◌, refl, sym, arith}
-use Rattle.std.proofs.lemmas.Grind.{common_steps}
+use Rattle.std.proofs.Common.{ℕ, ◌≡◌, ◌&&◌, Bool, true, false, List, [], ◌∷◌, ◌++◌, refl, sym}
+use Rattle.std.proofs.lemmas.Bool.{eq-eqb}
 use Rattle.std.specs.Cmp.Lexicographic.{same_text}
 use Rattle.asl_history.specs.Places.{is_prefix}
 use Rattle.asl_exec.specs.World.{same_place}
@@ -13,19 +13,13 @@ pub and-right : (a b : Bool) → (a && b) ≡ true → b ≡ true
 and-right true b h = h
 and-right false b h = (cc)
 
-pub true-eq : (x y : ℕ) → (x == y) ≡ true → x ≡ y
-true-eq x y h = grind (arith, common_steps)
-
-pub eq-true : (x : ℕ) → (x == x) ≡ true
-eq-true x = grind (arith, common_steps)
-
 pub is_prefix-append : (p q : List ℕ) → is_prefix p (p ++ q) ≡ true
 is_prefix-append [] q = refl
-is_prefix-append (x ∷ xs) q = rw (eq-true x) (is_prefix-append xs q)
+is_prefix-append (x ∷ xs) q = rw (eq-eqb x x refl) (is_prefix-append xs q)
 
 pub is_prefix-refl : (p : List ℕ) → is_prefix p p ≡ true
 is_prefix-refl [] = refl
-is_prefix-refl (x ∷ xs) = rw (eq-true x) (is_prefix-refl xs)
+is_prefix-refl (x ∷ xs) = rw (eq-eqb x x refl) (is_prefix-refl xs)
 
 pub same-eq : (p q : List ℕ) → same_place p q ≡ true → p ≡ q
 same-eq p q h = same_text p q (sym h)

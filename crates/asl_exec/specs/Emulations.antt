@@ -3,7 +3,6 @@ use Rattle.std.specs.Prelude.{◌≡◌, List, ℕ, [], Bool}
 use Rattle.asl_json.specs.Data.{Data}
 use Rattle.asl_json.specs.declared.value.Json.{Json}
 use Rattle.asl_exec.specs.declared.fault.EmulateFault.{EmulateFault}
-use Rattle.asl_exec.specs.declared.setup.Setup.{Setup}
 use Rattle.asl_exec.specs.declared.step_at.StepAt.{StepAt}
 use Rattle.asl_exec.specs.RunText.{run_text, is_success}
 use Rattle.asl_exec.specs.Steps.{opening, world_after}

@@ -55,7 +55,7 @@ refusal_at w p now None = Some NoSuchPlace
 refusal_at w p now (Some r) = if is_stopped p w.branches then Some Stopped else refusal_by w p now r
 
 -- why a step at a place, handed this moment, is refused: the first reason that applies
-abbrev pub refusal_of : World → List ℕ → ℕ → Option Refusal
+unfoldable pub refusal_of : World → List ℕ → ℕ → Option Refusal
 refusal_of w p t = if is_over w.outcome then Some Over else refusal_at w p (max w.last t) (record_at p w.branches)
 
 -- ---- what a step does, in the machine of this definition
@@ -92,7 +92,7 @@ moved_on d w p now (Some r) = world_with p (number_in d r) now (effect_in d (see
 
 -- the world after a step at a place, handed this moment: its moment is the greater of this and the last one; a refused step
 -- changes nothing
-abbrev pub step : Data → World → List ℕ → ℕ → World
+unfoldable pub step : Data → World → List ℕ → ℕ → World
 step d w p t = if is_none (refusal_of w p t) then moved_on d w p (max w.last t) (record_at p w.branches) else w
 
 -- ---- runs
@@ -122,8 +122,3 @@ opening s = opening_at (state_count s.machine) (start_in s.machine) s.input s.st
 abbrev pub world_after : Data → World → List StepAt → World
 world_after d w [] = w
 world_after d w (s ∷ ss) = world_after d (step d w s.place s.moment) ss
-
--- the reply to each of these steps: why it was refused, if it was
-abbrev pub replies_to : Data → World → List StepAt → List (Option Refusal)
-replies_to d w [] = []
-replies_to d w (s ∷ ss) = refusal_of w s.place s.moment ∷ replies_to d (step d w s.place s.moment) ss

@@ -18,7 +18,7 @@ use Rattle.asl_exec.specs.declared.fault.EmulateFault.{EmulateFault}
 use Rattle.asl_exec.specs.declared.fault.EmulateFault.TheVariants.{DefinitionText, Definition, MockText, MockShape, Case, Input, StepLine, OutOfMemory}
 use Rattle.asl_exec.specs.declared.setup.Setup.{Setup}
 use Rattle.asl_exec.specs.declared.step_at.StepAt.{StepAt}
-use Rattle.asl_exec.specs.StepsFile.{IsStepsFile, IsFirstBadLine}
+use Rattle.asl_exec.specs.StepsFile.{IsFirstBadLine}
 
 -- ---- what they spell
 

@@ -5,7 +5,7 @@ ghost use Rattle.asl_json.specs.Compact.{compact};
 ghost use Rattle.asl_time.specs.StampText.{stamp_of};
 ghost use Rattle.asl_history.specs.Lines.{history_text};
 ghost use Rattle.asl_exec.specs.RunText.{refusal_words, awaited, with_stamp, reply_text, step_line, step_lines, status_text, status_line, end_text, run_text, is_success};
-ghost use Rattle.asl_exec.specs.Steps.{opening, world_after};
+ghost use Rattle.asl_exec.specs.Steps.{opening, refusal_of, step, world_after};
 ghost use Rattle.asl_exec.specs.Views.{setup_of, world_of};
 
 use crate::execution::Execution;
@@ -13,7 +13,7 @@ use crate::outcome::Outcome;
 use crate::refusal::Refusal;
 use crate::setup::Setup;
 use crate::step_at::StepAt;
-use asl_history::{History, Place, line};
+use asl_history::{History, Place, put_line};
 use asl_json::{Json, write};
 use asl_kinds::record::ErrorOut;
 use asl_kinds::steps::error_output;
@@ -101,8 +101,7 @@ fn put_history(alloc: Global, out: &mut String, history: &History) -> Result<(),
     ensures { OnOk result (string_bytes out.new ≡ string_bytes out.old ++ history_text history.now.events) }
 {
     for event in history.events() {
-        let line = line(alloc, event)?;
-        out.push_str(line.as_str())?;
+        put_line(alloc, out, event)?;
     }
     Ok(())
 }
@@ -151,6 +150,20 @@ pub(crate) fn is_success(outcome: &Outcome) -> bool
 }
 
 impl Execution {
+    /// Takes a step, and tells why it was refused, if it was. The error is that memory ran out.
+    #[tactic(auto, using(crate::proofs::Accepting::step_refused))]
+    fn reply(&mut self, at: &StepAt) -> Result<Option<Refusal>, AllocError>
+        ensures reply { IfOk result (λ r. r ≡ refusal_of (world_of self.old) at.now.place at.now.moment) }
+        ensures world { OnOk result (world_of self.new ≡ step (setup_of self.old).machine (world_of self.old) at.now.place at.now.moment) }
+        ensures setup { setup_of self.new ≡ setup_of self.old }
+    {
+        match self.step(&at.place, at.moment) {
+            Ok(()) => Ok(None),
+            Err(Refusal::OutOfMemory) => Err(AllocError),
+            Err(refusal) => Ok(Some(refusal)),
+        }
+    }
+
     /// Takes steps in order, with a line for each. The error is that memory ran out.
     fn put_steps(&mut self, out: &mut String, steps: &[StepAt]) -> Result<(), AllocError>
         ensures text { OnOk result (string_bytes out.new
@@ -159,11 +172,7 @@ impl Execution {
     {
         let alloc = self.alloc();
         for at in steps {
-            let reply = match self.step(&at.place, at.moment) {
-                Ok(()) => None,
-                Err(Refusal::OutOfMemory) => return Err(AllocError),
-                Err(refusal) => Some(refusal),
-            };
+            let reply = self.reply(at)?;
             put_step(alloc, out, &at.place, reply)?;
         }
         Ok(())

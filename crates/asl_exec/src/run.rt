@@ -70,16 +70,22 @@ fn tell(history: &mut History, moment: Moment, told: Vec<(Place, Draft)>)
     }
 }
 
-/// The branch that steps and its new children, and whether the old ones are kept.
+/// Whether the branches under a branch that steps stay.
+fn are_kept(children: &Children) -> bool
+    ensures { result ≡ are_kept children.now }
+{
+    matches!(children, Children::Kept)
+}
+
+/// The branch that steps and its new children.
 fn family_at(
     alloc: Global,
     place: &Place,
     after: Record,
     children: Children,
-) -> Result<(bool, Vec<Branch>), AllocError>
+) -> Result<Vec<Branch>, AllocError>
     requires { AreFew children }
-    ensures keeps { IfOk result (λ r. r.0 ≡ are_kept children) }
-    ensures family { IfOk result (λ r. r.1.items ≡ record { place = place.now; current = after } ∷ made place.now children) }
+    ensures { IfOk result (λ f. f.items ≡ record { place = place.now; current = after } ∷ made place.now children) }
 {
     let mut family = Vec::new(alloc);
     family.push(Branch {
@@ -87,8 +93,7 @@ fn family_at(
         current: after,
     })?;
     match children {
-        Children::Kept => Ok((true, family)),
-        Children::Removed => Ok((false, family)),
+        Children::Kept | Children::Removed => Ok(family),
         Children::Forked(records) => {
             let mut number = 0u32;
             for current in records.list {
@@ -96,7 +101,7 @@ fn family_at(
                 family.push(Branch { place, current })?;
                 number += 1;
             }
-            Ok((false, family))
+            Ok(family)
         }
     }
 }
@@ -257,6 +262,7 @@ impl Run {
     }
 
     /// Why a step would be refused: the first reason that applies, but for want of memory.
+    #[tactic(auto, unfolding(crate::specs::Steps::refusal_of))]
     pub(crate) fn refusal(&self, place: &Place, moment: Moment) -> Option<Refusal>
         ensures { result ≡ refusal_of self.now place.now moment }
     {
@@ -315,7 +321,8 @@ impl Run {
             outcome,
         } = effect;
         let told = placed(alloc, place, events)?;
-        let (keeps, family) = family_at(alloc, place, after, children)?;
+        let keeps = are_kept(&children);
+        let family = family_at(alloc, place, after, children)?;
         let room = self
             .branches
             .len()

@@ -22,6 +22,6 @@ pub use fault::WriteFault;
 pub use history::History;
 pub use kind::EventKind;
 pub use place::Place;
-pub use printing::line;
+pub use printing::{line, put_line};
 pub use send::write_all;
 pub use sink::{Memory, Sink, SinkFault};

@@ -22,9 +22,9 @@ pub fn line(alloc: Global, event: &Event) -> Result<String, AllocError>
     Ok(out)
 }
 
-/// Appends the line of an event.
+/// Appends the line of an event, as `line` gives it. The error is that memory ran out.
 #[tactic(auto, unfolding(crate::specs::Lines::line_of))]
-pub(crate) fn put_line(alloc: Global, out: &mut String, event: &Event) -> Result<(), AllocError>
+pub fn put_line(alloc: Global, out: &mut String, event: &Event) -> Result<(), AllocError>
     ensures { OnOk result (string_bytes out.new ≡ string_bytes out.old ++ line_of event.now) }
 {
     put_head(alloc, out, event)?;

@@ -1,7 +1,6 @@
-use Rattle.std.proofs.Common.{sym, false}
-use Rattle.asl_kinds.specs.Bounds.{IsBounded}
+use Rattle.std.proofs.Common.{sym, ◌∙◌}
 use Rattle.asl_exec.specs.Steps.{seen_at}
-use Rattle.asl_exec.proofs.Accepting.{accepted-room, effect-bounded}
+use Rattle.asl_exec.proofs.Accepting.{accepted-room, effect-bounded, has_place, step_taken}
 use Rattle.asl_exec.proofs.execution.Execution.step.Goals as goal
 
 pub apply-requires-clause-room : goal.apply-requires-clause-room
@@ -15,3 +14,11 @@ apply-requires-clause-fits c = rw c.in-Ok.ensures.effect (effect-bounded c.args.
 
 pub apply-requires-clause-tells : goal.apply-requires-clause-tells
 apply-requires-clause-tells c = rw c.in-Ok.ensures.effect (effect-bounded c.args.self.now.setup.machine (seen_at c.args.self.now.setup.machine c.args.self.now.run c.args.place.now c.present-now.result c.in-Some-record_at.current.now)).tells
+
+pub returns-in_default-record_at-clause-why : goal.returns-in_default-record_at-clause-why
+returns-in_default-record_at-clause-why c = absurd (has_place c.args.self.now.run c.args.place.now c.args.moment (sym c.in_default.ensures) (sym c.in_default-record_at.ensures))
+
+pub returns-in-Ok-apply-clause-ok : goal.returns-in-Ok-apply-clause-ok
+returns-in-Ok-apply-clause-ok c =
+    let taken = step_taken c.args.self.now.setup.machine c.args.self.now.run c.args.place.now c.args.moment c.in-Some-record_at.current.now (sym c.in_default.ensures) (sym c.in-Some-record_at.ensures) in
+    c.in-Ok-apply.ensures.ok ∙ rw (c.in-Ok.ensures.number, c.in-Ok.ensures.effect, c.present-now.ensures) (sym taken)
