@@ -30,17 +30,21 @@ pub record IsRefusedFor (gives : List ℕ → List ℕ → Type 0) (w : RunWords
   pub given : IsGiven gives w definition mocks input steps
   pub refused : Unless (IsRefused definition mocks w.chosen.now input steps) fault
 
--- a file that can't be read is the one of this name
-abbrev pub IsNamedAs : List ℕ → Refusal → Type 0
-IsNamedAs wanted (File name) = name.now ≡ wanted
-IsNamedAs wanted (Emulation fault) = ⊥
-IsNamedAs wanted OutOfMemory = ⊤
+-- a file that can't be read is the one of this name, and may be lacking
+abbrev pub IsUnread : (List ℕ → Type 0) → List ℕ → Refusal → Type 0
+IsUnread lacks wanted (File name) = (name.now ≡ wanted) × lacks name.now
+IsUnread lacks wanted (Emulation fault) = ⊥
+IsUnread lacks wanted OutOfMemory = ⊤
 
--- why nothing is emulated: a file that the words name can't be read, what was read is refused, or memory ran out
-abbrev pub IsReason : (List ℕ → List ℕ → Type 0) → RunWords → Refusal → Type 0
-IsReason gives w (File name) = (name.now ≡ w.definition.now) ⊎ (name.now ≡ w.mocks.now) ⊎ (name.now ≡ w.input.now) ⊎ (name.now ≡ w.steps.now)
-IsReason gives w (Emulation fault) = IsRefusedFor gives w fault
-IsReason gives w OutOfMemory = ⊤
+-- the words name the file
+abbrev pub IsNamed : RunWords → List ℕ → Type 0
+IsNamed w name = (name ≡ w.definition.now) ⊎ (name ≡ w.mocks.now) ⊎ (name ≡ w.input.now) ⊎ (name ≡ w.steps.now)
+
+-- why nothing is emulated: a file that the words name may be lacking, what was read is refused, or memory ran out
+abbrev pub IsReason : (List ℕ → List ℕ → Type 0) → (List ℕ → Type 0) → RunWords → Refusal → Type 0
+IsReason gives lacks w (File name) = IsNamed w name.now × lacks name.now
+IsReason gives lacks w (Emulation fault) = IsRefusedFor gives w fault
+IsReason gives lacks w OutOfMemory = ⊤
 
 -- the text of a refusal
 abbrev pub reason_text : Refusal → List ℕ

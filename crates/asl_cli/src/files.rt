@@ -1,5 +1,5 @@
 // What files give.
-ghost use Rattle.std.specs.Prelude.{◌≡◌, ◌≤◌, ◌++◌, length, ⊤, IfOk, OnOk, IfSome};
+ghost use Rattle.std.specs.Prelude.{◌≡◌, ◌≤◌, ◌++◌, length, ⊤, IfOk, IfErr, OnOk, IfSome};
 ghost use Rattle.asl_cli.specs.Limits.{most_bytes};
 
 use std::alloc::Global;
@@ -24,11 +24,16 @@ pub trait Files {
     // Whether the file of a name may give these bytes.
     ghost gives: { Self → List ℕ → List ℕ → Type 0 };
 
+    // Whether the file of a name may be one that isn't there, can't be read, or is too long.
+    ghost lacks: { Self → List ℕ → Type 0 };
+
     /// Reads the whole of a file, of at most 16,777,216 bytes.
     fn read(&mut self, alloc: Global, name: &str) -> Result<Vec<u8>, ReadFault>
         ensures given { IfOk result (λ r. gives self.old name.now r.items) }
         ensures bound { IfOk result (λ r. length r.items ≤ most_bytes) }
-        ensures kept { (n b : List ℕ) → gives self.new n b → gives self.old n b };
+        ensures unreadable { IfErr result (λ e. e ≡ ReadFault.Unreadable → lacks self.old name.now) }
+        ensures kept { (n b : List ℕ) → gives self.new n b → gives self.old n b }
+        ensures lacking { (n : List ℕ) → lacks self.new n → lacks self.old n };
 }
 
 /// The machine's files.
@@ -45,8 +50,10 @@ impl<'a, R: rt::Files> Machine<'a, R> {
 }
 
 impl<'a, R: rt::Files> Files for Machine<'a, R> {
-    // Nothing is known of what the machine's files give.
+    // Nothing is known of what the machine's files give, and any may be lacking.
     ghost gives = { λ _ _ _. ⊤ };
+
+    ghost lacks = { λ _ _. ⊤ };
 
     fn read(&mut self, alloc: Global, name: &str) -> Result<Vec<u8>, ReadFault> {
         match fs::open(self.rt, name) {

@@ -1,7 +1,8 @@
 // The program behind its words, files and streams.
-ghost use Rattle.std.specs.Prelude.{◌≡◌, ◌≤◌, ◌⊎◌, Bool, List, ℕ, string_bytes, IfOk, IfErr, OnOk};
-ghost use Rattle.asl_cli.specs.Outcomes.{status_of, fault_line, IsPrinted, IsTold};
-ghost use Rattle.asl_cli.specs.Refusals.{IsEmulated, IsReason, IsNamedAs, Tells};
+ghost use Rattle.std.specs.Prelude.{◌≡◌, ◌⊎◌, List, ℕ, string_bytes, IfOk, IfErr};
+ghost use Rattle.asl_cli.specs.Answers.{IsRan, IsAnswered};
+ghost use Rattle.asl_cli.specs.Outcomes.{status_of, IsPrinted, IsTold};
+ghost use Rattle.asl_cli.specs.Refusals.{IsEmulated, IsReason, IsUnread};
 
 use crate::files::{Files, ReadFault};
 use crate::refusal::{Refusal, tell_fault, write_piece};
@@ -28,9 +29,9 @@ pub fn run_words<S: AsStr, F: Files, O: Sink, E: Sink>(
     out: &mut O,
     err: &mut E,
 ) -> u8
-    // A text was printed, or one was told and the status is 2.
-    ensures { ((t : List ℕ) × (s : ℕ) × (s ≤ 1) × (err.new ≡ err.old) × IsPrinted O.taken O.failures out.old out.new t s result)
-        ⊎ ((t : List ℕ) × (out.new ≡ out.old) × (result ≡ 2) × IsTold E.taken E.failures err.old err.new t) }
+    // What words of a run ask for was done; or other words were answered, and no file was read.
+    ensures { ((w : RunWords) × IsRan O.taken O.failures E.taken E.failures (F.gives files.old) (F.lacks files.old) w out.old out.new err.old err.new result)
+        ⊎ ((files.new ≡ files.old) × IsAnswered O.taken O.failures E.taken E.failures out.old out.new err.old err.new result) }
 {
     match read_words(alloc, words) {
         Ok(Words::Run(words)) => run(alloc, &words, files, out, err),
@@ -58,11 +59,7 @@ pub fn run<F: Files, O: Sink, E: Sink>(
     out: &mut O,
     err: &mut E,
 ) -> u8
-    // What was emulated was printed and gave its status, or a fault was told and the status is 2.
-    ensures { ((text : List ℕ) × (good : Bool) × IsEmulated (F.gives files.old) words.now text good
-        × (err.new ≡ err.old) × IsPrinted O.taken O.failures out.old out.new text (status_of good) result)
-        ⊎ ((r : Refusal) × (t : List ℕ) × IsReason (F.gives files.old) words.now r × Tells r t
-        × (out.new ≡ out.old) × (result ≡ 2) × IsTold E.taken E.failures err.old err.new (fault_line t)) }
+    ensures { IsRan O.taken O.failures E.taken E.failures (F.gives files.old) (F.lacks files.old) words.now out.old out.new err.old err.new result }
 {
     match emulate_files(alloc, words, files) {
         Ok(emulated) => show(&emulated, out),
@@ -80,7 +77,7 @@ fn emulate_files<'a, F: Files>(
     files: &mut F,
 ) -> Result<Emulated, Refusal<'a>>
     ensures emulated { IfOk result (λ e. IsEmulated (F.gives files.old) words.now (string_bytes e.text) e.good) }
-    ensures refused { IfErr result (IsReason (F.gives files.old) words.now) }
+    ensures refused { IfErr result (IsReason (F.gives files.old) (F.lacks files.old) words.now) }
 {
     let definition = read_file(alloc, files, words.definition)?;
     let mocks = read_file(alloc, files, words.mocks)?;
@@ -109,7 +106,8 @@ fn read_file<'a, F: Files>(
 ) -> Result<Vec<u8>, Refusal<'a>>
     ensures given { IfOk result (λ r. F.gives files.old name.now r.items) }
     ensures kept { (n b : List ℕ) → F.gives files.new n b → F.gives files.old n b }
-    ensures named { IfErr result (λ r. IsNamedAs name.now r) }
+    ensures lacking { (n : List ℕ) → F.lacks files.new n → F.lacks files.old n }
+    ensures unread { IfErr result (λ r. IsUnread (F.lacks files.old) name.now r) }
 {
     match files.read(alloc, name) {
         Ok(bytes) => Ok(bytes),
@@ -131,8 +129,7 @@ fn show<O: Sink>(emulated: &Emulated, out: &mut O) -> u8
 
 /// Prints what the command line's reader answers in place of words: help that was asked for, or what is wrong.
 fn answer_words<O: Sink, E: Sink>(alloc: Global, error: &Error, out: &mut O, err: &mut E) -> u8
-    ensures { ((t : List ℕ) × (err.new ≡ err.old) × IsPrinted O.taken O.failures out.old out.new t 0 result)
-        ⊎ ((t : List ℕ) × (out.new ≡ out.old) × (result ≡ 2) × IsTold E.taken E.failures err.old err.new t) }
+    ensures { IsAnswered O.taken O.failures E.taken E.failures out.old out.new err.old err.new result }
 {
     if error.use_stderr() {
         tell_error(alloc, error, err);

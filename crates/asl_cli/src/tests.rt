@@ -43,6 +43,8 @@ struct Shelf {
 impl Files for Shelf {
     ghost gives = { λ _ _ _. ⊤ };
 
+    ghost lacks = { λ _ _. ⊤ };
+
     fn read(&mut self, alloc: Global, name: &str) -> Result<Vec<u8>, ReadFault> {
         if self.asked.push_str(name).is_err() || self.asked.push(' ').is_err() {
             return Err(ReadFault::OutOfMemory);
