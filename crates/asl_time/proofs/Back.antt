@@ -27,7 +27,7 @@ push_digit : (ds : List ℕ) (c : ℕ) → AllDigits 10 ds → digit_value c < 1
 push_digit [] c h l = (l, tt)
 push_digit (d ∷ ds) c h l = (h.0, push_digit ds c h.1 l)
 
-digits_digits : (k n : ℕ) → AllDigits 10 (digits k n)
+pub digits_digits : (k n : ℕ) → AllDigits 10 (digits k n)
 unfolding digits
 digits_digits zero n = tt
 digits_digits (suc k) n =
@@ -43,13 +43,13 @@ digits_value_digits (suc k) n l =
     let v = digit_value_small (n % 10) (omega arith) in
     digits_value_push 10 (digits k (n / 10)) (48 + n % 10) ∙ rw (digits_value_digits k (n / 10) m, v) (omega arith)
 
-thousandths_round : (n : ℕ) → n < 1000 → IsRoundedUp (digits 3 n) n
+pub thousandths_round : (n : ℕ) → n < 1000 → IsRoundedUp (digits 3 n) n
 thousandths_round n l =
     let value = digits_value_digits 3 n l in
     let size = digits_length 3 n in
     record { enough = rw (value, size) (omega arith); least = rw (value, size) (omega arith) }
 
-secfrac_digits : (n : ℕ) → secfrac (digits 3 n) ≡ codes "." ++ digits 3 n
+pub secfrac_digits : (n : ℕ) → secfrac (digits 3 n) ≡ codes "." ++ digits 3 n
 unfolding digits
 secfrac_digits n = refl
 

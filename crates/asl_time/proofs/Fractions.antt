@@ -22,7 +22,7 @@ NoDigit t = (c : ℕ) (rest : List ℕ) → digit_value c < 10 → t ≡ c ∷ r
 same_times : (a b p v : ℕ) → 1000 * v ≤ a * p → a * p < 1000 * v + p → 1000 * v ≤ b * p → b * p < 1000 * v + p → a ≡ b
 same_times a b p v h k l m = grind arith
 
-rounded_one : (ds : List ℕ) (a b : ℕ) → IsRoundedUp ds a → IsRoundedUp ds b → a ≡ b
+pub rounded_one : (ds : List ℕ) (a b : ℕ) → IsRoundedUp ds a → IsRoundedUp ds b → a ≡ b
 rounded_one ds a b h k = same_times a b (10 ^ length ds) (digits_value 10 ds) h.enough h.least k.enough k.least
 
 -- the longest run of digits is one
@@ -54,7 +54,7 @@ no_sign_digit c (inl e) l = let v : digit_value c ≡ 35 = ap digit_value e in o
 no_sign_digit c (inr (inl e)) l = let v : digit_value c ≡ 36 = ap digit_value e in omega (arith, v)
 no_sign_digit c (inr (inr e)) l = let v : digit_value c ≡ 36 = ap digit_value e in omega (arith, v)
 
-offset_no_digit : (ahead : ℤ) (t : List ℕ) → IsOffset ahead t → NoDigit t
+pub offset_no_digit : (ahead : ℤ) (t : List ℕ) → IsOffset ahead t → NoDigit t
 offset_no_digit ahead t o c rest l e = no_sign_digit c (first_of_offset ahead t c rest o e) l
 
 no_sign_point : (c : ℕ) → (c ≡ 90) ⊎ ((c ≡ 43) ⊎ (c ≡ 45)) → c ≡ 46 → ⊥
@@ -68,7 +68,7 @@ offset_no_point ahead t rest o e = no_sign_point 46 (first_of_offset ahead t 46 
 pub secfrac_some : (c : ℕ) (cs : List ℕ) → secfrac (c ∷ cs) ≡ 46 ∷ (c ∷ cs)
 secfrac_some c cs = refl
 
-fraction_same : (t behind f x g zone : List ℕ) (ahead : ℤ) → t ≡ 46 ∷ behind → behind ≡ f ++ x → AllDigits 10 f → NoDigit x → AllDigits 10 g → IsOffset ahead zone → t ≡ secfrac g ++ zone → (g ≡ f) × (zone ≡ x) × (0 < length g)
+pub fraction_same : (t behind f x g zone : List ℕ) (ahead : ℤ) → t ≡ 46 ∷ behind → behind ≡ f ++ x → AllDigits 10 f → NoDigit x → AllDigits 10 g → IsOffset ahead zone → t ≡ secfrac g ++ zone → (g ≡ f) × (zone ≡ x) × (0 < length g)
 fraction_same t behind f x [] zone ahead e b df nx dg o k = absurd (offset_no_point ahead zone behind o (sym k ∙ e))
 fraction_same t behind f x (c ∷ cs) zone ahead e b df nx dg o k =
     let opened : t ≡ 46 ∷ ((c ∷ cs) ++ zone) = k in

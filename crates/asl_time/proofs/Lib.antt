@@ -9,3 +9,4 @@ pub mod Back
 pub mod Moments
 pub mod Delays
 pub mod StampTexts
+pub mod Forms

@@ -41,7 +41,7 @@ time_one t x y a b h k =
     let second : b.second ≡ a.second = s.0 in
     (omega arith, s.1)
 
-civil_seconds_same : (a b : DateTime) → epoch_day a.date ≡ epoch_day b.date → time_seconds a.time ≡ time_seconds b.time → civil_seconds a ≡ civil_seconds b
+pub civil_seconds_same : (a b : DateTime) → epoch_day a.date ≡ epoch_day b.date → time_seconds a.time ≡ time_seconds b.time → civil_seconds a ≡ civil_seconds b
 unfolding civil_seconds
 civil_seconds_same a b e f = λ i. e i *ℤ pos 86_400 +ℤ pos (f i)
 

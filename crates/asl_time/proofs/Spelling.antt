@@ -20,7 +20,7 @@ digits_length zero n = refl
 digits_length (suc k) n = length-append (digits k (n / 10)) ((48 + n % 10) ∷ []) ∙ omega (arith, digits_length k (n / 10))
 
 -- fronts of one length leave one rest
-cut : (a b x y : List ℕ) → length a ≡ length b → a ++ x ≡ b ++ y → x ≡ y
+pub cut : (a b x y : List ℕ) → length a ≡ length b → a ++ x ≡ b ++ y → x ≡ y
 cut [] [] x y l e = e
 cut [] (c ∷ b) x y l e = absurd (omega arith)
 cut (c ∷ a) [] x y l e = absurd (omega arith)

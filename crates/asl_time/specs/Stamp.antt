@@ -28,6 +28,17 @@ abbrev pub spelled : DateTime → List ℕ
 spelled shown =
     to_the_second shown ++ codes "." ++ digits 3 (shown.time.subsec_nanosecond / 1_000_000) ++ codes "Z"
 
+-- t has the form YYYY-MM-DDThh:mm:ss.mmmZ, with a decimal digit for each small letter and each of Y, M and D
+pub record HasForm (t : List ℕ) : Type 0 where
+  pub year : ℕ
+  pub month : ℕ
+  pub day : ℕ
+  pub hour : ℕ
+  pub minute : ℕ
+  pub second : ℕ
+  pub milli : ℕ
+  pub text : t ≡ digits 4 year ++ codes "-" ++ digits 2 month ++ codes "-" ++ digits 2 day ++ codes "T" ++ digits 2 hour ++ codes ":" ++ digits 2 minute ++ codes ":" ++ digits 2 second ++ codes "." ++ digits 3 milli ++ codes "Z"
+
 -- t is the text of what calendar and clock show in UTC at moment m
 pub record IsStampOf (m : ℕ) (t : List ℕ) : Type 0 where
   pub shown : DateTime

@@ -1,7 +1,7 @@
 // The text of a moment.
 ghost use Rattle.std.specs.Prelude.{◌≡◌, List, ℕ, ◌≤◌, ◌<◌, ◌++◌, ◌*ℤ◌, IfOk, OnOk, string_bytes, codes, pos};
 ghost use Rattle.jiff.specs.Words.{civil_nanos};
-ghost use Rattle.asl_time.specs.Stamp.{digits, full_date, whole_time, spelled, IsStampOf};
+ghost use Rattle.asl_time.specs.Stamp.{digits, full_date, whole_time, spelled, HasForm, IsStampOf};
 ghost use Rattle.asl_time.specs.StampText.{stamp_of};
 ghost use Rattle.asl_time.specs.Timestamp.{IsTimestamp};
 
@@ -75,6 +75,9 @@ pub fn print_stamp(alloc: Global, moment: Moment) -> Result<String, AllocError>
     ensures back { IfOk result (λ t. IsTimestamp (string_bytes t) moment) }
     // There is no other.
     ensures one { IfOk result (λ t. (u : List ℕ) → IsStampOf moment u → u ≡ string_bytes t) }
+    // It has the form, and no other text of the form reads back as the moment.
+    ensures form { IfOk result (λ t. HasForm (string_bytes t)) }
+    ensures only { IfOk result (λ t. (u : List ℕ) → HasForm u → IsTimestamp u moment → u ≡ string_bytes t) }
 {
     spell(alloc, shown(moment))
 }

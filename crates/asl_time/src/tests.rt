@@ -17,12 +17,23 @@ fn timestamps_have_their_moments(rt: HostRuntime) {
     for (text, millis) in [
         ("1985-04-12T23:20:50.52Z", 482_196_050_520),
         ("1996-12-19T16:39:57-08:00", 851_042_397_000),
+        ("1996-12-20T00:39:57Z", 851_042_397_000),
         ("2024-02-29T00:00:00Z", 1_709_164_800_000),
         ("2024-01-01T00:00:00-00:00", 1_704_067_200_000),
         ("2024-01-01T01:00:00.0001+01:00", 1_704_067_200_001),
+        (
+            "2024-01-01T00:00:00.0000000000000000000000000000000000000001Z",
+            1_704_067_200_001,
+        ),
+        (
+            "2024-01-01T00:00:00.1230000000000000000000000000000000000000Z",
+            1_704_067_200_123,
+        ),
+        ("2024-01-01T23:59:00+23:59", 1_704_067_200_000),
         ("1969-12-31T23:59:59.9995Z", 0),
         ("1969-12-31T23:30:00-01:00", 1_800_000),
         ("9999-12-31T23:59:59.999Z", 253_402_300_799_999),
+        ("9999-12-31T23:59:00+23:59", 253_402_214_400_000),
     ] {
         assert_eq!(rt; millis_of(text), Some(millis), "{text}");
     }
@@ -32,9 +43,13 @@ fn timestamps_have_their_moments(rt: HostRuntime) {
 fn other_texts_have_none(rt: HostRuntime) {
     for text in [
         "1990-12-31T23:59:60Z",
+        "1990-12-31T15:59:60-08:00",
         "1937-01-01T12:00:27.87+00:20",
         "2024-02-30T00:00:00Z",
         "2023-02-29T00:00:00Z",
+        "2100-02-29T00:00:00Z",
+        "2024-01-01T24:00:00Z",
+        "9999-12-31T23:59:59-00:01",
         "2024-01-01t00:00:00Z",
         "2024-01-01T00:00:00z",
         "2024-01-01T00:00:00",
@@ -66,6 +81,7 @@ fn sums_stop_at_the_last_moment(rt: HostRuntime) -> Result<(), Fail> {
     let before_last = Moment::of_millis(253_402_300_799_998).ok_or("no moment")?;
     assert!(rt; add(before_last, 1) == Moment::LAST);
     assert!(rt; add(before_last, 2) == Moment::LAST);
+    assert!(rt; add(Moment::LAST, 1) == Moment::LAST);
     assert!(rt; add(Moment::LAST, u64::MAX) == Moment::LAST);
     assert!(rt; before_last < Moment::LAST);
     assert!(rt; add(Moment::FIRST, 1).millis() == 1);
@@ -89,6 +105,12 @@ fn delays_grow_by_the_rate_up_to_the_cap(rt: HostRuntime) -> Result<(), Fail> {
         assert_eq!(rt; delay(3, twice, Some(5), k), capped);
         assert_eq!(rt; delay(1, half_again, None, k), grown);
     }
+    for (k, grown, capped) in [(1, 3_000, 3_000), (2, 4_500, 4_000), (3, 6_750, 4_000)] {
+        assert_eq!(rt; delay(3, half_again, None, k), grown);
+        assert_eq!(rt; delay(3, half_again, Some(4), k), capped);
+    }
+    assert_eq!(rt; delay(3, half_again, Some(5), 3), 5_000);
+    assert_eq!(rt; delay(5, twice, Some(2), 1), 2_000);
     assert!(rt; Rate::of(999_999_999) == None);
     assert!(rt; Rate::of(1_000_000_000_001) == None);
     Ok(())
