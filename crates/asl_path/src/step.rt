@@ -14,7 +14,7 @@ pub enum Root {
 }
 
 /// One step down a value.
-#[derive(Drop)]
+#[derive(PartialEq, Eq, Drop)]
 pub enum Step {
     /// The member of this name, of an object. The text is UTF-8 and can be empty.
     Name(Txt),

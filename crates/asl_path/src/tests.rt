@@ -40,15 +40,36 @@ fn equals_its_copy(alloc: Global, text: &str) -> bool {
     }
 }
 
-/// The value of a text, or a list of true and null.
-fn value(alloc: Global, text: &str) -> Option<Json> {
-    if text != "[true,null]" {
-        return read(alloc, text.as_bytes()).ok();
-    }
+/// A list of the values of these texts.
+fn list(alloc: Global, items: &[&str]) -> Option<Json> {
     let mut values = Vec::new(alloc);
-    values.push(Json::Bool(true)).ok()?;
-    values.push(Json::Null).ok()?;
+    for item in items {
+        values.push(read(alloc, item.as_bytes()).ok()?).ok()?;
+    }
     Some(Json::List(Items::of_values(values)))
+}
+
+/// An object with a list of the values of these texts at a path.
+fn with_list(alloc: Global, text: &str, items: &[&str]) -> Option<Json> {
+    let empty = read(alloc, b"{}".as_slice()).ok()?;
+    with_part(alloc, text, empty, list(alloc, items)?)
+}
+
+/// The value of a text. (Texts with lists can't be read yet: of these there are the ones that the tests need.)
+fn value(alloc: Global, text: &str) -> Option<Json> {
+    if text == "[true,null]" {
+        return list(alloc, &["true", "null"]);
+    }
+    if text == "{\"l\":[0]}" {
+        return with_list(alloc, "$.l", &["0"]);
+    }
+    if text == "{\"l\":[0,1,2]}" {
+        return with_list(alloc, "$.l", &["0", "1", "2"]);
+    }
+    if text == "{\"master\":{\"detail\":[1,2,3]}}" {
+        return with_list(alloc, "$.master.detail", &["1", "2", "3"]);
+    }
+    read(alloc, text.as_bytes()).ok()
 }
 
 /// The text of the part at a path.
@@ -107,6 +128,38 @@ fn leads_far(alloc: Global, count: usize) -> Option<bool> {
     Some(found)
 }
 
+/// A list of so many nulls.
+fn nulls(alloc: Global, count: usize) -> Option<Json> {
+    let mut values = Vec::new(alloc);
+    for _ in 0..count {
+        values.push(Json::Null).ok()?;
+    }
+    Some(Json::List(Items::of_values(values)))
+}
+
+/// A value with another at a path.
+fn with_part(alloc: Global, text: &str, base: Json, part: Json) -> Option<Json> {
+    RefPath::read(alloc, text).ok()?.put(alloc, base, part).ok()
+}
+
+/// Whether a path leads to true.
+fn is_true(alloc: Global, text: &str, base: &Json) -> bool {
+    match RefPath::read(alloc, text) {
+        Ok(path) => matches!(path.get(base), Some(Json::Bool(true))),
+        Err(_) => false,
+    }
+}
+
+/// Whether of so many values that are put into a list of so many items the last one is there. (If each of them went over the
+/// list, this would take hours.)
+fn puts_into_a_long_list(alloc: Global, count: usize) -> Option<bool> {
+    let mut whole = with_part(alloc, "$.l", value(alloc, "{}")?, nulls(alloc, count)?)?;
+    for i in 0..count {
+        whole = with_part(alloc, "$.l[7]", whole, Json::Bool(i + 1 == count))?;
+    }
+    Some(is_true(alloc, "$.l[7]", &whole))
+}
+
 #[test]
 fn the_first_byte_that_cannot_go_on(rt: HostRuntime) -> Result<(), Fail> {
     let alloc = rt.alloc();
@@ -130,7 +183,7 @@ fn texts_that_are_paths(rt: HostRuntime) -> Result<(), Fail> {
     assert!(rt; starts_from(alloc, "$", Root::Input));
     assert!(rt; starts_from(alloc, "$$.Task[0]", Root::Context));
     assert!(rt; is_path(alloc, "$.a-b_1.ä['']"));
-    assert!(rt; is_path(alloc, "$[\"it's\"][007][999999999]"));
+    assert!(rt; is_path(alloc, "$[\"it's\"][007][999999999]['\n\"']"));
     Ok(())
 }
 
@@ -153,10 +206,47 @@ fn the_part_that_a_path_names(rt: HostRuntime) -> Result<(), Fail> {
     Ok(())
 }
 
+/// The examples of the Amazon States Language, "Reference Paths".
+#[test]
+fn the_parts_that_the_standard_names(rt: HostRuntime) -> Result<(), Fail> {
+    let alloc = rt.alloc();
+    let foo = "{\"foo\":123,\"car\":{\"cdr\":true}}";
+    assert!(rt; names(alloc, "$.foo", foo, "123"));
+    assert!(rt; names(alloc, "$.car.cdr", foo, "true"));
+    Ok(())
+}
+
+/// The examples of the Amazon States Language, "ResultPath".
+#[test]
+fn the_results_that_the_standard_places(rt: HostRuntime) -> Result<(), Fail> {
+    let alloc = rt.alloc();
+    let master = "{\"master\":{\"detail\":[1,2,3]}}";
+    assert!(rt;
+        puts(
+            alloc,
+            "$.master.detail",
+            master,
+            "6",
+            "{\"master\":{\"detail\":6}}"
+        )
+    );
+    assert!(rt;
+        puts(
+            alloc,
+            "$.master.result.sum",
+            master,
+            "6",
+            "{\"master\":{\"detail\":[1,2,3],\"result\":{\"sum\":6}}}"
+        )
+    );
+    Ok(())
+}
+
 #[test]
 fn a_value_is_put_where_a_path_leads(rt: HostRuntime) -> Result<(), Fail> {
     let alloc = rt.alloc();
-    assert!(rt; puts(alloc, "$['a b'].c", "{}", "true", "{\"a b\":{\"c\":true}}"));
+    assert!(rt; puts(alloc, "$['a b'].c", "{}", "1", "{\"a b\":{\"c\":1}}"));
+    assert!(rt; puts(alloc, "$.l[2]", "{\"l\":[0,1,2]}", "9", "{\"l\":[0,1,9]}"));
     assert!(rt;
         puts(
             alloc,
@@ -174,7 +264,11 @@ fn a_value_is_put_where_a_path_leads(rt: HostRuntime) -> Result<(), Fail> {
 #[test]
 fn both_values_come_back_where_no_place_is(rt: HostRuntime) -> Result<(), Fail> {
     let alloc = rt.alloc();
-    assert!(rt; puts(alloc, "$[2]", "[true,null]", "null", "[true,null] null"));
+    assert!(rt; puts(alloc, "$.l[1]", "{\"l\":[0]}", "1", "{\"l\":[0]} 1"));
+    assert!(rt; puts(alloc, "$.l[3]", "{\"l\":[0,1,2]}", "9", "{\"l\":[0,1,2]} 9"));
+    assert!(rt; puts(alloc, "$[0]", "{}", "1", "{} 1"));
+    assert!(rt; puts(alloc, "$.a", "5", "1", "5 1"));
+    assert!(rt; puts(alloc, "$.a", "null", "1", "null 1"));
     assert!(rt; puts(alloc, "$[1].a", "[true,null]", "true", "[true,null] true"));
     assert!(rt; puts(alloc, "$.a[0]", "{}", "true", "{} true"));
     assert!(rt;
@@ -186,6 +280,12 @@ fn both_values_come_back_where_no_place_is(rt: HostRuntime) -> Result<(), Fail> 
             "{\"a\":{\"b\":true}} null"
         )
     );
+    Ok(())
+}
+
+#[test]
+fn what_a_path_goes_past_is_not_looked_at(rt: HostRuntime) -> Result<(), Fail> {
+    assert_eq!(rt; puts_into_a_long_list(rt.alloc(), 300_000), Some(true));
     Ok(())
 }
 
