@@ -5,6 +5,9 @@ use std::alloc::Global;
 use std::mem;
 use std::test::Fail;
 
+/// The value of the standard's examples of Reference Paths.
+const FOO_BAR_CAR: &str = "{\"foo\":123,\"bar\":[\"a\",\"b\",\"c\"],\"car\":{\"cdr\":true}}";
+
 fn fault_at(alloc: Global, text: &str) -> Option<usize> {
     match RefPath::read(alloc, text) {
         Err(PathFault::PathProfile(at)) => Some(at),
@@ -49,10 +52,10 @@ fn list(alloc: Global, items: &[&str]) -> Option<Json> {
     Some(Json::List(Items::of_values(values)))
 }
 
-/// An object with a list of the values of these texts at a path.
-fn with_list(alloc: Global, text: &str, items: &[&str]) -> Option<Json> {
-    let empty = read(alloc, b"{}".as_slice()).ok()?;
-    with_part(alloc, text, empty, list(alloc, items)?)
+/// The value of a text, with a list of the values of these texts at a path.
+fn with_list(alloc: Global, base: &str, text: &str, items: &[&str]) -> Option<Json> {
+    let base = read(alloc, base.as_bytes()).ok()?;
+    with_part(alloc, text, base, list(alloc, items)?)
 }
 
 /// The value of a text. (Texts with lists can't be read yet: of these there are the ones that the tests need.)
@@ -61,13 +64,17 @@ fn value(alloc: Global, text: &str) -> Option<Json> {
         return list(alloc, &["true", "null"]);
     }
     if text == "{\"l\":[0]}" {
-        return with_list(alloc, "$.l", &["0"]);
+        return with_list(alloc, "{}", "$.l", &["0"]);
     }
     if text == "{\"l\":[0,1,2]}" {
-        return with_list(alloc, "$.l", &["0", "1", "2"]);
+        return with_list(alloc, "{}", "$.l", &["0", "1", "2"]);
     }
     if text == "{\"master\":{\"detail\":[1,2,3]}}" {
-        return with_list(alloc, "$.master.detail", &["1", "2", "3"]);
+        return with_list(alloc, "{}", "$.master.detail", &["1", "2", "3"]);
+    }
+    if text == FOO_BAR_CAR {
+        let base = "{\"foo\":123,\"bar\":null,\"car\":{\"cdr\":true}}";
+        return with_list(alloc, base, "$.bar", &["\"a\"", "\"b\"", "\"c\""]);
     }
     read(alloc, text.as_bytes()).ok()
 }
@@ -210,9 +217,10 @@ fn the_part_that_a_path_names(rt: HostRuntime) -> Result<(), Fail> {
 #[test]
 fn the_parts_that_the_standard_names(rt: HostRuntime) -> Result<(), Fail> {
     let alloc = rt.alloc();
-    let foo = "{\"foo\":123,\"car\":{\"cdr\":true}}";
-    assert!(rt; names(alloc, "$.foo", foo, "123"));
-    assert!(rt; names(alloc, "$.car.cdr", foo, "true"));
+    assert!(rt; names(alloc, "$", FOO_BAR_CAR, FOO_BAR_CAR));
+    assert!(rt; names(alloc, "$.foo", FOO_BAR_CAR, "123"));
+    assert!(rt; names(alloc, "$.bar", FOO_BAR_CAR, "[\"a\",\"b\",\"c\"]"));
+    assert!(rt; names(alloc, "$.car.cdr", FOO_BAR_CAR, "true"));
     Ok(())
 }
 
