@@ -1,5 +1,5 @@
 -- The faults of `read`, from those of the machine.
-use Rattle.std.proofs.Common.{◌≡◌, ℕ, ◌-◌, ◌<◌, ◌≤◌, Bool, true, false, ◌==◌, ◌&&◌, ◌||◌, nat_lt, List, [], ◌∷◌, ◌++◌, length, take, Ok, Err, refl, sym, ap, subst, ◌∙◌, arith, eq-eqb}
+use Rattle.std.proofs.Common.{◌≡◌, ℕ, ◌-◌, ◌<◌, ◌≤◌, Bool, true, false, ◌==◌, ◌&&◌, ◌||◌, nat_lt, List, [], ◌∷◌, ◌++◌, length, take, Ok, Err, refl, sym, ap, subst, ◌∙◌, arith, eq-eqb, inl, inr}
 use Rattle.std.proofs.lemmas.List.{length-append, length-take-le}
 use Rattle.std.proofs.lemmas.Bool.{eqb-true}
 use Rattle.std.proofs.Math.Seq.{take-length}
@@ -8,7 +8,7 @@ use Rattle.std.specs.Str.{IsUtf8}
 use Rattle.std.specs.Str.Lossy.{utf8_valid_len}
 use Rattle.asl_json.specs.Data.{Data}
 use Rattle.asl_json.specs.View.{data_of}
-use Rattle.asl_json.specs.Grammar.{quote, open_brace}
+use Rattle.asl_json.specs.Text.{quote}
 use Rattle.asl_json.specs.Machine.{value, failed, run}
 use Rattle.asl_json.specs.Leads.{Fails}
 use Rattle.asl_json.specs.Open.{FaultAt}
@@ -18,6 +18,8 @@ use Rattle.asl_json.specs.Wrong.{front, FaultIn, MalformedAt, HasFault, IsFaultO
 use Rattle.asl_json.specs.declared.fault.Fault.{Fault}
 use Rattle.asl_json.specs.declared.fault.Kind.{Kind}
 use Rattle.asl_json.specs.declared.fault.Kind.TheVariants.{Syntax, Duplicate, Depth, Number}
+use Rattle.asl_json.specs.declared.fault.Kind.TheVariants as kinds
+use Rattle.asl_json.specs.Text.{lone_spelled}
 use Rattle.asl_json.specs.declared.fault.JsonFault.{JsonFault}
 use Rattle.asl_json.specs.declared.fault.JsonFault.TheVariants as faults
 use Rattle.asl_json.specs.declared.fault.Stop.{Stop}
@@ -29,8 +31,9 @@ use Rattle.asl_json.proofs.Leasting.{is_first, no_fault}
 
 left_fits : (b : List ℕ) (kind : Kind) (left : ℕ) → FaultAt b kind left → left ≤ length b
 left_fits b Syntax left h = omega (arith, ap length h.parts, length-append h.pre h.post, h.left_is)
-left_fits b Duplicate left h = omega (arith, ap length h.parts, length-append h.pre (quote ∷ (h.key ++ quote ∷ h.post)), h.left_is)
-left_fits b Depth left h = omega (arith, ap length h.parts, length-append h.pre (open_brace ∷ h.post), h.left_is)
+left_fits b kinds.Lone left h = omega (arith, ap length h.parts, length-append h.pre (lone_spelled h.half ++ h.post), h.left_is)
+left_fits b Duplicate left h = omega (arith, ap length h.parts, length-append h.pre (quote ∷ (h.inner ++ quote ∷ h.post)), h.left_is)
+left_fits b Depth left h = omega (arith, ap length h.parts, length-append h.pre (h.opener ∷ h.post), h.left_is)
 left_fits b Number left h = omega (arith, ap length h.parts, length-append h.pre (h.spelled ++ h.post), h.left_is)
 
 stop_fits : (b : List ℕ) (e : Stop) → Fails e (run true value [] b) → FitsIn (length b) e
@@ -63,7 +66,8 @@ in_front b kind left h ahead =
     at_the_end e fits n ahead = grind (arith, e, fits, ahead)
 
 of_kind_is : (b : List ℕ) (kind : Kind) (at : ℕ) → FaultIn b kind at → IsFaultOf b (of_kind kind at)
-of_kind_is b Syntax at h = h
+of_kind_is b Syntax at h = inl h
+of_kind_is b kinds.Lone at h = inr h
 of_kind_is b Duplicate at h = h
 of_kind_is b Depth at h = h
 of_kind_is b Number at h = h
@@ -87,6 +91,7 @@ stop_is b len (stops.Fault f) h =
 
 abbrev rank : Kind → ℕ
 rank Syntax = 2
+rank kinds.Lone = 2
 rank Depth = 3
 rank Number = 4
 rank Duplicate = 5
@@ -103,6 +108,7 @@ not_before false p at r rank s b h = grind (arith, b, h)
 
 follows_first : (f : JsonFault) (kind : Kind) (at : ℕ) → Follows f at (rank kind) → comes_before f (of_kind kind at) ≡ false
 follows_first f Syntax at h = not_before (rank_of f == 0) (place_of f) at (rank_of f) 2 h.sized h.behind h.ranked
+follows_first f kinds.Lone at h = not_before (rank_of f == 0) (place_of f) at (rank_of f) 2 h.sized h.behind h.ranked
 follows_first f Depth at h = not_before (rank_of f == 0) (place_of f) at (rank_of f) 3 h.sized h.behind h.ranked
 follows_first f Number at h = not_before (rank_of f == 0) (place_of f) at (rank_of f) 4 h.sized h.behind h.ranked
 follows_first f Duplicate at h = not_before (rank_of f == 0) (place_of f) at (rank_of f) 5 h.sized h.behind h.ranked
@@ -138,7 +144,8 @@ stop_follows b len g small h f has = of_fault f has
         no_zero g.left (h.ahead (omega (arith, here, h.len_is, m.malformed))) z
 
     of_fault : (f : JsonFault) → HasFault b f → Follows f (len - g.left) (rank g.kind)
-    of_fault (faults.Syntax at) k = record { sized = refl; behind = behind Syntax at k; ranked = ranked Syntax at k }
+    of_fault (faults.Syntax at) (inl k) = record { sized = refl; behind = behind Syntax at k; ranked = ranked Syntax at k }
+    of_fault (faults.Syntax at) (inr k) = record { sized = refl; behind = behind kinds.Lone at k; ranked = ranked kinds.Lone at k }
     of_fault (faults.Duplicate at) k = record { sized = refl; behind = behind Duplicate at k; ranked = ranked Duplicate at k }
     of_fault (faults.Depth at) k = record { sized = refl; behind = behind Depth at k; ranked = ranked Depth at k }
     of_fault (faults.Number at) k = record { sized = refl; behind = behind Number at k; ranked = ranked Number at k }
@@ -148,6 +155,7 @@ stop_follows b len g small h f has = of_fault f has
 
 of_kind_first : (b : List ℕ) (kind : Kind) (at : ℕ) → ((f : JsonFault) → HasFault b f → Follows f at (rank kind)) → IsFirstOf b (of_kind kind at)
 of_kind_first b Syntax at h = λ f k. follows_first f Syntax at (h f k)
+of_kind_first b kinds.Lone at h = λ f k. follows_first f kinds.Lone at (h f k)
 of_kind_first b Duplicate at h = λ f k. follows_first f Duplicate at (h f k)
 of_kind_first b Depth at h = λ f k. follows_first f Depth at (h f k)
 of_kind_first b Number at h = λ f k. follows_first f Number at (h f k)
@@ -161,7 +169,8 @@ utf8_first : (b : List ℕ) (at : ℕ) → length b ≤ max_len → MalformedAt 
 utf8_first b at small m none = λ f has. of_fault f has
   where
     of_fault : (f : JsonFault) → HasFault b f → comes_before f (faults.Utf8 at) ≡ false
-    of_fault (faults.Syntax there) k = absurd (none Syntax there k)
+    of_fault (faults.Syntax there) (inl k) = absurd (none Syntax there k)
+    of_fault (faults.Syntax there) (inr k) = absurd (none kinds.Lone there k)
     of_fault (faults.Duplicate there) k = absurd (none Duplicate there k)
     of_fault (faults.Depth there) k = absurd (none Depth there k)
     of_fault (faults.Number there) k = absurd (none Number there k)
@@ -254,7 +263,8 @@ all_faultless b v u small answer f has = of_fault f has
     on_all = subst (λ (x : List ℕ). run true value [] x ≡ Ok v) (sym (front_all b u)) answer
 
     of_fault : (f : JsonFault) → HasFault b f → ⊥
-    of_fault (faults.Syntax there) k = front_is_read b v on_all Syntax there k
+    of_fault (faults.Syntax there) (inl k) = front_is_read b v on_all Syntax there k
+    of_fault (faults.Syntax there) (inr k) = front_is_read b v on_all kinds.Lone there k
     of_fault (faults.Duplicate there) k = front_is_read b v on_all Duplicate there k
     of_fault (faults.Depth there) k = front_is_read b v on_all Depth there k
     of_fault (faults.Number there) k = front_is_read b v on_all Number there k

@@ -1,141 +1,16 @@
--- The number that stands in front of bytes, and what its digits mean.
-use Rattle.std.proofs.Common.{◌≡◌, ◌≢◌, ℕ, zero, suc, ◌+◌, ◌-◌, ◌*◌, ◌≤◌, ◌<◌, Bool, true, false, cond, nat_le, nat_lt, ◌==◌, ◌||◌, List, [], ◌∷◌, ◌++◌, length, get_or, take, drop, refl, sym, subst, ◌∙◌, add-one, arith, IsAscii}
-use Rattle.std.proofs.lemmas.List.{length-take-le}
-use Rattle.std.proofs.lemmas.Bool.{eqb-true}
+-- What the digits of a number mean, and where they stand in it.
+use Rattle.std.proofs.Common.{◌≡◌, ℕ, zero, suc, ◌+◌, ◌-◌, ◌*◌, ◌^◌, ◌%◌, ◌≤◌, ◌<◌, Bool, true, false, cond, ◌==◌, List, [], ◌∷◌, ◌++◌, length, get_or, take, drop, Option, Some, None, refl, sym, ap, subst, ◌∙◌, add-one, arith, IsAscii}
+use Rattle.std.proofs.lemmas.List.{append-nil, length-append, length-take-le}
+use Rattle.std.proofs.Math.Nat.{mul_comm, mul_assoc, pow-suc}
 use Rattle.std.proofs.lemmas.Str.{IsUtf8-from_ascii}
 use Rattle.std.proofs.lemmas.Str.Ascii.{IsAscii-nil}
 use Rattle.std.specs.Str.{IsUtf8}
-use Rattle.asl_json.specs.Number.{is_digit, AreDigits, IsUnsigned, magnitude, IsWhole, digits_value, amount_of, amount_limit, max_number_len, is_over}
-use Rattle.asl_json.specs.Machine.{sign, value, figure, begins_digits, in_value, in_figure, failed, walk, judgement, run}
-use Rattle.asl_json.specs.Grammar.{is_space}
-use Rattle.asl_json.specs.Open.{Frame, EndsNumber}
-use Rattle.asl_json.specs.Leads.{begins, NoDigitFirst, EndsUnsigned, IsNumberFront}
-use Rattle.asl_json.specs.declared.fault.Kind.TheVariants.{Syntax}
-use Rattle.asl_json.proofs.Passing.{one, not_zero}
-use Rattle.asl_json.proofs.Stretches.{halts_here}
-
--- ---- digits that grow by an index
-
-pub digits_more : (xs : List ℕ) (i : ℕ) → i < length xs → AreDigits (take i xs) → is_digit (get_or xs i 0) ≡ true → AreDigits (take (i + 1) xs)
-digits_more [] i lt h e = absurd (omega arith)
-digits_more (x ∷ xs) zero lt h e = (e, tt)
-digits_more (x ∷ xs) (suc i) lt h e = let more = digits_more xs i (omega arith) h.1 e in rw add-one (h.0, rw add-one at more)
-
--- ---- the longest number in front
-
-pub no_digit_first : (xs : List ℕ) (n : ℕ) → n ≡ 0 → (n < length xs → is_digit (get_or xs n 0) ≡ false) → NoDigitFirst xs
-no_digit_first [] n z h = tt
-no_digit_first (x ∷ xs) n z h = subst (λ (m : ℕ). is_digit (get_or (x ∷ xs) m 0) ≡ false) z (h (omega (arith, z)))
-
-zero_alone : is_digit 48 ≡ true
-unfolding is_digit
-zero_alone = refl
-
-pub nought_unsigned : (xs : List ℕ) → 0 < length xs → get_or xs 0 0 ≡ 48 → IsUnsigned (take 1 xs)
-nought_unsigned [] lt e = absurd (omega arith)
-nought_unsigned (x ∷ xs) lt e = subst (λ (y : ℕ). is_digit y ≡ true) (sym e) zero_alone
-
-pub nought_ends : (xs : List ℕ) → 0 < length xs → get_or xs 0 0 ≡ 48 → EndsUnsigned (take 1 xs) (drop 1 xs)
-nought_ends [] lt e = absurd (omega arith)
-nought_ends (x ∷ []) lt e = tt
-nought_ends (x ∷ y ∷ xs) lt e = λ more h. let z : (x == 48) ≡ true = rw e refl in let no = h.1.0 in cc
-
-unsigned_of : (c : ℕ) (cs : List ℕ) → (c == 48) ≡ false → AreDigits (c ∷ cs) → IsUnsigned (c ∷ cs)
-unsigned_of c [] n h = h.0
-unsigned_of c (d ∷ cs) n h = (h.0, (n, h.1))
-
-pub digits_unsigned : (xs : List ℕ) (n : ℕ) → 0 < n → n ≤ length xs → (0 < length xs → get_or xs 0 0 ≢ 48) → AreDigits (take n xs) → IsUnsigned (take n xs)
-digits_unsigned xs zero lt le above h = absurd (omega arith)
-digits_unsigned [] (suc n) lt le above h = absurd (omega arith)
-digits_unsigned (x ∷ xs) (suc n) lt le above h = unsigned_of x (take n xs) (told (x == 48) refl) h
-  where
-    told : (b : Bool) → (x == 48) ≡ b → b ≡ false
-    told true e = absurd (above (omega arith) (eqb-true x 48 e))
-    told false e = refl
-
--- what follows digits in a number is a digit
-unsigned_next : (s : List ℕ) (c : ℕ) (more : List ℕ) → 0 < length s → IsUnsigned (s ++ c ∷ more) → is_digit c ≡ true
-unsigned_next [] c more lt w = absurd (omega arith)
-unsigned_next (d ∷ s) c more lt w = all_digits s (behind s w)
-  where
-    behind : (s : List ℕ) → IsUnsigned (d ∷ (s ++ c ∷ more)) → AreDigits (s ++ c ∷ more)
-    behind [] w = w.1.1
-    behind (e ∷ s) w = w.1.1
-
-    all_digits : (xs : List ℕ) → AreDigits (xs ++ c ∷ more) → is_digit c ≡ true
-    all_digits [] g = g.0
-    all_digits (x ∷ xs) g = all_digits xs g.1
-
-ends_at_byte : (s rest : List ℕ) → 0 < length s → NoDigitFirst rest → EndsUnsigned s rest
-ends_at_byte s [] lt h = tt
-ends_at_byte s (c ∷ rest) lt h = λ more w. let yes = unsigned_next s c more lt w in cc
-
-no_digit_at : (xs : List ℕ) (n : ℕ) → (n < length xs → is_digit (get_or xs n 0) ≡ false) → NoDigitFirst (drop n xs)
-no_digit_at [] zero h = tt
-no_digit_at [] (suc n) h = tt
-no_digit_at (x ∷ xs) zero h = h (omega arith)
-no_digit_at (x ∷ xs) (suc n) h = no_digit_at xs n (λ lt. h (omega arith))
-
-pub digits_end : (xs : List ℕ) (n : ℕ) → 0 < n → n ≤ length xs → (n < length xs → is_digit (get_or xs n 0) ≡ false) → EndsUnsigned (take n xs) (drop n xs)
-digits_end xs n lt le h = ends_at_byte (take n xs) (drop n xs) (omega (arith, length-take-le n xs le)) (no_digit_at xs n h)
-
--- ---- with the minus
-
-either : (a b : Bool) → (a || b) ≡ true → (a ≡ false) → b ≡ true
-either true b e f = absurd cc
-either false b e f = e
-
--- a number's bytes, counted from behind its minus
-pub number_front : (bytes : List ℕ) (n : ℕ) → begins bytes ≡ true → 0 < n → n ≤ length (magnitude bytes) → IsUnsigned (take n (magnitude bytes)) → EndsUnsigned (take n (magnitude bytes)) (drop n (magnitude bytes))
-    → IsNumberFront bytes ((length bytes - length (magnitude bytes)) + n)
-number_front [] n b lt le h ends = absurd cc
-number_front (c ∷ cs) n b lt le h ends = told (c == 45) refl le h ends
-  where
-    signed : (d : ℕ) → (d == 45) ≡ true → n ≤ length cs → IsUnsigned (take n cs) → EndsUnsigned (take n cs) (drop n cs) → IsNumberFront (d ∷ cs) (suc n)
-    signed d e le h ends = record {
-      some = omega arith;
-      within = omega arith;
-      number_is = rw e h;
-      longest = longest (drop n cs) ends;
-    }
-      where
-        longest : (rest : List ℕ) → EndsUnsigned (take n cs) rest → EndsNumber (d ∷ take n cs) rest
-        longest [] g = tt
-        longest (x ∷ rest) g = λ more w. g more (rw e at w)
-
-    plain : (c == 45) ≡ false → n ≤ length (c ∷ cs) → IsUnsigned (take n (c ∷ cs)) → EndsUnsigned (take n (c ∷ cs)) (drop n (c ∷ cs)) → IsNumberFront (c ∷ cs) n
-    plain e le h ends = bare n lt le h ends
-      where
-        bare : (m : ℕ) → 0 < m → m ≤ length (c ∷ cs) → IsUnsigned (take m (c ∷ cs)) → EndsUnsigned (take m (c ∷ cs)) (drop m (c ∷ cs)) → IsNumberFront (c ∷ cs) m
-        bare zero lt le h ends = absurd (omega arith)
-        bare (suc m) lt le h ends = record { some = omega arith; within = le; number_is = rw e h; longest = longest (drop m cs) ends }
-          where
-            longest : (rest : List ℕ) → EndsUnsigned (c ∷ take m cs) rest → EndsNumber (c ∷ take m cs) rest
-            longest [] g = tt
-            longest (x ∷ rest) g = λ more w. g more (rw e at w)
-
-    told : (b : Bool) → (c == 45) ≡ b → n ≤ length (cond b cs (c ∷ cs)) → IsUnsigned (take n (cond b cs (c ∷ cs))) → EndsUnsigned (take n (cond b cs (c ∷ cs))) (drop n (cond b cs (c ∷ cs)))
-        → IsNumberFront (c ∷ cs) ((length (c ∷ cs) - length (cond b cs (c ∷ cs))) + n)
-    told true e le h ends = let count : (suc (length cs) - length cs) + n ≡ suc n = omega arith in rw count (signed c e le h ends)
-    told false e le h ends = let count : (suc (length cs) - suc (length cs)) + n ≡ n = omega arith in rw count (plain e le h ends)
-
--- behind a minus a digit is wanted
-sign_halts : (s : List ℕ) (st : List Frame) (rest : List ℕ) → NoDigitFirst rest → run true (figure sign s) st rest ≡ failed Syntax (length rest)
-unfolding walk in_figure begins_digits
-sign_halts s st [] h = refl
-sign_halts s st (c ∷ rest) h = halts_here true (figure sign s) st c rest (rw (not_zero c h, h) refl)
-
-minus_begins : (c : ℕ) (st : List Frame) (rest : List ℕ) → (c == 45) ≡ true → run true value st (c ∷ rest) ≡ run true (figure sign (c ∷ [])) st rest
-unfolding in_value is_space
-minus_begins c st rest e = subst (λ (x : ℕ). run true value st (x ∷ rest) ≡ run true (figure sign (x ∷ [])) st rest) (sym (eqb-true c 45 e)) (one (judgement true) true value st 45 rest (figure sign (45 ∷ [])) st refl)
-
-pub no_number : (bytes : List ℕ) (st : List Frame) → begins bytes ≡ true → NoDigitFirst (magnitude bytes) → run true value st bytes ≡ failed Syntax (length (magnitude bytes))
-no_number [] st b h = absurd cc
-no_number (c ∷ cs) st b h = told (c == 45) refl h
-  where
-    told : (x : Bool) → (c == 45) ≡ x → NoDigitFirst (cond x cs (c ∷ cs)) → run true value st (c ∷ cs) ≡ failed Syntax (length (cond x cs (c ∷ cs)))
-    told true e h = minus_begins c st cs e ∙ sign_halts (c ∷ []) st cs h
-    told false e h = absurd (let yes = either (c == 45) (is_digit c) b e in cc)
+use Rattle.asl_json.specs.Number.{is_digit, is_point, is_mark, is_sign, AreDigits, IsDigits, magnitude, unsigned, IsInt, IsFrac, IsExp, IsNumeral, before, behind, significand, integer, fraction, digits_value}
+use Rattle.asl_json.specs.Places.{AreZeros, EndsAboveZero, IsStripped}
+use Rattle.asl_json.specs.Machine.{leading, marked, pointed, next_part, part_behind}
+use Rattle.asl_json.specs.declared.number.Part.{Part}
+use Rattle.asl_json.specs.declared.number.Part.TheVariants.{Start, Minus, Nought, Whole, Point, Fraction, Mark, Sign, Exponent}
+use Rattle.asl_json.proofs.Numerals.{part_none, numeral_accepted, digit_no_point, digit_no_mark, point_no_mark}
 
 -- ---- what digits mean
 
@@ -158,11 +33,200 @@ value_at_step [] i n lt = absurd (omega arith)
 value_at_step (x ∷ xs) zero n lt = refl
 value_at_step (x ∷ xs) (suc i) n lt = rw add-one (let more = value_at_step xs i n (omega arith) in rw add-one at more)
 
--- the digits of a number are digits
-pub unsigned_digits : (s : List ℕ) → IsUnsigned s → AreDigits s
-unsigned_digits [] h = absurd h
-unsigned_digits (c ∷ []) h = (h, tt)
-unsigned_digits (c ∷ d ∷ s) h = (h.0, h.1.1)
+pub value_append : (n : ℕ) (ds es : List ℕ) → digits_value n (ds ++ es) ≡ digits_value (digits_value n ds) es
+value_append n [] es = refl
+value_append n (d ∷ ds) es = value_append (n * 10 + (d - 48)) ds es
+
+pub digits_take : (n : ℕ) (ds : List ℕ) → AreDigits ds → AreDigits (take n ds)
+digits_take zero ds h = tt
+digits_take (suc n) [] h = tt
+digits_take (suc n) (d ∷ ds) h = (h.0, digits_take n ds h.1)
+
+pub digits_both : (ds es : List ℕ) → AreDigits ds → AreDigits es → AreDigits (ds ++ es)
+digits_both [] es h g = g
+digits_both (d ∷ ds) es h g = (h.0, digits_both ds es h.1 g)
+
+-- zeros multiply by tens
+ten_times : (n t : ℕ) → n * 10 * t ≡ n * (t * 10)
+ten_times n t = mul_assoc n 10 t ∙ ap (λ (x : ℕ). n * x) (mul_comm 10 t)
+
+pub value_zeros : (n : ℕ) (ds : List ℕ) → AreZeros ds → digits_value n ds ≡ n * 10 ^ length ds
+value_zeros n [] h = omega arith
+value_zeros n (d ∷ ds) h =
+    let zero_more : n * 10 + (d - 48) ≡ n * 10 = omega (arith, h.0) in
+    ap (λ (x : ℕ). digits_value x ds) zero_more ∙ value_zeros (n * 10) ds h.1 ∙ ten_times n (10 ^ length ds) ∙ ap (λ (x : ℕ). n * x) (sym (pow-suc 10 (length ds)))
+
+-- digits that end above zero spell no multiple of ten, unless there are none
+pub last_digit : (n : ℕ) (ds : List ℕ) → AreDigits ds → EndsAboveZero ds → digits_value n ds % 10 ≡ 0 → ds ≡ []
+last_digit n [] h e z = refl
+last_digit n (d ∷ []) h e z = absurd (e (let s = digit_small d h.0 in omega arith))
+last_digit n (d ∷ c ∷ ds) h e z = absurd (let none = last_digit (n * 10 + (d - 48)) (c ∷ ds) h.1 e z in cc)
+
+pub no_tens : (ds : List ℕ) → AreDigits ds → EndsAboveZero ds → digits_value 0 ds % 10 ≡ 0 → digits_value 0 ds ≡ 0
+no_tens ds h e z = ap (digits_value 0) (last_digit 0 ds h e z)
+
+-- ---- zeros at the end
+
+pub zeros_more : (xs : List ℕ) (i : ℕ) → i < length xs → get_or xs i 0 ≡ 48 → AreZeros (drop (i + 1) xs) → AreZeros (drop i xs)
+zeros_more [] i lt e h = absurd (omega arith)
+zeros_more (x ∷ xs) zero lt e h = (e, h)
+zeros_more (x ∷ xs) (suc i) lt e h = zeros_more xs i (omega arith) e (rw add-one (rw add-one at h))
+
+pub no_zeros : (xs : List ℕ) → AreZeros (drop (length xs) xs)
+no_zeros [] = tt
+no_zeros (x ∷ xs) = no_zeros xs
+
+pub ends_above : (xs : List ℕ) (n : ℕ) → n < length xs → (get_or xs n 0 ≡ 48 → ⊥) → EndsAboveZero (take (n + 1) xs)
+ends_above [] n lt h = absurd (omega arith)
+ends_above (x ∷ xs) zero lt h = h
+ends_above (x ∷ []) (suc n) lt h = absurd (omega arith)
+ends_above (x ∷ y ∷ xs) (suc n) lt h = rw add-one (let more = ends_above (y ∷ xs) n (omega arith) h in rw add-one at more)
+
+pub ends_with : (xs ys : List ℕ) → 0 < length ys → EndsAboveZero ys → EndsAboveZero (xs ++ ys)
+ends_with [] ys lt h = h
+ends_with (x ∷ xs) ys lt h = onto x (xs ++ ys) (omega (arith, length-append xs ys)) (ends_with xs ys lt h)
+  where
+    onto : (x : ℕ) (zs : List ℕ) → 0 < length zs → EndsAboveZero zs → EndsAboveZero (x ∷ zs)
+    onto x [] lt h = absurd (omega arith)
+    onto x (z ∷ zs) lt h = h
+
+pub stripped_fraction : (int frac : List ℕ) (f : ℕ) → 0 < f → f ≤ length frac → AreZeros (drop f frac) → EndsAboveZero (take f frac) → IsStripped int frac (length int) f
+stripped_fraction int frac f some le zeros last = record {
+  integer_within = omega arith;
+  fraction_within = le;
+  integer_zeros = no_zeros int;
+  fraction_zeros = zeros;
+  all_integer = λ _. refl;
+  last = ends_with (take (length int) int) (take f frac) (omega (arith, length-take-le f frac le)) last;
+}
+
+pub stripped_integer : (int frac : List ℕ) (i f : ℕ) → f ≤ 0 → AreZeros (drop f frac) → i ≤ length int → AreZeros (drop i int) → EndsAboveZero (take i int) → IsStripped int frac i 0
+stripped_integer int frac i zero none zeros le ends last = record {
+  integer_within = le;
+  fraction_within = omega arith;
+  integer_zeros = ends;
+  fraction_zeros = zeros;
+  all_integer = λ some. absurd (omega arith);
+  last = rw append-nil last;
+}
+stripped_integer int frac i (suc f) none zeros le ends last = absurd (omega arith)
+
+-- ---- the parts of a number
+
+-- of none of these p holds
+abbrev pub Lacks : (ℕ → Bool) → List ℕ → Type 0
+Lacks p [] = Unit {0}
+Lacks p (c ∷ cs) = (p c ≡ false) × Lacks p cs
+
+pub before_over : (p : ℕ → Bool) (xs ys : List ℕ) → Lacks p xs → before p (xs ++ ys) ≡ xs ++ before p ys
+before_over p [] ys h = refl
+before_over p (x ∷ xs) ys h = rw h.0 (ap (λ (t : List ℕ). x ∷ t) (before_over p xs ys h.1))
+
+pub behind_over : (p : ℕ → Bool) (xs ys : List ℕ) → Lacks p xs → behind p (xs ++ ys) ≡ behind p ys
+behind_over p [] ys h = refl
+behind_over p (x ∷ xs) ys h = rw h.0 (behind_over p xs ys h.1)
+
+pub lacks_more : (p : ℕ → Bool) (xs : List ℕ) (i : ℕ) → i < length xs → Lacks p (take i xs) → p (get_or xs i 0) ≡ false → Lacks p (take (i + 1) xs)
+lacks_more p [] i lt h e = absurd (omega arith)
+lacks_more p (x ∷ xs) zero lt h e = (e, tt)
+lacks_more p (x ∷ xs) (suc i) lt h e = let more = lacks_more p xs i (omega arith) h.1 e in rw add-one (h.0, rw add-one at more)
+
+pub before_at : (p : ℕ → Bool) (xs : List ℕ) (i : ℕ) → i < length xs → Lacks p (take i xs) → p (get_or xs i 0) ≡ true → before p xs ≡ take i xs
+before_at p [] i lt h e = absurd (omega arith)
+before_at p (x ∷ xs) zero lt h e = rw e refl
+before_at p (x ∷ xs) (suc i) lt h e = rw h.0 (ap (λ (t : List ℕ). x ∷ t) (before_at p xs i (omega arith) h.1 e))
+
+pub behind_at : (p : ℕ → Bool) (xs : List ℕ) (i : ℕ) → i < length xs → Lacks p (take i xs) → p (get_or xs i 0) ≡ true → behind p xs ≡ drop (i + 1) xs
+behind_at p [] i lt h e = absurd (omega arith)
+behind_at p (x ∷ xs) zero lt h e = rw e refl
+behind_at p (x ∷ xs) (suc i) lt h e = rw h.0 (let more = behind_at p xs i (omega arith) h.1 e in rw add-one (rw add-one at more))
+
+pub before_none : (p : ℕ → Bool) (xs : List ℕ) (i : ℕ) → length xs ≤ i → Lacks p (take i xs) → before p xs ≡ xs
+before_none p [] i le h = refl
+before_none p (x ∷ xs) zero le h = absurd (omega arith)
+before_none p (x ∷ xs) (suc i) le h = rw h.0 (ap (λ (t : List ℕ). x ∷ t) (before_none p xs i (omega arith) h.1))
+
+pub behind_none : (p : ℕ → Bool) (xs : List ℕ) (i : ℕ) → length xs ≤ i → Lacks p (take i xs) → behind p xs ≡ drop i xs
+behind_none p [] zero le h = refl
+behind_none p [] (suc i) le h = refl
+behind_none p (x ∷ xs) zero le h = absurd (omega arith)
+behind_none p (x ∷ xs) (suc i) le h = rw h.0 (behind_none p xs i (omega arith) h.1)
+
+digits_lack : (p : ℕ → Bool) (ds : List ℕ) → ((c : ℕ) → is_digit c ≡ true → p c ≡ false) → AreDigits ds → Lacks p ds
+digits_lack p [] f h = tt
+digits_lack p (d ∷ ds) f h = (f d h.0, digits_lack p ds f h.1)
+
+int_digits : (s : List ℕ) → IsInt s → AreDigits s
+int_digits [] h = tt
+int_digits (c ∷ []) h = (h, tt)
+int_digits (c ∷ d ∷ s) h = (h.0, h.1.1)
+
+digits_are : (s : List ℕ) → IsDigits s → AreDigits s
+digits_are [] h = tt
+digits_are (c ∷ s) h = h
+
+frac_lacks : (s : List ℕ) → IsFrac s → Lacks is_mark s
+frac_lacks [] h = tt
+frac_lacks (c ∷ s) h = (point_no_mark c h.0, digits_lack is_mark s digit_no_mark (digits_are s h.1))
+
+before_frac : (s : List ℕ) → IsFrac s → before is_point s ≡ []
+before_frac [] h = refl
+before_frac (c ∷ s) h = rw h.0 refl
+
+behind_frac : (s : List ℕ) → IsFrac s → AreDigits (behind is_point s)
+behind_frac [] h = tt
+behind_frac (c ∷ s) h = rw h.0 (digits_are s h.1)
+
+before_exp : (s : List ℕ) → IsExp s → before is_mark s ≡ []
+before_exp [] h = refl
+before_exp (c ∷ s) h = rw h.0 refl
+
+behind_exp : (s : List ℕ) → IsExp s → AreDigits (unsigned (behind is_mark s))
+behind_exp [] h = tt
+behind_exp (c ∷ s) h = rw h.0 (digits_are (unsigned s) h.1)
+
+pub record AreParts (s : List ℕ) : Type 0 where
+  pub integer_is : AreDigits (before is_point (before is_mark s))
+  pub fraction_is : AreDigits (behind is_point (before is_mark s))
+  pub exponent_is : AreDigits (unsigned (behind is_mark s))
+
+parts_of : (int frac exp : List ℕ) → IsInt int → IsFrac frac → IsExp exp → AreParts (int ++ (frac ++ exp))
+parts_of int frac exp i f x =
+    let digits = int_digits int i in
+    let no_mark = digits_lack is_mark int digit_no_mark digits in
+    let no_point = digits_lack is_point int digit_no_point digits in
+    let marked : before is_mark (int ++ (frac ++ exp)) ≡ int ++ frac = before_over is_mark int (frac ++ exp) no_mark ∙ ap (λ (t : List ℕ). int ++ t) (before_over is_mark frac exp (frac_lacks frac f) ∙ ap (λ (t : List ℕ). frac ++ t) (before_exp exp x) ∙ append-nil frac) in
+    let front : before is_point (before is_mark (int ++ (frac ++ exp))) ≡ int = ap (before is_point) marked ∙ before_over is_point int frac no_point ∙ ap (λ (t : List ℕ). int ++ t) (before_frac frac f) ∙ append-nil int in
+    let back : behind is_point (before is_mark (int ++ (frac ++ exp))) ≡ behind is_point frac = ap (behind is_point) marked ∙ behind_over is_point int frac no_point in
+    let tail : behind is_mark (int ++ (frac ++ exp)) ≡ behind is_mark exp = behind_over is_mark int (frac ++ exp) no_mark ∙ behind_over is_mark frac exp (frac_lacks frac f) in
+    record {
+      integer_is = subst AreDigits (sym front) digits;
+      fraction_is = subst AreDigits (sym back) (behind_frac frac f);
+      exponent_is = subst (λ (t : List ℕ). AreDigits (unsigned t)) (sym tail) (behind_exp exp x);
+    }
+
+pub numeral_parts : (s : List ℕ) → IsNumeral s → AreParts (magnitude s)
+numeral_parts s h = subst AreParts (sym h.parts) (parts_of h.int h.frac h.exp h.int_is h.frac_is h.exp_is)
+
+-- no part is longer than the whole
+split_at : (b : Bool) (x : ℕ) (xs front back : List ℕ) → length front + length back ≤ length xs → length (cond b [] (x ∷ front)) + length (cond b xs back) ≤ suc (length xs)
+split_at true x xs front back h = omega arith
+split_at false x xs front back h = omega arith
+
+split_length : (p : ℕ → Bool) (xs : List ℕ) → length (before p xs) + length (behind p xs) ≤ length xs
+split_length p [] = omega arith
+split_length p (x ∷ xs) = split_at (p x) x xs (before p xs) (behind p xs) (split_length p xs)
+
+magnitude_length : (s : List ℕ) → length (magnitude s) ≤ length s
+magnitude_length [] = omega arith
+magnitude_length (c ∷ s) = told (c == 45)
+  where
+    told : (b : Bool) → length (cond b s (c ∷ s)) ≤ suc (length s)
+    told true = omega arith
+    told false = omega arith
+
+pub parts_length : (s : List ℕ) → length (integer s) + length (fraction s) ≤ length s
+parts_length s = omega (arith, split_length is_point (significand s), split_length is_mark (magnitude s), magnitude_length s)
 
 -- ---- numbers are ASCII
 
@@ -170,42 +234,38 @@ ascii_more : (c : ℕ) (s : List ℕ) → c < 128 → IsAscii s → IsAscii (c �
 ascii_more c s small h zero = small
 ascii_more c s small h (suc i) = h i
 
-ascii_digits : (s : List ℕ) → AreDigits s → IsAscii s
-ascii_digits [] h = IsAscii-nil
-ascii_digits (c ∷ s) h = ascii_more c s (omega (arith, (digit_small c h.0).1)) (ascii_digits s h.1)
+leading_small : (q : Part) (c : ℕ) → leading c ≡ Some q → c < 128
+unfolding leading is_digit
+leading_small q c e = grind (arith, e)
 
-pub number_utf8 : (s : List ℕ) → IsWhole s → IsUtf8 s
-number_utf8 s h = IsUtf8-from_ascii s (ascii s h)
+marked_small : (q : Part) (c : ℕ) → marked c ≡ Some q → c < 128
+unfolding marked is_mark
+marked_small q c e = grind (arith, e)
+
+pointed_small : (q : Part) (c : ℕ) → pointed c ≡ Some q → c < 128
+unfolding pointed marked is_point is_mark
+pointed_small q c e = grind (arith, e)
+
+next_small : (p q : Part) (c : ℕ) → next_part p c ≡ Some q → c < 128
+unfolding next_part leading marked pointed is_digit is_point is_mark is_sign
+next_small Start q c e = grind (arith, e)
+next_small Minus q c e = leading_small q c e
+next_small Nought q c e = pointed_small q c e
+next_small Whole q c e = grind (arith, e)
+next_small Point q c e = grind (arith, e)
+next_small Fraction q c e = grind (arith, e)
+next_small Mark q c e = grind (arith, e)
+next_small Sign q c e = grind (arith, e)
+next_small Exponent q c e = grind (arith, e)
+
+parts_ascii : (o : Option Part) (q : Part) (s : List ℕ) → part_behind o s ≡ Some q → IsAscii s
+parts_ascii o q [] e = IsAscii-nil
+parts_ascii None q (c ∷ s) e = absurd cc
+parts_ascii (Some p) q (c ∷ s) e = ascii_more c s (goes (next_part p c) refl e) (parts_ascii (next_part p c) q s e)
   where
-    ascii : (s : List ℕ) → IsWhole s → IsAscii s
-    ascii [] h = absurd h
-    ascii (c ∷ s) h = told (c == 45) refl h
-      where
-        told : (x : Bool) → (c == 45) ≡ x → IsUnsigned (cond x s (c ∷ s)) → IsAscii (c ∷ s)
-        told true e h = ascii_more c s (omega (arith, eqb-true c 45 e)) (ascii_digits s (unsigned_digits s h))
-        told false e h = ascii_digits (c ∷ s) (unsigned_digits (c ∷ s) h)
+    goes : (o : Option Part) → next_part p c ≡ o → part_behind o s ≡ Some q → c < 128
+    goes None n e = absurd (let none = sym (part_none s) ∙ e in cc)
+    goes (Some r) n e = next_small p r c n
 
--- ---- the limits
-
-pub is_over_long : (s : List ℕ) → max_number_len < length s → is_over s ≡ true
-unfolding is_over
-is_over_long s h = grind (arith, h)
-
-pub is_over_large : (s : List ℕ) → amount_limit ≤ digits_value 0 (magnitude s) → is_over s ≡ true
-unfolding is_over
-is_over_large s h = large (nat_lt max_number_len (length s)) (nat_le amount_limit (amount_of s)) (grind (arith, h))
-  where
-    large : (a b : Bool) → b ≡ true → (a || b) ≡ true
-    large true b e = refl
-    large false b e = e
-
-pub not_over : (s : List ℕ) → length s ≤ max_number_len → digits_value 0 (magnitude s) < amount_limit → is_over s ≡ false
-unfolding is_over
-not_over s short small = neither (nat_lt max_number_len (length s)) (nat_le amount_limit (amount_of s)) (grind (arith, short)) (grind (arith, small))
-  where
-    neither : (a b : Bool) → a ≡ false → b ≡ false → (a || b) ≡ false
-    neither true b e f = absurd cc
-    neither false b e f = f
-
-pub stays_below : (ds : List ℕ) (n : ℕ) → amount_limit ≤ n → amount_limit ≤ digits_value n ds
-stays_below ds n h = omega (arith, h, digits_grow n ds)
+pub number_utf8 : (s : List ℕ) → IsNumeral s → IsUtf8 s
+number_utf8 s h = let a = numeral_accepted s h in IsUtf8-from_ascii s (parts_ascii (Some Start) a.to s a.leads)

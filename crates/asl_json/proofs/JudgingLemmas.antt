@@ -1,18 +1,25 @@
 -- What the machine answers is right: a value that the text spells within the limits, or a fault that is there.
-use Rattle.std.proofs.Common.{◌≡◌, ℕ, suc, ◌+◌, ◌≤◌, Bool, true, false, cond, nat_le, ◌&&◌, ◌==◌, List, [], ◌∷◌, ◌++◌, length, Result, Ok, Err, refl, sym, ap, subst, ◌∙◌, append_assoc, arith}
+use Rattle.std.proofs.Common.{◌≡◌, ℕ, suc, ◌+◌, ◌≤◌, Bool, true, false, cond, nat_le, ◌&&◌, ◌==◌, List, [], ◌∷◌, ◌++◌, length, Option, Some, None, Result, Ok, Err, refl, sym, ap, subst, ◌∙◌, append_assoc, arith}
 use Rattle.std.proofs.lemmas.List.{append-nil, length-append}
-use Rattle.asl_json.specs.Data.{Data, null, boolean, number, text, list, dict, Pairs, no_members, member, pairs}
-use Rattle.asl_json.specs.Grammar.{quote, comma, colon, open_brace, close_brace, null_word, is_space, is_plain, Joined, Spells, IsText, IsPrefix}
-use Rattle.asl_json.specs.Number.{is_digit, is_over}
-use Rattle.asl_json.specs.Machine.{Part, sign, nought, whole, Mode, value, word, chars, figure, after, first, key, key_chars, behind_key, Next, go, stop, begins_digits, in_judged, in_value, in_word, in_chars, in_figure, in_after, in_first, in_key, in_key_chars, in_behind_key, fault, failed, step, ended, onward, finish, walk, judgement, run}
+use Rattle.asl_json.specs.Data.{Data, null, boolean, number, text, list, dict, Chain, no_items, item, chain, Pairs, no_members, member, pairs}
+use Rattle.asl_json.specs.Grammar.{comma, colon, open_bracket, close_bracket, open_brace, close_brace, null_word, is_space, Joined, Spells, IsText, IsPrefix}
+use Rattle.asl_json.specs.Text.{quote, SpellsText, lone_spelled}
+use Rattle.asl_json.specs.Chars.{Within, Inside, goes, ends, breaks, lone, in_text}
+use Rattle.asl_json.proofs.Texts.{OpenText, text_closes, no_chars}
+use Rattle.asl_json.specs.Number.{is_over}
+use Rattle.asl_json.specs.Machine.{next_part, may_end, grown, Mode, value, word, chars, figure, after, first, key, key_chars, behind_key, Next, go, stop, deepens, closes, in_judged, in_value, in_word, chars_next, in_chars, in_figure, in_after, in_first, in_key, key_chars_next, in_key_chars, in_behind_key, fault, failed, step, ended, onward, finish, walk, judgement, run}
 use Rattle.asl_json.specs.Distinct.{Members, has_key}
-use Rattle.asl_json.specs.Limits.{max_depth, Allowed, AllowedMembers}
-use Rattle.asl_json.specs.Open.{Frame, IsOpen, AwaitsKey, EndsAt, DepthAt, DuplicateAt, FaultAt, IsFault, NumberAt}
+use Rattle.asl_json.specs.Limits.{max_depth, Allowed, AllowedItems, AllowedMembers}
+use Rattle.asl_json.specs.Open.{Frame, in_list, in_dict, IsOpen, AwaitsKey, EndsAt, DepthAt, LoneAt, DuplicateAt, FaultAt, IsFault, NumberAt}
 use Rattle.asl_json.specs.declared.fault.Fault.{Fault}
 use Rattle.asl_json.specs.declared.fault.Kind.{Kind}
 use Rattle.asl_json.specs.declared.fault.Kind.TheVariants.{Syntax, Duplicate, Depth, Number}
+use Rattle.asl_json.specs.declared.fault.Kind.TheVariants as kinds
+use Rattle.asl_json.specs.declared.number.Part.{Part}
+use Rattle.asl_json.specs.declared.number.Part.TheVariants.{Start}
+use Rattle.asl_json.proofs.Numerals.{part_is_numeral, ending, part_goes_on}
 use Rattle.asl_json.proofs.Passing.{text_read}
-use Rattle.asl_json.proofs.Reaching.{OpenText, Reached, Stopped, Holds, done_of, close_reaches, awaits_first, key_ends, text_end, part_is_whole, number_done, step_reaches}
+use Rattle.asl_json.proofs.Reaching.{Reached, Stopped, Holds, item_done, last_item_reaches, done_of, close_reaches, awaits_first, key_ends, number_done, step_reaches}
 
 -- ---- each front that is reached goes on to a text
 
@@ -21,7 +28,8 @@ shorter_front t x (more, v, h) = (x ++ more, v, subst (λ (b : List ℕ). IsText
 
 after_lives : (st : List Frame) (d : Data) (t : List ℕ) → Reached (after d) st t → IsPrefix t
 after_lives [] d t h = ([], d, record { before = h.front; inner = h.back_is.front; behind = h.back_is.back; parts = append-nil t ∙ h.parts ∙ ap (λ (x : List ℕ). h.front ++ x) h.back_is.parts; before_is = h.front_is; inner_is = h.back_is.front_is; behind_is = h.back_is.back_is })
-after_lives (f ∷ st) d t h = shorter_front t (close_brace ∷ []) (after_lives st (dict (pairs (f.0 ++ (f.1, d) ∷ []))) (t ++ close_brace ∷ []) (close_reaches f d st t close_brace refl (done_of f d st t h)))
+after_lives (in_list ds ∷ st) d t h = shorter_front t (close_bracket ∷ []) (after_lives st (list (chain (ds ++ d ∷ []))) (t ++ close_bracket ∷ []) (last_item_reaches ds d st t close_bracket refl (item_done ds d st t h)))
+after_lives (in_dict ms k ∷ st) d t h = shorter_front t (close_brace ∷ []) (after_lives st (dict (pairs (ms ++ (k, d) ∷ []))) (t ++ close_brace ∷ []) (close_reaches ms k d st t close_brace refl (done_of ms k d st t h)))
 
 ended_lives : (st : List Frame) (d : Data) (t x : List ℕ) → Joined (IsOpen st) (λ u. Spells d (u ++ x)) t → IsPrefix t
 ended_lives st d t x h =
@@ -38,31 +46,28 @@ value_lives st t h = ended_lives st null t null_word (record { front = t; back =
 
 behind_key_lives : (ms : Members) (k : List ℕ) (st : List Frame) (t : List ℕ) → Reached (behind_key ms k) st t → IsPrefix t
 unfolding in_behind_key is_space
-behind_key_lives ms k st t h = shorter_front t (colon ∷ []) (value_lives ((ms, k) ∷ st) (t ++ colon ∷ []) (step_reaches false (behind_key ms k) st t colon h))
+behind_key_lives ms k st t h = shorter_front t (colon ∷ []) (value_lives (in_dict ms k ∷ st) (t ++ colon ∷ []) (step_reaches false (behind_key ms k) st t colon h))
 
-key_chars_live : (ms : Members) (s : List ℕ) (st : List Frame) (t : List ℕ) → Joined (AwaitsKey st ms) (OpenText s) t → IsPrefix t
-key_chars_live ms s st t h = shorter_front t (quote ∷ []) (behind_key_lives ms s st (t ++ quote ∷ []) (key_ends ms s st t quote refl h))
+-- an open text goes on to its closing quote, and the front with it to a text
+text_lives : (q : Within) (s t outer : List ℕ) → ((u : List ℕ) (r : List ℕ) → SpellsText r u → IsPrefix (outer ++ u)) → OpenText q s t → IsPrefix (outer ++ t)
+text_lives q s t outer lives h = let e = text_closes q s t h in shorter_front (outer ++ t) e.0 (subst IsPrefix (sym (append_assoc outer t e.0)) (lives (t ++ e.0) e.1 e.2))
 
 pub key_lives : (ms : Members) (st : List Frame) (t : List ℕ) → AwaitsKey st ms t → IsPrefix t
-unfolding in_key is_space
-key_lives ms st t h = shorter_front t (quote ∷ []) (key_chars_live ms [] st (t ++ quote ∷ []) (step_reaches false (key ms) st t quote h).0)
+key_lives ms st t h = shorter_front t (quote ∷ quote ∷ []) (behind_key_lives ms [] st (t ++ quote ∷ quote ∷ []) (key_ends ms [] st t (quote ∷ quote ∷ []) h no_chars))
 
 -- a number goes on to its end
 figure_lives : (p : Part) (s : List ℕ) (st : List Frame) (t : List ℕ) → Reached (figure p s) st t → IsPrefix t
-unfolding in_figure begins_digits
-figure_lives sign s st t h = shorter_front t (48 ∷ []) (after_lives st (number (s ++ 48 ∷ [])) (t ++ 48 ∷ []) (number_done nought (s ++ 48 ∷ []) st (t ++ 48 ∷ []) (λ e. cc) (step_reaches false (figure sign s) st t 48 h)))
-figure_lives nought s st t h = after_lives st (number s) t (number_done nought s st t (λ e. cc) h)
-figure_lives whole s st t h = after_lives st (number s) t (number_done whole s st t (λ e. cc) h)
+figure_lives p s st t h = ended_lives st (number (s ++ ending p)) t (ending p) (record { front = h.front; back = h.back; parts = h.parts; front_is = h.front_is; back_is = (ap (λ (x : List ℕ). x ++ ending p) h.back_is.parts, part_goes_on p s h.back_is.part_is) })
 
 pub reached_lives : (m : Mode) (st : List Frame) (t : List ℕ) → Reached m st t → IsPrefix t
 reached_lives value st t h = value_lives st t h
 reached_lives (word ws d) st t h = ended_lives st d t ws h
-reached_lives (chars s) st t h = ended_lives st (text s) t (quote ∷ []) (record { front = h.front; back = h.back; parts = h.parts; front_is = h.front_is; back_is = text_end s h.back quote refl h.back_is })
+reached_lives (chars q s) st t h = subst IsPrefix (sym h.parts) (text_lives q s h.back h.front (λ u r e. after_lives st (text r) (h.front ++ u) (record { front = h.front; back = u; parts = refl; front_is = h.front_is; back_is = record { front = u; back = []; parts = sym (append-nil u); front_is = e; back_is = tt } })) h.back_is)
 reached_lives (figure p s) st t h = figure_lives p s st t h
 reached_lives (after d) st t h = after_lives st d t h
 reached_lives first st t h = key_lives [] st t (awaits_first st t h)
 reached_lives (key ms) st t h = key_lives ms st t h
-reached_lives (key_chars ms n s) st t h = key_chars_live ms s st t h.0
+reached_lives (key_chars ms n q s) st t h = subst IsPrefix (sym h.0.parts) (text_lives q s h.0.back h.0.front (λ u r e. behind_key_lives ms r st (h.0.front ++ u) (key_ends ms r st h.0.front u h.0.front_is e)) h.0.back_is)
 reached_lives (behind_key ms k) st t h = behind_key_lives ms k st t h
 
 -- ---- what is found
@@ -77,6 +82,7 @@ pub record LivesTo (b : List ℕ) (left : ℕ) : Type 0 where
 
 abbrev pub JudgedAt : List ℕ → Kind → ℕ → Type 0
 JudgedAt b Syntax left = LivesTo b left
+JudgedAt b kinds.Lone left = LoneAt b left
 JudgedAt b Duplicate left = DuplicateAt b left
 JudgedAt b Depth left = DepthAt b left
 JudgedAt b Number left = NumberAt b left
@@ -92,8 +98,8 @@ ended_judged : (d : Data) (st : List Frame) (t : List ℕ) → Reached (after d)
 ended_judged d [] t h = record { before = h.front; inner = h.back_is.front; behind = h.back_is.back; parts = h.parts ∙ ap (λ (x : List ℕ). h.front ++ x) h.back_is.parts; before_is = h.front_is; inner_is = h.back_is.front_is; behind_is = h.back_is.back_is }
 ended_judged d (f ∷ st) t h = lives_to_end (after d) (f ∷ st) t h
 
-number_judged : (lim : Bool) (p : Part) (s : List ℕ) (st : List Frame) (t : List ℕ) → (p ≡ sign → ⊥) → Reached (figure p s) st t → Judged t (cond (lim && is_over s) (failed Number (length s)) (ended (number s) st))
-number_judged lim p s st t some h = told (lim && is_over s) (and_true lim (is_over s))
+number_judged : (lim : Bool) (p : Part) (s : List ℕ) (st : List Frame) (t : List ℕ) → may_end p ≡ true → Reached (figure p s) st t → Judged t (cond (lim && is_over s) (failed Number (length s)) (ended (number s) st))
+number_judged lim p s st t may h = told (lim && is_over s) (and_true lim (is_over s))
   where
     and_true : (a b : Bool) → (a && b) ≡ true → b ≡ true
     and_true true b e = e
@@ -108,23 +114,25 @@ number_judged lim p s st t some h = told (lim && is_over s) (and_true lim (is_ov
       left_is = ap length (append-nil s);
       within = st;
       open_is = h.front_is;
-      number_is = part_is_whole p s some h.back_is.part_is;
+      number_is = part_is_numeral p s may h.back_is.part_is;
       longest = tt;
       over = over refl;
     }
-    told false over = ended_judged (number s) st t (number_done p s st t some h)
+    told false over = ended_judged (number s) st t (number_done p s st t may h)
+
+figure_judged : (lim : Bool) (p : Part) (s : List ℕ) (st : List Frame) (t : List ℕ) (b : Bool) → may_end p ≡ b → Reached (figure p s) st t → Judged t (cond b (cond (lim && is_over s) (failed Number (length s)) (ended (number s) st)) (failed Syntax 0))
+figure_judged lim p s st t true may h = number_judged lim p s st t may h
+figure_judged lim p s st t false may h = lives_to_end (figure p s) st t h
 
 ends_judged : (lim : Bool) (m : Mode) (st : List Frame) (t : List ℕ) → Reached m st t → Judged t (finish lim m st)
 ends_judged lim value st t h = lives_to_end value st t h
 ends_judged lim (word ws d) st t h = lives_to_end (word ws d) st t h
-ends_judged lim (chars s) st t h = lives_to_end (chars s) st t h
-ends_judged lim (figure sign s) st t h = lives_to_end (figure sign s) st t h
-ends_judged lim (figure nought s) st t h = number_judged lim nought s st t (λ e. cc) h
-ends_judged lim (figure whole s) st t h = number_judged lim whole s st t (λ e. cc) h
+ends_judged lim (chars q s) st t h = lives_to_end (chars q s) st t h
+ends_judged lim (figure p s) st t h = figure_judged lim p s st t (may_end p) refl h
 ends_judged lim (after d) st t h = ended_judged d st t h
 ends_judged lim first st t h = lives_to_end first st t h
 ends_judged lim (key ms) st t h = lives_to_end (key ms) st t h
-ends_judged lim (key_chars ms n s) st t h = lives_to_end (key_chars ms n s) st t h
+ends_judged lim (key_chars ms n q s) st t h = lives_to_end (key_chars ms n q s) st t h
 ends_judged lim (behind_key ms k) st t h = lives_to_end (behind_key ms k) st t h
 
 full_at : (a b : ℕ) → nat_le a b ≡ true → a ≤ b
@@ -132,17 +140,27 @@ full_at a b e = grind (arith, e)
 
 stop_judged : (kind : Kind) (m : Mode) (st : List Frame) (t : List ℕ) (c : ℕ) (cs : List ℕ) (back : ℕ) → Reached m st t → Stopped kind st t c back → JudgedAt (t ++ c ∷ cs) kind (back + suc (length cs))
 stop_judged Syntax m st t c cs back h e = record { pre = t; post = c ∷ cs; parts = refl; left_is = omega (arith, e); alive = reached_lives m st t h }
-stop_judged Depth m st t c cs back h e = record { pre = t; post = cs; parts = rw e.brace refl; left_is = omega (arith, e.here); within = st; open_is = e.open_is; full = full_at max_depth (length st) e.full }
-stop_judged Duplicate m st t c cs back h e = record {
-  pre = e.before.front;
-  key = e.key;
+stop_judged Depth m st t c cs back h e = record { pre = t; opener = c; post = cs; parts = refl; opener_is = e.opener; left_is = omega (arith, e.here); within = st; open_is = e.open_is; full = full_at max_depth (length st) e.full }
+stop_judged kinds.Lone m st t c cs back h e = record {
+  pre = e.pre;
+  half = e.half_is;
   post = cs;
-  parts = rw (e.before.parts, e.before.back_is.parts, e.quote_is) (append_assoc e.before.front (quote ∷ e.key) (quote ∷ cs));
-  left_is = omega (arith, e.back_is, length-append e.key (quote ∷ cs));
+  parts = sym (append_assoc t (c ∷ []) cs) ∙ ap (λ (x : List ℕ). x ++ cs) e.parts ∙ append_assoc e.pre (lone_spelled e.half_is) cs;
+  left_is = omega (arith, e.back_is, length-append (lone_spelled e.half_is) cs);
+  open_is = e.open_is;
+  lone = e.lone;
+}
+stop_judged Duplicate m st t c cs back h e = record {
+  pre = e.pre;
+  key = e.key;
+  inner = e.inner;
+  post = cs;
+  parts = sym (append_assoc t (c ∷ []) cs) ∙ ap (λ (x : List ℕ). x ++ cs) e.parts ∙ simp append_assoc;
+  left_is = omega (arith, e.back_is, length-append e.inner (quote ∷ cs));
   within = st;
   members = e.members;
-  awaits = e.before.front_is;
-  key_is = e.before.back_is.plain;
+  awaits = e.before;
+  key_is = e.key_is;
   known = e.known;
 }
 stop_judged Number m st t c cs back h e = record {
@@ -175,6 +193,7 @@ run_judged lim m st t (c ∷ cs) h =
 abbrev pub Freer : Next → Next → Type 0
 Freer (go m st) n = n ≡ go m st
 Freer (stop Syntax back) n = (n ≡ stop Syntax back) × (back ≡ 0)
+Freer (stop kinds.Lone back) n = Unit {0}
 Freer (stop Duplicate back) n = Unit {0}
 Freer (stop Depth back) n = Unit {0}
 Freer (stop Number back) n = Unit {0}
@@ -191,30 +210,57 @@ freer_limit false x y h g = g
 after_freer : (d : Data) (st : List Frame) (c : ℕ) → Freer (in_after d st c) (in_after d st c)
 unfolding in_after
 after_freer d [] c = freer_cond (is_space c) _ _ _ _ refl (refl, refl)
-after_freer d (f ∷ st) c = freer_cond (is_space c) _ _ _ _ refl (freer_cond (c == comma) _ _ _ _ refl (freer_cond (c == close_brace) _ _ _ _ refl (refl, refl)))
+after_freer d (in_list ds ∷ st) c = freer_cond (is_space c) _ _ _ _ refl (freer_cond (c == comma) _ _ _ _ refl (freer_cond (c == close_bracket) _ _ _ _ refl (refl, refl)))
+after_freer d (in_dict ms k ∷ st) c = freer_cond (is_space c) _ _ _ _ refl (freer_cond (c == comma) _ _ _ _ refl (freer_cond (c == close_brace) _ _ _ _ refl (refl, refl)))
+
+deepens_freer : (m : Mode) (st u : List Frame) → Freer (deepens true st (go m u)) (deepens false st (go m u))
+unfolding deepens
+deepens_freer m st u = freer_limit (nat_le max_depth (length st)) _ _ (λ n. tt) refl
+
+closes_freer : (st : List Frame) → Freer (closes st) (closes st)
+unfolding closes
+closes_freer [] = (refl, refl)
+closes_freer (in_list [] ∷ st) = refl
+closes_freer (in_list (d ∷ ds) ∷ st) = (refl, refl)
+closes_freer (in_dict ms k ∷ st) = (refl, refl)
 
 judged_freer : (s : List ℕ) (st : List Frame) (c : ℕ) → Freer (in_judged true s st c) (in_judged false s st c)
 unfolding in_judged
 judged_freer s st c = freer_limit (is_over s) _ _ (λ u. tt) (after_freer (number s) st c)
 
+chars_freer : (s : List ℕ) (st : List Frame) (n : Inside) → Freer (chars_next s st n) (chars_next s st n)
+chars_freer s st (goes q t) = refl
+chars_freer s st ends = refl
+chars_freer s st breaks = (refl, refl)
+chars_freer s st (lone back) = tt
+
+key_chars_freer : (ms : Members) (o : ℕ) (s : List ℕ) (st : List Frame) (n : Inside) → Freer (key_chars_next true ms o s st n) (key_chars_next false ms o s st n)
+key_chars_freer ms o s st (goes q t) = refl
+key_chars_freer ms o s st ends = freer_limit (has_key s ms) _ _ (λ u. tt) refl
+key_chars_freer ms o s st breaks = (refl, refl)
+key_chars_freer ms o s st (lone back) = tt
+
+grown_freer : (o : Option Part) (x y : Next) (s : List ℕ) (st : List Frame) (c : ℕ) → Freer x y → Freer (grown o x s st c) (grown o y s st c)
+grown_freer None x y s st c h = h
+grown_freer (Some p) x y s st c h = refl
+
 pub step_freer : (m : Mode) (st : List Frame) (c : ℕ) → Freer (step true m st c) (step false m st c)
-unfolding in_value begins_digits in_word in_chars in_figure in_first in_key in_key_chars in_behind_key
+unfolding in_value in_word in_chars in_figure in_first in_key in_key_chars in_behind_key
 step_freer value st c =
     freer_cond (is_space c) _ _ _ _ refl
     (freer_cond (c == quote) _ _ _ _ refl
-    (freer_cond (c == open_brace) _ _ _ _ (freer_limit (nat_le max_depth (length st)) _ _ (λ u. tt) refl)
-    (freer_cond (c == 110) _ _ _ _ refl (freer_cond (c == 116) _ _ _ _ refl (freer_cond (c == 102) _ _ _ _ refl (freer_cond (c == 45) _ _ _ _ refl (freer_cond (c == 48) _ _ _ _ refl (freer_cond (is_digit c) _ _ _ _ refl (refl, refl)))))))))
+    (freer_cond (c == open_bracket) _ _ _ _ (deepens_freer value st (in_list [] ∷ st))
+    (freer_cond (c == open_brace) _ _ _ _ (deepens_freer first st st)
+    (freer_cond (c == 110) _ _ _ _ refl (freer_cond (c == 116) _ _ _ _ refl (freer_cond (c == 102) _ _ _ _ refl (freer_cond (c == close_bracket) _ _ _ _ (closes_freer st) (grown_freer (next_part Start c) _ _ [] st c (refl, refl)))))))))
 step_freer (word [] d) st c = (refl, refl)
 step_freer (word (w ∷ []) d) st c = freer_cond (c == w) _ _ _ _ refl (refl, refl)
 step_freer (word (w ∷ x ∷ ws) d) st c = freer_cond (c == w) _ _ _ _ refl (refl, refl)
-step_freer (chars s) st c = freer_cond (c == quote) _ _ _ _ refl (freer_cond (is_plain c) _ _ _ _ refl (refl, refl))
-step_freer (figure sign s) st c = freer_cond (c == 48) _ _ _ _ refl (freer_cond (is_digit c) _ _ _ _ refl (refl, refl))
-step_freer (figure nought s) st c = judged_freer s st c
-step_freer (figure whole s) st c = freer_cond (is_digit c) _ _ _ _ refl (judged_freer s st c)
+step_freer (chars q s) st c = chars_freer s st (in_text q s c)
+step_freer (figure p s) st c = grown_freer (next_part p c) _ _ s st c (freer_cond (may_end p) _ _ _ _ (judged_freer s st c) (refl, refl))
 step_freer (after d) st c = after_freer d st c
 step_freer first st c = freer_cond (is_space c) _ _ _ _ refl (freer_cond (c == quote) _ _ _ _ refl (freer_cond (c == close_brace) _ _ _ _ refl (refl, refl)))
 step_freer (key ms) st c = freer_cond (is_space c) _ _ _ _ refl (freer_cond (c == quote) _ _ _ _ refl (refl, refl))
-step_freer (key_chars ms n s) st c = freer_cond (c == quote) _ _ _ _ (freer_limit (has_key s ms) _ _ (λ u. tt) refl) (freer_cond (is_plain c) _ _ _ _ refl (refl, refl))
+step_freer (key_chars ms n q s) st c = key_chars_freer ms n s st (in_text q s c)
 step_freer (behind_key ms k) st c = freer_cond (is_space c) _ _ _ _ refl (freer_cond (c == colon) _ _ _ _ refl (refl, refl))
 
 fault_of : (k l : Kind) (a b : ℕ) → failed k a ≡ failed l b → fault k a ≡ fault l b
@@ -241,17 +287,19 @@ number_free : (x : Bool) (n : ℕ) (d : Data) (st : List Frame) → EndsFree (co
 number_free true n d st left e = absurd (let k = kind_of Number Syntax n left e in cc)
 number_free false n d st left e = ended_free d st left e
 
+free_cond : (b : Bool) (r o u v : Result Data Fault) → EndsFree r o → EndsFree u v → EndsFree (cond b r u) (cond b o v)
+free_cond true r o u v h g = h
+free_cond false r o u v h g = g
+
 finish_free : (m : Mode) (st : List Frame) → EndsFree (finish true m st) (finish false m st)
 finish_free value st = breaks_off
 finish_free (word ws d) st = breaks_off
-finish_free (chars s) st = breaks_off
-finish_free (figure sign s) st = breaks_off
-finish_free (figure nought s) st = number_free (is_over s) (length s) (number s) st
-finish_free (figure whole s) st = number_free (is_over s) (length s) (number s) st
+finish_free (chars q s) st = breaks_off
+finish_free (figure p s) st = free_cond (may_end p) _ _ _ _ (number_free (is_over s) (length s) (number s) st) breaks_off
 finish_free (after d) st = ended_free d st
 finish_free first st = breaks_off
 finish_free (key ms) st = breaks_off
-finish_free (key_chars ms n s) st = breaks_off
+finish_free (key_chars ms n q s) st = breaks_off
 finish_free (behind_key ms k) st = breaks_off
 
 -- a syntax fault stands on the bytes that are left
@@ -259,6 +307,7 @@ freer_run : (f g : Mode → List Frame → Result Data Fault) (left back : ℕ) 
     → onward (judgement true) f back n ≡ failed Syntax left → onward (judgement false) g back o ≡ failed Syntax left
 freer_run f g left back (go m st) o h same e = rw h (same m st e)
 freer_run f g left back (stop Syntax k) o h same e = rw h.0 e
+freer_run f g left back (stop kinds.Lone k) o h same e = absurd (let x = kind_of kinds.Lone Syntax (k + back) left e in cc)
 freer_run f g left back (stop Duplicate k) o h same e = absurd (let x = kind_of Duplicate Syntax (k + back) left e in cc)
 freer_run f g left back (stop Depth k) o h same e = absurd (let x = kind_of Depth Syntax (k + back) left e in cc)
 freer_run f g left back (stop Number k) o h same e = absurd (let x = kind_of Number Syntax (k + back) left e in cc)
@@ -272,6 +321,7 @@ run_freer m st (c ∷ cs) left e =
 abbrev SyntaxBack : Next → Type 0
 SyntaxBack (go m st) = Unit {0}
 SyntaxBack (stop Syntax back) = back ≡ 0
+SyntaxBack (stop kinds.Lone back) = Unit {0}
 SyntaxBack (stop Duplicate back) = Unit {0}
 SyntaxBack (stop Depth back) = Unit {0}
 SyntaxBack (stop Number back) = Unit {0}
@@ -279,6 +329,7 @@ SyntaxBack (stop Number back) = Unit {0}
 syntax_here : (n o : Next) → Freer n o → SyntaxBack n
 syntax_here (go m st) o h = tt
 syntax_here (stop Syntax back) o h = h.1
+syntax_here (stop kinds.Lone back) o h = tt
 syntax_here (stop Duplicate back) o h = tt
 syntax_here (stop Depth back) o h = tt
 syntax_here (stop Number back) o h = tt
@@ -287,6 +338,7 @@ left_next : (f : Mode → List Frame → Result Data Fault) (left len : ℕ) (n 
     → onward (judgement true) f (suc len) n ≡ failed Syntax left → left ≤ suc len
 left_next f left len (go m st) h later e = let le = later m st e in omega arith
 left_next f left len (stop Syntax back) h later e = let same = left_of Syntax Syntax (back + suc len) left e in omega arith
+left_next f left len (stop kinds.Lone back) h later e = absurd (let x = kind_of kinds.Lone Syntax (back + suc len) left e in cc)
 left_next f left len (stop Duplicate back) h later e = absurd (let x = kind_of Duplicate Syntax (back + suc len) left e in cc)
 left_next f left len (stop Depth back) h later e = absurd (let x = kind_of Depth Syntax (back + suc len) left e in cc)
 left_next f left len (stop Number back) h later e = absurd (let x = kind_of Number Syntax (back + suc len) left e in cc)
@@ -302,6 +354,7 @@ here_next : (f g : Mode → List Frame → Result Data Fault) (len more : ℕ) (
     → onward (judgement true) f (suc len) n ≡ failed Syntax (suc len) → onward (judgement true) g (suc more) n ≡ failed Syntax (suc more)
 here_next f g len more (go m st) h later e = absurd (let le = later m st e in omega arith)
 here_next f g len more (stop Syntax back) h later e = let same : back + suc more ≡ suc more = omega arith in ap (failed Syntax) same
+here_next f g len more (stop kinds.Lone back) h later e = absurd (let x = kind_of kinds.Lone Syntax (back + suc len) (suc len) e in cc)
 here_next f g len more (stop Duplicate back) h later e = absurd (let x = kind_of Duplicate Syntax (back + suc len) (suc len) e in cc)
 here_next f g len more (stop Depth back) h later e = absurd (let x = kind_of Depth Syntax (back + suc len) (suc len) e in cc)
 here_next f g len more (stop Number back) h later e = absurd (let x = kind_of Number Syntax (back + suc len) (suc len) e in cc)
@@ -311,6 +364,7 @@ later_next : (f g : Mode → List Frame → Result Data Fault) (far len more the
     → onward (judgement true) f (suc far) n ≡ failed Syntax len → onward (judgement true) g there n ≡ failed Syntax more
 later_next f g far len more there (go m st) h lt later e = later m st e
 later_next f g far len more there (stop Syntax back) h lt later e = absurd (let same = left_of Syntax Syntax (back + suc far) len e in omega arith)
+later_next f g far len more there (stop kinds.Lone back) h lt later e = absurd (let x = kind_of kinds.Lone Syntax (back + suc far) len e in cc)
 later_next f g far len more there (stop Duplicate back) h lt later e = absurd (let x = kind_of Duplicate Syntax (back + suc far) len e in cc)
 later_next f g far len more there (stop Depth back) h lt later e = absurd (let x = kind_of Depth Syntax (back + suc far) len e in cc)
 later_next f g far len more there (stop Number back) h lt later e = absurd (let x = kind_of Number Syntax (back + suc far) len e in cc)
@@ -330,8 +384,12 @@ mutual
   all_allowed n (boolean b) = tt
   all_allowed n (number s) = refl
   all_allowed n (text s) = tt
-  all_allowed n (list ds) = tt
+  all_allowed n (list ds) = (refl, all_items (suc n) ds)
   all_allowed n (dict ms) = (refl, all_members (suc n) [] ms)
+
+  pub all_items : (n : ℕ) (ds : Chain) → AllowedItems false n ds
+  all_items n no_items = tt
+  all_items n (item d ds) = (all_allowed n d, all_items n ds)
 
   pub all_members : (n : ℕ) (seen : Members) (ms : Pairs) → AllowedMembers false n seen ms
   all_members n seen no_members = tt
@@ -353,6 +411,7 @@ is_fault b f e = of_kind f.kind f.left e (subst (Judged b) e (run_judged true va
   where
     of_kind : (kind : Kind) (left : ℕ) → run true value [] b ≡ failed kind left → JudgedAt b kind left → FaultAt b kind left
     of_kind Syntax left e h = record { pre = h.pre; post = h.post; parts = h.parts; left_is = h.left_is; alive = h.alive; dead = dead_at h.pre h.post (subst (λ (x : List ℕ). run true value [] x ≡ failed Syntax (length h.post)) h.parts (rw h.left_is e)) }
+    of_kind kinds.Lone left e h = h
     of_kind Duplicate left e h = h
     of_kind Depth left e h = h
     of_kind Number left e h = h

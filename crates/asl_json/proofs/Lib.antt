@@ -1,3 +1,5 @@
+pub mod Texts
+pub mod Numerals
 pub mod Passing
 pub mod Reaching
 pub mod JudgingLemmas
@@ -10,8 +12,11 @@ pub mod Leasting
 pub mod Faulting
 pub mod Fronts
 pub mod Figures
+pub mod Amounts
 pub mod Turns
 pub mod Knowing
+pub mod Escapes
+pub mod Quoting
 pub mod Round
 pub mod Parts
 pub mod Equality

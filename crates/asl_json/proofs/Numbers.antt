@@ -1,82 +1,41 @@
 -- Where numbers end, and what the machine makes of them.
-use Rattle.std.proofs.Common.{◌≡◌, ℕ, suc, ◌+◌, Bool, true, false, cond, ◌==◌, List, [], ◌∷◌, ◌++◌, length, refl, sym, ap, subst, ◌∙◌, arith, take, drop, ◌⊎◌, inl, inr}
+use Rattle.std.proofs.Common.{◌≡◌, ℕ, zero, suc, ◌+◌, ◌≤◌, ◌<◌, Bool, true, false, cond, List, [], ◌∷◌, ◌++◌, length, get_or, None, refl, sym, ap, subst, ◌∙◌, arith, take, drop}
 use Rattle.std.proofs.lemmas.List.{length-append, take-append-drop}
-use Rattle.std.proofs.lemmas.Bool.{eqb-true}
 use Rattle.asl_json.specs.Data.{number}
-use Rattle.asl_json.specs.Number.{is_digit, IsUnsigned, magnitude, IsWhole, is_over}
-use Rattle.asl_json.specs.Machine.{Part, sign, nought, whole, value, figure, after, in_judged, in_figure, failed, walk, judgement, run}
+use Rattle.asl_json.specs.Number.{IsNumeral, is_over}
+use Rattle.asl_json.specs.Machine.{value, figure, after, next_part, may_end, in_judged, in_figure, failed, walk, judgement, run}
 use Rattle.asl_json.specs.Open.{Frame, EndsNumber}
-use Rattle.asl_json.specs.Leads.{IsNumberFront}
-use Rattle.asl_json.specs.declared.fault.Kind.TheVariants.{Number}
-use Rattle.asl_json.proofs.Passing.{part_of, part_in, whole_pass, whole_part, alike}
-use Rattle.asl_json.proofs.Reaching.{IsLong, IsPart, part_is_whole, part_push}
-use Rattle.asl_json.proofs.Stretches.{halts}
+use Rattle.asl_json.specs.Leads.{begins, IsNumberFront}
+use Rattle.asl_json.specs.declared.fault.Kind.TheVariants.{Syntax, Number}
+use Rattle.asl_json.specs.declared.number.Part.{Part}
+use Rattle.asl_json.specs.declared.number.Part.TheVariants.{Start}
+use Rattle.asl_json.proofs.Numerals.{IsPart, numeral_accepted, numeral_some, part_is_numeral, part_longest, longest_stops}
+use Rattle.asl_json.proofs.Passing.{alike, value_begins, parts_pass, part_pass}
+use Rattle.asl_json.proofs.Stretches.{halts, halts_here}
 
-unsigned_is_part : (s : List ℕ) → IsUnsigned s → IsLong s ⊎ (s ≡ 48 ∷ [])
-unsigned_is_part [] h = absurd h
-unsigned_is_part (c ∷ []) h = told (c == 48) refl
-  where
-    told : (x : Bool) → (c == 48) ≡ x → IsLong (c ∷ []) ⊎ (c ∷ [] ≡ 48 ∷ [])
-    told true e = inr (ap (λ (x : ℕ). x ∷ []) (eqb-true c 48 e))
-    told false e = inl (h, (e, tt))
-unsigned_is_part (c ∷ d ∷ s) h = inl h
-
-part_of_long : (s : List ℕ) → IsLong s → part_of s ≡ whole
-part_of_long [] h = absurd h
-part_of_long (c ∷ s) h = rw h.1.0 refl
-
--- the part of a number as it is seen without its minus
-part_in_magnitude : (s : List ℕ) → part_in s ≡ part_of (magnitude s)
-part_in_magnitude [] = refl
-part_in_magnitude (c ∷ s) = told (c == 45)
-  where
-    told : (x : Bool) → cond x (part_of s) (part_of (c ∷ s)) ≡ part_of (cond x s (c ∷ s))
-    told true = refl
-    told false = refl
-
-pub whole_is_part : (s : List ℕ) → IsWhole s → IsPart (part_in s) s
-whole_is_part s h = subst (λ (p : Part). IsPart p s) (sym (part_in_magnitude s)) (of_magnitude (unsigned_is_part (magnitude s) h))
-  where
-    of_magnitude : IsLong (magnitude s) ⊎ (magnitude s ≡ 48 ∷ []) → IsPart (part_of (magnitude s)) s
-    of_magnitude (inl long) = subst (λ (p : Part). IsPart p s) (sym (part_of_long (magnitude s) long)) long
-    of_magnitude (inr zero) = subst (λ (p : Part). IsPart p s) (sym (ap part_of zero)) zero
-
--- a number that could go on over a digit does
-longest_digit : (p : Part) (s : List ℕ) (c : ℕ) (cs : List ℕ) → p ≡ whole → IsPart p s → EndsNumber s (c ∷ cs) → is_digit c ≡ false
-longest_digit p s c cs same h ends = told (is_digit c) refl
-  where
-    told : (x : Bool) → is_digit c ≡ x → x ≡ false
-    told true e = absurd (ends [] (part_is_whole whole (s ++ c ∷ []) (λ o. cc) (part_push s c e (subst (λ (q : Part). IsPart q s) same h))))
-    told false e = refl
-
--- a whole number read to its end is judged there
-figure_judged : (p : Part) (s : List ℕ) (st : List Frame) (rest : List ℕ) → (p ≡ sign → ⊥) → IsPart p s → EndsNumber s rest → run true (figure p s) st rest ≡ cond (is_over s) (failed Number (length s + length rest)) (run true (after (number s)) st rest)
+-- a number read to its end is judged there
+figure_judged : (p : Part) (s : List ℕ) (st : List Frame) (rest : List ℕ) → may_end p ≡ true → IsPart p s → EndsNumber s rest → run true (figure p s) st rest ≡ cond (is_over s) (failed Number (length s + length rest)) (run true (after (number s)) st rest)
 unfolding walk in_figure in_judged
-figure_judged sign s st rest some h ends = absurd (some refl)
-figure_judged nought s st [] some h ends = let z : length s + 0 ≡ length s = omega arith in rw z refl
-figure_judged whole s st [] some h ends = let z : length s + 0 ≡ length s = omega arith in rw z refl
-figure_judged nought s st (c ∷ cs) some h ends = told (is_over s) refl
+figure_judged p s st [] ends h longest = let z : length s + 0 ≡ length s = omega arith in rw (z, ends) refl
+figure_judged p s st (c ∷ cs) ends h longest = told (is_over s) refl
   where
-    told : (x : Bool) → is_over s ≡ x → run true (figure nought s) st (c ∷ cs) ≡ cond x (failed Number (length s + suc (length cs))) (run true (after (number s)) st (c ∷ cs))
-    told true e = halts true (figure nought s) st c cs Number (length s) (rw e refl)
-    told false e = alike (judgement true) true (figure nought s) (after (number s)) st c cs (rw e refl)
-figure_judged whole s st (c ∷ cs) some h ends = told (is_over s) refl
-  where
-    stops : is_digit c ≡ false
-    stops = longest_digit whole s c cs refl h ends
+    stops : next_part p c ≡ None
+    stops = longest_stops p s c cs h longest
 
-    told : (x : Bool) → is_over s ≡ x → run true (figure whole s) st (c ∷ cs) ≡ cond x (failed Number (length s + suc (length cs))) (run true (after (number s)) st (c ∷ cs))
-    told true e = halts true (figure whole s) st c cs Number (length s) (rw (stops, e) refl)
-    told false e = alike (judgement true) true (figure whole s) (after (number s)) st c cs (rw (stops, e) refl)
+    told : (x : Bool) → is_over s ≡ x → run true (figure p s) st (c ∷ cs) ≡ cond x (failed Number (length s + suc (length cs))) (run true (after (number s)) st (c ∷ cs))
+    told true e = halts true (figure p s) st c cs Number (length s) (rw (stops, ends, e) refl)
+    told false e = alike (judgement true) true (figure p s) (after (number s)) st c cs (rw (stops, ends, e) refl)
 
-number_judged : (s : List ℕ) (st : List Frame) (rest : List ℕ) → IsWhole s → EndsNumber s rest → run true value st (s ++ rest) ≡ cond (is_over s) (failed Number (length s + length rest)) (run true (after (number s)) st rest)
-number_judged s st rest h ends = whole_pass (judgement true) true s st rest h ∙ figure_judged (part_in s) s st rest (whole_part s h) (whole_is_part s h) ends
+number_judged : (s : List ℕ) (st : List Frame) (rest : List ℕ) → IsNumeral s → EndsNumber s rest → run true value st (s ++ rest) ≡ cond (is_over s) (failed Number (length s + length rest)) (run true (after (number s)) st rest)
+number_judged s st rest h longest =
+    let a = numeral_accepted s h in
+    part_pass (judgement true) true a.to s st rest (numeral_some s h) a.leads ∙ figure_judged a.to s st rest a.ends a.leads longest
 
-pub number_over : (s : List ℕ) (st : List Frame) (rest : List ℕ) → IsWhole s → EndsNumber s rest → is_over s ≡ true → run true value st (s ++ rest) ≡ failed Number (length (s ++ rest))
+pub number_over : (s : List ℕ) (st : List Frame) (rest : List ℕ) → IsNumeral s → EndsNumber s rest → is_over s ≡ true → run true value st (s ++ rest) ≡ failed Number (length (s ++ rest))
 number_over s st rest h ends over =
     number_judged s st rest h ends ∙ ap (λ (x : Bool). cond x (failed Number (length s + length rest)) (run true (after (number s)) st rest)) over ∙ ap (failed Number) (sym (length-append s rest))
 
-pub number_fits : (s : List ℕ) (st : List Frame) (rest : List ℕ) → IsWhole s → EndsNumber s rest → is_over s ≡ false → run true value st (s ++ rest) ≡ run true (after (number s)) st rest
+pub number_fits : (s : List ℕ) (st : List Frame) (rest : List ℕ) → IsNumeral s → EndsNumber s rest → is_over s ≡ false → run true value st (s ++ rest) ≡ run true (after (number s)) st rest
 number_fits s st rest h ends fits =
     number_judged s st rest h ends ∙ ap (λ (x : Bool). cond x (failed Number (length s + length rest)) (run true (after (number s)) st rest)) fits
 
@@ -88,3 +47,44 @@ front_over bytes n st h over =
 
 pub front_fits : (bytes : List ℕ) (n : ℕ) (st : List Frame) → IsNumberFront bytes n → is_over (take n bytes) ≡ false → run true value st bytes ≡ run true (after (number (take n bytes))) st (drop n bytes)
 front_fits bytes n st h fits = ap (run true value st) (sym (take-append-drop n bytes)) ∙ number_fits (take n bytes) st (drop n bytes) h.number_is h.longest fits
+
+-- ---- as far as a number goes on
+
+-- a byte with which a part doesn't go on, or the end
+abbrev StopsPart : Part → List ℕ → Type 0
+StopsPart p [] = Unit {0}
+StopsPart p (c ∷ cs) = next_part p c ≡ None
+
+stops_at : (p : Part) (xs : List ℕ) (n : ℕ) → (n < length xs → next_part p (get_or xs n 0) ≡ None) → StopsPart p (drop n xs)
+stops_at p [] n h = told n
+  where
+    told : (n : ℕ) → StopsPart p (drop n [])
+    told zero = tt
+    told (suc n) = tt
+stops_at p (x ∷ xs) zero h = h (omega arith)
+stops_at p (x ∷ xs) (suc n) h = stops_at p xs n (λ lt. h (omega arith))
+
+ends_there : (p : Part) (s rest : List ℕ) → IsPart p s → StopsPart p rest → EndsNumber s rest
+ends_there p s [] h stops = tt
+ends_there p s (c ∷ rest) h stops = part_longest p s c rest h stops
+
+pub front_found : (bytes : List ℕ) (n : ℕ) (p : Part) → n ≤ length bytes → IsPart p (take n bytes) → (n < length bytes → next_part p (get_or bytes n 0) ≡ None) → may_end p ≡ true → IsNumberFront bytes n
+front_found bytes n p le h stops ends = record { some = above n h; within = le; number_is = part_is_numeral p (take n bytes) ends h; longest = ends_there p (take n bytes) (drop n bytes) h (stops_at p bytes n stops) }
+  where
+    above : (n : ℕ) → IsPart p (take n bytes) → 0 < n
+    above zero h = absurd (numeral_some [] (part_is_numeral p [] ends h) refl)
+    above (suc n) h = omega arith
+
+part_halts : (p : Part) (s : List ℕ) (st : List Frame) (rest : List ℕ) → may_end p ≡ false → StopsPart p rest → run true (figure p s) st rest ≡ failed Syntax (length rest)
+unfolding walk in_figure
+part_halts p s st [] ends stops = rw ends refl
+part_halts p s st (c ∷ cs) ends stops = halts_here true (figure p s) st c cs (rw (stops, ends) refl)
+
+pub front_breaks : (bytes : List ℕ) (n : ℕ) (p : Part) (st : List Frame) → begins bytes ≡ true → IsPart p (take n bytes) → (n < length bytes → next_part p (get_or bytes n 0) ≡ None) → may_end p ≡ false → run true value st bytes ≡ failed Syntax (length (drop n bytes))
+front_breaks [] n p st b h stops ends = absurd cc
+front_breaks (c ∷ cs) n p st b h stops ends =
+    let bytes = c ∷ cs in
+    value_begins (judgement true) true st c cs b
+    ∙ ap (run true (figure Start []) st) (sym (take-append-drop n bytes))
+    ∙ parts_pass (judgement true) true Start p [] (take n bytes) st (drop n bytes) h
+    ∙ part_halts p (take n bytes) st (drop n bytes) ends (stops_at p bytes n stops)

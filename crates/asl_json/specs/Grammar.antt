@@ -1,17 +1,20 @@
 -- Which texts spell which values: the grammar by cases on the value, over whole lists of bytes. No limits here.
--- (No lists and no backslashes in texts yet.)
-use Rattle.std.specs.Prelude.{◌≡◌, ℕ, Bool, true, false, ◌||◌, ◌&&◌, not, ◌==◌, nat_le, List, [], ◌∷◌, ◌++◌}
-use Rattle.asl_json.specs.Data.{Data, null, boolean, number, text, list, dict, Pairs, no_members, member}
-use Rattle.asl_json.specs.Number.{IsWhole}
-
-abbrev pub quote : ℕ
-quote = 34
+use Rattle.std.specs.Prelude.{◌≡◌, ℕ, Bool, true, false, ◌||◌, ◌==◌, List, [], ◌∷◌, ◌++◌}
+use Rattle.asl_json.specs.Data.{Data, null, boolean, number, text, list, dict, Chain, no_items, item, Pairs, no_members, member}
+use Rattle.asl_json.specs.Number.{IsNumeral}
+use Rattle.asl_json.specs.Text.{SpellsText}
 
 abbrev pub comma : ℕ
 comma = 44
 
 abbrev pub colon : ℕ
 colon = 58
+
+abbrev pub open_bracket : ℕ
+open_bracket = 91
+
+abbrev pub close_bracket : ℕ
+close_bracket = 93
 
 abbrev pub open_brace : ℕ
 open_brace = 123
@@ -31,21 +34,9 @@ false_word = 102 ∷ 97 ∷ 108 ∷ 115 ∷ 101 ∷ []
 unfoldable pub is_space : ℕ → Bool
 is_space c = (c == 32) || (c == 9) || (c == 10) || (c == 13)
 
--- what may stand within a text as it is
-unfoldable pub is_plain : ℕ → Bool
-is_plain c = nat_le 32 c && not (c == 34) && not (c == 92)
-
 abbrev pub AreSpaces : List ℕ → Type 0
 AreSpaces [] = Unit {0}
 AreSpaces (c ∷ cs) = (is_space c ≡ true) × AreSpaces cs
-
-abbrev pub ArePlain : List ℕ → Type 0
-ArePlain [] = Unit {0}
-ArePlain (c ∷ cs) = (is_plain c ≡ true) × ArePlain cs
-
--- a text between quotes
-abbrev pub SpellsText : List ℕ → List ℕ → Type 0
-SpellsText s t = (t ≡ quote ∷ (s ++ quote ∷ [])) × ArePlain s
 
 -- a key and the spaces round it
 pub record SpellsKey (k t : List ℕ) : Type 0 where
@@ -94,10 +85,20 @@ abbrev mutual
   Spells null t = t ≡ null_word
   Spells (boolean true) t = t ≡ true_word
   Spells (boolean false) t = t ≡ false_word
-  Spells (number s) t = (t ≡ s) × IsWhole s
+  Spells (number s) t = (t ≡ s) × IsNumeral s
   Spells (text s) t = SpellsText s t
-  Spells (list ds) t = ⊥
+  Spells (list ds) t = Behind open_bracket (SpellsItems ds) t
   Spells (dict ms) t = Behind open_brace (SpellsMembers ms) t
+
+  -- the items of a list with its closing bracket
+  pub SpellsItems : Chain → List ℕ → Type 0
+  SpellsItems no_items t = Joined AreSpaces (λ e. e ≡ close_bracket ∷ []) t
+  SpellsItems (item d ds) t = Joined (Padded (Spells d)) (SpellsMoreItems ds) t
+
+  -- the items behind the first one
+  pub SpellsMoreItems : Chain → List ℕ → Type 0
+  SpellsMoreItems no_items t = t ≡ close_bracket ∷ []
+  SpellsMoreItems (item d ds) t = Behind comma (Joined (Padded (Spells d)) (SpellsMoreItems ds)) t
 
   -- the members of an object with its closing brace
   pub SpellsMembers : Pairs → List ℕ → Type 0

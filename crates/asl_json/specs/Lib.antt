@@ -4,6 +4,7 @@ pub mod View
 pub mod Number
 pub mod Distinct
 pub mod Falls
+pub mod Text
 pub mod Grammar
 pub mod Limits
 pub mod Open
@@ -15,7 +16,9 @@ pub mod SameLaws
 pub mod Meaning
 pub mod Access
 pub mod Lending
+pub mod Chars
 pub mod Machine
 pub mod Leads
+pub mod Places
 pub mod Keys
 pub mod FaultText

@@ -1,6 +1,6 @@
 -- The limits of a value that stands within so many levels: how deep it nests, how large its numbers are, and that no key comes twice in an object.
 use Rattle.std.specs.Prelude.{◌≡◌, ℕ, suc, Bool, false, ◌&&◌, nat_le, [], ◌∷◌, ◌++◌}
-use Rattle.asl_json.specs.Data.{Data, null, boolean, number, text, list, dict, Pairs, no_members, member}
+use Rattle.asl_json.specs.Data.{Data, null, boolean, number, text, list, dict, Chain, no_items, item, Pairs, no_members, member}
 use Rattle.asl_json.specs.Number.{is_over}
 use Rattle.asl_json.specs.Distinct.{Members, has_key}
 
@@ -19,8 +19,12 @@ abbrev mutual
   Allowed lim n (boolean b) = Unit {0}
   Allowed lim n (number s) = (lim && is_over s) ≡ false
   Allowed lim n (text s) = Unit {0}
-  Allowed lim n (list ds) = Unit {0}
+  Allowed lim n (list ds) = ((lim && nat_le max_depth n) ≡ false) × AllowedItems lim (suc n) ds
   Allowed lim n (dict ms) = ((lim && nat_le max_depth n) ≡ false) × AllowedMembers lim (suc n) [] ms
+
+  pub AllowedItems : Bool → ℕ → Chain → Type 0
+  AllowedItems lim n no_items = Unit {0}
+  AllowedItems lim n (item d ds) = Allowed lim n d × AllowedItems lim n ds
 
   pub AllowedMembers : Bool → ℕ → Members → Pairs → Type 0
   AllowedMembers lim n seen no_members = Unit {0}

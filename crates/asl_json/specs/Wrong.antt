@@ -1,5 +1,5 @@
 -- Which bytes are read, and the faults of the others with their places from the start.
-use Rattle.std.specs.Prelude.{◌≡◌, ℕ, ◌-◌, ◌<◌, ◌≤◌, ◌==◌, nat_lt, Bool, false, ◌||◌, ◌&&◌, List, length, take, Result, Ok, Err}
+use Rattle.std.specs.Prelude.{◌≡◌, ◌⊎◌, ℕ, ◌-◌, ◌<◌, ◌≤◌, ◌==◌, nat_lt, Bool, false, ◌||◌, ◌&&◌, List, length, take, Result, Ok, Err}
 use Rattle.std.specs.Str.{IsUtf8}
 use Rattle.std.specs.Str.Lossy.{utf8_valid_len}
 use Rattle.asl_json.specs.Data.{Data}
@@ -36,7 +36,7 @@ pub record MalformedAt (b : List ℕ) (at : ℕ) : Type 0 where
 
 -- a fault that bytes have, whichever others they have
 abbrev pub HasFault : List ℕ → JsonFault → Type 0
-HasFault b (Syntax at) = FaultIn b kinds.Syntax at
+HasFault b (Syntax at) = FaultIn b kinds.Syntax at ⊎ FaultIn b kinds.Lone at
 HasFault b (Duplicate at) = FaultIn b kinds.Duplicate at
 HasFault b (Depth at) = FaultIn b kinds.Depth at
 HasFault b (Number at) = FaultIn b kinds.Number at
@@ -102,6 +102,7 @@ IsRead view v (Err (Utf8 at)) = ⊥
 
 abbrev pub of_kind : Kind → ℕ → JsonFault
 of_kind kinds.Syntax at = Syntax at
+of_kind kinds.Lone at = Syntax at
 of_kind kinds.Duplicate at = Duplicate at
 of_kind kinds.Depth at = Depth at
 of_kind kinds.Number at = Number at

@@ -8,6 +8,8 @@ use std::alloc::{AllocError, AllocFailed, Global};
 #[derive(Clone, Copy, Debug, PartialEq, Eq)]
 pub(crate) enum Kind {
     Syntax,
+    /// An escape of a surrogate half that has no partner.
+    Lone,
     Duplicate,
     Depth,
     Number,
@@ -52,7 +54,8 @@ impl<T: Drop> From<AllocFailed<T>> for Stop {
 /// Why bytes aren't read as a JSON text. Places are offsets in bytes from 0.
 #[derive(Clone, Copy, Debug, PartialEq, Eq)]
 pub enum JsonFault {
-    /// J1: the first byte with which the text is no longer the front of a JSON text, or the length where it ends early.
+    /// J1: the first byte with which the text is no longer the front of a JSON text, or the length where it ends early; the
+    /// backslash of an escape of a surrogate half that is none of a pair.
     Syntax(usize),
     /// J2: the opening quote of a key that the object has already.
     Duplicate(usize),

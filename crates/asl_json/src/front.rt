@@ -1,13 +1,15 @@
 // What stands in front of bytes.
-ghost use Rattle.std.specs.Prelude.{◌≡◌, ◌<◌, ◌≤◌, ◌∷◌, false, length, take, slice_index, IfOk, IfErr, IfSome, IfNone};
+ghost use Rattle.std.specs.Prelude.{◌≡◌, ◌<◌, ◌≤◌, ◌∷◌, ◌++◌, [], false, length, take, slice_index, IfOk, IfErr, IfSome, IfNone, OnOk, string_bytes};
 ghost use Rattle.std.specs.Str.{IsUtf8};
-ghost use Rattle.asl_json.specs.Grammar.{is_space as spec_space, is_plain as spec_plain, AreSpaces, ArePlain};
+ghost use Rattle.asl_json.specs.Grammar.{is_space as spec_space, AreSpaces};
+ghost use Rattle.asl_json.specs.Text.{is_plain as spec_plain, ArePlain};
 ghost use Rattle.asl_json.specs.Machine.{fault};
-ghost use Rattle.asl_json.specs.Leads.{Skips, FirstIsNot};
+ghost use Rattle.asl_json.specs.Leads.{Skips, FirstIsNot, NoPlainFirst};
 
 use crate::fault::{Fault, Kind, Stop};
 use crate::value::Txt;
-use std::alloc::Global;
+use std::alloc::{AllocError, Global};
+use std::str;
 
 #[tactic(auto, unfolding(crate::specs::Grammar::is_space))]
 fn is_space(byte: u8) -> bool
@@ -16,8 +18,8 @@ fn is_space(byte: u8) -> bool
     byte == b' ' || byte == b'\t' || byte == b'\n' || byte == b'\r'
 }
 
-#[tactic(auto, unfolding(crate::specs::Grammar::is_plain))]
-fn is_plain(byte: u8) -> bool
+#[tactic(auto, unfolding(crate::specs::Text::is_plain))]
+pub(crate) fn is_plain(byte: u8) -> bool
     ensures { result ≡ spec_plain byte }
 {
     byte >= b' ' && byte != b'"' && byte != b'\\'
@@ -61,8 +63,20 @@ pub(crate) fn after_byte(bytes: &[u8], byte: u8) -> Option<&[u8]>
     None
 }
 
+/// The first byte, and what follows it.
+pub(crate) fn first_byte(bytes: &[u8]) -> Option<(u8, &[u8])>
+    ensures found { IfSome result (λ x. bytes.now ≡ x.0 ∷ x.1.now) }
+    ensures none { IfNone result (bytes.now ≡ []) }
+    ensures utf8 { IfSome result (λ x. x.0 < 128 → IsUtf8 bytes.now → IsUtf8 x.1.now) }
+{
+    if bytes.len() > 0 {
+        return Some((bytes[0], &bytes[1..]));
+    }
+    None
+}
+
 /// How many bytes at the front may stand in a text as they are.
-pub(crate) fn plain_len(bytes: &[u8]) -> usize
+fn plain_len(bytes: &[u8]) -> usize
     ensures plain { ArePlain (take result bytes.now) }
     ensures within { result ≤ length bytes.now }
     ensures stops { result < length bytes.now → spec_plain (slice_index bytes.now result) ≡ false }
@@ -75,6 +89,17 @@ pub(crate) fn plain_len(bytes: &[u8]) -> usize
         end += 1;
     }
     end
+}
+
+/// The bytes at the front that may stand in a text as they are, and what follows them.
+pub(crate) fn split_plain(bytes: &[u8]) -> (&[u8], &[u8])
+    ensures parts { bytes.now ≡ result.0.now ++ result.1.now }
+    ensures plain { ArePlain result.0.now }
+    ensures stops { NoPlainFirst result.1.now }
+    ensures utf8 { IsUtf8 bytes.now → IsUtf8 result.0.now × IsUtf8 result.1.now }
+{
+    let end = plain_len(bytes);
+    (&bytes[..end], &bytes[end..])
 }
 
 /// That a text breaks off where the rest begins.
@@ -95,6 +120,17 @@ pub(crate) fn txt(alloc: Global, bytes: &[u8]) -> Result<Txt, Stop>
 {
     match String::from_utf8(bytes.to_vec(alloc)?) {
         Ok(string) => Ok(Txt::new(string)),
+        Err(_) => unreachable!(),
+    }
+}
+
+/// Appends bytes to a text.
+pub(crate) fn append(text: &mut String, bytes: &[u8]) -> Result<(), AllocError>
+    requires { IsUtf8 bytes.now }
+    ensures { OnOk result (string_bytes text.new ≡ string_bytes text.old ++ bytes.now) }
+{
+    match str::from_utf8(bytes) {
+        Ok(piece) => text.push_str(piece),
         Err(_) => unreachable!(),
     }
 }

@@ -26,7 +26,7 @@ fn placed(len: usize, stop: Stop) -> JsonFault
         Stop::Fault(fault) => {
             let at = len - fault.left;
             match fault.kind {
-                Kind::Syntax => JsonFault::Syntax(at),
+                Kind::Syntax | Kind::Lone => JsonFault::Syntax(at),
                 Kind::Duplicate => JsonFault::Duplicate(at),
                 Kind::Depth => JsonFault::Depth(at),
                 Kind::Number => JsonFault::Number(at),
@@ -64,9 +64,8 @@ fn malformed(alloc: Global, bytes: &[u8], end: usize) -> JsonFault
 }
 
 /// Reads bytes as a JSON text (RFC 8259) of this profile: at most 1,048,576 bytes in UTF-8, at most 64 lists and objects
-/// in one another, numbers of at most 40 bytes and an amount below 10^18, and no key twice in an object.
-///
-/// Lists, backslashes in texts, fractions and exponents aren't read yet: each is `J1 Syntax` at its first byte.
+/// in one another, numbers of at most 40 bytes, an amount below 10^18 and a whole number of units of 10^-9, and no key twice
+/// in an object.
 ///
 /// Of the faults of the bytes the answer is `J5 Size`, else the one with the least place, and at one place the first of
 /// `J6 Utf8`, `J1 Syntax`, `J3 Depth`, `J4 Number` and `J2 Duplicate`.

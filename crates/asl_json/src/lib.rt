@@ -1,11 +1,13 @@
 //! JSON values: reading, writing, comparing and reaching into them.
 //!
-//! Modules in reading order: `value` and `fault` are the types; `front`, `number`, `keys` and `reading` the reader, which
-//! `judging` turns into `read`; `writing` the printer; `equal` and `sameness` compare; `access` reaches into a value.
+//! Modules in reading order: `value` and `fault` are the types; `front`, `units`, `number`, `escape`, `keys` and `reading`
+//! the reader, which `judging` turns into `read`; `writing` the printer; `equal` and `sameness` compare; `access` reaches
+//! into a value.
 #![tactic(auto)]
 
 mod access;
 mod equal;
+mod escape;
 mod fault;
 mod front;
 mod judging;
@@ -13,6 +15,7 @@ mod keys;
 mod number;
 mod reading;
 mod sameness;
+mod units;
 mod value;
 mod writing;
 

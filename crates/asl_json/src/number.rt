@@ -1,25 +1,38 @@
 // Reading numbers.
-ghost use Rattle.std.specs.Prelude.{◌≡◌, ◌<◌, ◌≤◌, ◌-◌, ◌*◌, true, false, cond, pos, neg_ℤ, List, length, take, drop, slice_index, IfOk, IfErr, MatchOption};
+ghost use Rattle.std.specs.Prelude.{◌≡◌, ◌<◌, ◌≤◌, true, List, length, take, slice_index, Some, None, IfOk, IfErr};
 ghost use Rattle.std.specs.Str.{IsUtf8};
 ghost use Rattle.asl_json.specs.Data.{number as spec_number};
-ghost use Rattle.asl_json.specs.Number.{is_digit as spec_digit, AreDigits, IsUnsigned, IsWhole, is_negative as spec_negative, magnitude, digits_value, amount_limit, unit, is_over, units_of};
+ghost use Rattle.asl_json.specs.Number.{is_digit as spec_digit};
 ghost use Rattle.asl_json.specs.Open.{Frame};
-ghost use Rattle.asl_json.specs.Machine.{value, after, run};
-ghost use Rattle.asl_json.specs.Leads.{Fails, Leads, begins, NoDigitFirst, EndsUnsigned, IsNumberFront};
+ghost use Rattle.asl_json.specs.Machine.{value, after, run, leading as spec_leading, marked as spec_marked, pointed as spec_pointed, next_part as spec_next, part_behind, may_end as spec_end};
+ghost use Rattle.asl_json.specs.Leads.{Fails, Leads, begins, IsNumberFront};
 
 use crate::fault::{Fault, Kind, Stop};
 use crate::front::{syntax, txt};
+use crate::units::{is_mark, is_point, is_sign, units};
 use crate::value::Dec;
 use std::alloc::Global;
 
-/// How many bytes a number may have.
-const MAX_LEN: usize = 40;
-
-/// No amount is as large.
-const AMOUNT_LIMIT: u64 = 1_000_000_000_000_000_000;
-
-/// How many units of 10^-9 are one.
-const UNIT: i128 = 1_000_000_000;
+/// How much of a number there is.
+#[derive(Clone, Copy, Debug)]
+pub(crate) enum Part {
+    /// Nothing yet.
+    Start,
+    Minus,
+    /// A 0, behind which no digit may follow.
+    Nought,
+    /// Digits of which the first is not 0.
+    Whole,
+    Point,
+    /// Digits behind the point.
+    Fraction,
+    /// The e or E in front of the exponent.
+    Mark,
+    /// The sign of the exponent.
+    Sign,
+    /// Digits of the exponent.
+    Exponent,
+}
 
 #[tactic(auto, unfolding(crate::specs::Number::is_digit))]
 fn is_digit(byte: u8) -> bool
@@ -38,51 +51,90 @@ pub(crate) fn begins_number(bytes: &[u8]) -> bool
     }
 }
 
-/// How many digits stand in front.
-fn digits_len(bytes: &[u8]) -> usize
-    ensures digits { AreDigits (take result bytes.now) }
-    ensures within { result ≤ length bytes.now }
-    ensures stops { result < length bytes.now → spec_digit (slice_index bytes.now result) ≡ false }
+/// How a number goes on with its first digit.
+#[tactic(auto, unfolding(crate::specs::Machine::leading))]
+fn leading(byte: u8) -> Option<Part>
+    ensures { result ≡ spec_leading byte }
 {
+    if byte == b'0' {
+        return Some(Part::Nought);
+    }
+    if is_digit(byte) {
+        Some(Part::Whole)
+    } else {
+        None
+    }
+}
+
+/// How it goes on with an exponent.
+#[tactic(auto, unfolding(crate::specs::Machine::marked))]
+fn marked(byte: u8) -> Option<Part>
+    ensures { result ≡ spec_marked byte }
+{
+    if is_mark(byte) {
+        Some(Part::Mark)
+    } else {
+        None
+    }
+}
+
+/// How it goes on with a point or an exponent.
+#[tactic(auto, unfolding(crate::specs::Machine::pointed))]
+fn pointed(byte: u8) -> Option<Part>
+    ensures { result ≡ spec_pointed byte }
+{
+    if is_point(byte) {
+        return Some(Part::Point);
+    }
+    marked(byte)
+}
+
+/// How much of a number there is behind one byte more, where a number may go on with it.
+#[tactic(auto, unfolding(crate::specs::Machine::next_part))]
+fn next_part(part: Part, byte: u8) -> Option<Part>
+    ensures { result ≡ spec_next part byte }
+{
+    let digit = is_digit(byte);
+    match part {
+        Part::Start if byte == b'-' => Some(Part::Minus),
+        Part::Start | Part::Minus => leading(byte),
+        Part::Whole if digit => Some(Part::Whole),
+        Part::Nought | Part::Whole => pointed(byte),
+        Part::Point | Part::Fraction if digit => Some(Part::Fraction),
+        Part::Point => None,
+        Part::Fraction => marked(byte),
+        Part::Mark | Part::Sign | Part::Exponent if digit => Some(Part::Exponent),
+        Part::Mark if is_sign(byte) => Some(Part::Sign),
+        Part::Mark | Part::Sign | Part::Exponent => None,
+    }
+}
+
+/// Whether a number may end there.
+fn may_end(part: Part) -> bool
+    ensures { result ≡ spec_end part }
+{
+    match part {
+        Part::Nought | Part::Whole | Part::Fraction | Part::Exponent => true,
+        Part::Start | Part::Minus | Part::Point | Part::Mark | Part::Sign => false,
+    }
+}
+
+/// How many bytes in front a number may begin with, and how much of it they are.
+fn longest(bytes: &[u8]) -> (usize, Part)
+    ensures within { result.0 ≤ length bytes.now }
+    ensures part { part_behind (Some Part.Start) (take result.0 bytes.now) ≡ Some result.1 }
+    ensures stops { result.0 < length bytes.now → spec_next result.1 (slice_index bytes.now result.0) ≡ None }
+{
+    let mut part = Part::Start;
     let mut end = 0;
     while end < bytes.len() {
-        if !is_digit(bytes[end]) {
-            return end;
-        }
+        let Some(next) = next_part(part, bytes[end]) else {
+            return (end, part);
+        };
+        part = next;
         end += 1;
     }
-    end
-}
-
-/// How many bytes of a number without its minus stand in front, none where no digit does.
-fn unsigned_len(bytes: &[u8]) -> usize
-    ensures within { result ≤ length bytes.now }
-    ensures none { result ≡ 0 → NoDigitFirst bytes.now }
-    ensures some { 0 < result → IsUnsigned (take result bytes.now) }
-    ensures longest { 0 < result → EndsUnsigned (take result bytes.now) (drop result bytes.now) }
-{
-    if bytes.len() > 0 && bytes[0] == b'0' {
-        return 1;
-    }
-    digits_len(bytes)
-}
-
-/// Whether a minus stands in front.
-fn is_negative(bytes: &[u8]) -> bool
-    ensures { result ≡ spec_negative bytes.now }
-{
-    bytes.len() > 0 && bytes[0] == b'-'
-}
-
-/// What follows the minus, where there is one.
-fn behind_minus(bytes: &[u8]) -> &[u8]
-    ensures { result.now ≡ magnitude bytes.now }
-{
-    if is_negative(bytes) {
-        &bytes[1..]
-    } else {
-        bytes
-    }
+    (end, part)
 }
 
 /// How many bytes the number in front has.
@@ -91,58 +143,11 @@ fn number_len(bytes: &[u8]) -> Result<usize, Stop>
     ensures found { IfOk result (IsNumberFront bytes.now) }
     ensures broken { IfErr result (λ e. (st : List Frame) → Fails e (run true value st bytes.now)) }
 {
-    let digits = behind_minus(bytes);
-    let count = unsigned_len(digits);
-    if count == 0 {
-        return Err(syntax(digits));
+    let (end, part) = longest(bytes);
+    if !may_end(part) {
+        return Err(syntax(&bytes[end..]));
     }
-    Ok(bytes.len() - digits.len() + count)
-}
-
-#[tactic(auto, using(crate::proofs::Figures::digit_small))]
-/// What a digit means.
-fn digit_value(digit: u8) -> u64
-    requires { spec_digit digit ≡ true }
-    ensures value { result ≡ digit - 48 }
-    ensures small { result < 10 }
-{
-    u64::from(digit - b'0')
-}
-
-/// The number that digits spell, where it is below the limit.
-fn amount(digits: &[u8]) -> Option<u64>
-    requires { AreDigits digits.now }
-    ensures { MatchOption result (amount_limit ≤ digits_value 0 digits.now) (λ n. (n ≡ digits_value 0 digits.now) × (n < amount_limit)) }
-{
-    let mut amount = 0;
-    for digit in digits {
-        amount = amount * 10 + digit_value(*digit);
-        if amount >= AMOUNT_LIMIT {
-            return None;
-        }
-    }
-    Some(amount)
-}
-
-/// An amount with its sign in units of 10^-9.
-fn signed_units(negative: bool, amount: u64) -> i128
-    requires { amount < amount_limit }
-    ensures { result ≡ cond negative (neg_ℤ (pos (amount * unit))) (pos (amount * unit)) }
-{
-    let units = i128::from(amount) * UNIT;
-    if negative { -units } else { units }
-}
-
-/// The units of 10^-9 that a whole number spells, where it keeps the limits.
-fn units(spelled: &[u8]) -> Option<i128>
-    requires { IsWhole spelled.now }
-    ensures { MatchOption result (is_over spelled.now ≡ true) (λ u. (u ≡ units_of spelled.now) × (is_over spelled.now ≡ false)) }
-{
-    if spelled.len() > MAX_LEN {
-        return None;
-    }
-    let amount = amount(behind_minus(spelled))?;
-    Some(signed_units(is_negative(spelled), amount))
+    Ok(end)
 }
 
 /// The number that stands in front, and what follows it.

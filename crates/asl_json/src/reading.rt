@@ -1,39 +1,51 @@
 // Reading from left to right.
-ghost use Rattle.std.specs.Prelude.{◌≡◌, ◌<◌, ◌+◌, ◌∷◌, [], true, false, List, length, IfOk, IfErr, Ok};
+ghost use Rattle.std.specs.Prelude.{◌≡◌, ◌<◌, ◌+◌, ◌∷◌, ◌++◌, [], true, false, List, length, IfOk, IfErr, OnOk, Ok, string_bytes};
 ghost use Rattle.std.specs.Str.{IsUtf8};
-ghost use Rattle.asl_json.specs.Grammar.{quote, open_brace};
-ghost use Rattle.asl_json.specs.Data.{Data, dict, pairs};
+ghost use Rattle.asl_json.specs.Grammar.{open_bracket, open_brace};
+ghost use Rattle.asl_json.specs.Text.{quote};
+ghost use Rattle.asl_json.specs.Data.{Data, list, dict, chain, pairs};
 ghost use Rattle.asl_json.specs.View.{data_of, members_of};
 ghost use Rattle.asl_json.specs.Distinct.{has_key};
 ghost use Rattle.asl_json.specs.Limits.{max_depth};
-ghost use Rattle.asl_json.specs.Open.{Frame};
-ghost use Rattle.asl_json.specs.Machine.{value, key, first, after, word, run};
-ghost use Rattle.asl_json.specs.Leads.{NoSpaceFirst, begins, FirstIsNot, TextEnds, BreaksIf, Leads};
+ghost use Rattle.asl_json.specs.Open.{Frame, in_list, in_dict};
+ghost use Rattle.asl_json.specs.Machine.{fault, value, key, first, after, word, run};
+ghost use Rattle.asl_json.specs.Leads.{NoSpaceFirst, begins, FirstIsNot, NotClosed, WantsValue, Breaks, Leads};
+ghost use Rattle.asl_json.specs.Chars.{bare, closed, text_run};
 ghost use Rattle.asl_json.specs.Keys.{Knows};
 
+use crate::escape::escaped;
 use crate::fault::{Fault, Kind, Stop};
-use crate::front::{after_byte, plain_len, skip_spaces, syntax, txt};
+use crate::front::{after_byte, append, skip_spaces, split_plain, syntax};
 use crate::keys::Keys;
 use crate::number::{begins_number, number};
-use crate::value::{Json, Member, Members, Txt};
+use crate::value::{Items, Json, Member, Members, Txt};
 use std::alloc::Global;
 
-/// How many objects may stand open at once.
+/// How many lists and objects may stand open at once.
 const MAX_DEPTH: usize = 64;
 
-/// The text up to its closing quote, and what follows that.
+/// What the bytes up to the closing quote mean, and what follows it.
 fn text(alloc: Global, bytes: &[u8]) -> Result<(Txt, &[u8]), Stop>
     requires { IsUtf8 bytes.now }
-    ensures found { IfOk result (λ x. TextEnds bytes.now x.0 x.1.now) }
+    ensures found { IfOk result (λ x. text_run bare [] bytes.now ≡ closed x.0 x.1.now) }
+    ensures shorter { IfOk result (λ x. length x.1.now < length bytes.now) }
     ensures utf8 { IfOk result (λ x. IsUtf8 x.1.now) }
-    ensures broken { IfErr result (BreaksIf bytes.now) }
+    ensures broken { IfErr result (λ e. Breaks e (text_run bare [] bytes.now)) }
 {
-    let end = plain_len(bytes);
-    if end < bytes.len() && bytes[end] == b'"' {
-        let content = txt(alloc, &bytes[..end])?;
-        Ok((content, &bytes[end + 1..]))
-    } else {
-        Err(syntax(&bytes[end..]))
+    let mut content = String::new(alloc);
+    let mut rest = bytes;
+    loop {
+        let (plain, behind) = split_plain(rest);
+        append(&mut content, plain)?;
+        if let Some(closed) = after_byte(behind, b'"') {
+            return Ok((Txt::new(content), closed));
+        }
+        let Some(escape) = after_byte(behind, b'\\') else {
+            return Err(syntax(behind));
+        };
+        let (character, next) = escaped(escape)?;
+        content.push(character)?;
+        rest = next;
     }
 }
 
@@ -46,7 +58,7 @@ fn key<'a>(
 ) -> Result<(Txt, &'a [u8]), Stop>
     requires utf8 { IsUtf8 bytes.now }
     requires known { Knows keys.now.names (members_of members.now) }
-    ensures run { (st : List Frame) → Leads (λ x. run true value ((members_of members.now, x.0) ∷ st) x.1.now) result (run true (key (members_of members.now)) st bytes.now) }
+    ensures run { (st : List Frame) → Leads (λ x. run true value (in_dict (members_of members.now) x.0 ∷ st) x.1.now) result (run true (key (members_of members.now)) st bytes.now) }
     ensures shorter { IfOk result (λ x. length x.1.now < length bytes.now) }
     ensures utf8 { IfOk result (λ x. IsUtf8 x.1.now) }
     ensures new { IfOk result (λ x. has_key x.0 (members_of members.now) ≡ false) }
@@ -91,7 +103,7 @@ fn letters<'a>(bytes: &'a [u8], expected: &[u8]) -> Result<&'a [u8], Stop>
 /// A value that is a word, where none else begins.
 fn word_value(bytes: &[u8]) -> Result<(Json, &[u8]), Stop>
     requires { IsUtf8 bytes.now }
-    ensures run { (st : List Frame) → NoSpaceFirst bytes.now → FirstIsNot quote bytes.now → FirstIsNot open_brace bytes.now → begins bytes.now ≡ false → Leads (λ x. run true (after (data_of x.0)) st x.1.now) result (run true value st bytes.now) }
+    ensures run { (st : List Frame) → NoSpaceFirst bytes.now → FirstIsNot quote bytes.now → FirstIsNot open_bracket bytes.now → FirstIsNot open_brace bytes.now → begins bytes.now ≡ false → NotClosed st bytes.now → Leads (λ x. run true (after (data_of x.0)) st x.1.now) result (run true value st bytes.now) }
     ensures shorter { IfOk result (λ x. length x.1.now < length bytes.now) }
     ensures utf8 { IfOk result (λ x. IsUtf8 x.1.now) }
 {
@@ -110,11 +122,21 @@ fn word_value(bytes: &[u8]) -> Result<(Json, &[u8]), Stop>
     Err(syntax(bytes))
 }
 
+/// That a bracket or brace opens a level too many where the rest begins.
+fn too_deep(rest: &[u8]) -> Stop
+    ensures { result ≡ Stop.Fault (fault Kind.Depth (length rest.now)) }
+{
+    Stop::Fault(Fault {
+        kind: Kind::Depth,
+        left: rest.len(),
+    })
+}
+
 /// A value, with so many levels that may still open, and what follows it.
 #[cycle(read)]
 fn value(alloc: Global, bytes: &[u8], levels: usize) -> Result<(Json, &[u8]), Stop>
     requires { IsUtf8 bytes.now }
-    ensures run { (st : List Frame) → length st + levels ≡ max_depth → Leads (λ x. run true (after (data_of x.0)) st x.1.now) result (run true value st bytes.now) }
+    ensures run { (st : List Frame) → length st + levels ≡ max_depth → WantsValue st bytes.now → Leads (λ x. run true (after (data_of x.0)) st x.1.now) result (run true value st bytes.now) }
     ensures shorter { IfOk result (λ x. length x.1.now < length bytes.now) }
     ensures utf8 { IfOk result (λ x. IsUtf8 x.1.now) }
 {
@@ -123,12 +145,16 @@ fn value(alloc: Global, bytes: &[u8], levels: usize) -> Result<(Json, &[u8]), St
         let (content, behind) = text(alloc, inside)?;
         return Ok((Json::Text(content), behind));
     }
+    if let Some(inside) = after_byte(rest, b'[') {
+        if levels == 0 {
+            return Err(too_deep(rest));
+        }
+        let (items, behind) = items(alloc, inside, levels - 1)?;
+        return Ok((Json::List(items), behind));
+    }
     if let Some(inside) = after_byte(rest, b'{') {
         if levels == 0 {
-            return Err(Stop::Fault(Fault {
-                kind: Kind::Depth,
-                left: rest.len(),
-            }));
+            return Err(too_deep(rest));
         }
         let (members, behind) = members(alloc, inside, levels - 1)?;
         return Ok((Json::Dict(members), behind));
@@ -138,6 +164,33 @@ fn value(alloc: Global, bytes: &[u8], levels: usize) -> Result<(Json, &[u8]), St
         return Ok((Json::Num(found), behind));
     }
     word_value(rest)
+}
+
+/// The items of a list behind its opening bracket, and what follows its closing bracket.
+#[cycle(read)]
+fn items(alloc: Global, bytes: &[u8], levels: usize) -> Result<(Items, &[u8]), Stop>
+    requires { IsUtf8 bytes.now }
+    ensures run { (st : List Frame) → length st + levels + 1 ≡ max_depth → Leads (λ x. run true (after (list (chain x.0))) st x.1.now) result (run true value (in_list [] ∷ st) bytes.now) }
+    ensures shorter { IfOk result (λ x. length x.1.now < length bytes.now) }
+    ensures utf8 { IfOk result (λ x. IsUtf8 x.1.now) }
+{
+    let mut values = Vec::new(alloc);
+    let mut rest = skip_spaces(bytes);
+    if let Some(behind) = after_byte(rest, b']') {
+        return Ok((Items { values }, behind));
+    }
+    loop {
+        let (item, behind) = value(alloc, rest, levels)?;
+        values.push(item)?;
+        let behind = skip_spaces(behind);
+        if let Some(closed) = after_byte(behind, b']') {
+            return Ok((Items { values }, closed));
+        }
+        let Some(next) = after_byte(behind, b',') else {
+            return Err(syntax(behind));
+        };
+        rest = next;
+    }
 }
 
 /// The members of an object behind its opening brace, and what follows its closing brace.

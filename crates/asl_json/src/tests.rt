@@ -50,7 +50,7 @@ fn repeated(alloc: Global, piece: &[u8], count: usize) -> Option<Vec<u8>> {
 #[test]
 fn faults_of_syntax(rt: HostRuntime) -> Result<(), Fail> {
     let alloc = rt.alloc();
-    let rows: [(&[u8], usize); 14] = [
+    let rows: [(&[u8], usize); 36] = [
         (b"", 0),
         (b"nul", 3),
         (b"null x", 5),
@@ -60,10 +60,32 @@ fn faults_of_syntax(rt: HostRuntime) -> Result<(), Fail> {
         (b"-x", 1),
         (b"01", 1),
         (b"{\"a\":1", 6),
-        (b"[1,2", 0),
-        (b"1.5", 1),
-        (b"1e3", 1),
-        (b"\"\\n\"", 1),
+        (b"[1,2", 4),
+        (b"[1,]", 3),
+        (b"[,", 1),
+        (b"[]]", 2),
+        (b"[1}", 2),
+        (b"{\"a\":[}", 6),
+        (b"{\"a\":1]", 6),
+        (b"1e", 2),
+        (b"1.", 2),
+        (b"1e+", 3),
+        (b"1.x", 2),
+        (b"1ex", 2),
+        (b"1.5.", 3),
+        (b".5", 0),
+        (b"\"a\x01\"", 2),
+        (b"\"\\x", 2),
+        (b"\"\\u12g", 5),
+        (b"\"\\ud800", 7),
+        (b"\"\\ud800\\u", 9),
+        (b"\"\\ud800\"", 1),
+        (b"\"\\ud800x", 1),
+        (b"\"\\ud800\\n", 1),
+        (b"\"\\ud800\\u0041", 1),
+        (b"\"\\ud800\\ud8", 1),
+        (b"{\"\\uDC", 2),
+        (b"\"\\ud800\\udcg", 11),
         (b"\xef\xbb\xbf{}", 0),
     ];
     for (text, at) in rows {
@@ -97,17 +119,39 @@ fn the_sixty_fifth_level_and_a_text_too_long(rt: HostRuntime) -> Result<(), Fail
     let alloc = rt.alloc();
     let deep = repeated(alloc, b"{\"k\":", 64).ok_or("memory")?;
     assert_eq!(rt; fault_of(alloc, &deep), Some(JsonFault::Syntax(320)));
-    let deep = repeated(alloc, b"{\"k\":", 65).ok_or("memory")?;
-    assert_eq!(rt; fault_of(alloc, &deep), Some(JsonFault::Depth(320)));
+    let deep = repeated(alloc, b"[", 65).ok_or("memory")?;
+    assert_eq!(rt; fault_of(alloc, &deep), Some(JsonFault::Depth(64)));
     let long = repeated(alloc, b" ", 1_048_577).ok_or("memory")?;
     assert_eq!(rt; fault_of(alloc, &long), Some(JsonFault::Size));
     Ok(())
 }
 
 #[test]
+fn numbers_past_the_limits(rt: HostRuntime) -> Result<(), Fail> {
+    let alloc = rt.alloc();
+    let rows: [(&[u8], usize); 11] = [
+        (b"1e400", 0),
+        (b"1e-400", 0),
+        (b"1e99999999999999999999999999999999999999", 0),
+        (b"0.1234567891", 0),
+        (b"1e-10", 0),
+        (b"1.0e19", 0),
+        (b"1e18", 0),
+        (b"0.000000000000000000000000000000000000000", 0),
+        (b"1e400x", 0),
+        (b"{\"a\":1e400", 5),
+        (b" 9999999999999999999999999999999999999999", 1),
+    ];
+    for (text, at) in rows {
+        assert_eq!(rt; fault_of(alloc, text), Some(JsonFault::Number(at)));
+    }
+    Ok(())
+}
+
+#[test]
 fn numbers_keep_their_value_and_spelling(rt: HostRuntime) -> Result<(), Fail> {
     let alloc = rt.alloc();
-    let rows: [(&str, i128); 5] = [
+    let rows: [(&str, i128); 18] = [
         ("{\"n\":0}", 0),
         ("{\"n\":-0}", 0),
         ("{\"n\":7}", 7_000_000_000),
@@ -116,6 +160,25 @@ fn numbers_keep_their_value_and_spelling(rt: HostRuntime) -> Result<(), Fail> {
             "{\"n\":999999999999999999}",
             999_999_999_999_999_999_000_000_000,
         ),
+        ("{\"n\":0.1}", 100_000_000),
+        ("{\"n\":0.000000001}", 1),
+        ("{\"n\":1.0e-9}", 1),
+        ("{\"n\":10e-10}", 1),
+        ("{\"n\":-1.50E+2}", -150_000_000_000),
+        ("{\"n\":0e999999999}", 0),
+        ("{\"n\":-0.0e-99999999999999999999999999999999}", 0),
+        ("{\"n\":0.00000001000000000000000000000000000000}", 10),
+        (
+            "{\"n\":1000000000000000000000e-4}",
+            100_000_000_000_000_000_000_000_000,
+        ),
+        ("{\"n\":100000000000000000000000000000000e-41}", 1),
+        (
+            "{\"n\":0.0000000000000000000000000000000001e33}",
+            100_000_000,
+        ),
+        ("{\"n\":1e17}", 100_000_000_000_000_000_000_000_000),
+        ("{\"n\":12.0345}", 12_034_500_000),
     ];
     for (text, units) in rows {
         assert_eq!(rt; units_at(alloc, text, "n"), Some(units));
@@ -133,6 +196,51 @@ fn the_compact_text_has_no_spaces(rt: HostRuntime) -> Result<(), Fail> {
     assert_eq!(rt;
         text.ok_or("not read")?.as_str(),
         "{\"a\":{\"b\":\"x y\"},\"c\":true,\"d\":-5}"
+    );
+    Ok(())
+}
+
+#[test]
+fn escapes_are_read_and_written_where_they_are_needed(rt: HostRuntime) -> Result<(), Fail> {
+    let alloc = rt.alloc();
+    let rows: [(&str, &str); 6] = [
+        ("\"\\u0041\\/\\u00E9\"", "\"A/\u{e9}\""),
+        ("\"\\uD83d\\uDe00\"", "\"\u{1f600}\""),
+        ("\"\\u0008\\f\\n\\r\\t\\b\"", "\"\\b\\f\\n\\r\\t\\b\""),
+        ("\"\\u001F\\u0000\u{7f}\"", "\"\\u001f\\u0000\u{7f}\""),
+        ("\"\\\"\\\\\"", "\"\\\"\\\\\""),
+        ("[\"\\ud800\\udc00\", 1 ]", "[\"\u{10000}\",1]"),
+    ];
+    for (text, compact) in rows {
+        assert_eq!(rt;
+            compact_of(alloc, text).ok_or("not read")?.as_str(),
+            compact
+        );
+    }
+    assert_eq!(rt;
+        fault_of(alloc, b"{\"a\":1,\"\\u0061\":2}"),
+        Some(JsonFault::Duplicate(7))
+    );
+    Ok(())
+}
+
+#[test]
+fn lists_are_read_and_written(rt: HostRuntime) -> Result<(), Fail> {
+    let alloc = rt.alloc();
+    let text = compact_of(
+        alloc,
+        " [ 1 , [ ] ,\t{ \"a\" : [ null , true ] } , \"x\" ] ",
+    );
+    assert_eq!(rt;
+        text.ok_or("not read")?.as_str(),
+        "[1,[],{\"a\":[null,true]},\"x\"]"
+    );
+    let mut deep = repeated(alloc, b"[", 64).ok_or("memory")?;
+    deep.extend_from_slice(&repeated(alloc, b"]", 64).ok_or("memory")?)?;
+    assert_eq!(rt; fault_of(alloc, &deep), None);
+    assert_eq!(rt;
+        compared(alloc, "[1,{\"a\":2.0}]", "[1.0,{\"a\":2}]"),
+        Some((true, false))
     );
     Ok(())
 }

@@ -22,7 +22,7 @@ impl Model for Txt {
 }
 
 /// A number as it is spelled (RFC 8259, section 6), with its value in units of 10^-9. Contracts see it as its spelling,
-/// which is always a number in the limits: at most 40 bytes, and an amount below 10^18.
+/// which is always a number in the limits: at most 40 bytes, an amount below 10^18, and a whole number of units.
 #[derive(Drop)]
 pub struct Dec {
     pub(crate) units: i128,

@@ -1,21 +1,92 @@
 // Writing the compact text.
-ghost use Rattle.std.specs.Prelude.{◌≡◌, ◌≤◌, ◌∷◌, ◌++◌, [], ℕ, List, length, IfOk, OnOk, string_bytes};
+ghost use Rattle.std.specs.Prelude.{◌≡◌, ◌<◌, ◌≤◌, ◌∷◌, None, false, ◌++◌, [], ℕ, List, length, IfOk, OnOk, MatchOption, string_bytes};
 ghost use Rattle.asl_json.specs.View.{data_of};
 ghost use Rattle.asl_json.specs.Data.{pairs, chain};
 ghost use Rattle.asl_json.specs.Grammar.{IsText};
+ghost use Rattle.asl_json.specs.Text.{backslash, is_plain};
+ghost use Rattle.std.specs.Char.{digit_char};
+ghost use Rattle.std.specs.Str.{IsUtf8};
 ghost use Rattle.asl_json.specs.Wrong.{ReadsAs};
-ghost use Rattle.asl_json.specs.Compact.{separator, quoted, compact, compact_items, compact_members, IsReadable};
+ghost use Rattle.asl_json.specs.Compact.{separator, escaped_control, escaped_byte, escaped, quoted, compact, compact_items, compact_members, IsReadable};
 
+use crate::front::{append, first_byte, split_plain};
 use crate::value::{Items, Json, Members};
 use std::alloc::{AllocError, Global};
 
+/// The lower-case hexadecimal digit of this value.
+fn digit(value: u8) -> char
+    requires { value < 16 }
+    ensures { result ≡ digit_char value }
+{
+    match char::from_digit(u32::from(value), 16) {
+        Some(digit) => digit,
+        None => unreachable!(),
+    }
+}
+
+/// A control in four digits.
+fn put_digits(out: &mut String, byte: u8) -> Result<(), AllocError>
+    requires { byte < 32 }
+    ensures { OnOk result (string_bytes out.new ≡ string_bytes out.old ++ escaped_control byte None) }
+{
+    out.push_str("\\u00")?;
+    out.push(digit(byte / 16))?;
+    out.push(digit(byte % 16))
+}
+
+/// The letter by which a byte is escaped, where there is one.
+#[tactic(auto, unfolding(crate::specs::Compact::escaped_byte, crate::specs::Compact::control_letter, crate::specs::Text::is_plain))]
+fn letter(byte: u8) -> Option<char>
+    requires { is_plain byte ≡ false }
+    ensures { MatchOption result ((byte < 32) × (escaped_byte byte ≡ escaped_control byte None)) (λ l. (l < 128) × (escaped_byte byte ≡ backslash ∷ l ∷ [])) }
+{
+    match byte {
+        b'"' | b'\\' => Some(char::from(byte)),
+        8 => Some('b'),
+        9 => Some('t'),
+        10 => Some('n'),
+        12 => Some('f'),
+        13 => Some('r'),
+        _ => None,
+    }
+}
+
+/// The escape of a byte that can't stand in a text as it is.
+fn put_escape(out: &mut String, byte: u8) -> Result<(), AllocError>
+    requires { is_plain byte ≡ false }
+    ensures { OnOk result (string_bytes out.new ≡ string_bytes out.old ++ escaped_byte byte) }
+{
+    let Some(letter) = letter(byte) else {
+        return put_digits(out, byte);
+    };
+    out.push('\\')?;
+    out.push(letter)
+}
+
+/// Appends bytes of a text, with their escapes.
+fn put_escaped(out: &mut String, bytes: &[u8]) -> Result<(), AllocError>
+    requires { IsUtf8 bytes.now }
+    ensures { OnOk result (string_bytes out.new ≡ string_bytes out.old ++ escaped bytes.now) }
+{
+    let mut rest = bytes;
+    loop {
+        let (plain, behind) = split_plain(rest);
+        append(out, plain)?;
+        let Some((byte, next)) = first_byte(behind) else {
+            return Ok(());
+        };
+        put_escape(out, byte)?;
+        rest = next;
+    }
+}
+
+/// Appends a text in quotes, with its escapes.
 fn put_quoted(out: &mut String, text: &str) -> Result<(), AllocError>
     ensures { OnOk result (string_bytes out.new ≡ string_bytes out.old ++ quoted text.now) }
 {
     out.push('"')?;
-    out.push_str(text)?;
-    out.push('"')?;
-    Ok(())
+    put_escaped(out, text.as_bytes())?;
+    out.push('"')
 }
 
 /// A comma before each part but the first.
@@ -71,8 +142,8 @@ fn put_members(out: &mut String, members: &Members) -> Result<(), AllocError>
     Ok(())
 }
 
-/// The compact text of a value: no spaces, members in order, numbers as they are spelled. (Texts are written as they stand:
-/// no escapes yet.) The error is that memory ran out.
+/// The compact text of a value: no spaces, members in order, numbers as they are spelled. In texts the quote,
+/// the backslash and the controls below a space are escaped. The error is that memory ran out.
 pub fn write(alloc: Global, value: &Json) -> Result<String, AllocError>
     ensures text { IfOk result (λ t. string_bytes t ≡ compact (data_of value.now)) }
     // Where some text in the limits is read as the value, this one is.

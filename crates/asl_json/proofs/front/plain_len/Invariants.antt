@@ -1,5 +1,5 @@
 use Rattle.std.proofs.Common.{length, take, ◌-◌, ◌≤◌}
-use Rattle.asl_json.specs.Grammar.{ArePlain}
+use Rattle.asl_json.specs.Text.{ArePlain}
 use Rattle.asl_json.proofs.front.plain_len.Given as goal
 
 abbrev pub invariant-loop-end : goal.invariant-loop-end

@@ -1,8 +1,14 @@
-use Rattle.asl_json.proofs.Figures.{no_number}
-use Rattle.std.proofs.Common.{subst}
-use Rattle.asl_json.specs.Leads.{NoDigitFirst}
+use Rattle.std.proofs.Common.{sym, ◌∙◌}
+use Rattle.std.proofs.lemmas.List.{take_rest}
+use Rattle.asl_json.proofs.Numbers.{front_found, front_breaks}
 use Rattle.asl_json.proofs.number.number_len.Goals as goal
 
-pub returns-then-count-eq0-clause-broken : goal.returns-then-count-eq0-clause-broken
-returns-then-count-eq0-clause-broken c = λ st.
-    rw (c.syntax.ensures, c.behind_minus-digits.ensures) (no_number c.args.bytes.now st c.requires (subst NoDigitFirst c.behind_minus-digits.ensures (c.unsigned_len-count.ensures.none c.if-count-eq0.true)))
+pub returns-then-not-may_end-clause-broken : goal.returns-then-not-may_end-clause-broken
+returns-then-not-may_end-clause-broken c = λ st.
+    let front = c.longest-end.ensures in
+    rw (c.syntax.ensures, take_rest) (front_breaks c.args.bytes.now c.longest-end.result.0 c.longest-end.result.1 st c.requires front.part front.stops (sym c.may_end.ensures ∙ c.if-not-may_end.true))
+
+pub returns-clause-found : goal.returns-clause-found
+returns-clause-found c =
+    let front = c.longest-end.ensures in
+    front_found c.args.bytes.now c.longest-end.result.0 c.longest-end.result.1 front.within front.part front.stops (sym c.may_end.ensures ∙ c.if-not-may_end.false)
