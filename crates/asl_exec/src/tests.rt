@@ -164,13 +164,10 @@ fn texts_are_refused_in_their_order(rt: HostRuntime) {
             "definition: F3 Missing /StartAt",
         ),
         (
-            [TWO_STATES, "[]", "M#c", "{", "x"],
-            "mocks: M1 Json J1 Syntax 0",
+            [TWO_STATES, "[", "M#c", "{", "x"],
+            "mocks: M1 Json J1 Syntax 1",
         ),
-        (
-            [TWO_STATES, "{\"a\":1}", "M#c", "{", "x"],
-            "mocks: M2 Shape",
-        ),
+        ([TWO_STATES, "[]", "M#c", "{", "x"], "mocks: M2 Shape"),
         ([TWO_STATES, "{}", "M#c", "{", "x"], "case: M7 NoMachine"),
         ([TWO_STATES, "{}", "M#", "{", "x"], "input: J1 Syntax 1"),
         (
