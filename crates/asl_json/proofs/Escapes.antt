@@ -10,7 +10,8 @@ use Rattle.asl_json.specs.Leads.{Breaks, FirstIsNot, NoPlainFirst, HexFirst, IsU
 use Rattle.asl_json.specs.declared.fault.Kind.TheVariants as kinds
 use Rattle.asl_json.specs.declared.fault.Stop.{Stop}
 use Rattle.asl_json.specs.declared.fault.Stop.TheVariants as stops
-use Rattle.asl_json.proofs.Texts.{parts_of, plain_no_quote, plain_no_backslash, letter_no_u, inside_then, text_reach, run_step, run_reach, low_begins, low_reach}
+use Rattle.std.proofs.lemmas.Bool.{and_parts}
+use Rattle.asl_json.proofs.Texts.{digits_reach, plain_no_quote, plain_no_backslash, letter_no_u, inside_then, text_reach, run_step, run_reach, low_begins, low_reach}
 
 pub breaks_along : (e : Stop) (r t : Textual) → r ≡ t → Breaks e t → Breaks e r
 breaks_along stops.Memory r t same b = tt
@@ -202,16 +203,7 @@ is_partner bytes rest inside v behind e f h = record { digits = h.digits; digits
 -- over the digits of a unit
 unit_run : (s bytes : List ℕ) (v : ℕ) (rest : List ℕ) (h : IsUnit bytes v rest) (r : Within) (t : List ℕ) → on_unit s h.digits ≡ goes r t → text_run unit_0 s bytes ≡ text_run r t rest
 unfolding in_text
-unit_run s bytes v rest h r t e = ap (text_run unit_0 s) h.parts ∙ run_reach unit_0 s (digits_of h.digits) rest r t (digits_reach h.digits h.digits_are (sym (ap is_low_surrogate h.value_is) ∙ h.no_low) ∙ e)
-  where
-    whole : (n : Inside) → inside_then (λ q' s'. goes q' s') n ≡ n
-    whole (goes q s) = refl
-    whole ends = refl
-    whole breaks = refl
-    whole (lone back) = refl
-
-    digits_reach : (q : Quad) → AreHex q → is_low_surrogate (unit_of q) ≡ false → text_reach unit_0 s (digits_of q) ≡ on_unit s q
-    digits_reach (quad a b c d) h n = let begins : begins_low a b ≡ false = sym (low_begins a b c d h) ∙ n in rw (h.0, h.1.0, begins, h.1.1.0, h.1.1.1) (whole (on_unit s (quad a b c d)))
+unit_run s bytes v rest h r t e = ap (text_run unit_0 s) h.parts ∙ run_reach unit_0 s (digits_of h.digits) rest r t (digits_reach s h.digits h.digits_are (sym (ap is_low_surrogate h.value_is) ∙ h.no_low) ∙ e)
 
 pub single_read : (s bytes : List ℕ) (v : ℕ) (rest : List ℕ) (c : ℕ) → IsUnit bytes v rest → is_high_surrogate v ≡ false → c ≡ v → text_run unit_0 s bytes ≡ text_run bare (s ++ encode_utf8 c) rest
 unfolding on_unit
@@ -242,10 +234,10 @@ single_range v h l small = told (nat_lt v 0xD800) refl
     told false e = inr (let from : 0xD800 ≤ v = grind (arith, e) in let next : 0xDC00 ≤ v = grind (arith, h, from) in grind (arith, l, next, small))
 
 pub high_range : (v : ℕ) → is_high_surrogate v ≡ true → (0xD800 ≤ v) × (v < 0xDC00)
-high_range v e = let p = parts_of (nat_le 0xD800 v) (nat_lt v 0xDC00) e in (grind (arith, p.0), grind (arith, p.1))
+high_range v e = let p = and_parts (nat_le 0xD800 v) (nat_lt v 0xDC00) e in (grind (arith, p.0), grind (arith, p.1))
 
 pub low_range : (w : ℕ) → is_low_surrogate w ≡ true → (0xDC00 ≤ w) × (w < 0xE000)
-low_range w e = let p = parts_of (nat_le 0xDC00 w) (nat_lt w 0xE000) e in (grind (arith, p.0), grind (arith, p.1))
+low_range w e = let p = and_parts (nat_le 0xDC00 w) (nat_lt w 0xE000) e in (grind (arith, p.0), grind (arith, p.1))
 
 pub to_unit : (s bytes rest : List ℕ) → bytes ≡ letter_u ∷ rest → text_run slash s bytes ≡ text_run unit_0 s rest
 unfolding in_text

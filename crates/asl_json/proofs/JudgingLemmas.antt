@@ -5,6 +5,7 @@ use Rattle.asl_json.specs.Data.{Data, null, boolean, number, text, list, dict, C
 use Rattle.asl_json.specs.Grammar.{comma, colon, open_bracket, close_bracket, open_brace, close_brace, null_word, is_space, Joined, Spells, IsText, IsPrefix}
 use Rattle.asl_json.specs.Text.{quote, SpellsText, lone_spelled}
 use Rattle.asl_json.specs.Chars.{Within, Inside, goes, ends, breaks, lone, in_text}
+use Rattle.std.proofs.lemmas.Bool.{and_parts}
 use Rattle.asl_json.proofs.Texts.{OpenText, text_closes, no_chars}
 use Rattle.asl_json.specs.Number.{is_over}
 use Rattle.asl_json.specs.Machine.{next_part, may_end, grown, Mode, value, word, chars, figure, after, first, key, key_chars, behind_key, Next, go, stop, deepens, closes, in_judged, in_value, in_word, chars_next, in_chars, in_figure, in_after, in_first, in_key, key_chars_next, in_key_chars, in_behind_key, fault, failed, step, ended, onward, finish, walk, judgement, run}
@@ -99,12 +100,8 @@ ended_judged d [] t h = record { before = h.front; inner = h.back_is.front; behi
 ended_judged d (f ∷ st) t h = lives_to_end (after d) (f ∷ st) t h
 
 number_judged : (lim : Bool) (p : Part) (s : List ℕ) (st : List Frame) (t : List ℕ) → may_end p ≡ true → Reached (figure p s) st t → Judged t (cond (lim && is_over s) (failed Number (length s)) (ended (number s) st))
-number_judged lim p s st t may h = told (lim && is_over s) (and_true lim (is_over s))
+number_judged lim p s st t may h = told (lim && is_over s) (λ e. (and_parts lim (is_over s) e).1)
   where
-    and_true : (a b : Bool) → (a && b) ≡ true → b ≡ true
-    and_true true b e = e
-    and_true false b e = absurd cc
-
     told : (x : Bool) → (x ≡ true → is_over s ≡ true) → Judged t (cond x (failed Number (length s)) (ended (number s) st))
     told true over = record {
       pre = h.front;

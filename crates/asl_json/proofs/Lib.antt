@@ -15,10 +15,13 @@ pub mod Figures
 pub mod Amounts
 pub mod Turns
 pub mod Knowing
+pub mod Nearby
 pub mod Escapes
 pub mod Quoting
 pub mod Round
+pub mod Rooms
 pub mod Parts
 pub mod Equality
 pub mod Counting
 pub mod Accessing
+pub mod Wholes

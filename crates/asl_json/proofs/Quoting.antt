@@ -1,14 +1,13 @@
 -- A text as it is written: its bytes are pieces, and no pieces of the text are shorter.
 use Rattle.std.proofs.Common.{◌≡◌, ℕ, zero, suc, ◌+◌, ◌/◌, ◌%◌, ◌<◌, ◌≤◌, Bool, true, false, cond, nat_le, nat_lt, ◌==◌, ◌&&◌, ◌||◌, not, List, [], ◌∷◌, ◌++◌, length, encode_utf8, Option, Some, None, inl, inr, refl, sym, ap, subst, ◌∙◌, append_assoc, arith}
 use Rattle.std.proofs.lemmas.List.{length-append}
-use Rattle.std.proofs.lemmas.Bool.{eqb-true, cases_eq}
+use Rattle.std.proofs.lemmas.Bool.{and_parts, cases_eq, eqb-true, not-true, or_parts}
 use Rattle.std.proofs.lemmas.Str.{encode_ascii, digit_value-digit_char}
 use lib.Utf8.{encode}
 use Rattle.std.specs.Char.{digit_value, digit_char}
 use Rattle.std.specs.Char.Utf16.{surrogate_pair_char}
 use Rattle.asl_json.specs.Text.{quote, backslash, is_plain, ArePlain, is_letter, letter_value, is_hex, quad, unit_of, Piece, plain, short, single, pair, IsPiece, spelled, meant, ArePieces, all_spelled, all_meant, SpellsText}
 use Rattle.asl_json.specs.Compact.{control_letter, escaped_control, escaped_byte, escaped, quoted}
-use Rattle.asl_json.proofs.Texts.{parts_of}
 
 -- ---- below a number
 
@@ -19,7 +18,7 @@ all_below p (suc n) = p n && all_below p n
 below : (p : ℕ → Bool) (n : ℕ) → all_below p n ≡ true → (x : ℕ) → x < n → p x ≡ true
 below p zero e x lt = absurd (omega arith)
 below p (suc n) e x lt =
-    let h = parts_of (p n) (all_below p n) e in
+    let h = and_parts (p n) (all_below p n) e in
     elim (cases_eq x n) [ inl same ↦ subst (λ (y : ℕ). p y ≡ true) (sym same) h.0 | inr other ↦ below p n h.1 x (omega arith) ]
 
 -- ---- the piece of a byte
@@ -109,14 +108,10 @@ quote_writes c e = told (c == quote) refl e
     told true e h = subst (λ (x : ℕ). Writes x (backslash ∷ x ∷ []) (short x)) (sym (eqb-true c quote e)) is_quote
     told false e h = subst (λ (x : ℕ). Writes x (backslash ∷ x ∷ []) (short x)) (sym (eqb-true c backslash h)) is_backslash
 
-neither : (a b : Bool) → (a || b) ≡ false → (a ≡ false) × (b ≡ false)
-neither true b e = absurd cc
-neither false b e = (refl, e)
-
 plain_writes : (c : ℕ) → ((c == quote) || (c == backslash)) ≡ false → nat_lt c 32 ≡ false → Writes c (c ∷ []) (plain c)
 unfolding is_plain
 plain_writes c e f =
-    let n = neither (c == quote) (c == backslash) e in
+    let n = or_parts (c == quote) (c == backslash) e in
     let large : nat_le 32 c ≡ true = grind (arith, f) in
     record { piece_is = rw (large, n.0, n.1) refl; spelled_is = refl; meant_is = refl }
 
@@ -150,16 +145,12 @@ escaped-append (c ∷ s) t = ap (λ (x : List ℕ). escaped_byte c ++ x) (escape
 pub escaped_plain : (c : ℕ) → is_plain c ≡ true → escaped_byte c ≡ c ∷ []
 unfolding escaped_byte is_plain
 escaped_plain c e =
-    let p = parts_of (nat_le 32 c && not (c == 34)) (not (c == 92)) e in
-    let r = parts_of (nat_le 32 c) (not (c == 34)) p.0 in
-    let no_quote : (c == quote) ≡ false = turned (c == 34) r.1 in
-    let no_backslash : (c == backslash) ≡ false = turned (c == 92) p.1 in
+    let p = and_parts (nat_le 32 c && not (c == 34)) (not (c == 92)) e in
+    let r = and_parts (nat_le 32 c) (not (c == 34)) p.0 in
+    let no_quote : (c == quote) ≡ false = not-true (c == 34) r.1 in
+    let no_backslash : (c == backslash) ≡ false = not-true (c == 92) p.1 in
     let large : nat_lt c 32 ≡ false = grind (arith, r.0) in
     rw (no_quote, no_backslash, large) refl
-  where
-    turned : (a : Bool) → not a ≡ true → a ≡ false
-    turned true e = absurd cc
-    turned false e = refl
 
 control_length : (c : ℕ) (o : Option ℕ) → length (escaped_control c o) ≤ 6
 control_length c (Some l) = omega arith
@@ -243,7 +234,7 @@ text_length s t h =
 
 -- ---- a turn of the writer
 
-escaped_plains : (u v : List ℕ) → ArePlain u → escaped (u ++ v) ≡ u ++ escaped v
+pub escaped_plains : (u v : List ℕ) → ArePlain u → escaped (u ++ v) ≡ u ++ escaped v
 escaped_plains [] v h = refl
 escaped_plains (c ∷ u) v h = rw (escaped_plain c h.0, escaped_plains u v h.1) refl
 

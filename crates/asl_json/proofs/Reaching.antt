@@ -1,7 +1,7 @@
 -- What the machine has read up to a place, in each of its modes.
 use Rattle.std.proofs.Common.{◌≡◌, ℕ, suc, Bool, true, false, cond, nat_le, ◌&&◌, ◌==◌, ◌||◌, List, [], ◌∷◌, ◌++◌, length, Option, Some, None, refl, sym, ap, subst, ◌∙◌, append_assoc, arith, ◌⊎◌, inl, inr}
 use Rattle.std.proofs.lemmas.List.{append-nil, length-append}
-use Rattle.std.proofs.lemmas.Bool.{eqb-true}
+use Rattle.std.proofs.lemmas.Bool.{and_parts, eqb-true}
 use Rattle.asl_json.specs.Data.{Data, null, boolean, number, text, list, dict, no_items, no_members, chain, pairs}
 use Rattle.asl_json.specs.Number.{IsNumeral, is_over}
 use Rattle.asl_json.specs.Grammar.{comma, colon, open_bracket, close_bracket, open_brace, close_brace, is_space, AreSpaces, SpellsKey, Padded, IsMember, Joined, Behind, Spells, SpellsItems, SpellsMoreItems, SpellsMembers, SpellsMore}
@@ -320,11 +320,7 @@ opens_brace c e = opens_true (c == open_bracket) (c == open_brace) e
 deepens_reaches : (lim : Bool) (st : List Frame) (t : List ℕ) (c : ℕ) (n : Next) → opens c ≡ true → IsOpen st t → Holds st t c n → Holds st t c (deepens lim st n)
 unfolding deepens
 deepens_reaches lim st t c n e h g =
-    holds_cond st t c (lim && nat_le max_depth (length st)) _ _ (λ d. record { here = refl; opener = e; open_is = h; full = and_true lim (nat_le max_depth (length st)) d }) (λ _. g)
-  where
-    and_true : (a b : Bool) → (a && b) ≡ true → b ≡ true
-    and_true true b e = e
-    and_true false b e = absurd cc
+    holds_cond st t c (lim && nat_le max_depth (length st)) _ _ (λ d. record { here = refl; opener = e; open_is = h; full = (and_parts lim (nat_le max_depth (length st)) d).1 }) (λ _. g)
 
 -- a list without items
 no_items_reach : (u : List ℕ) (c : ℕ) → (c == close_bracket) ≡ true → Joined (SpellsFrontItems []) AreSpaces u → SpellsItems no_items (u ++ c ∷ [])
@@ -413,13 +409,9 @@ judged_reaches lim p s st t c may longest h =
       number_is = part_is_numeral p s may h.back_is.part_is;
       back_is = refl;
       longest = longest;
-      over = and_true lim (is_over s) e;
+      over = (and_parts lim (is_over s) e).1;
     })
     (λ _. after_reaches (number s) st t c (number_done p s st t may h))
-  where
-    and_true : (a b : Bool) → (a && b) ≡ true → b ≡ true
-    and_true true b e = e
-    and_true false b e = absurd cc
 
 figure_reaches : (lim : Bool) (p : Part) (s : List ℕ) (st : List Frame) (t : List ℕ) (c : ℕ) → Reached (figure p s) st t → Holds st t c (in_figure lim p s st c)
 unfolding in_figure
@@ -491,13 +483,9 @@ key_told lim ms n q s st t c ends h g =
       before = h.0.front_is;
       key_is = g.inner_is;
       back_is = omega (arith, h.1, ap length g.parts, length-append h.0.back (c ∷ []), length-append g.inner (quote ∷ []));
-      known = and_true lim (has_key s ms) d;
+      known = (and_parts lim (has_key s ms) d).1;
     })
     (λ _. subst (λ (x : List ℕ). Reached (behind_key ms s) st x) (sym same) (key_ends ms s st h.0.front (h.0.back ++ c ∷ []) h.0.front_is g))
-  where
-    and_true : (a b : Bool) → (a && b) ≡ true → b ≡ true
-    and_true true b e = e
-    and_true false b e = absurd cc
 key_told lim ms n q s st t c breaks h g = refl
 key_told lim ms n q s st t c (lone back) h g = lone_stops st t h.0.front h.0.back s c back h.0.parts (inr (ms, h.0.front_is)) g
 

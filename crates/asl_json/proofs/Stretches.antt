@@ -1,7 +1,7 @@
 -- The reader's steps, as stretches of the machine's run.
 use Rattle.std.proofs.Common.{◌≡◌, ℕ, zero, suc, ◌+◌, ◌≤◌, ◌<◌, Bool, true, false, cond, nat_le, ◌==◌, ◌||◌, ◌&&◌, List, [], ◌∷◌, ◌++◌, length, get_or, take, drop, eq-eqb, Result, Err, refl, sym, ap, subst, ◌∙◌, arith}
 use Rattle.std.proofs.lemmas.List.{length-drop, get_or-drop}
-use Rattle.std.proofs.lemmas.Bool.{eqb-true}
+use Rattle.std.proofs.lemmas.Bool.{or_parts}
 use Rattle.asl_json.specs.Data.{Data, null, boolean, text, list, dict, chain, pairs}
 use Rattle.asl_json.specs.Grammar.{comma, colon, open_bracket, close_bracket, open_brace, close_brace, is_space, AreSpaces}
 use Rattle.asl_json.specs.Text.{quote, SpellsChars}
@@ -20,13 +20,6 @@ use Rattle.asl_json.specs.declared.fault.Stop.TheVariants as stops
 use Rattle.asl_json.specs.declared.fault.Kind.{Kind}
 use Rattle.asl_json.specs.declared.fault.Kind.TheVariants.{Syntax, Duplicate, Depth}
 use Rattle.asl_json.proofs.Passing.{one, IsSpaced, spaces_pass, quote_pass, not_zero, no_items_pass, last_item_pass, next_item_pass}
-
-pub not_eqb : (a b : ℕ) → (a ≡ b → ⊥) → (a == b) ≡ false
-not_eqb a b h = told (a == b) refl
-  where
-    told : (x : Bool) → (a == b) ≡ x → x ≡ false
-    told true e = absurd (h (eqb-true a b e))
-    told false e = refl
 
 -- a step that stops
 pub halts : (lim : Bool) (m : Mode) (st : List Frame) (c : ℕ) (cs : List ℕ) (kind : Kind) (back : ℕ) → step lim m st c ≡ stop kind back → run lim m st (c ∷ cs) ≡ Err (fault kind (back + suc (length cs)))
@@ -174,10 +167,6 @@ brace_reads st bytes rest inside levels h e z d =
     let room : nat_le max_depth (length st) ≡ false = grind (arith, z, d) in
     skip_run true value st bytes rest tt h ∙ ap (run true value st) e ∙ one (judgement true) true value st open_brace inside first st (rw room refl)
 
-neither : (a b : Bool) → (a || b) ≡ false → (a ≡ false) × (b ≡ false)
-neither true b e = absurd cc
-neither false b e = (refl, e)
-
 either : {n : Next} (b : Bool) → n ≡ stop Syntax 0 → cond b (stop Syntax 0) n ≡ stop Syntax 0
 either true e = refl
 either false e = e
@@ -198,7 +187,7 @@ pub value_halts : (st : List Frame) (xs : List ℕ) → NoSpaceFirst xs → Firs
 unfolding walk in_value
 value_halts st [] s a l b n w c d e = refl
 value_halts st (x ∷ xs) s a l b n w c d e =
-    let none = neither (x == 45) (is_digit x) n in
+    let none = or_parts (x == 45) (is_digit x) n in
     halts_here true value st x xs (rw (s, a, l, b, c, d, e) (no_end st x xs w none.0 none.1))
 
 -- ---- a word

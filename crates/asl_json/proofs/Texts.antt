@@ -1,30 +1,14 @@
 -- Reading within a text: what each byte does, and that pieces are gone over.
 use Rattle.std.proofs.Common.{◌≡◌, ℕ, suc, ◌+◌, ◌*◌, ◌<◌, ◌≤◌, Bool, true, false, cond, nat_le, nat_lt, ◌==◌, ◌&&◌, ◌||◌, not, List, [], ◌∷◌, ◌++◌, length, encode_utf8, refl, sym, ap, subst, ◌∙◌, append_assoc, arith}
 use Rattle.std.proofs.lemmas.List.{append-nil, length-append}
-use Rattle.std.proofs.lemmas.Bool.{eqb-true, eq-eqb}
+use Rattle.std.proofs.lemmas.Bool.{and_from, and_parts, eq-eqb, eqb-true, false_from_ne_true, not-true}
 use Rattle.std.specs.Char.{digit_value}
 use Rattle.std.specs.Char.Utf16.{is_high_surrogate, is_low_surrogate, surrogate_pair_char}
-use Rattle.asl_json.specs.Text.{quote, backslash, letter_u, is_plain, is_letter, is_hex, Quad, quad, AreHex, unit_of, begins_low, Piece, plain, short, single, pair, IsPiece, escape, spelled, meant, ArePieces, all_spelled, all_meant, SpellsChars, SpellsText, Lone, low, high, high_letter, high_first, high_second, IsHigh, IsLone, lone_spelled}
+use Rattle.asl_json.specs.Text.{quote, backslash, letter_u, is_plain, is_letter, is_hex, Quad, quad, digits_of, AreHex, unit_of, begins_low, Piece, plain, short, single, pair, IsPiece, escape, spelled, meant, ArePieces, all_spelled, all_meant, SpellsChars, SpellsText, Lone, low, high, high_letter, high_first, high_second, IsHigh, IsLone, lone_spelled}
 use Rattle.asl_json.specs.Chars.{Within, bare, slash, unit_0, unit_1, unit_2, unit_3, half, half_slash, low_0, low_1, low_2, low_3, Inside, goes, ends, breaks, lone, on_unit, in_text, closed, told, text_onward, text_run}
 use Rattle.asl_json.specs.declared.fault.Kind.TheVariants as kinds
 
 -- ---- bytes
-
-pub both : (a b : Bool) → a ≡ true → b ≡ true → (a && b) ≡ true
-both true b e f = f
-both false b e f = e
-
-pub parts_of : (a b : Bool) → (a && b) ≡ true → (a ≡ true) × (b ≡ true)
-parts_of true b e = (refl, e)
-parts_of false b e = absurd cc
-
-pub not_true : (a : Bool) → not a ≡ true → a ≡ false
-not_true true e = absurd cc
-not_true false e = refl
-
-pub not_both : (a : Bool) → (a ≡ true → ⊥) → a ≡ false
-not_both true h = absurd (h refl)
-not_both false h = refl
 
 same_truth : (a b : Bool) → (a ≡ true → b ≡ true) → (b ≡ true → a ≡ true) → a ≡ b
 same_truth true b f g = sym (f refl)
@@ -33,11 +17,11 @@ same_truth false false f g = refl
 
 pub plain_no_quote : (c : ℕ) → is_plain c ≡ true → (c == quote) ≡ false
 unfolding is_plain
-plain_no_quote c e = not_true (c == quote) (parts_of _ _ (parts_of _ _ e).0).1
+plain_no_quote c e = not-true (c == quote) (and_parts _ _ (and_parts _ _ e).0).1
 
 pub plain_no_backslash : (c : ℕ) → is_plain c ≡ true → (c == backslash) ≡ false
 unfolding is_plain
-plain_no_backslash c e = not_true (c == backslash) (parts_of _ _ e).1
+plain_no_backslash c e = not-true (c == backslash) (and_parts _ _ e).1
 
 pub letter_no_u : (c : ℕ) → is_letter c ≡ true → (c == letter_u) ≡ false
 unfolding is_letter
@@ -53,30 +37,30 @@ low_number a b c d ha hb hc hd = same_truth _ _ forth back
     forth : is_low_surrogate (((a * 16 + b) * 16 + c) * 16 + d) ≡ true → ((a == 13) && nat_le 12 b) ≡ true
     forth e =
         let u = ((a * 16 + b) * 16 + c) * 16 + d in
-        let p = parts_of (nat_le 56320 u) (nat_lt u 57344) e in
+        let p = and_parts (nat_le 56320 u) (nat_lt u 57344) e in
         let lower : 56320 ≤ u = grind (arith, p.0) in
         let upper : u < 57344 = grind (arith, p.1) in
         let is : a ≡ 13 = omega (arith, lower, upper, ha, hb, hc, hd) in
         let from : 12 ≤ b = omega (arith, lower, upper, ha, hb, hc, hd) in
-        both (a == 13) (nat_le 12 b) (eq-eqb a 13 is) (grind (arith, from))
+        and_from (a == 13) (nat_le 12 b) (eq-eqb a 13 is) (grind (arith, from))
 
     back : ((a == 13) && nat_le 12 b) ≡ true → is_low_surrogate (((a * 16 + b) * 16 + c) * 16 + d) ≡ true
     back e =
-        let p = parts_of (a == 13) (nat_le 12 b) e in
+        let p = and_parts (a == 13) (nat_le 12 b) e in
         let is : a ≡ 13 = eqb-true a 13 p.0 in
         let from : 12 ≤ b = grind (arith, p.1) in
         let lower : 56320 ≤ ((a * 16 + b) * 16 + c) * 16 + d = omega (arith, is, from, hb, hc, hd) in
         let upper : ((a * 16 + b) * 16 + c) * 16 + d < 57344 = omega (arith, is, from, hb, hc, hd) in
         let u = ((a * 16 + b) * 16 + c) * 16 + d in
-        both (nat_le 56320 u) (nat_lt u 57344) (grind (arith, lower)) (grind (arith, upper))
+        and_from (nat_le 56320 u) (nat_lt u 57344) (grind (arith, lower)) (grind (arith, upper))
 
 high_number : (a b c d : ℕ) → a < 16 → b < 16 → c < 16 → d < 16 → is_high_surrogate (((a * 16 + b) * 16 + c) * 16 + d) ≡ true → ((a == 13) && nat_le 12 b) ≡ false
-high_number a b c d ha hb hc hd e = not_both _ (λ f.
+high_number a b c d ha hb hc hd e = false_from_ne_true _ (λ f.
     let u = ((a * 16 + b) * 16 + c) * 16 + d in
-    let p = parts_of (a == 13) (nat_le 12 b) f in
+    let p = and_parts (a == 13) (nat_le 12 b) f in
     let is : a ≡ 13 = eqb-true a 13 p.0 in
     let from : 12 ≤ b = grind (arith, p.1) in
-    let q = parts_of (nat_le 55296 u) (nat_lt u 56320) e in
+    let q = and_parts (nat_le 55296 u) (nat_lt u 56320) e in
     let upper : u < 56320 = grind (arith, q.1) in
     omega (arith, is, from, upper, hb, hc, hd))
 
@@ -91,7 +75,7 @@ high_begins a b c d h e = high_number (digit_value a) (digit_value b) (digit_val
 
 pub low_first : (a b : ℕ) → begins_low a b ≡ true → (digit_value a == 13) ≡ true
 unfolding begins_low
-low_first a b e = (parts_of _ _ e).0
+low_first a b e = (and_parts _ _ e).0
 
 -- ---- several bytes
 
@@ -121,15 +105,20 @@ text_reach-append q s (c ∷ u) v r t e = reach_then u v r t (in_text q s c) (λ
 
 -- ---- pieces
 
-escape_to_unit : (s : List ℕ) (q : Quad) → AreHex q → (is_low_surrogate (unit_of q)) ≡ false → text_reach bare s (escape q) ≡ on_unit s q
-unfolding in_text is_plain is_letter
-escape_to_unit s (quad a b c d) h n = let begins : begins_low a b ≡ false = sym (low_begins a b c d h) ∙ n in rw (h.0, h.1.0, begins, h.1.1.0, h.1.1.1) (whole (on_unit s (quad a b c d)))
+-- the digits of a unit that is no low half
+pub digits_reach : (s : List ℕ) (q : Quad) → AreHex q → is_low_surrogate (unit_of q) ≡ false → text_reach unit_0 s (digits_of q) ≡ on_unit s q
+unfolding in_text
+digits_reach s (quad a b c d) h n = let begins : begins_low a b ≡ false = sym (low_begins a b c d h) ∙ n in rw (h.0, h.1.0, begins, h.1.1.0, h.1.1.1) (whole (on_unit s (quad a b c d)))
   where
     whole : (n : Inside) → inside_then (λ q' s'. goes q' s') n ≡ n
     whole (goes q s) = refl
     whole ends = refl
     whole breaks = refl
     whole (lone back) = refl
+
+escape_to_unit : (s : List ℕ) (q : Quad) → AreHex q → is_low_surrogate (unit_of q) ≡ false → text_reach bare s (escape q) ≡ on_unit s q
+unfolding in_text is_plain is_letter
+escape_to_unit s (quad a b c d) h n = digits_reach s (quad a b c d) h n
 
 not_low : (q : Quad) → IsHigh q → is_low_surrogate (unit_of q) ≡ false
 not_low (quad a b c d) h = low_begins a b c d h.0 ∙ high_begins a b c d h.0 h.1

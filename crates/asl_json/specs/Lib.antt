@@ -11,6 +11,7 @@ pub mod Open
 pub mod Reads
 pub mod Wrong
 pub mod Compact
+pub mod Room
 pub mod Same
 pub mod SameLaws
 pub mod Meaning
@@ -22,3 +23,5 @@ pub mod Leads
 pub mod Places
 pub mod Keys
 pub mod FaultText
+pub mod Whole
+pub mod Reading

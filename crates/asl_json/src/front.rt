@@ -1,5 +1,5 @@
 // What stands in front of bytes.
-ghost use Rattle.std.specs.Prelude.{◌≡◌, ◌<◌, ◌≤◌, ◌∷◌, ◌++◌, [], false, length, take, slice_index, IfOk, IfErr, IfSome, IfNone, OnOk, string_bytes};
+ghost use Rattle.std.specs.Prelude.{◌≡◌, ◌<◌, ◌≤◌, ◌∷◌, ◌++◌, [], true, false, length, take, slice_index, IfOk, IfErr, IfSome, IfNone, OnOk, string_bytes};
 ghost use Rattle.std.specs.Str.{IsUtf8};
 ghost use Rattle.asl_json.specs.Grammar.{is_space as spec_space, AreSpaces};
 ghost use Rattle.asl_json.specs.Text.{is_plain as spec_plain, ArePlain};
@@ -75,13 +75,42 @@ pub(crate) fn first_byte(bytes: &[u8]) -> Option<(u8, &[u8])>
     None
 }
 
+/// How many bytes are looked at together.
+const BLOCK: usize = 16;
+
+/// Whether all bytes may stand in a text as they are. It looks at each of them, so that the processor can look at several at once.
+fn are_plain(bytes: &[u8]) -> bool
+    ensures { result ≡ true → ArePlain bytes.now }
+{
+    let mut all = true;
+    for byte in bytes {
+        all &= is_plain(*byte);
+    }
+    all
+}
+
+/// How many bytes at the front are whole blocks that may stand in a text as they are.
+fn plain_blocks_len(bytes: &[u8]) -> usize
+    ensures plain { ArePlain (take result bytes.now) }
+    ensures within { result ≤ length bytes.now }
+{
+    let mut end = 0;
+    while bytes.len() - end >= BLOCK {
+        if !are_plain(&bytes[end..end + BLOCK]) {
+            return end;
+        }
+        end += BLOCK;
+    }
+    end
+}
+
 /// How many bytes at the front may stand in a text as they are.
 fn plain_len(bytes: &[u8]) -> usize
     ensures plain { ArePlain (take result bytes.now) }
     ensures within { result ≤ length bytes.now }
     ensures stops { result < length bytes.now → spec_plain (slice_index bytes.now result) ≡ false }
 {
-    let mut end = 0;
+    let mut end = plain_blocks_len(bytes);
     while end < bytes.len() {
         if !is_plain(bytes[end]) {
             return end;

@@ -1,5 +1,5 @@
 // Reading bytes as a JSON value.
-ghost use Rattle.std.specs.Prelude.{◌≡◌, ◌<◌, ◌≤◌, ℕ, List, length, take, IfOk, IfErr};
+ghost use Rattle.std.specs.Prelude.{◌≡◌, ◌<◌, ◌≤◌, ◌↔◌, Some, ℕ, List, length, take, IfOk, IfErr};
 ghost use Rattle.std.specs.Str.{IsUtf8};
 ghost use Rattle.std.specs.Str.Lossy.{utf8_valid_len};
 ghost use Rattle.asl_json.specs.Data.{Data};
@@ -7,6 +7,7 @@ ghost use Rattle.asl_json.specs.View.{data_of};
 ghost use Rattle.asl_json.specs.Limits.{max_len};
 ghost use Rattle.asl_json.specs.Wrong.{ReadsAs, HasFault, IsFaultOf, IsFirstOf, IsRead, placed as spec_placed, FitsIn, at_end};
 ghost use Rattle.asl_json.specs.declared.fault.JsonFault.{JsonFault};
+ghost use Rattle.asl_json.specs.Reading.{value_read, IsReading};
 
 use crate::fault::{JsonFault, Kind, Stop};
 use crate::reading::whole;
@@ -78,6 +79,8 @@ pub fn read(alloc: Global, bytes: &[u8]) -> Result<Json, JsonFault>
     ensures fault { IfErr result (IsFaultOf bytes.now) }
     // None comes before it.
     ensures first { IfErr result (IsFirstOf bytes.now) }
+    // A text is read as `value_read` says.
+    ensures value { IsUtf8 bytes.now → IsReading data_of (value_read bytes.now) result }
     // What is read has none.
     ensures faultless { IfOk result (λ _. (f : JsonFault) → HasFault bytes.now f → ⊥) }
 {
@@ -96,4 +99,9 @@ pub fn read(alloc: Global, bytes: &[u8]) -> Result<Json, JsonFault>
 /// A text is read as at most one value. The law has no code.
 pub fn a_text_is_read_as_one_value()
     ensures { (b : List ℕ) (v w : Data) → ReadsAs b v → ReadsAs b w → v ≡ w }
+{}
+
+/// `value_read` has the value that a text spells in the limits, and none of other texts. The law has no code.
+pub fn a_text_has_the_value_that_it_spells()
+    ensures { (b : List ℕ) (v : Data) → IsUtf8 b → (value_read b ≡ Some v) ↔ ReadsAs b v }
 {}

@@ -1,8 +1,8 @@
 //! JSON values: reading, writing, comparing and reaching into them.
 //!
-//! Modules in reading order: `value` and `fault` are the types; `front`, `units`, `number`, `escape`, `keys` and `reading`
-//! the reader, which `judging` turns into `read`; `writing` the printer; `equal` and `sameness` compare; `access` reaches
-//! into a value.
+//! Modules in reading order: `value` and `fault` are the types, `whole` the whole numbers; `front`, `units`, `number`, `escape`,
+//! `keys` and `reading` the reader, which `judging` turns into `read`; `writing` the printer, and `within` the length of what it
+//! prints; `equal` and `sameness` compare; `access` reaches into a value.
 #![tactic(auto)]
 
 mod access;
@@ -17,13 +17,13 @@ mod reading;
 mod sameness;
 mod units;
 mod value;
+mod whole;
+mod within;
 mod writing;
 
 pub use fault::JsonFault;
-pub use judging::{a_text_is_read_as_one_value, read};
+pub use judging::{a_text_has_the_value_that_it_spells, a_text_is_read_as_one_value, read};
+pub use number::{Part, longest_number};
 pub use sameness::same;
 pub use value::{Dec, Items, Json, Member, Members, Txt, clone_text};
 pub use writing::write;
-
-#[cfg(test)]
-mod tests;

@@ -1,8 +1,8 @@
 // Reading numbers.
-ghost use Rattle.std.specs.Prelude.{◌≡◌, ◌<◌, ◌≤◌, true, List, length, take, slice_index, Some, None, IfOk, IfErr};
+ghost use Rattle.std.specs.Prelude.{◌≡◌, ◌<◌, ◌≤◌, true, false, List, length, take, slice_index, Some, None, IfOk, IfErr, MatchOption};
 ghost use Rattle.std.specs.Str.{IsUtf8};
 ghost use Rattle.asl_json.specs.Data.{number as spec_number};
-ghost use Rattle.asl_json.specs.Number.{is_digit as spec_digit};
+ghost use Rattle.asl_json.specs.Number.{is_digit as spec_digit, IsNumeral, is_over};
 ghost use Rattle.asl_json.specs.Open.{Frame};
 ghost use Rattle.asl_json.specs.Machine.{value, after, run, leading as spec_leading, marked as spec_marked, pointed as spec_pointed, next_part as spec_next, part_behind, may_end as spec_end};
 ghost use Rattle.asl_json.specs.Leads.{Fails, Leads, begins, IsNumberFront};
@@ -10,12 +10,12 @@ ghost use Rattle.asl_json.specs.Leads.{Fails, Leads, begins, IsNumberFront};
 use crate::fault::{Fault, Kind, Stop};
 use crate::front::{syntax, txt};
 use crate::units::{is_mark, is_point, is_sign, units};
-use crate::value::Dec;
-use std::alloc::Global;
+use crate::value::{Dec, Txt};
+use std::alloc::{AllocError, Global};
 
-/// How much of a number there is.
+/// How much of a number there is (RFC 8259, section 6).
 #[derive(Clone, Copy, Debug)]
-pub(crate) enum Part {
+pub enum Part {
     /// Nothing yet.
     Start,
     Minus,
@@ -109,18 +109,20 @@ fn next_part(part: Part, byte: u8) -> Option<Part>
     }
 }
 
-/// Whether a number may end there.
-fn may_end(part: Part) -> bool
-    ensures { result ≡ spec_end part }
-{
-    match part {
-        Part::Nought | Part::Whole | Part::Fraction | Part::Exponent => true,
-        Part::Start | Part::Minus | Part::Point | Part::Mark | Part::Sign => false,
+impl Part {
+    /// Whether a number may end there.
+    pub fn may_end(self) -> bool
+        ensures { result ≡ spec_end self }
+    {
+        match self {
+            Part::Nought | Part::Whole | Part::Fraction | Part::Exponent => true,
+            Part::Start | Part::Minus | Part::Point | Part::Mark | Part::Sign => false,
+        }
     }
 }
 
-/// How many bytes in front a number may begin with, and how much of it they are.
-fn longest(bytes: &[u8]) -> (usize, Part)
+/// How many bytes in front a number may begin with, and how much of it they are. Its cost is that number of bytes.
+pub fn longest_number(bytes: &[u8]) -> (usize, Part)
     ensures within { result.0 ≤ length bytes.now }
     ensures part { part_behind (Some Part.Start) (take result.0 bytes.now) ≡ Some result.1 }
     ensures stops { result.0 < length bytes.now → spec_next result.1 (slice_index bytes.now result.0) ≡ None }
@@ -143,11 +145,25 @@ fn number_len(bytes: &[u8]) -> Result<usize, Stop>
     ensures found { IfOk result (IsNumberFront bytes.now) }
     ensures broken { IfErr result (λ e. (st : List Frame) → Fails e (run true value st bytes.now)) }
 {
-    let (end, part) = longest(bytes);
-    if !may_end(part) {
+    let (end, part) = longest_number(bytes);
+    if !part.may_end() {
         return Err(syntax(&bytes[end..]));
     }
     Ok(end)
+}
+
+impl Dec {
+    /// The number that a text spells, or `None` where it is past the limits. The error is that memory ran out.
+    pub fn of_numeral(alloc: Global, text: &str) -> Result<Option<Dec>, AllocError>
+        requires { IsNumeral text.now }
+        ensures { IfOk result (λ o. MatchOption o (is_over text.now ≡ true) (λ d. (d ≡ text.now) × (is_over text.now ≡ false))) }
+    {
+        let Some(units) = units(text.as_bytes()) else {
+            return Ok(None);
+        };
+        let spelled = Txt::new(String::from_str(alloc, text)?);
+        Ok(Some(Dec { units, spelled }))
+    }
 }
 
 /// The number that stands in front, and what follows it.

@@ -36,7 +36,7 @@ fn put_digits(out: &mut String, byte: u8) -> Result<(), AllocError>
 
 /// The letter by which a byte is escaped, where there is one.
 #[tactic(auto, unfolding(crate::specs::Compact::escaped_byte, crate::specs::Compact::control_letter, crate::specs::Text::is_plain))]
-fn letter(byte: u8) -> Option<char>
+pub(crate) fn letter(byte: u8) -> Option<char>
     requires { is_plain byte ≡ false }
     ensures { MatchOption result ((byte < 32) × (escaped_byte byte ≡ escaped_control byte None)) (λ l. (l < 128) × (escaped_byte byte ≡ backslash ∷ l ∷ [])) }
 {

@@ -1,12 +1,12 @@
 use Rattle.std.proofs.Common.{length, arith, sym, ap, ◌∙◌, eq-eqb}
 use Rattle.std.proofs.lemmas.Result.{err_from_is_err_and}
 use Rattle.asl_json.specs.Chars.{low_1, low_2, low_3}
-use Rattle.asl_json.proofs.Stretches.{not_eqb}
+use Rattle.std.proofs.lemmas.Bool.{ne_eqb}
 use Rattle.asl_json.proofs.Escapes.{breaks_along, begins_by, low_first_digit, low_first_alone, low_second_digit, low_second_alone, low_third_digit, is_low_unit}
 use Rattle.asl_json.proofs.escape.low_unit.Goals as goal
 
 pub returns-then-first-ne13-clause-broken : goal.returns-then-first-ne13-clause-broken
-returns-then-first-ne13-clause-broken c = λ q s. rw c.lone.ensures (low_first_alone q _ _ _ c.args.left c.in_ok-first.ensures.found s (not_eqb c.in_ok-first.first 13 c.if-first-ne13.true) (omega (arith, c.requires)))
+returns-then-first-ne13-clause-broken c = λ q s. rw c.lone.ensures (low_first_alone q _ _ _ c.args.left c.in_ok-first.ensures.found s (ne_eqb c.in_ok-first.first 13 c.if-first-ne13.true) (omega (arith, c.requires)))
 
 pub returns-in_err-second-clause-broken : goal.returns-in_err-second-clause-broken
 returns-in_err-second-clause-broken c =

@@ -7,5 +7,5 @@ use Rattle.asl_json.proofs.sameness.+same.Given as goal
 abbrev pub invariant-same_lists-loop-i : goal.invariant-same_lists-loop-i
 invariant-same_lists-loop-i l = same_items (chain (items_of (drop l.i l.a-inside.values.items))) (chain (items_of (drop l.i l.b-inside.values.items))) ≡ same_items (chain (items_of l.a-inside.values.items)) (chain (items_of l.b-inside.values.items))
 
-abbrev pub invariant-has_each-loop-member : goal.invariant-has_each-loop-member
-invariant-has_each-loop-member l = each_in (pairs (members_of (drop l.member-index l.member-items))) (pairs l.b) ≡ each_in (pairs (members_of l.member-items)) (pairs l.b)
+abbrev pub invariant-has_each-loop-i : goal.invariant-has_each-loop-i
+invariant-has_each-loop-i l = each_in (pairs (members_of (drop l.i l.member-items))) (pairs l.b) ≡ each_in (pairs (members_of l.member-items)) (pairs l.b)

@@ -1,7 +1,7 @@
 use Rattle.std.proofs.Common.{get_or, take, subst, sym, ◌∙◌, arith}
 use Rattle.std.proofs.lemmas.List.{take_more}
 use Rattle.asl_json.proofs.Numerals.{IsPart, part_push}
-use Rattle.asl_json.proofs.number.longest.Goals as goal
+use Rattle.asl_json.proofs.number.longest_number.Goals as goal
 
 pub loop-end-preserved : goal.loop-end-preserved
 loop-end-preserved c =

@@ -1,7 +1,7 @@
 use Rattle.std.proofs.Common.{◌≡◌, ◌≤◌, ◌-◌, length, take, Some}
 use Rattle.asl_json.specs.Machine.{part_behind}
 use Rattle.asl_json.specs.declared.number.Part.TheVariants.{Start}
-use Rattle.asl_json.proofs.number.longest.Given as goal
+use Rattle.asl_json.proofs.number.longest_number.Given as goal
 
 abbrev pub invariant-loop-end : goal.invariant-loop-end
 invariant-loop-end l = (part_behind (Some Start) (take l.end l.bytes) ≡ Some l.part) × (l.end ≤ length l.bytes)
