@@ -15,16 +15,31 @@ mod words;
 use files::Machine;
 use run::{refuse_words, run_words};
 use std::process::ExitCode;
+use std::thread::Builder;
 use streams::Stream;
 
-fn main(rt: HostRuntime) -> ExitCode {
+/// The stack that the program runs with, in bytes; the system gives it page by page, as it is used. A run may put a value into itself again
+/// and again, and writing, cloning, comparing and dropping one take up to 336 bytes for each of its levels.
+const STACK: usize = 1 << 30;
+
+/// Does what the words of the command line ask for, and tells the status.
+fn program(rt: HostRuntime) -> u8 {
     let alloc = rt.alloc();
     let mut out = Stream::new(alloc, rt.stdout());
     let mut err = Stream::new(alloc, rt.stderr());
     let mut files = Machine::new(&rt);
-    let status = match words::given(&rt) {
+    match words::given(&rt) {
         Ok(words) => run_words(alloc, words.as_slice(), &mut files, &mut out, &mut err),
         Err(fault) => refuse_words(alloc, fault, &mut err),
+    }
+}
+
+fn main(rt: HostRuntime) -> ExitCode {
+    let roomy = Builder::new().stack_size(STACK);
+    let status = match roomy.spawn(&rt, move || program(rt)) {
+        Ok(thread) => thread.join(&rt),
+        // Where the system gives no such thread, the usual stack has to do.
+        Err(_) => program(rt),
     };
     ExitCode::from(status)
 }
