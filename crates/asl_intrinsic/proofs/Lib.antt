@@ -1,0 +1,12 @@
+pub mod Converting
+pub mod Faulting
+pub mod Merging
+pub mod Starting
+pub mod Filling
+pub mod Counting
+pub mod Partitioning
+pub mod Stretches
+pub mod Leaves
+pub mod Keeping
+pub mod Turns
+pub mod Placing

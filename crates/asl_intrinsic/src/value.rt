@@ -1,0 +1,44 @@
+// The values of arguments.
+ghost use Rattle.std.specs.Prelude.{◌≡◌, Ok};
+ghost use Rattle.asl_json.specs.View.{data_of};
+ghost use Rattle.asl_intrinsic.specs.Gives.{Gives};
+ghost use Rattle.asl_intrinsic.specs.Seen.{seen};
+
+use crate::fault::EvalFault;
+use asl_json::Json;
+use std::alloc::Global;
+
+/// The value of an argument: a part of what it was evaluated on, or a new one.
+#[derive(Drop)]
+pub(crate) enum Value<'a> {
+    Lent(&'a Json),
+    Made(Json),
+}
+
+impl<'a> Value<'a> {
+    pub(crate) fn json(&self) -> &Json
+        ensures { data_of result.now ≡ seen self.now }
+    {
+        match self {
+            Value::Lent(value) => *value,
+            Value::Made(value) => value,
+        }
+    }
+
+    /// A value of its own that is equal to it.
+    pub(crate) fn copied(&self, alloc: Global) -> Result<Json, EvalFault>
+        ensures { Gives data_of (Ok (seen self.now)) result }
+    {
+        Ok(self.json().try_clone(alloc)?)
+    }
+
+    /// The value as one of its own; a part is copied.
+    pub(crate) fn into_json(self, alloc: Global) -> Result<Json, EvalFault>
+        ensures { Gives data_of (Ok (seen self.entry)) result }
+    {
+        match self {
+            Value::Lent(value) => Ok(value.try_clone(alloc)?),
+            Value::Made(value) => Ok(value),
+        }
+    }
+}
