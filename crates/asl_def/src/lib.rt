@@ -19,6 +19,3 @@ mod table;
 pub use machine::{Machine, parse};
 pub use pointer::{DefFault, Pointer};
 pub use state::{Next, Pass, PathField, State, Succeed, Target};
-
-#[cfg(test)]
-mod tests;

@@ -18,8 +18,6 @@ mod run;
 mod setup;
 mod step_at;
 mod steps_file;
-#[cfg(test)]
-mod tests;
 mod texts;
 
 pub use branch::Branch;

@@ -14,8 +14,6 @@ mod place;
 mod printing;
 mod send;
 mod sink;
-#[cfg(test)]
-mod tests;
 
 pub use event::Event;
 pub use fault::WriteFault;

@@ -15,6 +15,3 @@ mod walk;
 pub use laws::{a_path_has_one_meaning, reading_and_putting_agree};
 pub use path::{PathFault, PutFault, RefPath};
 pub use step::{Root, Step};
-
-#[cfg(test)]
-mod tests;

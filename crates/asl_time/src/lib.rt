@@ -10,8 +10,6 @@ mod offset;
 mod print;
 mod rate;
 mod read;
-#[cfg(test)]
-mod tests;
 
 pub use moment::{Moment, add};
 pub use print::{print_stamp, stamps_show_their_moments};

@@ -1,8 +1,8 @@
 // What no clause says: that calls succeed with ample memory, worked examples, and which texts are refused.
-use crate::{
+use asl_def::parse;
+use asl_exec::{
     EmulateFault, Emulated, Execution, Refusal, Setup, StepAt, StepsFault, emulate, read_steps,
 };
-use asl_def::parse;
 use asl_history::Place;
 use asl_json::{Json, Txt, read as read_json, write};
 use asl_kinds::record::Record;

@@ -1,5 +1,5 @@
 // Fault lines, and what a machine lends.
-use crate::{DefFault, Machine, Next, PathField, State, parse};
+use asl_def::{DefFault, Machine, Next, PathField, State, parse};
 use asl_json::{Json, read};
 use std::test::Fail;
 

@@ -1,5 +1,5 @@
 // What no clause says: lines and links from worked examples, and that calls succeed with ample memory.
-use crate::{Event, EventKind, History, Memory, Place, Sink, SinkFault, WriteFault, line};
+use asl_history::{Event, EventKind, History, Memory, Place, Sink, SinkFault, WriteFault, line};
 use asl_json::{Json, Txt, read};
 use asl_time::{Moment, read_stamp};
 use std::alloc::Global;

@@ -1,5 +1,5 @@
 // Values that no clause gives: examples of RFC 3339, and moments that another calendar reckoned.
-use crate::{Moment, Rate, add, delay, print_stamp, read_stamp};
+use asl_time::{Moment, Rate, add, delay, print_stamp, read_stamp};
 use std::test::Fail;
 
 fn millis_of(text: &str) -> Option<u64> {

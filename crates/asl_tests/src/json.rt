@@ -1,0 +1,411 @@
+// What no clause says: which values and faults texts from outside give, and that calls succeed with ample memory.
+use asl_json::{Dec, Items, Json, JsonFault, Members, read, same, write};
+use std::alloc::Global;
+use std::test::Fail;
+
+fn fault_of(alloc: Global, text: &[u8]) -> Option<JsonFault> {
+    read(alloc, text).err()
+}
+
+/// A text, or nothing where it isn't read.
+fn value_of(alloc: Global, text: &str) -> Option<Json> {
+    read(alloc, text.as_bytes()).ok()
+}
+
+/// The compact text of what a text is read as.
+fn compact_of(alloc: Global, text: &str) -> Option<String> {
+    write(alloc, &value_of(alloc, text)?).ok()
+}
+
+/// The units of a number at a key.
+fn units_at(alloc: Global, text: &str, key: &str) -> Option<i128> {
+    match value_of(alloc, text)?.get(key)? {
+        Json::Num(number) => Some(number.units()),
+        _ => None,
+    }
+}
+
+/// Whether two texts are read as values that mean the same, and whether as equal ones.
+fn compared(alloc: Global, one: &str, other: &str) -> Option<(bool, bool)> {
+    let one = value_of(alloc, one)?;
+    let other = value_of(alloc, other)?;
+    Some((same(&one, &other), one == other))
+}
+
+/// Whether a clone of what a text is read as is equal to it.
+fn clones(alloc: Global, text: &str) -> Option<bool> {
+    let value = value_of(alloc, text)?;
+    let copy = value.try_clone(alloc).ok()?;
+    Some(copy == value)
+}
+
+/// Whether the compact text of what a text is read as is within its own length, and not within less.
+fn is_measured(alloc: Global, text: &str) -> Option<bool> {
+    let value = value_of(alloc, text)?;
+    let len = write(alloc, &value).ok()?.len();
+    let shorter = (0..len).any(|limit| value.text_within(limit));
+    Some(value.text_within(len) && value.text_within(usize::MAX) && !shorter)
+}
+
+fn repeated(alloc: Global, piece: &[u8], count: usize) -> Option<Vec<u8>> {
+    let mut text = Vec::new(alloc);
+    for _ in 0..count {
+        text.extend_from_slice(piece).ok()?;
+    }
+    Some(text)
+}
+
+#[test]
+fn faults_of_syntax(rt: HostRuntime) -> Result<(), Fail> {
+    let alloc = rt.alloc();
+    let rows: [(&[u8], usize); 36] = [
+        (b"", 0),
+        (b"nul", 3),
+        (b"null x", 5),
+        (b"{x\xff", 1),
+        (b"{\"a\":1,\"a", 9),
+        (b"-", 1),
+        (b"-x", 1),
+        (b"01", 1),
+        (b"{\"a\":1", 6),
+        (b"[1,2", 4),
+        (b"[1,]", 3),
+        (b"[,", 1),
+        (b"[]]", 2),
+        (b"[1}", 2),
+        (b"{\"a\":[}", 6),
+        (b"{\"a\":1]", 6),
+        (b"1e", 2),
+        (b"1.", 2),
+        (b"1e+", 3),
+        (b"1.x", 2),
+        (b"1ex", 2),
+        (b"1.5.", 3),
+        (b".5", 0),
+        (b"\"a\x01\"", 2),
+        (b"\"\\x", 2),
+        (b"\"\\u12g", 5),
+        (b"\"\\ud800", 7),
+        (b"\"\\ud800\\u", 9),
+        (b"\"\\ud800\"", 1),
+        (b"\"\\ud800x", 1),
+        (b"\"\\ud800\\n", 1),
+        (b"\"\\ud800\\u0041", 1),
+        (b"\"\\ud800\\ud8", 1),
+        (b"{\"\\uDC", 2),
+        (b"\"\\ud800\\udcg", 11),
+        (b"\xef\xbb\xbf{}", 0),
+    ];
+    for (text, at) in rows {
+        assert_eq!(rt; fault_of(alloc, text), Some(JsonFault::Syntax(at)));
+    }
+    Ok(())
+}
+
+#[test]
+fn faults_of_limits_and_utf8(rt: HostRuntime) -> Result<(), Fail> {
+    let alloc = rt.alloc();
+    let rows: [(&[u8], JsonFault); 9] = [
+        (b"{\"a\":1,\"a\":2}", JsonFault::Duplicate(7)),
+        (b"{\"a\":1,\"a\"", JsonFault::Duplicate(7)),
+        (b"1000000000000000000", JsonFault::Number(0)),
+        (b"-1000000000000000000", JsonFault::Number(0)),
+        (b"{\"a\":1000000000000000000x", JsonFault::Number(5)),
+        (b"nul\xff", JsonFault::Utf8(3)),
+        (b"{\"\xff\":tru}", JsonFault::Utf8(2)),
+        (b"\"\xc3", JsonFault::Utf8(1)),
+        (b"1000000000000000000\xff", JsonFault::Number(0)),
+    ];
+    for (text, fault) in rows {
+        assert_eq!(rt; fault_of(alloc, text), Some(fault));
+    }
+    Ok(())
+}
+
+#[test]
+fn the_sixty_fifth_level_and_a_text_too_long(rt: HostRuntime) -> Result<(), Fail> {
+    let alloc = rt.alloc();
+    let deep = repeated(alloc, b"{\"k\":", 64).ok_or("memory")?;
+    assert_eq!(rt; fault_of(alloc, &deep), Some(JsonFault::Syntax(320)));
+    let deep = repeated(alloc, b"[", 65).ok_or("memory")?;
+    assert_eq!(rt; fault_of(alloc, &deep), Some(JsonFault::Depth(64)));
+    let long = repeated(alloc, b" ", 1_048_577).ok_or("memory")?;
+    assert_eq!(rt; fault_of(alloc, &long), Some(JsonFault::Size));
+    Ok(())
+}
+
+#[test]
+fn numbers_past_the_limits(rt: HostRuntime) -> Result<(), Fail> {
+    let alloc = rt.alloc();
+    let rows: [(&[u8], usize); 11] = [
+        (b"1e400", 0),
+        (b"1e-400", 0),
+        (b"1e99999999999999999999999999999999999999", 0),
+        (b"0.1234567891", 0),
+        (b"1e-10", 0),
+        (b"1.0e19", 0),
+        (b"1e18", 0),
+        (b"0.000000000000000000000000000000000000000", 0),
+        (b"1e400x", 0),
+        (b"{\"a\":1e400", 5),
+        (b" 9999999999999999999999999999999999999999", 1),
+    ];
+    for (text, at) in rows {
+        assert_eq!(rt; fault_of(alloc, text), Some(JsonFault::Number(at)));
+    }
+    Ok(())
+}
+
+#[test]
+fn numbers_keep_their_value_and_spelling(rt: HostRuntime) -> Result<(), Fail> {
+    let alloc = rt.alloc();
+    let rows: [(&str, i128); 18] = [
+        ("{\"n\":0}", 0),
+        ("{\"n\":-0}", 0),
+        ("{\"n\":7}", 7_000_000_000),
+        ("{\"n\":-12}", -12_000_000_000),
+        (
+            "{\"n\":999999999999999999}",
+            999_999_999_999_999_999_000_000_000,
+        ),
+        ("{\"n\":0.1}", 100_000_000),
+        ("{\"n\":0.000000001}", 1),
+        ("{\"n\":1.0e-9}", 1),
+        ("{\"n\":10e-10}", 1),
+        ("{\"n\":-1.50E+2}", -150_000_000_000),
+        ("{\"n\":0e999999999}", 0),
+        ("{\"n\":-0.0e-99999999999999999999999999999999}", 0),
+        ("{\"n\":0.00000001000000000000000000000000000000}", 10),
+        (
+            "{\"n\":1000000000000000000000e-4}",
+            100_000_000_000_000_000_000_000_000,
+        ),
+        ("{\"n\":100000000000000000000000000000000e-41}", 1),
+        (
+            "{\"n\":0.0000000000000000000000000000000001e33}",
+            100_000_000,
+        ),
+        ("{\"n\":1e17}", 100_000_000_000_000_000_000_000_000),
+        ("{\"n\":12.0345}", 12_034_500_000),
+    ];
+    for (text, units) in rows {
+        assert_eq!(rt; units_at(alloc, text, "n"), Some(units));
+        assert_eq!(rt; compact_of(alloc, text).ok_or("not read")?.as_str(), text);
+    }
+    Ok(())
+}
+
+#[test]
+fn the_compact_text_has_no_spaces(rt: HostRuntime) -> Result<(), Fail> {
+    let text = compact_of(
+        rt.alloc(),
+        " { \"a\" : { \"b\":\"x y\" } ,\n\"c\":true,\t\"d\": -5 } ",
+    );
+    assert_eq!(rt;
+        text.ok_or("not read")?.as_str(),
+        "{\"a\":{\"b\":\"x y\"},\"c\":true,\"d\":-5}"
+    );
+    Ok(())
+}
+
+#[test]
+fn escapes_are_read_and_written_where_they_are_needed(rt: HostRuntime) -> Result<(), Fail> {
+    let alloc = rt.alloc();
+    let rows: [(&str, &str); 6] = [
+        ("\"\\u0041\\/\\u00E9\"", "\"A/\u{e9}\""),
+        ("\"\\uD83d\\uDe00\"", "\"\u{1f600}\""),
+        ("\"\\u0008\\f\\n\\r\\t\\b\"", "\"\\b\\f\\n\\r\\t\\b\""),
+        ("\"\\u001F\\u0000\u{7f}\"", "\"\\u001f\\u0000\u{7f}\""),
+        ("\"\\\"\\\\\"", "\"\\\"\\\\\""),
+        ("[\"\\ud800\\udc00\", 1 ]", "[\"\u{10000}\",1]"),
+    ];
+    for (text, compact) in rows {
+        assert_eq!(rt;
+            compact_of(alloc, text).ok_or("not read")?.as_str(),
+            compact
+        );
+    }
+    assert_eq!(rt;
+        fault_of(alloc, b"{\"a\":1,\"\\u0061\":2}"),
+        Some(JsonFault::Duplicate(7))
+    );
+    Ok(())
+}
+
+#[test]
+fn lists_are_read_and_written(rt: HostRuntime) -> Result<(), Fail> {
+    let alloc = rt.alloc();
+    let text = compact_of(
+        alloc,
+        " [ 1 , [ ] ,\t{ \"a\" : [ null , true ] } , \"x\" ] ",
+    );
+    assert_eq!(rt;
+        text.ok_or("not read")?.as_str(),
+        "[1,[],{\"a\":[null,true]},\"x\"]"
+    );
+    let mut deep = repeated(alloc, b"[", 64).ok_or("memory")?;
+    deep.extend_from_slice(&repeated(alloc, b"]", 64).ok_or("memory")?)?;
+    assert_eq!(rt; fault_of(alloc, &deep), None);
+    assert_eq!(rt;
+        compared(alloc, "[1,{\"a\":2.0}]", "[1.0,{\"a\":2}]"),
+        Some((true, false))
+    );
+    Ok(())
+}
+
+#[test]
+fn objects_in_another_order_mean_the_same(rt: HostRuntime) -> Result<(), Fail> {
+    let alloc = rt.alloc();
+    assert_eq!(rt;
+        compared(
+            alloc,
+            "{\"a\":{\"b\":\"x\"},\"c\":0}",
+            "{\"c\":-0,\"a\":{\"b\":\"x\"}}"
+        ),
+        Some((true, false))
+    );
+    assert_eq!(rt;
+        compared(alloc, "{\"a\":1}", "{\"a\":2}"),
+        Some((false, false))
+    );
+    assert_eq!(rt;
+        compared(alloc, "{\"a\":1}", "{\"a\":1}"),
+        Some((true, true))
+    );
+    assert_eq!(rt;
+        clones(alloc, "{\"a\":1,\"b\":{\"c\":\"x\"},\"d\":null}"),
+        Some(true)
+    );
+    Ok(())
+}
+
+/// An object with so many members, the last key of it twice where that is wanted.
+fn wide(alloc: Global, count: u32, twice: bool) -> Option<String> {
+    let mut text = String::new(alloc);
+    text.push('{').ok()?;
+    for i in 0..count {
+        let member = format!(in alloc; "\"k{i}\":{i},").ok()?;
+        text.push_str(member.as_str()).ok()?;
+    }
+    let last = if twice { "\"k7\":0}" } else { "\"end\":0}" };
+    text.push_str(last).ok()?;
+    Some(text)
+}
+
+#[test]
+fn wide_objects_are_read_and_their_doubled_keys_found(rt: HostRuntime) -> Result<(), Fail> {
+    let alloc = rt.alloc();
+    let good = wide(alloc, 40, false).ok_or("memory")?;
+    assert_eq!(rt; units_at(alloc, good.as_str(), "k39"), Some(39_000_000_000));
+    let doubled = wide(alloc, 40, true).ok_or("memory")?;
+    assert_eq!(rt;
+        fault_of(alloc, doubled.as_bytes()),
+        Some(JsonFault::Duplicate(341))
+    );
+    Ok(())
+}
+
+/// A list of two values.
+fn list_of(alloc: Global, one: Json, other: Json) -> Option<Items> {
+    let mut values = Vec::new(alloc);
+    values.push(one).ok()?;
+    values.push(other).ok()?;
+    Some(Items::of_values(values))
+}
+
+/// Whether the members are `a`, of whatever value, and then `b`, which is null.
+fn are_a_and_null_b(members: &Members) -> bool {
+    match members.members() {
+        [first, second] => {
+            first.key.as_str() == "a" && second.key.as_str() == "b" && second.value == Json::Null
+        }
+        _ => false,
+    }
+}
+
+#[test]
+fn parts_of_lists_and_objects(rt: HostRuntime) -> Result<(), Fail> {
+    let alloc = rt.alloc();
+    let one = value_of(alloc, "{\"a\":1,\"b\":null}").ok_or("not read")?;
+    let Json::Dict(members) = &one else {
+        return Err(Fail::from("no object"));
+    };
+    assert_eq!(rt; members.len(), 2);
+    assert_eq!(rt; are_a_and_null_b(members), true);
+    assert_eq!(rt; members.position("b"), Some(1));
+    assert_eq!(rt; members.position("c"), None);
+    assert_eq!(rt; members.find("b") == Some(&Json::Null), true);
+    let copy = one.try_clone(alloc).ok().ok_or("memory")?;
+    let items = list_of(alloc, copy, Json::Bool(true)).ok_or("memory")?;
+    assert_eq!(rt; items.len(), 2);
+    assert_eq!(rt; items.values().len(), 2);
+    assert_eq!(rt; items.values()[0] == one, true);
+    assert_eq!(rt; items.get(1) == Some(&Json::Bool(true)), true);
+    assert_eq!(rt; items.get(2) == None, true);
+    Ok(())
+}
+
+#[test]
+fn the_length_of_the_compact_text_is_found_without_it(rt: HostRuntime) -> Result<(), Fail> {
+    let alloc = rt.alloc();
+    let rows = [
+        "null",
+        "true",
+        "false",
+        "-12.50e3",
+        "\"\"",
+        "\"a\\u0000\\n\\\"\\\\\u{20ac}\\/\"",
+        "[ ]",
+        "[ 1 , [ true ] , { } ]",
+        "{ }",
+        "{ \"a\" : 1 , \"\\u001f\" : { \"b\" : [ ] } , \"\" : false }",
+    ];
+    for text in rows {
+        assert_eq!(rt; is_measured(alloc, text), Some(true));
+    }
+    Ok(())
+}
+
+/// How the whole number of this amount, which is below 10^18, is spelled, and the whole value of another number.
+fn whole_again(alloc: Global, amount: i128, other: &str) -> Option<(String, Option<i128>)> {
+    if amount.unsigned_abs() >= 1_000_000_000_000_000_000 {
+        return None;
+    }
+    let number = Dec::of_whole(alloc, amount).ok()?;
+    let spelled = String::from_str(alloc, number.spelling()).ok()?;
+    match value_of(alloc, other)? {
+        Json::Num(other) => Some((spelled, other.whole())),
+        _ => None,
+    }
+}
+
+#[test]
+fn whole_numbers(rt: HostRuntime) -> Result<(), Fail> {
+    let alloc = rt.alloc();
+    let rows: [(i128, &str, &str, Option<i128>); 6] = [
+        (0, "0", "-0", Some(0)),
+        (-12, "-12", "1.0", Some(1)),
+        (7, "7", "1.5", None),
+        (
+            999_999_999_999_999_999,
+            "999999999999999999",
+            "999999999999999999",
+            Some(999_999_999_999_999_999),
+        ),
+        (
+            -999_999_999_999_999_999,
+            "-999999999999999999",
+            "-25e-1",
+            None,
+        ),
+        (1_000, "1000", "-250e-1", Some(-25)),
+    ];
+    for (amount, spelled, other, whole) in rows {
+        let Some((text, value)) = whole_again(alloc, amount, other) else {
+            return Err(Fail::from("no number"));
+        };
+        assert!(rt; text.as_str() == spelled);
+        assert_eq!(rt; value, whole);
+    }
+    Ok(())
+}
