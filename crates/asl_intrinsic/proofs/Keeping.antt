@@ -2,10 +2,9 @@
 use Rattle.std.proofs.Common.{◌≡◌, ◌<◌, ◌≤◌, ◌+◌, ◌==◌, ℕ, suc, min, Bool, true, false, List, [], ◌∷◌, ◌++◌, length, refl, sym, ◌∙◌, ap, arith, cond, Option, Some, None}
 use Rattle.std.specs.Prelude.{nat_lt, nat_le}
 use Rattle.std.proofs.lemmas.List.{length-append, map-append}
-use Rattle.asl_intrinsic.specs.Tree.{Argument, call, arguments}
+use Rattle.asl_intrinsic.specs.Tree.{Argument, call, arguments, Frame}
 use Rattle.asl_intrinsic.specs.View.{tree_of, trees_of}
 use Rattle.asl_intrinsic.specs.Names.{function_named, takes}
-use Rattle.asl_intrinsic.specs.Steps.{Frame}
 use Rattle.asl_intrinsic.specs.Faults.{count, sooner, misfit, own_fault, first_fault, first_faults}
 use Rattle.asl_intrinsic.specs.Keeps.{fault_of, fault_in, Keeps}
 use Rattle.asl_intrinsic.specs.declared.function.Function.{Function}

@@ -1,6 +1,6 @@
 -- Arguments that are no calls, as stretches of a run.
 use Rattle.std.proofs.Common.{◌≡◌, ◌<◌, ◌≤◌, ◌+◌, ◌-◌, ◌==◌, ℕ, zero, suc, Bool, true, false, List, [], ◌∷◌, ◌++◌, length, take, drop, get_or, refl, sym, ◌∙◌, ap, subst, arith, cond, append_assoc}
-use Rattle.std.specs.Prelude.{Result, Ok, Err, Option, Some, None, nat_lt}
+use Rattle.std.specs.Prelude.{Result, Ok, Err, Option, Some, None, nat_lt, ◌&&◌}
 use Rattle.std.proofs.lemmas.List.{append-nil, take-append-drop, take_more, drop_more, length-append, length-drop, get_or-drop, drop-drop}
 use Rattle.std.proofs.lemmas.Bool.{eqb-true}
 use Rattle.std.specs.Str.{IsUtf8, IsCharBoundary}
@@ -21,26 +21,27 @@ use Rattle.asl_path.specs.Faults.{FaultAt, EndsAt}
 use Rattle.asl_path.specs.Steps.{steps}
 use Rattle.asl_path.proofs.Passing.{path_passes}
 use Rattle.asl_path.proofs.Judging.{Judged, path_judged, path_faultless}
-use Rattle.asl_intrinsic.specs.Tree.{Argument, constant, quoted, path}
-use Rattle.asl_intrinsic.specs.Steps.{Frame, Mode, prefix, states_word, word, chars, escape, figure, along, ended, Next, go, stop, is_escaped, is_part, is_number_front, is_number, is_begun, is_read, is_path_front, is_path, in_chars, in_escape, in_ended, in_figure, in_along, begins, step, whole, onward, run}
+use Rattle.asl_intrinsic.specs.Tree.{Argument, constant, quoted, path, Frame}
+use Rattle.asl_intrinsic.specs.Steps.{Mode, prefix, word, chars, escape, figure, along, ended, Next, go, stop, is_part, is_number_front, is_number, is_begun, is_read, is_path_front, is_path, in_chars, in_escape, in_ended, in_figure, in_along, begins, step_by, step, whole, onward, run_by, run}
+use Rattle.asl_intrinsic.specs.Grammar.{states_word, is_escaped}
 use Rattle.asl_intrinsic.specs.Leads.{IsQuotedLen, IsPathLen, is_behind, is_stray, first_is, begun}
 use Rattle.asl_intrinsic.proofs.Stretches.{goes, halts, halts_back, alike}
 
 -- ---- texts
 
-char_on : (s : List ℕ) (st : List Frame) (c : ℕ) → (c == 39) ≡ false → (c == 92) ≡ false → step (chars s) st c ≡ go (chars (s ++ c ∷ [])) st
+pub char_on : (s : List ℕ) (st : List Frame) (c : ℕ) → (c == 39) ≡ false → (c == 92) ≡ false → step (chars s) st c ≡ go (chars (s ++ c ∷ [])) st
 unfolding in_chars
 char_on s st c e f = rw (e, f) refl
 
-backslash_on : (s : List ℕ) (st : List Frame) → step (chars s) st 92 ≡ go (escape s) st
+pub backslash_on : (s : List ℕ) (st : List Frame) → step (chars s) st 92 ≡ go (escape s) st
 unfolding in_chars
 backslash_on s st = refl
 
-quote_ends : (s : List ℕ) (st : List Frame) → step (chars s) st 39 ≡ go (ended (quoted s)) st
+pub quote_ends : (s : List ℕ) (st : List Frame) → step (chars s) st 39 ≡ go (ended (quoted s)) st
 unfolding in_chars
 quote_ends s st = refl
 
-escape_on : (s : List ℕ) (st : List Frame) (c : ℕ) → is_escaped c ≡ true → step (escape s) st c ≡ go (chars (s ++ 92 ∷ c ∷ [])) st
+pub escape_on : (s : List ℕ) (st : List Frame) (c : ℕ) → is_escaped c ≡ true → step (escape s) st c ≡ go (chars (s ++ 92 ∷ c ∷ [])) st
 unfolding in_escape
 escape_on s st c e = rw e refl
 
@@ -60,14 +61,14 @@ chars_more t n lt e f h = λ st.
     let c = get_or t n 0 in
     h st
     ∙ ap (run (chars (take n t)) st) (drop_more t n 0 lt)
-    ∙ goes (chars (take n t)) (chars (take n t ++ c ∷ [])) st st c (drop (n + 1) t) (char_on (take n t) st c (ne_eqb c 39 e) (ne_eqb c 92 f))
+    ∙ goes true (chars (take n t)) (chars (take n t ++ c ∷ [])) st st c (drop (n + 1) t) (char_on (take n t) st c (ne_eqb c 39 e) (ne_eqb c 92 f))
     ∙ ap (λ (z : List ℕ). run (chars z) st (drop (n + 1) t)) (sym (take_more t n 0 lt))
 
 -- behind a backslash
 at_escape : (t : List ℕ) (n : ℕ) → n < length t → get_or t n 0 ≡ 92 → ReadTo t n → (st : List Frame) → run (chars []) st t ≡ run (escape (take n t)) st (drop (n + 1) t)
 at_escape t n lt e h st =
     let first : drop n t ≡ 92 ∷ drop (n + 1) t = drop_more t n 0 lt ∙ ap (λ (z : ℕ). z ∷ drop (n + 1) t) e in
-    h st ∙ ap (run (chars (take n t)) st) first ∙ goes (chars (take n t)) (escape (take n t)) st st 92 (drop (n + 1) t) (backslash_on (take n t) st)
+    h st ∙ ap (run (chars (take n t)) st) first ∙ goes true (chars (take n t)) (escape (take n t)) st st 92 (drop (n + 1) t) (backslash_on (take n t) st)
 
 pub escape_more : (t : List ℕ) (n : ℕ) → n < length t → get_or t n 0 ≡ 92 → n + 1 < length t → is_escaped (get_or t (n + 1) 0) ≡ true → ReadTo t n → ReadTo t (n + 1 + 1)
 escape_more t n lt e lu esc h = λ st.
@@ -76,7 +77,7 @@ escape_more t n lt e lu esc h = λ st.
     take_more t (n + 1) 0 lu ∙ ap (λ (z : List ℕ). z ++ d ∷ []) (take_more t n 0 lt ∙ ap (λ (z : ℕ). take n t ++ z ∷ []) e) ∙ append_assoc (take n t) (92 ∷ []) (d ∷ []) in
     at_escape t n lt e h st
     ∙ ap (run (escape (take n t)) st) (drop_more t (n + 1) 0 lu)
-    ∙ goes (escape (take n t)) (chars (take n t ++ 92 ∷ d ∷ [])) st st d (drop (n + 1 + 1) t) (escape_on (take n t) st d esc)
+    ∙ goes true (escape (take n t)) (chars (take n t ++ 92 ∷ d ∷ [])) st st d (drop (n + 1 + 1) t) (escape_on (take n t) st d esc)
     ∙ ap (λ (z : List ℕ). run (chars z) st (drop (n + 1 + 1) t)) (sym taken)
 
 nothing_left : (t : List ℕ) (n : ℕ) → length t ≤ n → drop n t ≡ []
@@ -102,7 +103,7 @@ text_open t n l h st = h st ∙ ap (run (chars (take n t)) st) (nothing_left t n
 pub text_reads : (t : List ℕ) (n : ℕ) (st : List Frame) → IsQuotedLen t n → run (chars []) st t ≡ run (ended (quoted (take n t))) st (drop (n + 1) t)
 text_reads t n st h =
     let first : drop n t ≡ 39 ∷ drop (n + 1) t = drop_more t n 0 h.inside ∙ ap (λ (z : ℕ). z ∷ drop (n + 1) t) h.closes in
-    h.reads st ∙ ap (run (chars (take n t)) st) first ∙ goes (chars (take n t)) (ended (quoted (take n t))) st st 39 (drop (n + 1) t) (quote_ends (take n t) st)
+    h.reads st ∙ ap (run (chars (take n t)) st) first ∙ goes true (chars (take n t)) (ended (quoted (take n t))) st st 39 (drop (n + 1) t) (quote_ends (take n t) st)
 
 pub quoted_boundary : (t rest : List ℕ) (n : ℕ) → IsUtf8 t → IsQuotedLen t n → rest ≡ drop n t → IsCharBoundary rest 1
 quoted_boundary t rest n u h e =
@@ -121,35 +122,35 @@ text_split t spelled behind rest n h e f g st =
 
 -- ---- numbers
 
-abbrev IsPart : Part → List ℕ → Type 0
+abbrev pub IsPart : Part → List ℕ → Type 0
 IsPart p s = part_behind (Some Start) s ≡ Some p
 
-front_is : (o : Option Part) (p : Part) (s u : List ℕ) → part_behind (Some Start) s ≡ o → IsPart p (s ++ u) → is_part o ≡ true
+pub front_is : (o : Option Part) (p : Part) (s u : List ℕ) → part_behind (Some Start) s ≡ o → IsPart p (s ++ u) → is_part o ≡ true
 front_is (Some q) p s u e h = refl
 front_is None p s u e h = absurd (let none : part_behind (Some Start) (s ++ u) ≡ None = part_append (Some Start) s u ∙ ap (λ (z : Option Part). part_behind z u) e ∙ part_none u in let two = sym none ∙ h in cc)
 
-front_on : (p : Part) (s u : List ℕ) → IsPart p (s ++ u) → is_number_front s ≡ true
+pub front_on : (p : Part) (s u : List ℕ) → IsPart p (s ++ u) → is_number_front s ≡ true
 unfolding is_number_front
 front_on p s u h = front_is (part_behind (Some Start) s) p s u refl h
 
-digit_on : (s : List ℕ) (st : List Frame) (c : ℕ) → is_number_front (s ++ c ∷ []) ≡ true → step (figure s) st c ≡ go (figure (s ++ c ∷ [])) st
+digit_on : (lim : Bool) (s : List ℕ) (st : List Frame) (c : ℕ) → is_number_front (s ++ c ∷ []) ≡ true → step_by lim (figure s) st c ≡ go (figure (s ++ c ∷ [])) st
 unfolding in_figure
-digit_on s st c e = rw e refl
+digit_on lim s st c e = rw e refl
 
-figure_run : (p : Part) (s u rest : List ℕ) (st : List Frame) → IsPart p (s ++ u) → run (figure s) st (u ++ rest) ≡ run (figure (s ++ u)) st rest
-figure_run p s [] rest st h = ap (λ (z : List ℕ). run (figure z) st rest) (sym (append-nil s))
-figure_run p s (c ∷ u) rest st h =
+pub figure_run : (lim : Bool) (p : Part) (s u rest : List ℕ) (st : List Frame) → IsPart p (s ++ u) → run_by lim (figure s) st (u ++ rest) ≡ run_by lim (figure (s ++ u)) st rest
+figure_run lim p s [] rest st h = ap (λ (z : List ℕ). run_by lim (figure z) st rest) (sym (append-nil s))
+figure_run lim p s (c ∷ u) rest st h =
     let regrouped : (s ++ c ∷ []) ++ u ≡ s ++ c ∷ u = append_assoc s (c ∷ []) u in
     let g : IsPart p ((s ++ c ∷ []) ++ u) = ap (part_behind (Some Start)) regrouped ∙ h in
-    goes (figure s) (figure (s ++ c ∷ [])) st st c (u ++ rest) (digit_on s st c (front_on p (s ++ c ∷ []) u g))
-    ∙ figure_run p (s ++ c ∷ []) u rest st g
-    ∙ ap (λ (z : List ℕ). run (figure z) st rest) regrouped
+    goes lim (figure s) (figure (s ++ c ∷ [])) st st c (u ++ rest) (digit_on lim s st c (front_on p (s ++ c ∷ []) u g))
+    ∙ figure_run lim p (s ++ c ∷ []) u rest st g
+    ∙ ap (λ (z : List ℕ). run_by lim (figure z) st rest) regrouped
 
-number_is : (p : Part) (s : List ℕ) (b : Bool) → IsPart p s → may_end p ≡ b → is_number s ≡ b
+pub number_is : (p : Part) (s : List ℕ) (b : Bool) → IsPart p s → may_end p ≡ b → is_number s ≡ b
 unfolding is_number
 number_is p s b h e = rw h e
 
-front_off : (p : Part) (s : List ℕ) (c : ℕ) → IsPart p s → next_part p c ≡ None → is_number_front (s ++ c ∷ []) ≡ false
+pub front_off : (p : Part) (s : List ℕ) (c : ℕ) → IsPart p s → next_part p c ≡ None → is_number_front (s ++ c ∷ []) ≡ false
 unfolding is_number_front
 front_off p s c h e = ap is_part (part_append (Some Start) s (c ∷ []) ∙ ap (λ (z : Option Part). part_behind z (c ∷ [])) h ∙ e)
 
@@ -162,9 +163,9 @@ over_at : (s : List ℕ) (st : List Frame) (c : ℕ) → is_number_front (s ++ c
 unfolding in_figure
 over_at s st c e f g = rw (e, f, g) refl
 
-fits_at : (s : List ℕ) (st : List Frame) (c : ℕ) → is_number_front (s ++ c ∷ []) ≡ false → is_number s ≡ true → is_over s ≡ false → step (figure s) st c ≡ step (ended (constant (number s))) st c
+fits_at : (lim : Bool) (s : List ℕ) (st : List Frame) (c : ℕ) → is_number_front (s ++ c ∷ []) ≡ false → is_number s ≡ true → (lim && is_over s) ≡ false → step_by lim (figure s) st c ≡ step_by lim (ended (constant (number s))) st c
 unfolding in_figure
-fits_at s st c e f g = rw (e, f, g) refl
+fits_at lim s st c e f g = rw (e, f, g) refl
 
 -- what longest_number says of a text: so many bytes, which are so much of a number, and no more
 pub record IsLongest (p : Part) (t : List ℕ) (n : ℕ) : Type 0 where
@@ -176,7 +177,7 @@ pub longest_of : (p : Part) (bytes t : List ℕ) (n : ℕ) → bytes ≡ t → n
 longest_of p bytes t n e w h stops = subst (λ (z : List ℕ). IsLongest p z n) e (record { within = w; part = h; stops = stops })
 
 -- what follows the longest number, and that it doesn't go on
-abbrev Stops : Part → List ℕ → Type 0
+abbrev pub Stops : Part → List ℕ → Type 0
 Stops p [] = Unit {0}
 Stops p (c ∷ cs) = next_part p c ≡ None
 
@@ -190,7 +191,7 @@ broken_on : (p : Part) (s rest : List ℕ) (st : List Frame) → IsPart p s → 
 broken_on p s [] st h e stops = ap (λ (b : Bool). cond b (cond (is_over s) (Err (length s)) (whole (constant (number s)) st)) (Err 0)) (number_is p s false h e)
 broken_on p s (c ∷ cs) st h e stops = halts (figure s) st c cs (broken_at s st c (front_off p s c h stops) (number_is p s false h e))
 
-over_on : (p : Part) (s rest : List ℕ) (st : List Frame) → IsPart p s → may_end p ≡ true → is_over s ≡ true → Stops p rest → run (figure s) st rest ≡ Err (length s + length rest)
+pub over_on : (p : Part) (s rest : List ℕ) (st : List Frame) → IsPart p s → may_end p ≡ true → is_over s ≡ true → Stops p rest → run (figure s) st rest ≡ Err (length s + length rest)
 over_on p s [] st h e f stops =
     let z : length s ≡ length s + 0 = omega arith in
     ap (λ (b : Bool). cond b (cond (is_over s) (Err (length s)) (whole (constant (number s)) st)) (Err 0)) (number_is p s true h e)
@@ -198,14 +199,14 @@ over_on p s [] st h e f stops =
     ∙ ap Err z
 over_on p s (c ∷ cs) st h e f stops = halts_back (figure s) st c cs (length s) (over_at s st c (front_off p s c h stops) (number_is p s true h e) f)
 
-fits_on : (p : Part) (s rest : List ℕ) (st : List Frame) → IsPart p s → may_end p ≡ true → is_over s ≡ false → Stops p rest → run (figure s) st rest ≡ run (ended (constant (number s))) st rest
-fits_on p s [] st h e f stops =
-    ap (λ (b : Bool). cond b (cond (is_over s) (Err (length s)) (whole (constant (number s)) st)) (Err 0)) (number_is p s true h e)
+pub fits_on : (lim : Bool) (p : Part) (s rest : List ℕ) (st : List Frame) → IsPart p s → may_end p ≡ true → (lim && is_over s) ≡ false → Stops p rest → run_by lim (figure s) st rest ≡ run_by lim (ended (constant (number s))) st rest
+fits_on lim p s [] st h e f stops =
+    ap (λ (b : Bool). cond b (cond (lim && is_over s) (Err (length s)) (whole (constant (number s)) st)) (Err 0)) (number_is p s true h e)
     ∙ ap (λ (b : Bool). cond b (Err (length s)) (whole (constant (number s)) st)) f
-fits_on p s (c ∷ cs) st h e f stops = alike (figure s) (ended (constant (number s))) st st c cs (fits_at s st c (front_off p s c h stops) (number_is p s true h e) f)
+fits_on lim p s (c ∷ cs) st h e f stops = alike lim (figure s) (ended (constant (number s))) st st c cs (fits_at lim s st c (front_off p s c h stops) (number_is p s true h e) f)
 
 front_read : (p : Part) (t : List ℕ) (n : ℕ) (st : List Frame) → IsLongest p t n → run (figure []) st t ≡ run (figure (take n t)) st (drop n t)
-front_read p t n st h = ap (run (figure []) st) (sym (take-append-drop n t)) ∙ figure_run p [] (take n t) (drop n t) st h.part
+front_read p t n st h = ap (run (figure []) st) (sym (take-append-drop n t)) ∙ figure_run true p [] (take n t) (drop n t) st h.part
 
 pub number_broken : (p : Part) (t : List ℕ) (n : ℕ) → IsLongest p t n → may_end p ≡ false → (st : List Frame) → run (figure []) st t ≡ Err (length t - n)
 number_broken p t n h e st = front_read p t n st h ∙ broken_on p (take n t) (drop n t) st h.part e (stops_at p t n h.stops) ∙ ap Err (length-drop n t)
@@ -216,7 +217,7 @@ number_over p t n h e f st =
     front_read p t n st h ∙ over_on p (take n t) (drop n t) st h.part e f (stops_at p t n h.stops) ∙ ap Err parts
 
 pub number_reads : (p : Part) (t : List ℕ) (n : ℕ) → IsLongest p t n → may_end p ≡ true → is_over (take n t) ≡ false → (st : List Frame) → run (figure []) st t ≡ run (ended (constant (number (take n t)))) st (drop n t)
-number_reads p t n h e f st = front_read p t n st h ∙ fits_on p (take n t) (drop n t) st h.part e f (stops_at p t n h.stops)
+number_reads p t n h e f st = front_read p t n st h ∙ fits_on true p (take n t) (drop n t) st h.part e f (stops_at p t n h.stops)
 
 pub longest_numeral : (p : Part) (t : List ℕ) (n : ℕ) → IsLongest p t n → may_end p ≡ true → IsNumeral (take n t)
 longest_numeral p t n h e = part_is_numeral p (take n t) e h.part
@@ -235,13 +236,13 @@ numeral_reads p t spelled d rest n h e f r g st =
 
 -- ---- paths
 
-shorter_prefix : (t u : List ℕ) → IsPrefix (t ++ u) → IsPrefix t
+pub shorter_prefix : (t u : List ℕ) → IsPrefix (t ++ u) → IsPrefix t
 shorter_prefix t u h = record { more = u ++ h.more; is_path = subst IsPath (append_assoc t u h.more) h.is_path }
 
-path_prefix : (t : List ℕ) → IsPath t → IsPrefix t
+pub path_prefix : (t : List ℕ) → IsPath t → IsPrefix t
 path_prefix t h = record { more = []; is_path = subst IsPath (sym (append-nil t)) h }
 
-front_alive : (t : List ℕ) → IsPrefix t → is_path_front t ≡ true
+pub front_alive : (t : List ℕ) → IsPrefix t → is_path_front t ≡ true
 unfolding is_path_front
 front_alive t h = judged (steps t) (path_judged t)
   where
@@ -253,7 +254,7 @@ front_alive t h = judged (steps t) (path_judged t)
         at [] e l dead = grind (arith, l)
         at (c ∷ rest) e l dead = absurd (dead (shorter_prefix (j.front ++ c ∷ []) rest (subst IsPrefix (e ∙ sym (append_assoc j.front (c ∷ []) rest)) h)))
 
-front_dead : (t : List ℕ) → (IsPrefix t → ⊥) → is_path_front t ≡ false
+pub front_dead : (t : List ℕ) → (IsPrefix t → ⊥) → is_path_front t ≡ false
 unfolding is_path_front
 front_dead t h = judged (steps t) (path_judged t)
   where
@@ -265,7 +266,7 @@ front_dead t h = judged (steps t) (path_judged t)
         at [] e l = absurd (h (subst IsPrefix (sym (e ∙ append-nil j.front)) j.alive))
         at (c ∷ rest) e l = grind (arith, l)
 
-path_is : (t : List ℕ) → IsPath t → is_path t ≡ true
+pub path_is : (t : List ℕ) → IsPath t → is_path t ≡ true
 unfolding is_path
 path_is t h = ap is_read (path_passes h.root h.steps t h.spelled)
 
@@ -281,17 +282,17 @@ step_on : (s : List ℕ) (st : List Frame) (c : ℕ) → is_path_front (s ++ c �
 unfolding in_along
 step_on s st c e = rw e refl
 
-along_run : (s u rest : List ℕ) (st : List Frame) → IsPrefix (s ++ u) → run (along s) st (u ++ rest) ≡ run (along (s ++ u)) st rest
-along_run s [] rest st h = ap (λ (z : List ℕ). run (along z) st rest) (sym (append-nil s))
-along_run s (c ∷ u) rest st h =
+pub along_run : (lim : Bool) (s u rest : List ℕ) (st : List Frame) → IsPrefix (s ++ u) → run_by lim (along s) st (u ++ rest) ≡ run_by lim (along (s ++ u)) st rest
+along_run lim s [] rest st h = ap (λ (z : List ℕ). run_by lim (along z) st rest) (sym (append-nil s))
+along_run lim s (c ∷ u) rest st h =
     let regrouped : (s ++ c ∷ []) ++ u ≡ s ++ c ∷ u = append_assoc s (c ∷ []) u in
     let g : IsPrefix ((s ++ c ∷ []) ++ u) = subst IsPrefix (sym regrouped) h in
-    goes (along s) (along (s ++ c ∷ [])) st st c (u ++ rest) (step_on s st c (front_alive (s ++ c ∷ []) (shorter_prefix (s ++ c ∷ []) u g)))
-    ∙ along_run (s ++ c ∷ []) u rest st g
-    ∙ ap (λ (z : List ℕ). run (along z) st rest) regrouped
+    goes lim (along s) (along (s ++ c ∷ [])) st st c (u ++ rest) (step_on s st c (front_alive (s ++ c ∷ []) (shorter_prefix (s ++ c ∷ []) u g)))
+    ∙ along_run lim (s ++ c ∷ []) u rest st g
+    ∙ ap (λ (z : List ℕ). run_by lim (along z) st rest) regrouped
 
 -- no path begins so, with the first byte of the rest
-abbrev EndsFront : List ℕ → List ℕ → Type 0
+abbrev pub EndsFront : List ℕ → List ℕ → Type 0
 EndsFront s [] = Unit {0}
 EndsFront s (c ∷ cs) = IsPrefix (s ++ c ∷ []) → ⊥
 
@@ -325,15 +326,15 @@ along_broken : (s rest : List ℕ) (st : List Frame) → (IsPath s → ⊥) → 
 along_broken s [] st h e = ap (λ (b : Bool). cond b (whole (path s) st) (Err 0)) (path_isn't s h)
 along_broken s (c ∷ cs) st h e = halts (along s) st c cs (broken_step s st c (front_dead (s ++ c ∷ []) e) (path_isn't s h))
 
-along_whole : (s rest : List ℕ) (st : List Frame) → IsPath s → EndsFront s rest → run (along s) st rest ≡ run (ended (path s)) st rest
-along_whole s [] st h e = ap (λ (b : Bool). cond b (whole (path s) st) (Err 0)) (path_is s h)
-along_whole s (c ∷ cs) st h e = alike (along s) (ended (path s)) st st c cs (whole_step s st c (front_dead (s ++ c ∷ []) e) (path_is s h))
+pub along_whole : (lim : Bool) (s rest : List ℕ) (st : List Frame) → IsPath s → EndsFront s rest → run_by lim (along s) st rest ≡ run_by lim (ended (path s)) st rest
+along_whole lim s [] st h e = ap (λ (b : Bool). cond b (whole (path s) st) (Err 0)) (path_is s h)
+along_whole lim s (c ∷ cs) st h e = alike lim (along s) (ended (path s)) st st c cs (whole_step s st c (front_dead (s ++ c ∷ []) e) (path_is s h))
 
 front_along : (t : List ℕ) (n : ℕ) (st : List Frame) → IsPathLen t n → run (along []) st t ≡ run (along (take n t)) st (drop n t)
-front_along t n st h = ap (run (along []) st) (sym (take-append-drop n t)) ∙ along_run [] (take n t) (drop n t) st h.alive
+front_along t n st h = ap (run (along []) st) (sym (take-append-drop n t)) ∙ along_run true [] (take n t) (drop n t) st h.alive
 
 pub path_reads : (t : List ℕ) (n : ℕ) → IsPathLen t n → IsPath (take n t) → (st : List Frame) → run (along []) st t ≡ run (ended (path (take n t))) st (drop n t)
-path_reads t n h p st = front_along t n st h ∙ along_whole (take n t) (drop n t) st p (ends_front t n h)
+path_reads t n h p st = front_along t n st h ∙ along_whole true (take n t) (drop n t) st p (ends_front t n h)
 
 pub path_broken : (t : List ℕ) (n : ℕ) → IsPathLen t n → (IsPath (take n t) → ⊥) → (st : List Frame) → run (along []) st t ≡ Err (length (drop n t))
 path_broken t n h p st = front_along t n st h ∙ along_broken (take n t) (drop n t) st p (ends_front t n h)
@@ -419,33 +420,33 @@ first_of : (b : ℕ) (t : List ℕ) → first_is b t ≡ true → t ≡ b ∷ dr
 first_of b [] e = absurd cc
 first_of b (c ∷ cs) e = ap (λ (z : ℕ). z ∷ cs) (eqb-true c b e)
 
-quote_begins : (st : List Frame) → begins st 39 ≡ go (chars []) st
+pub quote_begins : (st : List Frame) → begins st 39 ≡ go (chars []) st
 unfolding begins
 quote_begins st = refl
 
-dollar_begins : (st : List Frame) → begins st 36 ≡ step (along []) st 36
+pub dollar_begins : (st : List Frame) → begins st 36 ≡ step (along []) st 36
 unfolding begins
 dollar_begins st = refl
 
-null_begins : (st : List Frame) → begins st 110 ≡ step (word null_word null) st 110
+pub null_begins : (st : List Frame) → begins st 110 ≡ step (word null_word null) st 110
 unfolding begins
 null_begins st = refl
 
-true_begins : (st : List Frame) → begins st 116 ≡ step (word true_word (boolean true)) st 116
+pub true_begins : (st : List Frame) → begins st 116 ≡ step (word true_word (boolean true)) st 116
 unfolding begins
 true_begins st = refl
 
-false_begins : (st : List Frame) → begins st 102 ≡ step (word false_word (boolean false)) st 102
+pub false_begins : (st : List Frame) → begins st 102 ≡ step (word false_word (boolean false)) st 102
 unfolding begins
 false_begins st = refl
 
-call_begins : (st : List Frame) → begins st 83 ≡ step (prefix states_word) st 83
+pub call_begins : (st : List Frame) → begins st 83 ≡ step (prefix states_word) st 83
 unfolding begins
 call_begins st = refl
 
-figure_begins : (st : List Frame) (c : ℕ) → (c == 39) ≡ false → (c == 36) ≡ false → (c == 83) ≡ false → (c == 110) ≡ false → (c == 116) ≡ false → (c == 102) ≡ false → begins st c ≡ step (figure []) st c
-unfolding begins
-figure_begins st c e f g h i j = rw (e, f, g, h, i, j) refl
+pub figure_begins : (lim : Bool) (st : List Frame) (c : ℕ) → (c == 39) ≡ false → (c == 36) ≡ false → (c == 83) ≡ false → (c == 110) ≡ false → (c == 116) ≡ false → (c == 102) ≡ false → begins st c ≡ step_by lim (figure []) st c
+unfolding begins in_figure is_number
+figure_begins lim st c e f g h i j = rw (e, f, g, h, i, j) refl
 
 pub begun_as : (m : Mode) (b : ℕ) (t : List ℕ) (st : List Frame) → begins st b ≡ step m st b → first_is b t ≡ true → begun st t ≡ run m st t
 begun_as m b t st e f =
@@ -473,10 +474,10 @@ begun_false t st f = begun_as (word false_word (boolean false)) 102 t st (false_
 pub begun_call : (t : List ℕ) (st : List Frame) → first_is 83 t ≡ true → begun st t ≡ run (prefix states_word) st t
 begun_call t st f = begun_as (prefix states_word) 83 t st (call_begins st) f
 
-nothing_number : is_number [] ≡ false
+pub nothing_number : is_number [] ≡ false
 unfolding is_number
 nothing_number = refl
 
 pub begun_number : (t : List ℕ) (st : List Frame) → NotFirst (λ c. c == 39) t → first_is 36 t ≡ false → first_is 83 t ≡ false → first_is 110 t ≡ false → first_is 116 t ≡ false → first_is 102 t ≡ false → begun st t ≡ run (figure []) st t
 begun_number [] st e f g h i j = ap (λ (b : Bool). cond b (cond (is_over []) (Err 0) (whole (constant (number [])) st)) (Err 0)) (sym nothing_number)
-begun_number (c ∷ cs) st e f g h i j = ap (λ (z : Next). onward z (suc (length cs)) (λ n s. run n s cs)) (figure_begins st c e f g h i j)
+begun_number (c ∷ cs) st e f g h i j = ap (λ (z : Next). onward z (suc (length cs)) (λ n s. run n s cs)) (figure_begins true st c e f g h i j)

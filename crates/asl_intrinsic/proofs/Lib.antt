@@ -10,3 +10,6 @@ pub mod Leaves
 pub mod Keeping
 pub mod Turns
 pub mod Placing
+pub mod Reaching
+pub mod Ending
+pub mod Passing

@@ -2,10 +2,11 @@
 use Rattle.std.proofs.Common.{◌≡◌, ◌≤◌, ◌+◌, ◌-◌, ◌==◌, ℕ, suc, Bool, true, false, List, [], ◌∷◌, ◌++◌, length, refl, sym, ◌∙◌, ap, subst, arith, cond}
 use Rattle.std.specs.Prelude.{Result, Ok, Err, Option, Some, None}
 use Rattle.std.proofs.lemmas.List.{length-append}
-use Rattle.asl_intrinsic.specs.Tree.{Argument, constant, quoted, path}
+use Rattle.asl_intrinsic.specs.Tree.{Argument, constant, quoted, path, Frame}
 use Rattle.asl_json.specs.Data.{Data, null, boolean, number}
 use Rattle.asl_json.specs.Number.{is_over}
-use Rattle.asl_intrinsic.specs.Steps.{Frame, Mode, prefix, naming, named, opening, wanting, word, chars, escape, figure, along, ended, Next, go, stop, is_number, is_path, is_number_front, is_path_front, is_name_byte, is_escaped, in_prefix, in_naming, in_named, in_opening, in_wanting, in_word, in_chars, in_escape, in_ended, in_figure, in_along, begins, closes, step, whole, finish, onward, run, heard, states_word}
+use Rattle.asl_intrinsic.specs.Steps.{Mode, prefix, naming, named, opening, wanting, word, chars, escape, figure, along, ended, Next, go, stop, is_number, is_path, is_number_front, is_path_front, in_prefix, in_naming, in_named, in_opening, in_wanting, in_word, in_chars, in_escape, in_ended, in_figure, in_along, begins, closes, step, whole, finish_by, onward, run, heard}
+use Rattle.asl_intrinsic.specs.Grammar.{is_name_byte, is_escaped, states_word}
 use Rattle.asl_json.specs.Grammar.{null_word, true_word, false_word}
 use Rattle.asl_intrinsic.specs.declared.call.Argument as code
 use Rattle.asl_intrinsic.specs.Faults.{IsWrongAt, IsFaultOf, IsCall, IsMisfit, first_fault}
@@ -70,7 +71,7 @@ near_ended k a (f ∷ st) c =
     (near_cond k (c == 44) (go wanting ((f.0, f.1 ++ a ∷ []) ∷ st)) (cond (c == 41) (closes ((f.0, f.1 ++ a ∷ []) ∷ st)) (stop 0)) (omega arith)
     (near_cond k (c == 41) (closes ((f.0, f.1 ++ a ∷ []) ∷ st)) (stop 0) (near_closes k ((f.0, f.1 ++ a ∷ []) ∷ st)) (omega arith)))
 
-near_figure : (k : ℕ) (s : List ℕ) (st : List Frame) (c : ℕ) → length s ≤ k → Near k (in_figure s st c)
+near_figure : (k : ℕ) (s : List ℕ) (st : List Frame) (c : ℕ) → length s ≤ k → Near k (in_figure true s st c)
 unfolding in_figure
 near_figure k s st c l =
     near_cond k (is_number_front (s ++ c ∷ [])) (go (figure (s ++ c ∷ [])) st) (cond (is_number s) (cond (is_over s) (stop (length s)) (in_ended (constant (number s)) st c)) (stop 0)) (omega (arith, l, length-append s (c ∷ [])))
@@ -83,14 +84,14 @@ near_along k s st c =
     near_cond k (is_path_front (s ++ c ∷ [])) (go (along (s ++ c ∷ [])) st) (cond (is_path s) (in_ended (path s) st c) (stop 0)) (omega arith)
     (near_cond k (is_path s) (in_ended (path s) st c) (stop 0) (near_ended k (path s) st c) (omega arith))
 
-near_word_or : (k : ℕ) (st : List Frame) (c : ℕ) → Near k (cond (c == 110) (in_word null_word null st c) (cond (c == 116) (in_word true_word (boolean true) st c) (cond (c == 102) (in_word false_word (boolean false) st c) (in_figure [] st c))))
+near_word_or : (k : ℕ) (st : List Frame) (c : ℕ) → Near k (cond (c == 110) (in_word null_word null st c) (cond (c == 116) (in_word true_word (boolean true) st c) (cond (c == 102) (in_word false_word (boolean false) st c) (cond (is_number_front (c ∷ [])) (go (figure (c ∷ [])) st) (stop 0)))))
 near_word_or k st c =
-    near_cond k (c == 110) (in_word null_word null st c) (cond (c == 116) (in_word true_word (boolean true) st c) (cond (c == 102) (in_word false_word (boolean false) st c) (in_figure [] st c))) (near_word k null_word null st c)
-    (near_cond k (c == 116) (in_word true_word (boolean true) st c) (cond (c == 102) (in_word false_word (boolean false) st c) (in_figure [] st c)) (near_word k true_word (boolean true) st c)
-    (near_cond k (c == 102) (in_word false_word (boolean false) st c) (in_figure [] st c) (near_word k false_word (boolean false) st c) (near_figure k [] st c (omega arith))))
+    near_cond k (c == 110) (in_word null_word null st c) (cond (c == 116) (in_word true_word (boolean true) st c) (cond (c == 102) (in_word false_word (boolean false) st c) (cond (is_number_front (c ∷ [])) (go (figure (c ∷ [])) st) (stop 0)))) (near_word k null_word null st c)
+    (near_cond k (c == 116) (in_word true_word (boolean true) st c) (cond (c == 102) (in_word false_word (boolean false) st c) (cond (is_number_front (c ∷ [])) (go (figure (c ∷ [])) st) (stop 0))) (near_word k true_word (boolean true) st c)
+    (near_cond k (c == 102) (in_word false_word (boolean false) st c) (cond (is_number_front (c ∷ [])) (go (figure (c ∷ [])) st) (stop 0)) (near_word k false_word (boolean false) st c) (near_cond k (is_number_front (c ∷ [])) (go (figure (c ∷ [])) st) (stop 0) (omega arith) (omega arith))))
 
 abbrev word_or : List Frame → ℕ → Next
-word_or st c = cond (c == 110) (in_word null_word null st c) (cond (c == 116) (in_word true_word (boolean true) st c) (cond (c == 102) (in_word false_word (boolean false) st c) (in_figure [] st c)))
+word_or st c = cond (c == 110) (in_word null_word null st c) (cond (c == 116) (in_word true_word (boolean true) st c) (cond (c == 102) (in_word false_word (boolean false) st c) (cond (is_number_front (c ∷ [])) (go (figure (c ∷ [])) st) (stop 0))))
 
 near_begins : (k : ℕ) (st : List Frame) (c : ℕ) → Near k (begins st c)
 unfolding begins
@@ -141,7 +142,7 @@ within_whole : (k : ℕ) (a : Argument) (st : List Frame) → Within k (whole a 
 within_whole k a [] = tt
 within_whole k a (f ∷ st) = omega arith
 
-within_finish : (m : Mode) (st : List Frame) → Within (back m + 0) (finish m st)
+within_finish : (m : Mode) (st : List Frame) → Within (back m + 0) (finish_by true m st)
 within_finish (prefix ws) st = omega arith
 within_finish (naming n) st = omega arith
 within_finish (named n) st = omega arith

@@ -1,11 +1,12 @@
 -- Turns of the reader, as stretches of the machine's run.
-use Rattle.std.proofs.Common.{◌≡◌, ◌<◌, ◌==◌, ℕ, suc, false, List, [], ◌∷◌, ◌++◌, length, reverse, refl, sym, ◌∙◌, ap, subst, arith}
+use Rattle.std.proofs.Common.{◌≡◌, ◌<◌, ◌==◌, ℕ, suc, true, false, List, [], ◌∷◌, ◌++◌, length, reverse, refl, sym, ◌∙◌, ap, subst, arith}
 use Rattle.std.specs.Prelude.{Result, Ok, Err, IfOk, IfErr, MatchResult}
 use Rattle.std.proofs.lemmas.List.{reverse-append, length-reverse}
 use Rattle.asl_path.specs.Leads.{NotFirst}
-use Rattle.asl_intrinsic.specs.Tree.{Argument, call, arguments}
-use Rattle.asl_intrinsic.specs.Steps.{Frame, Mode, opening, wanting, ended, Next, go, stop, begins, closes, in_opening, in_wanting, in_ended, step, onward, run}
-use Rattle.asl_intrinsic.specs.Leads.{Fails, is_space, begun, Skips}
+use Rattle.asl_intrinsic.specs.Tree.{Argument, call, arguments, Frame}
+use Rattle.asl_intrinsic.specs.Steps.{Mode, opening, wanting, ended, Next, go, stop, begins, closes, in_opening, in_wanting, in_ended, step, onward, run}
+use Rattle.asl_intrinsic.specs.Leads.{Fails, begun, Skips}
+use Rattle.asl_intrinsic.specs.Grammar.{is_space}
 use Rattle.asl_intrinsic.specs.Keeps.{Keeps, KeepsAll}
 use Rattle.asl_intrinsic.specs.declared.frame.Open.{Open}
 use Rattle.asl_intrinsic.specs.declared.front.Halt.{Halt}
@@ -33,15 +34,15 @@ levels os st h = sym (length-reverse os) ∙ as_many (reverse os) st h
 
 -- ---- spaces
 
-opening_space : (st : List Frame) → step opening st 32 ≡ go opening st
+pub opening_space : (st : List Frame) → step opening st 32 ≡ go opening st
 unfolding in_opening
 opening_space st = refl
 
-wanting_space : (st : List Frame) → step wanting st 32 ≡ go wanting st
+pub wanting_space : (st : List Frame) → step wanting st 32 ≡ go wanting st
 unfolding in_wanting
 wanting_space st = refl
 
-ended_space : (a : Argument) (f : Frame) (st : List Frame) → step (ended a) (f ∷ st) 32 ≡ go (ended a) (f ∷ st)
+pub ended_space : (a : Argument) (f : Frame) (st : List Frame) → step (ended a) (f ∷ st) 32 ≡ go (ended a) (f ∷ st)
 unfolding in_ended
 ended_space a f st = refl
 
@@ -56,18 +57,18 @@ ended_skips t rest a f st h = skipped (ended a) (f ∷ st) t rest (ended_space a
 
 -- ---- brackets and commas
 
-opening_closes : (f : Frame) (st : List Frame) → step opening (f ∷ st) 41 ≡ go (ended (call f.0 (arguments f.1))) st
+pub opening_closes : (f : Frame) (st : List Frame) → step opening (f ∷ st) 41 ≡ go (ended (call f.0 (arguments f.1))) st
 unfolding in_opening closes
 opening_closes f st = refl
 
 pub bracket_closes : (t rest : List ℕ) (f : Frame) (st : List Frame) → t ≡ 41 ∷ rest → run opening (f ∷ st) t ≡ run (ended (call f.0 (arguments f.1))) st rest
-bracket_closes t rest f st e = ap (run opening (f ∷ st)) e ∙ goes opening (ended (call f.0 (arguments f.1))) (f ∷ st) st 41 rest (opening_closes f st)
+bracket_closes t rest f st e = ap (run opening (f ∷ st)) e ∙ goes true opening (ended (call f.0 (arguments f.1))) (f ∷ st) st 41 rest (opening_closes f st)
 
-opening_begins : (st : List Frame) (c : ℕ) → (c == 32) ≡ false → (c == 41) ≡ false → step opening st c ≡ begins st c
+pub opening_begins : (st : List Frame) (c : ℕ) → (c == 32) ≡ false → (c == 41) ≡ false → step opening st c ≡ begins st c
 unfolding in_opening
 opening_begins st c e f = rw (e, f) refl
 
-wanting_begins : (st : List Frame) (c : ℕ) → (c == 32) ≡ false → step wanting st c ≡ begins st c
+pub wanting_begins : (st : List Frame) (c : ℕ) → (c == 32) ≡ false → step wanting st c ≡ begins st c
 unfolding in_wanting
 wanting_begins st c e = rw e refl
 
@@ -79,11 +80,11 @@ pub wanting_wants : (t : List ℕ) (st : List Frame) → NotFirst is_space t →
 wanting_wants [] st e = refl
 wanting_wants (c ∷ cs) st e = ap (λ (z : Next). onward z (suc (length cs)) (λ n s. run n s cs)) (wanting_begins st c e)
 
-ended_comma : (a : Argument) (f : Frame) (st : List Frame) → step (ended a) (f ∷ st) 44 ≡ go wanting ((f.0, f.1 ++ a ∷ []) ∷ st)
+pub ended_comma : (a : Argument) (f : Frame) (st : List Frame) → step (ended a) (f ∷ st) 44 ≡ go wanting ((f.0, f.1 ++ a ∷ []) ∷ st)
 unfolding in_ended
 ended_comma a f st = refl
 
-ended_bracket : (a : Argument) (f : Frame) (st : List Frame) → step (ended a) (f ∷ st) 41 ≡ go (ended (call f.0 (arguments (f.1 ++ a ∷ [])))) st
+pub ended_bracket : (a : Argument) (f : Frame) (st : List Frame) → step (ended a) (f ∷ st) 41 ≡ go (ended (call f.0 (arguments (f.1 ++ a ∷ [])))) st
 unfolding in_ended closes
 ended_bracket a f st = refl
 
@@ -92,10 +93,10 @@ unfolding in_ended
 ended_lacks a f st c e g h = rw (e, g, h) refl
 
 pub comma_wants : (t rest : List ℕ) (a : Argument) (f : Frame) (st : List Frame) → t ≡ 44 ∷ rest → run (ended a) (f ∷ st) t ≡ run wanting ((f.0, f.1 ++ a ∷ []) ∷ st) rest
-comma_wants t rest a f st e = ap (run (ended a) (f ∷ st)) e ∙ goes (ended a) wanting (f ∷ st) ((f.0, f.1 ++ a ∷ []) ∷ st) 44 rest (ended_comma a f st)
+comma_wants t rest a f st e = ap (run (ended a) (f ∷ st)) e ∙ goes true (ended a) wanting (f ∷ st) ((f.0, f.1 ++ a ∷ []) ∷ st) 44 rest (ended_comma a f st)
 
 pub bracket_ends : (t rest : List ℕ) (a : Argument) (f : Frame) (st : List Frame) → t ≡ 41 ∷ rest → run (ended a) (f ∷ st) t ≡ run (ended (call f.0 (arguments (f.1 ++ a ∷ [])))) st rest
-bracket_ends t rest a f st e = ap (run (ended a) (f ∷ st)) e ∙ goes (ended a) (ended (call f.0 (arguments (f.1 ++ a ∷ [])))) (f ∷ st) st 41 rest (ended_bracket a f st)
+bracket_ends t rest a f st e = ap (run (ended a) (f ∷ st)) e ∙ goes true (ended a) (ended (call f.0 (arguments (f.1 ++ a ∷ [])))) (f ∷ st) st 41 rest (ended_bracket a f st)
 
 pub neither_follows : (t : List ℕ) (a : Argument) (f : Frame) (st : List Frame) → NotFirst is_space t → NotFirst (λ c. c == 44) t → NotFirst (λ c. c == 41) t → run (ended a) (f ∷ st) t ≡ Err (length t)
 neither_follows [] a f st e g h = refl

@@ -1,7 +1,7 @@
 -- Where a reader stands, by the machine.
 use Rattle.std.specs.Prelude.{◌≡◌, ◌<◌, ℕ, suc, ◌+◌, ◌*◌, List, length, reverse, Result, Ok}
-use Rattle.asl_intrinsic.specs.Tree.{Argument}
-use Rattle.asl_intrinsic.specs.Steps.{Frame, Mode, opening, wanting, ended, run}
+use Rattle.asl_intrinsic.specs.Tree.{Argument, Frame}
+use Rattle.asl_intrinsic.specs.Steps.{Mode, opening, wanting, ended, run}
 use Rattle.asl_intrinsic.specs.Keeps.{KeepsOne, KeepsAll}
 use Rattle.asl_intrinsic.specs.declared.call.Argument as code
 use Rattle.asl_intrinsic.specs.declared.frame.Wrong.{Wrong}

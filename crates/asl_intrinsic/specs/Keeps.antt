@@ -1,8 +1,7 @@
 -- What a reader keeps of the calls that stand open, and of an argument that has ended.
 use Rattle.std.specs.Prelude.{◌≡◌, ℕ, suc, List, [], ◌∷◌, length, min, Option, Some, None, Result, Ok, Err}
-use Rattle.asl_intrinsic.specs.Tree.{Argument, arguments}
+use Rattle.asl_intrinsic.specs.Tree.{Argument, arguments, Frame}
 use Rattle.asl_intrinsic.specs.View.{tree_of, trees_of}
-use Rattle.asl_intrinsic.specs.Steps.{Frame}
 use Rattle.asl_intrinsic.specs.Faults.{first_fault, first_faults}
 use Rattle.asl_intrinsic.specs.declared.call.Argument as code
 use Rattle.asl_intrinsic.specs.declared.expr.CallFault.{CallFault}

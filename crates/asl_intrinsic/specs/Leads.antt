@@ -1,9 +1,10 @@
 -- What a part of the reader answers, by the machine: it stands for a stretch of the machine's run.
-use Rattle.std.specs.Prelude.{◌≡◌, ◌<◌, ◌≤◌, ℕ, suc, ◌+◌, ◌==◌, ◌||◌, ◌&&◌, not, nat_lt, Bool, false, List, [], ◌∷◌, ◌++◌, length, take, drop, get_or, if◌then◌else◌, Result, Ok, Err}
+use Rattle.std.specs.Prelude.{◌≡◌, ◌<◌, ◌≤◌, ℕ, suc, ◌+◌, ◌==◌, ◌||◌, ◌&&◌, not, nat_lt, Bool, true, false, List, [], ◌∷◌, ◌++◌, length, take, drop, get_or, if◌then◌else◌, Result, Ok, Err}
 use Rattle.asl_path.specs.Grammar.{Each, IsPrefix}
 use Rattle.asl_path.specs.Leads.{NotFirst}
-use Rattle.asl_intrinsic.specs.Tree.{Argument}
-use Rattle.asl_intrinsic.specs.Steps.{Frame, begins, chars, onward, run}
+use Rattle.asl_intrinsic.specs.Tree.{Argument, Frame}
+use Rattle.asl_intrinsic.specs.Grammar.{is_space}
+use Rattle.asl_intrinsic.specs.Steps.{begins, chars, onward, run_by, run}
 use Rattle.asl_intrinsic.specs.declared.front.Halt.{Halt}
 use Rattle.asl_intrinsic.specs.declared.front.Halt.TheVariants.{At, Memory}
 
@@ -19,9 +20,6 @@ Leads further (Err e) r = Fails e r
 
 abbrev pub is_ascii : ℕ → Bool
 is_ascii c = nat_lt c 128
-
-abbrev pub is_space : ℕ → Bool
-is_space c = c == 32
 
 -- what follows a word that stands in front
 abbrev pub after_word : List ℕ → List ℕ → Result (List ℕ) ℕ
@@ -64,6 +62,9 @@ pub record IsPathLen (t : List ℕ) (n : ℕ) : Type 0 where
   pub dead : n < length t → IsPrefix (take (n + 1) t) → ⊥
 
 -- the run from where an argument begins
+abbrev pub begun_by : Bool → List Frame → List ℕ → Result Argument ℕ
+begun_by lim st [] = Err 0
+begun_by lim st (c ∷ cs) = onward (begins st c) (suc (length cs)) (λ n s. run_by lim n s cs)
+
 abbrev pub begun : List Frame → List ℕ → Result Argument ℕ
-begun st [] = Err 0
-begun st (c ∷ cs) = onward (begins st c) (suc (length cs)) (λ n s. run n s cs)
+begun st t = begun_by true st t

@@ -1,4 +1,6 @@
 pub mod Tree
+pub mod Grammar
+pub mod Fronts
 pub mod Names
 pub mod Outcome
 pub mod Converting
@@ -21,3 +23,4 @@ pub mod Leads
 pub mod Keeps
 pub mod Hears
 pub mod Values
+pub mod Laws

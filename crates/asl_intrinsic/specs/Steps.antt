@@ -1,6 +1,7 @@
 -- Reading a call from left to right, byte by byte: its tree, or how many bytes are left from the first place that is wrong.
+-- (What it answers is what the grammar says: the law of one tree, and what `Expr::read` promises.)
 -- Numbers go on as far as asl_json's do, and paths as far as asl_path's.
-use Rattle.std.specs.Prelude.{ℕ, suc, ◌+◌, ◌==◌, ◌||◌, nat_le, ◌&&◌, Bool, true, false, List, [], ◌∷◌, ◌++◌, length, if◌then◌else◌, Option, Some, None, Result, Ok, Err}
+use Rattle.std.specs.Prelude.{ℕ, suc, ◌+◌, ◌==◌, ◌&&◌, Bool, true, false, List, [], ◌∷◌, ◌++◌, length, if◌then◌else◌, Option, Some, None, Result, Ok, Err}
 use Rattle.asl_json.specs.Data.{Data, null, boolean, number}
 use Rattle.asl_json.specs.Number.{is_over}
 use Rattle.asl_json.specs.Grammar.{null_word, true_word, false_word}
@@ -10,21 +11,8 @@ use Rattle.asl_json.specs.declared.number.Part.TheVariants.{Start}
 use Rattle.asl_path.specs.declared.step.Root.{Root}
 use Rattle.asl_path.specs.declared.step.Step.{Step}
 use Rattle.asl_path.specs.Steps.{steps}
-use Rattle.asl_intrinsic.specs.Tree.{Argument, constant, quoted, path, call, arguments}
-
--- ---- bytes
-
--- a letter or a digit
-unfoldable pub is_name_byte : ℕ → Bool
-is_name_byte c = (nat_le 97 c && nat_le c 122) || (nat_le 65 c && nat_le c 90) || (nat_le 48 c && nat_le c 57)
-
--- what may stand behind a backslash: ' \ { }
-unfoldable pub is_escaped : ℕ → Bool
-is_escaped c = (c == 39) || (c == 92) || (c == 123) || (c == 125)
-
--- `States.`
-abbrev pub states_word : List ℕ
-states_word = 83 ∷ 116 ∷ 97 ∷ 116 ∷ 101 ∷ 115 ∷ 46 ∷ []
+use Rattle.asl_intrinsic.specs.Tree.{Argument, Frame, constant, quoted, path, call, arguments}
+use Rattle.asl_intrinsic.specs.Grammar.{is_name_byte, is_escaped, states_word}
 
 -- ---- numbers and paths
 
@@ -62,10 +50,6 @@ unfoldable pub is_path : List ℕ → Bool
 is_path s = is_read (steps s)
 
 -- ---- the machine
-
--- an open call: its name, and its arguments so far
-abbrev pub Frame : Type 0
-Frame = List ℕ × List Argument
 
 -- where a reader stands
 pub data Mode : Type 0 where
@@ -132,10 +116,10 @@ in_ended a (f ∷ st) c =
     else stop 0
 
 -- the longest number is judged where it ends
-unfoldable pub in_figure : List ℕ → List Frame → ℕ → Next
-in_figure s st c =
+unfoldable pub in_figure : Bool → List ℕ → List Frame → ℕ → Next
+in_figure lim s st c =
     if is_number_front (s ++ c ∷ []) then go (figure (s ++ c ∷ [])) st
-    else if is_number s then (if is_over s then stop (length s) else in_ended (constant (number s)) st c)
+    else if is_number s then (if lim && is_over s then stop (length s) else in_ended (constant (number s)) st c)
     else stop 0
 
 unfoldable pub in_along : List ℕ → List Frame → ℕ → Next
@@ -153,7 +137,8 @@ begins st c =
     else if c == 110 then in_word null_word null st c
     else if c == 116 then in_word true_word (boolean true) st c
     else if c == 102 then in_word false_word (boolean false) st c
-    else in_figure [] st c
+    else if is_number_front (c ∷ []) then go (figure (c ∷ [])) st
+    else stop 0
 
 unfoldable pub in_opening : List Frame → ℕ → Next
 in_opening st c = if c == 32 then go opening st else if c == 41 then closes st else begins st c
@@ -161,38 +146,51 @@ in_opening st c = if c == 32 then go opening st else if c == 41 then closes st e
 unfoldable pub in_wanting : List Frame → ℕ → Next
 in_wanting st c = if c == 32 then go wanting st else begins st c
 
--- what the next byte does
+-- what the next byte does, with limits of numbers or without
+abbrev pub step_by : Bool → Mode → List Frame → ℕ → Next
+step_by lim (prefix ws) st c = in_prefix ws st c
+step_by lim (naming n) st c = in_naming n st c
+step_by lim (named n) st c = in_named n st c
+step_by lim opening st c = in_opening st c
+step_by lim wanting st c = in_wanting st c
+step_by lim (word ws d) st c = in_word ws d st c
+step_by lim (chars s) st c = in_chars s st c
+step_by lim (escape s) st c = in_escape s st c
+step_by lim (figure s) st c = in_figure lim s st c
+step_by lim (along s) st c = in_along s st c
+step_by lim (ended a) st c = in_ended a st c
+
 abbrev pub step : Mode → List Frame → ℕ → Next
-step (prefix ws) st c = in_prefix ws st c
-step (naming n) st c = in_naming n st c
-step (named n) st c = in_named n st c
-step opening st c = in_opening st c
-step wanting st c = in_wanting st c
-step (word ws d) st c = in_word ws d st c
-step (chars s) st c = in_chars s st c
-step (escape s) st c = in_escape s st c
-step (figure s) st c = in_figure s st c
-step (along s) st c = in_along s st c
-step (ended a) st c = in_ended a st c
+step m st c = step_by true m st c
 
 -- what the end of the text does
 abbrev pub whole : Argument → List Frame → Result Argument ℕ
 whole a [] = Ok a
 whole a (f ∷ st) = Err 0
 
-abbrev pub finish : Mode → List Frame → Result Argument ℕ
-finish (ended a) st = whole a st
-finish (figure s) st = if is_number s then (if is_over s then Err (length s) else whole (constant (number s)) st) else Err 0
-finish (along s) st = if is_path s then whole (path s) st else Err 0
-finish m st = Err 0
+abbrev pub finish_by : Bool → Mode → List Frame → Result Argument ℕ
+finish_by lim (prefix ws) st = Err 0
+finish_by lim (naming n) st = Err 0
+finish_by lim (named n) st = Err 0
+finish_by lim opening st = Err 0
+finish_by lim wanting st = Err 0
+finish_by lim (word ws d) st = Err 0
+finish_by lim (chars s) st = Err 0
+finish_by lim (escape s) st = Err 0
+finish_by lim (figure s) st = if is_number s then (if lim && is_over s then Err (length s) else whole (constant (number s)) st) else Err 0
+finish_by lim (along s) st = if is_path s then whole (path s) st else Err 0
+finish_by lim (ended a) st = whole a st
 
 abbrev pub onward : Next → ℕ → (Mode → List Frame → Result Argument ℕ) → Result Argument ℕ
 onward (go m st) left f = f m st
 onward (stop back) left f = Err (back + left)
 
+abbrev pub run_by : Bool → Mode → List Frame → List ℕ → Result Argument ℕ
+run_by lim m st [] = finish_by lim m st
+run_by lim m st (c ∷ cs) = onward (step_by lim m st c) (suc (length cs)) (λ n s. run_by lim n s cs)
+
 abbrev pub run : Mode → List Frame → List ℕ → Result Argument ℕ
-run m st [] = finish m st
-run m st (c ∷ cs) = onward (step m st c) (suc (length cs)) (λ n s. run n s cs)
+run m st t = run_by true m st t
 
 -- the call that a text spells, or how many bytes are left from the first place that is wrong
 abbrev pub heard : List ℕ → Result Argument ℕ

@@ -17,6 +17,10 @@ mutual
     none : Arguments
     argument : Argument → Arguments → Arguments
 
+-- an open call: its name, and its arguments so far
+abbrev pub Frame : Type 0
+Frame = List ℕ × List Argument
+
 abbrev pub arguments : List Argument → Arguments
 arguments [] = none
 arguments (a ∷ ts) = argument a (arguments ts)

@@ -2,7 +2,9 @@
 ghost use Rattle.std.specs.Prelude.{◌≡◌, ◌<◌, ◌≤◌, ◌∷◌, [], List, true, false, length, take, slice_index, nat_eq, IfOk, IfErr, IfSome, IfNone, Ok};
 ghost use Rattle.asl_path.specs.Grammar.{Each};
 ghost use Rattle.asl_path.specs.Leads.{NotFirst};
-ghost use Rattle.asl_intrinsic.specs.Steps.{Frame, is_name_byte as name_byte, states_word, prefix, opening, run};
+ghost use Rattle.asl_intrinsic.specs.Steps.{prefix, opening, run};
+ghost use Rattle.asl_intrinsic.specs.Tree.{Frame};
+ghost use Rattle.asl_intrinsic.specs.Grammar.{is_name_byte as name_byte, states_word};
 ghost use Rattle.asl_intrinsic.specs.Leads.{Leads, Skips, is_ascii, after_word as spec_after_word};
 
 use std::alloc::{AllocError, AllocFailed};
@@ -85,7 +87,7 @@ pub(crate) fn after_word<'a>(text: &'a str, word: &[u8]) -> Result<&'a str, Halt
     Ok(rest)
 }
 
-#[tactic(auto, unfolding(crate::specs::Steps::is_name_byte))]
+#[tactic(auto, unfolding(crate::specs::Grammar::is_name_byte))]
 fn is_name_byte(byte: u8) -> bool
     ensures { result ≡ name_byte byte }
 {

@@ -3,7 +3,9 @@ ghost use Rattle.std.specs.Prelude.{◌≡◌, ◌<◌, ◌≤◌, ◌∷◌, []
 ghost use Rattle.asl_json.specs.Data.{null as spec_null, boolean};
 ghost use Rattle.asl_json.specs.Grammar.{null_word};
 ghost use Rattle.asl_path.specs.Grammar.{Each};
-ghost use Rattle.asl_intrinsic.specs.Steps.{Frame, is_escaped as escaped, chars, word, figure, along, ended, run};
+ghost use Rattle.asl_intrinsic.specs.Steps.{chars, word, figure, along, ended, run};
+ghost use Rattle.asl_intrinsic.specs.Tree.{Frame};
+ghost use Rattle.asl_intrinsic.specs.Grammar.{is_escaped as escaped};
 ghost use Rattle.asl_intrinsic.specs.View.{tree_of};
 ghost use Rattle.asl_intrinsic.specs.Faults.{first_fault};
 ghost use Rattle.asl_intrinsic.specs.Leads.{Leads, Fails, IsQuotedLen, IsPathLen, is_behind as behind_argument, is_stray as stray, is_ascii, begun, first_is};
@@ -16,7 +18,7 @@ use asl_path::{PathFault, RefPath};
 use std::alloc::Global;
 
 /// Whether this byte may stand behind a backslash.
-#[tactic(auto, unfolding(crate::specs::Steps::is_escaped))]
+#[tactic(auto, unfolding(crate::specs::Grammar::is_escaped))]
 fn is_escaped(byte: u8) -> bool
     ensures { result ≡ escaped byte }
 {

@@ -18,6 +18,7 @@ mod format;
 mod frame;
 mod front;
 mod function;
+mod laws;
 mod leaf;
 mod letter;
 mod lists;
@@ -30,3 +31,4 @@ mod value;
 
 pub use expr::{CallFault, Expr};
 pub use fault::{EvalFault, Reason};
+pub use laws::a_call_has_one_tree;

@@ -1,9 +1,10 @@
 // Reading a call from left to right, with the open calls in a list.
 ghost use Rattle.std.specs.Prelude.{◌≡◌, ◌<◌, ◌≤◌, ◌+◌, ◌*◌, ◌∷◌, ◌++◌, [], ℕ, List, suc, length, reverse, false, IfOk, IfErr, MatchResult, Result, Ok};
 ghost use Rattle.asl_path.specs.Leads.{NotFirst};
-ghost use Rattle.asl_intrinsic.specs.Tree.{Argument as Tree, call, arguments};
-ghost use Rattle.asl_intrinsic.specs.Steps.{Frame, opening, ended, heard, run};
-ghost use Rattle.asl_intrinsic.specs.Leads.{Fails, is_space, begun};
+ghost use Rattle.asl_intrinsic.specs.Tree.{Argument as Tree, call, arguments, Frame};
+ghost use Rattle.asl_intrinsic.specs.Steps.{opening, ended, heard, run};
+ghost use Rattle.asl_intrinsic.specs.Leads.{Fails, begun};
+ghost use Rattle.asl_intrinsic.specs.Grammar.{is_space};
 ghost use Rattle.asl_intrinsic.specs.Keeps.{KeepsOne, KeepsAll};
 ghost use Rattle.asl_intrinsic.specs.Hears.{Hears, HearsTree, waits};
 ghost use Rattle.asl_intrinsic.specs.declared.front.Halt.{Halt};

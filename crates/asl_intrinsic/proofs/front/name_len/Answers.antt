@@ -1,5 +1,5 @@
 use Rattle.std.proofs.Common.{arith}
-use Rattle.asl_intrinsic.specs.Steps.{is_name_byte}
+use Rattle.asl_intrinsic.specs.Grammar.{is_name_byte}
 use Rattle.asl_path.proofs.Stretch.{each_more}
 use Rattle.asl_intrinsic.proofs.front.name_len.Goals as goal
 

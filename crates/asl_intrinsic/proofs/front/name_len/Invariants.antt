@@ -1,5 +1,5 @@
 use Rattle.std.proofs.Common.{length, take, ◌-◌, ◌≤◌}
-use Rattle.asl_intrinsic.specs.Steps.{is_name_byte}
+use Rattle.asl_intrinsic.specs.Grammar.{is_name_byte}
 use Rattle.asl_path.specs.Grammar.{Each}
 use Rattle.asl_intrinsic.proofs.front.name_len.Given as goal
 

@@ -1,5 +1,6 @@
 use Rattle.std.proofs.Common.{◌≡◌, ◌≤◌, ◌-◌, [], length, take, drop, List}
-use Rattle.asl_intrinsic.specs.Steps.{Frame, chars, run}
+use Rattle.asl_intrinsic.specs.Steps.{chars, run}
+use Rattle.asl_intrinsic.specs.Tree.{Frame}
 use Rattle.asl_intrinsic.proofs.leaf.quoted_len.Given as goal
 
 abbrev pub invariant-loop-end : goal.invariant-loop-end

@@ -1,0 +1,26 @@
+-- The fronts of calls: which calls stand open behind them.
+use Rattle.std.specs.Prelude.{◌≡◌, ℕ, List, [], ◌∷◌}
+use Rattle.asl_json.specs.Grammar.{Behind}
+use Rattle.asl_path.specs.Grammar.{Joined}
+use Rattle.asl_intrinsic.specs.Tree.{Argument, Frame}
+use Rattle.asl_intrinsic.specs.Grammar.{comma, AreSpaces, SpellsArgument, SpellsHead, Spaced}
+
+-- arguments, each with a comma behind it
+abbrev pub SpellsBefore : List Argument → List ℕ → Type 0
+SpellsBefore [] t = t ≡ []
+SpellsBefore (a ∷ ts) t = Joined (Spaced (SpellsArgument a)) (Behind comma (SpellsBefore ts)) t
+
+-- an open call up to where an argument may begin
+abbrev pub OpensCall : Frame → List ℕ → Type 0
+OpensCall f t = Joined (SpellsHead f.0) (Joined (SpellsBefore f.1) AreSpaces) t
+
+-- these open calls, the innermost first
+abbrev pub Opens : List Frame → List ℕ → Type 0
+Opens [] t = t ≡ []
+Opens (f ∷ st) t = Joined (Opens st) (OpensCall f) t
+
+-- the front of a call behind which an argument may begin
+pub record AwaitsArgument (t : List ℕ) : Type 0 where
+  pub innermost : Frame
+  pub others : List Frame
+  pub opens : Opens (innermost ∷ others) t
