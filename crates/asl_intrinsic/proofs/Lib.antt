@@ -9,7 +9,11 @@ pub mod Stretches
 pub mod Leaves
 pub mod Keeping
 pub mod Turns
-pub mod Placing
 pub mod Reaching
 pub mod Ending
 pub mod Passing
+pub mod Alive
+pub mod Stopping
+pub mod Judging
+pub mod Least
+pub mod Answering

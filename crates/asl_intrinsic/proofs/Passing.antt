@@ -30,20 +30,29 @@ pub record Stopped (lim : Bool) (Sound : Type 0) (rest : ℕ) (r : Result Argume
   pub stops : r ≡ Err left
   pub before : rest < left
 
+-- the promise and what the machine does further on
+pub record Went (lim : Bool) (Sound : Type 0) (r s : Result Argument ℕ) : Type 0 where
+  pub sound : lim ≡ true → Sound
+  pub on : r ≡ s
+
 abbrev pub Passed : Bool → Type 0 → ℕ → Result Argument ℕ → Result Argument ℕ → Type 0
-Passed lim P rest r s = (r ≡ s) ⊎ Stopped lim P rest r
+Passed lim P rest r s = Went lim P r s ⊎ Stopped lim P rest r
 
 -- one stretch, then another one
-pub then_passed : (lim : Bool) (P Q R : Type 0) (j k : ℕ) (r s u : Result Argument ℕ) → Passed lim P k r s → Passed lim Q j s u → j ≤ k → (R → P) → (R → Q) → Passed lim R j r u
-then_passed lim P Q R j k r s u (inl e) (inl f) l p q = inl (e ∙ f)
-then_passed lim P Q R j k r s u (inl e) (inr g) l p q = inr (record { limits = g.limits; unsound = λ x. g.unsound (q x); left = g.left; stops = e ∙ g.stops; before = g.before })
-then_passed lim P Q R j k r s u (inr g) h l p q = inr (record { limits = g.limits; unsound = λ x. g.unsound (p x); left = g.left; stops = g.stops; before = omega (arith, g.before, l) })
+pub then_passed : (lim : Bool) (P Q R : Type 0) (j k : ℕ) (r s u : Result Argument ℕ) → Passed lim P k r s → Passed lim Q j s u → j ≤ k → (R → P) → (R → Q) → (P → Q → R) → Passed lim R j r u
+then_passed lim P Q R j k r s u (inl e) (inl f) l p q both = inl (record { sound = λ x. both (e.sound x) (f.sound x); on = e.on ∙ f.on })
+then_passed lim P Q R j k r s u (inl e) (inr g) l p q both = inr (record { limits = g.limits; unsound = λ x. g.unsound (q x); left = g.left; stops = e.on ∙ g.stops; before = g.before })
+then_passed lim P Q R j k r s u (inr g) h l p q both = inr (record { limits = g.limits; unsound = λ x. g.unsound (p x); left = g.left; stops = g.stops; before = omega (arith, g.before, l) })
 
 pub from_equal : (lim : Bool) (P : Type 0) (k : ℕ) (r s u : Result Argument ℕ) → r ≡ s → Passed lim P k s u → Passed lim P k r u
 from_equal lim P k r s u e h = subst (λ (z : Result Argument ℕ). Passed lim P k z u) (sym e) h
 
 pub to_equal : (lim : Bool) (P : Type 0) (k : ℕ) (r s u : Result Argument ℕ) → Passed lim P k r s → s ≡ u → Passed lim P k r u
 to_equal lim P k r s u h e = subst (λ (z : Result Argument ℕ). Passed lim P k r z) e h
+
+-- a stretch without numbers
+pub plain : (lim : Bool) (P : Type 0) (k : ℕ) (r s : Result Argument ℕ) → P → r ≡ s → Passed lim P k r s
+plain lim P k r s h e = inl (record { sound = λ _. h; on = e })
 
 -- ---- where an argument begins
 
@@ -108,8 +117,8 @@ numeral_passes lim st s rest h e = at lim (is_over s) refl
     fits l f = reads l ∙ fits_on l (numeral_accepted s h).to s rest st (numeral_accepted s h).leads (numeral_accepted s h).ends f (number_stops (numeral_accepted s h).to rest e)
 
     at : (l b : Bool) → is_over s ≡ b → Passed l (is_over s ≡ false) (length rest) (begun_by l st (s ++ rest)) (run_by l (ended (constant (number s))) st rest)
-    at false b f = inl (fits false refl)
-    at true false f = inl (fits true f)
+    at false b f = inl (record { sound = λ l. absurd (let no = l in cc); on = fits false refl })
+    at true false f = inl (record { sound = λ _. f; on = fits true f })
     at true true f = inr (record {
       limits = refl;
       unsound = λ g. let two = sym f ∙ g in cc;
@@ -120,7 +129,7 @@ numeral_passes lim st s rest h e = at lim (is_over s) refl
 
 -- ---- words, texts and paths
 
-null_passes : (lim : Bool) (st : List Frame) (rest : List ℕ) → begun_by lim st (null_word ++ rest) ≡ run_by lim (ended (constant null)) st rest
+pub null_passes : (lim : Bool) (st : List Frame) (rest : List ℕ) → begun_by lim st (null_word ++ rest) ≡ run_by lim (ended (constant null)) st rest
 unfolding begins in_word
 null_passes lim st rest = refl
 
@@ -133,9 +142,9 @@ unfolding begins in_word
 false_passes lim st rest = refl
 
 constant_passes : (d : Data) (lim : Bool) (st : List Frame) (t rest : List ℕ) → SpellsConstant d t → Ends rest → Passed lim (FitsConstant d) (length rest) (begun_by lim st (t ++ rest)) (run_by lim (ended (constant d)) st rest)
-constant_passes null lim st t rest h e = inl (ap (λ (z : List ℕ). begun_by lim st (z ++ rest)) h ∙ null_passes lim st rest)
-constant_passes (boolean true) lim st t rest h e = inl (ap (λ (z : List ℕ). begun_by lim st (z ++ rest)) h ∙ true_passes lim st rest)
-constant_passes (boolean false) lim st t rest h e = inl (ap (λ (z : List ℕ). begun_by lim st (z ++ rest)) h ∙ false_passes lim st rest)
+constant_passes null lim st t rest h e = plain lim (Unit {0}) (length rest) (begun_by lim st (t ++ rest)) (run_by lim (ended (constant null)) st rest) tt (ap (λ (z : List ℕ). begun_by lim st (z ++ rest)) h ∙ null_passes lim st rest)
+constant_passes (boolean true) lim st t rest h e = plain lim (Unit {0}) (length rest) (begun_by lim st (t ++ rest)) (run_by lim (ended (constant (boolean true))) st rest) tt (ap (λ (z : List ℕ). begun_by lim st (z ++ rest)) h ∙ true_passes lim st rest)
+constant_passes (boolean false) lim st t rest h e = plain lim (Unit {0}) (length rest) (begun_by lim st (t ++ rest)) (run_by lim (ended (constant (boolean false))) st rest) tt (ap (λ (z : List ℕ). begun_by lim st (z ++ rest)) h ∙ false_passes lim st rest)
 constant_passes (number s) lim st t rest h e =
     from_equal lim (is_over s ≡ false) (length rest) (begun_by lim st (t ++ rest)) (begun_by lim st (s ++ rest)) (run_by lim (ended (constant (number s))) st rest) (ap (λ (z : List ℕ). begun_by lim st (z ++ rest)) h.0) (numeral_passes lim st s rest h.1 e)
 constant_passes (text s) lim st t rest h e = absurd h
@@ -251,6 +260,9 @@ constant_first (text s) t h = absurd h
 constant_first (list ds) t h = absurd h
 constant_first (dict ms) t h = absurd h
 
+pub head_first : (n t : List ℕ) → SpellsHead n t → BeginsArgument t
+head_first n t h = begins_with t 83 (116 ∷ 97 ∷ 116 ∷ 101 ∷ 115 ∷ 46 ∷ (n ++ (h.spaces ++ 40 ∷ []))) h.parts refl refl
+
 argument_first : (a : Argument) (t : List ℕ) → SpellsArgument a t → BeginsArgument t
 argument_first (constant d) t h = constant_first d t h
 argument_first (quoted s) t h = begins_with t 39 (s ++ 39 ∷ []) h.parts refl refl
@@ -288,12 +300,13 @@ spaced_passes a lim m f st t rest w passes h e =
     let there : run_by lim m (f ∷ st) (t ++ rest) ≡ begun_by lim (f ∷ st) (h.inner ++ tail) =
     ap (run_by lim m (f ∷ st)) same ∙ spaces_pass lim m (f ∷ st) h.before (h.inner ++ tail) w.space h.before_is ∙ wanted lim m (f ∷ st) h.inner tail w (argument_first a h.inner h.inner_is) in
     let behind : run_by lim (ended a) (f ∷ st) tail ≡ run_by lim (ended a) (f ∷ st) rest = spaces_pass lim (ended a) (f ∷ st) h.behind rest (ended_space a f st) h.behind_is in
-    then_passed lim (Fits a) (Fits a) (Fits a) (length rest) (length tail) (run_by lim m (f ∷ st) (t ++ rest)) (run_by lim (ended a) (f ∷ st) tail) (run_by lim (ended a) (f ∷ st) rest)
+    then_passed lim (Fits a) (Unit {0}) (Fits a) (length rest) (length tail) (run_by lim m (f ∷ st) (t ++ rest)) (run_by lim (ended a) (f ∷ st) tail) (run_by lim (ended a) (f ∷ st) rest)
     (from_equal lim (Fits a) (length tail) (run_by lim m (f ∷ st) (t ++ rest)) (begun_by lim (f ∷ st) (h.inner ++ tail)) (run_by lim (ended a) (f ∷ st) tail) there (passes h.inner tail h.inner_is (spaced_ends h.behind rest h.behind_is e)))
-    (inl behind)
+    (plain lim (Unit {0}) (length rest) (run_by lim (ended a) (f ∷ st) tail) (run_by lim (ended a) (f ∷ st) rest) tt behind)
     (omega (arith, length-append h.behind rest))
     (λ x. x)
-    (λ x. x)
+    (λ _. tt)
+    (λ x _. x)
 
 -- ---- arguments and calls
 
@@ -330,7 +343,7 @@ call_starts n ts lim st t rest h =
     let same : t ++ rest ≡ h.front ++ (h.back ++ rest) = ap (λ (z : List ℕ). z ++ rest) h.parts ∙ append_assoc h.front h.back rest in
     ap (begun_by lim st) same ∙ head_begun lim n h.front (h.back ++ rest) st h.front_is ∙ ap (run_by lim (prefix states_word) st) (sym same)
 
-comma_passes : (lim : Bool) (n : List ℕ) (done : List Argument) (a : Argument) (st : List Frame) (t tail rest : List ℕ) → t ≡ 44 ∷ tail → run_by lim (ended a) ((n, done) ∷ st) (t ++ rest) ≡ run_by lim wanting ((n, done ++ a ∷ []) ∷ st) (tail ++ rest)
+pub comma_passes : (lim : Bool) (n : List ℕ) (done : List Argument) (a : Argument) (st : List Frame) (t tail rest : List ℕ) → t ≡ 44 ∷ tail → run_by lim (ended a) ((n, done) ∷ st) (t ++ rest) ≡ run_by lim wanting ((n, done ++ a ∷ []) ∷ st) (tail ++ rest)
 comma_passes lim n done a st t tail rest e =
     ap (λ (z : List ℕ). run_by lim (ended a) ((n, done) ∷ st) (z ++ rest)) e ∙ goes lim (ended a) wanting ((n, done) ∷ st) ((n, done ++ a ∷ []) ∷ st) 44 (tail ++ rest) (ended_comma a (n, done) st)
 
@@ -356,19 +369,20 @@ first_passes a ts lim n done st front back rest m t y parts w passes more same f
     (omega (arith, length-append back rest))
     (λ h. h.0)
     (λ h. h.1)
+    (λ x y. (x, y))
 
 mutual
   pub argument_passes : (a : Argument) (lim : Bool) (f : Frame) (st : List Frame) (t rest : List ℕ) → SpellsArgument a t → Ends rest → Passed lim (Fits a) (length rest) (begun_by lim (f ∷ st) (t ++ rest)) (run_by lim (ended a) (f ∷ st) rest)
   argument_passes (constant d) lim f st t rest h e = constant_passes d lim (f ∷ st) t rest h e
-  argument_passes (quoted s) lim f st t rest h e = inl (quoted_passes lim (f ∷ st) s t rest h)
-  argument_passes (path p) lim f st t rest h e = inl (path_passes lim (f ∷ st) p t rest h e)
+  argument_passes (quoted s) lim f st t rest h e = plain lim (Unit {0}) (length rest) (begun_by lim (f ∷ st) (t ++ rest)) (run_by lim (ended (quoted s)) (f ∷ st) rest) tt (quoted_passes lim (f ∷ st) s t rest h)
+  argument_passes (path p) lim f st t rest h e = plain lim (Unit {0}) (length rest) (begun_by lim (f ∷ st) (t ++ rest)) (run_by lim (ended (path p)) (f ∷ st) rest) tt (path_passes lim (f ∷ st) p t rest h e)
   argument_passes (call n ts) lim f st t rest h e =
       from_equal lim (FitAll ts) (length rest) (begun_by lim (f ∷ st) (t ++ rest)) (run_by lim (prefix states_word) (f ∷ st) (t ++ rest)) (run_by lim (ended (call n ts)) (f ∷ st) rest)
       (call_starts n ts lim (f ∷ st) t rest h)
       (call_passes n ts lim (f ∷ st) t rest h (λ u g. arguments_pass ts lim n (f ∷ st) u rest g))
 
   pub arguments_pass : (ts : Arguments) (lim : Bool) (n : List ℕ) (st : List Frame) (t rest : List ℕ) → SpellsArguments ts t → Passed lim (FitAll ts) (length rest) (run_by lim opening ((n, []) ∷ st) (t ++ rest)) (run_by lim (ended (call n ts)) st rest)
-  arguments_pass none lim n st t rest h = inl (none_passes lim n st t rest h)
+  arguments_pass none lim n st t rest h = plain lim (Unit {0}) (length rest) (run_by lim opening ((n, []) ∷ st) (t ++ rest)) (run_by lim (ended (call n none)) st rest) tt (none_passes lim n st t rest h)
   arguments_pass (argument a ts) lim n st t rest h =
       first_passes a ts lim n [] st h.front h.back rest opening t (call n (argument a ts)) h.parts (opening_wants lim ((n, []) ∷ st))
       (λ u r g e. argument_passes a lim (n, []) st u r g e)
@@ -379,7 +393,8 @@ mutual
 
   more_pass : (ts : Arguments) (lim : Bool) (n : List ℕ) (done : List Argument) (a : Argument) (st : List Frame) (t rest : List ℕ) → SpellsMore ts t
       → Passed lim (FitAll ts) (length rest) (run_by lim (ended a) ((n, done) ∷ st) (t ++ rest)) (run_by lim (ended (call n (arguments (done ++ a ∷ items ts)))) st rest)
-  more_pass none lim n done a st t rest h = inl (last_passes lim n done a st t rest h)
+  more_pass none lim n done a st t rest h =
+      plain lim (Unit {0}) (length rest) (run_by lim (ended a) ((n, done) ∷ st) (t ++ rest)) (run_by lim (ended (call n (arguments (done ++ a ∷ [])))) st rest) tt (last_passes lim n done a st t rest h)
   more_pass (argument b ts) lim n done a st t rest h =
       from_equal lim (Fits b × FitAll ts) (length rest) (run_by lim (ended a) ((n, done) ∷ st) (t ++ rest)) (run_by lim wanting ((n, done ++ a ∷ []) ∷ st) (h.tail ++ rest)) (run_by lim (ended (call n (arguments (done ++ a ∷ items (argument b ts))))) st rest)
       (comma_passes lim n done a st t h.tail rest h.parts)
@@ -404,7 +419,7 @@ pub free_heard : (a : Argument) (t : List ℕ) → SpellsCall a t → run_by fal
 free_heard a t h = at (call_heard false a t h)
   where
     at : Passed false (Fits a) 0 (run_by false (prefix states_word) [] t) (Ok a) → run_by false (prefix states_word) [] t ≡ Ok a
-    at (inl e) = e
+    at (inl e) = e.on
     at (inr g) = absurd (let two = g.limits in cc)
 
 -- in the limits
@@ -412,8 +427,15 @@ pub fitting_heard : (a : Argument) (t : List ℕ) → SpellsCall a t → Fits a 
 fitting_heard a t h f = at (call_heard true a t h)
   where
     at : Passed true (Fits a) 0 (run_by true (prefix states_word) [] t) (Ok a) → run_by true (prefix states_word) [] t ≡ Ok a
-    at (inl e) = e
+    at (inl e) = e.on
     at (inr g) = absurd (g.unsound f)
+
+pub heard_fits : (a : Argument) (t : List ℕ) → SpellsCall a t → run_by true (prefix states_word) [] t ≡ Ok a → Fits a
+heard_fits a t h r = at (call_heard true a t h)
+  where
+    at : Passed true (Fits a) 0 (run_by true (prefix states_word) [] t) (Ok a) → Fits a
+    at (inl e) = e.sound refl
+    at (inr g) = absurd (let two = sym r ∙ g.stops in cc)
 
 pub same_ok : (a b : Argument) → ◌≡◌ {A = Result Argument ℕ} (Ok a) (Ok b) → a ≡ b
 same_ok a b e = cc

@@ -442,7 +442,7 @@ never_whole true true k a e = cc
 never_whole true false k a e = cc
 never_whole false c k a e = cc
 
-finish_spells : (lim : Bool) (m : Mode) (st : List Frame) (t : List ℕ) (a : Argument) → Reached m st t → finish_by lim m st ≡ Ok a → SpellsCall a t
+pub finish_spells : (lim : Bool) (m : Mode) (st : List Frame) (t : List ℕ) (a : Argument) → Reached m st t → finish_by lim m st ≡ Ok a → SpellsCall a t
 finish_spells lim (prefix ws) st t a h e = absurd cc
 finish_spells lim (naming n) st t a h e = absurd cc
 finish_spells lim (named n) st t a h e = absurd cc

@@ -127,7 +127,7 @@ word_halts w (v ∷ ws) (c ∷ cs) left d st e = at (c == w) refl e (λ f. word_
 
 -- ---- names
 
-name_begins : (st : List Frame) (c : ℕ) → is_name_byte c ≡ true → step (prefix []) st c ≡ go (naming (c ∷ [])) st
+pub name_begins : (st : List Frame) (c : ℕ) → is_name_byte c ≡ true → step (prefix []) st c ≡ go (naming (c ∷ [])) st
 unfolding in_prefix
 name_begins st c e = rw e refl
 
@@ -139,7 +139,7 @@ name_on : (n : List ℕ) (st : List Frame) (c : ℕ) → is_name_byte c ≡ true
 unfolding in_naming
 name_on n st c e = rw e refl
 
-name_off : (n : List ℕ) (st : List Frame) (c : ℕ) → is_name_byte c ≡ false → step (naming n) st c ≡ step (named n) st c
+pub name_off : (n : List ℕ) (st : List Frame) (c : ℕ) → is_name_byte c ≡ false → step (naming n) st c ≡ step (named n) st c
 unfolding in_naming
 name_off n st c e = rw e refl
 

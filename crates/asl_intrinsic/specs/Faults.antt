@@ -1,8 +1,11 @@
 -- What each fault says of a text.
-use Rattle.std.specs.Prelude.{◌≡◌, ◌+◌, ℕ, suc, nat_lt, List, length, if◌then◌else◌, Option, None, Some, Ok, Err}
+use Rattle.std.specs.Prelude.{◌≡◌, ◌⊎◌, ◌≤◌, ℕ, suc, nat_lt, true, List, [], ◌∷◌, ◌++◌, length, if◌then◌else◌, Option, None, Some}
+use Rattle.asl_json.specs.Number.{IsNumeral, is_over}
+use Rattle.asl_json.specs.Open.{EndsNumber}
 use Rattle.asl_intrinsic.specs.Tree.{Argument, constant, quoted, path, call, Arguments, none, argument}
+use Rattle.asl_intrinsic.specs.Grammar.{SpellsCall, IsSpelled, IsPrefix, Fits}
+use Rattle.asl_intrinsic.specs.Fronts.{AwaitsArgument}
 use Rattle.asl_intrinsic.specs.Names.{function_named, takes}
-use Rattle.asl_intrinsic.specs.Steps.{heard}
 use Rattle.asl_intrinsic.specs.declared.function.Function.{Function}
 use Rattle.asl_intrinsic.specs.declared.expr.CallFault.{CallFault}
 use Rattle.asl_intrinsic.specs.declared.expr.CallFault.TheVariants.{Syntax, Unknown, Depth, Arity, OutOfMemory}
@@ -40,26 +43,56 @@ abbrev mutual
   first_faults level none = None
   first_faults level (argument a ts) = sooner (first_fault level a) (first_faults level ts)
 
--- a call of known functions, each with as many arguments as it takes, of which at most ten stand in one another
+-- a call of known functions, each with as many arguments as it takes, of which at most ten stand in one another, with numbers in the limits
 pub record IsCall (t : List ℕ) : Type 0 where
   pub tree : Argument
-  pub heard_is : heard t ≡ Ok tree
+  pub spelled : SpellsCall tree t
+  pub fits : Fits tree
   pub faultless : first_fault 1 tree ≡ None
 
+-- no call goes on from the front over the next byte, or, where there is none, the front is no call
+abbrev pub EndsAt : List ℕ → List ℕ → Type 0
+EndsAt front [] = IsSpelled front → ⊥
+EndsAt front (c ∷ rest) = IsPrefix (front ++ c ∷ []) → ⊥
+
+-- the byte of this number, counted from 0, is the first one that can't go on; the end of the text counts as one
+pub record SyntaxAt (t : List ℕ) (at : ℕ) : Type 0 where
+  pub front : List ℕ
+  pub rest : List ℕ
+  pub parts : t ≡ front ++ rest
+  pub at_is : length front ≡ at
+  pub alive : IsPrefix front
+  pub dead : EndsAt front rest
+
+-- there begins a number past the limits, read whole
+pub record NumberAt (t : List ℕ) (at : ℕ) : Type 0 where
+  pub front : List ℕ
+  pub spelled : List ℕ
+  pub rest : List ℕ
+  pub parts : t ≡ front ++ (spelled ++ rest)
+  pub at_is : length front ≡ at
+  pub awaits : AwaitsArgument front
+  pub number_is : IsNumeral spelled
+  pub longest : EndsNumber spelled rest
+  pub over : is_over spelled ≡ true
+
+abbrev pub IsWrongAt : List ℕ → ℕ → Type 0
+IsWrongAt t at = SyntaxAt t at ⊎ NumberAt t at
+
 -- the first place that is wrong
-pub record IsWrongAt (t : List ℕ) (at : ℕ) : Type 0 where
-  pub left : ℕ
-  pub heard_is : heard t ≡ Err left
-  pub place : at + left ≡ length t
+pub record IsFirstWrong (t : List ℕ) (at : ℕ) : Type 0 where
+  pub wrong : IsWrongAt t at
+  pub first : (other : ℕ) → IsWrongAt t other → at ≤ other
 
 -- a call whose first fault is this one
 pub record IsMisfit (t : List ℕ) (fault : CallFault) : Type 0 where
   pub tree : Argument
-  pub heard_is : heard t ≡ Ok tree
+  pub spelled : SpellsCall tree t
+  pub fits : Fits tree
   pub first : first_fault 1 tree ≡ Some fault
 
 abbrev pub IsFaultOf : List ℕ → CallFault → Type 0
-IsFaultOf t (Syntax at) = IsWrongAt t at
+IsFaultOf t (Syntax at) = IsFirstWrong t at
 IsFaultOf t (Unknown name) = IsMisfit t (Unknown name)
 IsFaultOf t Depth = IsMisfit t Depth
 IsFaultOf t Arity = IsMisfit t Arity

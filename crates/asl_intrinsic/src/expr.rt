@@ -110,9 +110,9 @@ impl Expr {
     /// I1 is judged on the whole text; then, call by call in the order of their names, I3, I2 and I4.
     pub fn read(alloc: Global, text: &str) -> Result<Expr, CallFault>
         ensures text { IfOk result (λ e. e ≡ text.now) }
-        // What is read is a call.
+        // What is read is a call, as the grammar spells it, without a fault.
         ensures found { IfOk result (λ _. IsCall text.now) }
-        // Each call is read, unless memory runs out.
+        // Each such call is read, unless memory runs out.
         ensures only { IsCall text.now → IfErr result (λ fault. fault ≡ CallFault.OutOfMemory) }
         // The fault is the first one.
         ensures fault { IfErr result (IsFaultOf text.now) }

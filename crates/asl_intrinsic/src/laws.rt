@@ -1,7 +1,12 @@
-// Laws of calls: each is a contract, over every text.
-ghost use Rattle.asl_intrinsic.specs.Laws.{HasOneTree};
+// Laws of calls: each is a contract, over every text and every value.
+ghost use Rattle.asl_intrinsic.specs.Laws.{HasOneTree, HasOneMeaning, IsWrongElsewhere};
 
-/// A text spells at most one call.
-pub fn a_call_has_one_tree()
-    ensures { HasOneTree }
+/// What a text means, by the call that it spells.
+pub fn a_call_has_one_meaning()
+    // A text spells one call at most.
+    ensures tree { HasOneTree }
+    // Where it spells one with numbers in the limits, no place is wrong, and its value is that of the call.
+    ensures meaning { HasOneMeaning }
+    // Every other text has a first place that is wrong.
+    ensures wrong { IsWrongElsewhere }
 {}

@@ -31,4 +31,4 @@ mod value;
 
 pub use expr::{CallFault, Expr};
 pub use fault::{EvalFault, Reason};
-pub use laws::a_call_has_one_tree;
+pub use laws::a_call_has_one_meaning;
