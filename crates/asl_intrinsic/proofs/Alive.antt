@@ -1,5 +1,5 @@
 -- Where the machine stands, the text goes on to a call.
-use Rattle.std.proofs.Common.{◌≡◌, ◌<◌, ◌==◌, ℕ, suc, Bool, true, false, List, [], ◌∷◌, ◌++◌, length, refl, sym, ◌∙◌, ap, subst, arith, cond, append_assoc}
+use Rattle.std.proofs.Common.{◌≡◌, ◌<◌, ◌==◌, ℕ, suc, true, false, List, [], ◌∷◌, ◌++◌, length, refl, sym, ◌∙◌, subst, arith}
 use Rattle.std.specs.Prelude.{Result, Ok, Err, Option, Some, None}
 use Rattle.std.proofs.lemmas.List.{append-nil}
 use Rattle.std.proofs.lemmas.Bool.{eq-eqb}
@@ -14,9 +14,9 @@ use Rattle.asl_path.specs.declared.step.Step.{Step}
 use Rattle.asl_path.specs.Grammar.{IsPrefix as IsPathPrefix}
 use Rattle.asl_path.specs.Steps.{steps}
 use Rattle.asl_path.proofs.Judging.{Judged as PathJudged, path_judged}
-use Rattle.asl_intrinsic.specs.Tree.{Argument, Frame, constant, quoted, path, call, Arguments, arguments}
-use Rattle.asl_intrinsic.specs.Grammar.{states_word, is_name_byte, is_escaped, IsPrefix}
-use Rattle.asl_intrinsic.specs.Fronts.{Opens, AwaitsArgument}
+use Rattle.asl_intrinsic.specs.Tree.{Argument, Frame, constant, quoted, path, call, arguments}
+use Rattle.asl_intrinsic.specs.Grammar.{is_name_byte, is_escaped, IsPrefix}
+use Rattle.asl_intrinsic.specs.Fronts.{AwaitsArgument}
 use Rattle.asl_intrinsic.specs.Steps.{Mode, prefix, naming, named, opening, wanting, word, chars, escape, figure, along, ended, is_part, is_begun, is_number_front, is_path_front, run_by}
 use Rattle.asl_intrinsic.proofs.Stretches.{goes, alike, prefix_on, name_begins, name_off, named_opens, word_on, word_ends}
 use Rattle.asl_intrinsic.proofs.Leaves.{quote_ends, escape_on, figure_run, fits_on, along_run, along_whole, path_prefix}
@@ -83,7 +83,7 @@ wanting_goes_on : (f : Frame) (st : List Frame) → GoesOn wanting (f ∷ st)
 wanting_goes_on f st =
     ends_well wanting (f ∷ st) null_word (constant null)
     (wanted false wanting (f ∷ st) null_word (closing (f ∷ st)) (wanting_wants false (f ∷ st)) (record { first = 110; others = 117 ∷ 108 ∷ 108 ∷ []; parts = refl; no_space = refl; no_bracket = refl })
-     ∙ null_passes false (f ∷ st) (closing (f ∷ st)))
+    ∙ null_passes false (f ∷ st) (closing (f ∷ st)))
 
 word_run : (ws : List ℕ) (d : Data) (st : List Frame) (rest : List ℕ) → 0 < length ws → run_by false (word ws d) st (ws ++ rest) ≡ run_by false (ended (constant d)) st rest
 word_run [] d st rest l = absurd (omega arith)

@@ -11,7 +11,7 @@ use Rattle.asl_path.specs.declared.step.Root.{Root}
 use Rattle.asl_path.specs.declared.step.Root.TheVariants.{Input, Context}
 use Rattle.asl_path.specs.declared.step.Step.{Step}
 use Rattle.asl_path.specs.declared.step.Step.TheVariants.{Name}
-use Rattle.asl_path.specs.Grammar.{SpellsRoot, IsPath, IsPrefix, is_name_byte, is_digit as is_digit_of_paths}
+use Rattle.asl_path.specs.Grammar.{SpellsRoot, IsPath, is_name_byte, is_digit as is_digit_of_paths}
 use Rattle.asl_path.specs.Steps.{Mode, between, dot, name, bracket, quoted, closing, digits, Next, go, stop, begin_step, advance, finish, onward, run, with_root, from_root, steps}
 use Rattle.asl_path.proofs.Passing.{path_passes}
 use Rattle.asl_intrinsic.specs.Leads.{is_behind}

@@ -1,6 +1,6 @@
 -- What the machine answers is right: the call that the text spells, the first byte that can't go on, or a number past the limits.
-use Rattle.std.proofs.Common.{◌≡◌, ◌≤◌, ◌+◌, ◌-◌, ◌==◌, ℕ, suc, Bool, true, false, List, [], ◌∷◌, ◌++◌, length, refl, sym, ◌∙◌, ap, subst, arith, cond, append_assoc, inl, inr, ◌⊎◌}
-use Rattle.std.specs.Prelude.{Result, Ok, Err, Option, Some, None, ◌&&◌}
+use Rattle.std.proofs.Common.{◌≡◌, ◌+◌, ℕ, suc, Bool, true, false, List, [], ◌∷◌, ◌++◌, length, refl, sym, ◌∙◌, ap, subst, arith, cond, append_assoc, inl, inr, ◌⊎◌}
+use Rattle.std.specs.Prelude.{Result, Ok, Err, Option, Some, None}
 use Rattle.std.proofs.lemmas.List.{append-nil, length-append}
 use Rattle.asl_json.specs.Data.{number}
 use Rattle.asl_json.specs.Number.{IsNumeral, is_over}
@@ -9,10 +9,10 @@ use Rattle.asl_json.specs.Machine.{next_part}
 use Rattle.asl_json.specs.declared.number.Part.{Part}
 use Rattle.asl_json.proofs.Numerals.{part_push, part_longest}
 use Rattle.asl_intrinsic.specs.Tree.{Argument, Frame, constant, path}
-use Rattle.asl_intrinsic.specs.Grammar.{states_word, SpellsCall, IsSpelled, IsPrefix, Fits}
+use Rattle.asl_intrinsic.specs.Grammar.{states_word, SpellsCall, IsSpelled, IsPrefix}
 use Rattle.asl_intrinsic.specs.Fronts.{AwaitsArgument}
 use Rattle.asl_intrinsic.specs.Faults.{EndsAt}
-use Rattle.asl_intrinsic.specs.Steps.{Mode, prefix, naming, named, opening, wanting, word, chars, escape, figure, along, ended, Next, go, stop, is_number_front, is_number, is_path, in_figure, in_ended, step_by, whole, finish_by, onward, run_by, heard}
+use Rattle.asl_intrinsic.specs.Steps.{Mode, prefix, naming, named, opening, wanting, word, chars, escape, figure, along, ended, Next, go, stop, is_number_front, is_number, is_path, in_figure, step_by, whole, finish_by, onward, run_by, heard}
 use Rattle.asl_intrinsic.proofs.Leaves.{IsPart, front_on}
 use Rattle.asl_intrinsic.proofs.Stopping.{stops_there}
 use Rattle.asl_intrinsic.proofs.Reaching.{Reached, Holds, step_reaches, finish_spells, number_spelled, at_start}

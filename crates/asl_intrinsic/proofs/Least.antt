@@ -1,18 +1,16 @@
 -- The place that the machine answers is the first one that is wrong.
-use Rattle.std.proofs.Common.{◌≡◌, ◌<◌, ◌≤◌, ◌+◌, ◌-◌, ◌==◌, ℕ, suc, Bool, true, false, List, [], ◌∷◌, ◌++◌, length, refl, sym, ◌∙◌, ap, subst, arith, cond, append_assoc, inl, inr, ◌⊎◌}
-use Rattle.std.specs.Prelude.{Result, Ok, Err, Option, Some, None}
+use Rattle.std.proofs.Common.{◌≡◌, ◌<◌, ◌≤◌, ◌+◌, ◌-◌, ℕ, Bool, true, List, [], ◌∷◌, ◌++◌, length, refl, sym, ◌∙◌, ap, subst, arith, append_assoc, inl, inr, ◌⊎◌}
+use Rattle.std.specs.Prelude.{Result, Err}
 use Rattle.std.proofs.lemmas.List.{append-nil, length-append}
 use Rattle.asl_json.specs.Number.{IsNumeral, is_over}
 use Rattle.asl_json.specs.Open.{EndsNumber}
 use Rattle.asl_json.proofs.Numerals.{numeral_accepted, longest_stops}
 use Rattle.asl_json.specs.declared.number.Part.{Part}
-use Rattle.asl_path.specs.Grammar.{Joined}
 use Rattle.asl_intrinsic.specs.Tree.{Argument, Frame}
-use Rattle.asl_intrinsic.specs.Grammar.{states_word, AreSpaces, IsSpelled, IsPrefix, Fits}
+use Rattle.asl_intrinsic.specs.Grammar.{states_word, IsSpelled, IsPrefix, Fits}
 use Rattle.asl_intrinsic.specs.Fronts.{SpellsBefore, OpensCall, Opens}
 use Rattle.asl_intrinsic.specs.Faults.{EndsAt, SyntaxAt, NumberAt, IsWrongAt, IsFirstWrong}
-use Rattle.asl_intrinsic.specs.Steps.{Mode, prefix, opening, wanting, figure, ended, run, heard}
-use Rattle.asl_intrinsic.specs.Leads.{begun}
+use Rattle.asl_intrinsic.specs.Steps.{Mode, prefix, opening, wanting, ended, run, heard}
 use Rattle.asl_intrinsic.proofs.Stretches.{spaces_pass}
 use Rattle.asl_intrinsic.proofs.Leaves.{IsPart, Stops, figure_run, over_on}
 use Rattle.asl_intrinsic.proofs.Passing.{Passed, Wants, opening_wants, wanting_wants, wanted, spaced_passes, argument_passes, comma_passes, head_passes, head_begun, head_first, begun_numeral, numeral_first}
@@ -67,11 +65,11 @@ before_arrives (a ∷ ts) done n st m u rest h w =
       mode = again.mode;
       wants = subst (Wants true again.mode) same again.wants;
       gets =
-      subst (λ (z : Result Argument ℕ). Gets (length rest) z (run again.mode ((n, done ++ a ∷ ts) ∷ st) rest)) (sym (ap (run m ((n, done) ∷ st)) regrouped))
-      (then_gets (length rest) (length tail) (run m ((n, done) ∷ st) (h.front ++ tail)) (run (ended a) ((n, done) ∷ st) tail) (run again.mode ((n, done ++ a ∷ ts) ∷ st) rest) one
-       (subst (λ (z : Result Argument ℕ). Gets (length rest) z (run again.mode ((n, done ++ a ∷ ts) ∷ st) rest)) (sym two)
-        (subst (λ (z : List Frame). Gets (length rest) next (run again.mode z rest)) same again.gets))
-       (omega (arith, length-append h.back rest)));
+          subst (λ (z : Result Argument ℕ). Gets (length rest) z (run again.mode ((n, done ++ a ∷ ts) ∷ st) rest)) (sym (ap (run m ((n, done) ∷ st)) regrouped))
+          (then_gets (length rest) (length tail) (run m ((n, done) ∷ st) (h.front ++ tail)) (run (ended a) ((n, done) ∷ st) tail) (run again.mode ((n, done ++ a ∷ ts) ∷ st) rest) one
+          (subst (λ (z : Result Argument ℕ). Gets (length rest) z (run again.mode ((n, done ++ a ∷ ts) ∷ st) rest)) (sym two)
+          (subst (λ (z : List Frame). Gets (length rest) next (run again.mode z rest)) same again.gets))
+          (omega (arith, length-append h.back rest)));
     }
 
 -- from the head of a call
@@ -87,10 +85,10 @@ call_arrives f st t rest h =
       mode = b.mode;
       wants = b.wants;
       gets =
-      subst (λ (z : Result Argument ℕ). Gets (length rest) z (run b.mode (f ∷ st) rest)) (sym there)
-      (then_gets (length rest) (length (i.back ++ rest)) (run opening ((f.0, []) ∷ st) (i.front ++ (i.back ++ rest))) (run b.mode (f ∷ st) (i.back ++ rest)) (run b.mode (f ∷ st) rest) b.gets
-       (inl (spaces_pass true b.mode (f ∷ st) i.back rest b.wants.space i.back_is))
-       (omega (arith, length-append i.back rest)));
+          subst (λ (z : Result Argument ℕ). Gets (length rest) z (run b.mode (f ∷ st) rest)) (sym there)
+          (then_gets (length rest) (length (i.back ++ rest)) (run opening ((f.0, []) ∷ st) (i.front ++ (i.back ++ rest))) (run b.mode (f ∷ st) (i.back ++ rest)) (run b.mode (f ∷ st) rest) b.gets
+          (inl (spaces_pass true b.mode (f ∷ st) i.back rest b.wants.space i.back_is))
+          (omega (arith, length-append i.back rest)));
     }
 
 opens_arrives : (st : List Frame) (f : Frame) (t rest : List ℕ) → Opens (f ∷ st) t → Arrives (heard (t ++ rest)) (f ∷ st) rest
@@ -113,10 +111,10 @@ opens_arrives (g ∷ st) f t rest h =
       mode = inner.mode;
       wants = inner.wants;
       gets =
-      subst (λ (z : List ℕ). Gets (length rest) (heard z) (run inner.mode (f ∷ g ∷ st) rest)) (sym regrouped)
-      (then_gets (length rest) (length tail) (heard (h.front ++ tail)) (run outer.mode (g ∷ st) tail) (run inner.mode (f ∷ g ∷ st) rest) outer.gets
-       (subst (λ (z : Result Argument ℕ). Gets (length rest) z (run inner.mode (f ∷ g ∷ st) rest)) (sym begins) inner.gets)
-       (omega (arith, length-append h.back rest)));
+          subst (λ (z : List ℕ). Gets (length rest) (heard z) (run inner.mode (f ∷ g ∷ st) rest)) (sym regrouped)
+          (then_gets (length rest) (length tail) (heard (h.front ++ tail)) (run outer.mode (g ∷ st) tail) (run inner.mode (f ∷ g ∷ st) rest) outer.gets
+          (subst (λ (z : Result Argument ℕ). Gets (length rest) z (run inner.mode (f ∷ g ∷ st) rest)) (sym begins) inner.gets)
+          (omega (arith, length-append h.back rest)));
     }
 
 -- ---- where a number is past the limits, the machine has stopped

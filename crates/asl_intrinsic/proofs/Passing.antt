@@ -1,6 +1,6 @@
 -- What is spelled is heard: each argument leads the machine over its text, unless limits hold and one of its numbers is past them.
 use Rattle.std.proofs.Common.{◌≡◌, ◌<◌, ◌≤◌, ◌+◌, ◌==◌, ℕ, suc, Bool, true, false, List, [], ◌∷◌, ◌++◌, length, refl, sym, ◌∙◌, ap, subst, arith, cond, append_assoc, inl, inr, ◌⊎◌}
-use Rattle.std.specs.Prelude.{Result, Ok, Err, Option, Some, None, not, ◌&&◌, ◌||◌}
+use Rattle.std.specs.Prelude.{Result, Ok, Err, None, not, ◌&&◌}
 use Rattle.std.proofs.lemmas.List.{append-nil, length-append}
 use Rattle.std.proofs.lemmas.Bool.{eqb-true}
 use Rattle.asl_json.specs.Data.{Data, null, boolean, number, text, list, dict}
@@ -9,12 +9,11 @@ use Rattle.asl_json.specs.Grammar.{null_word, true_word, false_word}
 use Rattle.asl_json.specs.Machine.{next_part, leading}
 use Rattle.asl_json.specs.declared.number.Part.TheVariants.{Start}
 use Rattle.asl_json.proofs.Numerals.{numeral_accepted, numeral_some}
-use Rattle.asl_path.specs.Grammar.{Each, Joined, IsPath}
 use Rattle.asl_path.specs.Leads.{NotFirst}
 use Rattle.asl_intrinsic.specs.Tree.{Argument, Frame, constant, quoted, path, call, Arguments, none, argument, arguments}
-use Rattle.asl_intrinsic.specs.Grammar.{states_word, is_name_byte, is_space, AreSpaces, is_escaped, is_inside, is_escape, SpellsConstant, SpellsHead, Spaced, SpellsArgument, SpellsArguments, SpellsMore, SpellsCall, Fits, FitAll, FitsConstant}
-use Rattle.asl_intrinsic.specs.Steps.{Mode, prefix, naming, named, opening, wanting, word, chars, escape, figure, along, ended, Next, go, stop, closes, in_prefix, in_word, begins, in_opening, in_wanting, in_ended, step, step_by, onward, run_by}
-use Rattle.asl_intrinsic.specs.Leads.{is_behind, begun_by}
+use Rattle.asl_intrinsic.specs.Grammar.{states_word, is_name_byte, AreSpaces, is_escaped, is_inside, is_escape, SpellsConstant, SpellsHead, Spaced, SpellsArgument, SpellsArguments, SpellsMore, SpellsCall, Fits, FitAll, FitsConstant}
+use Rattle.asl_intrinsic.specs.Steps.{Mode, prefix, named, opening, wanting, chars, escape, figure, along, ended, Next, go, in_prefix, in_word, begins, step_by, onward, run_by}
+use Rattle.asl_intrinsic.specs.Leads.{begun_by}
 use Rattle.asl_intrinsic.proofs.Stretches.{goes, spaces_pass, name_some, named_space, named_opens}
 use Rattle.asl_intrinsic.proofs.Leaves.{char_on, backslash_on, quote_ends, escape_on, figure_run, fits_on, over_on, along_run, along_whole, path_prefix, quote_begins, dollar_begins, figure_begins}
 use Rattle.asl_intrinsic.proofs.Turns.{opening_space, wanting_space, ended_space, opening_closes, opening_begins, wanting_begins, ended_comma, ended_bracket}
@@ -363,8 +362,8 @@ first_passes a ts lim n done st front back rest m t y parts w passes more same f
     let x = call n (arguments (done ++ a ∷ items ts)) in
     then_passed lim (Fits a) (FitAll ts) (Fits a × FitAll ts) (length rest) (length tail) (run_by lim m ((n, done) ∷ st) (t ++ rest)) (run_by lim (ended a) ((n, done) ∷ st) tail) (run_by lim (ended y) st rest)
     (from_equal lim (Fits a) (length tail) (run_by lim m ((n, done) ∷ st) (t ++ rest)) (run_by lim m ((n, done) ∷ st) (front ++ tail)) (run_by lim (ended a) ((n, done) ∷ st) tail)
-     (ap (run_by lim m ((n, done) ∷ st)) regrouped)
-     (spaced_passes a lim m (n, done) st front tail w passes f (more_ends ts back rest g)))
+    (ap (run_by lim m ((n, done) ∷ st)) regrouped)
+    (spaced_passes a lim m (n, done) st front tail w passes f (more_ends ts back rest g)))
     (to_equal lim (FitAll ts) (length rest) (run_by lim (ended a) ((n, done) ∷ st) tail) (run_by lim (ended x) st rest) (run_by lim (ended y) st rest) (more back g) (ap (λ (z : Argument). run_by lim (ended z) st rest) same))
     (omega (arith, length-append back rest))
     (λ h. h.0)
@@ -399,11 +398,11 @@ mutual
       from_equal lim (Fits b × FitAll ts) (length rest) (run_by lim (ended a) ((n, done) ∷ st) (t ++ rest)) (run_by lim wanting ((n, done ++ a ∷ []) ∷ st) (h.tail ++ rest)) (run_by lim (ended (call n (arguments (done ++ a ∷ items (argument b ts))))) st rest)
       (comma_passes lim n done a st t h.tail rest h.parts)
       (first_passes b ts lim n (done ++ a ∷ []) st h.tail_is.front h.tail_is.back rest wanting h.tail (call n (arguments (done ++ a ∷ items (argument b ts)))) h.tail_is.parts (wanting_wants lim ((n, done ++ a ∷ []) ∷ st))
-       (λ u r g e. argument_passes b lim (n, done ++ a ∷ []) st u r g e)
-       (λ u g. more_pass ts lim n (done ++ a ∷ []) b st u rest g)
-       (ap (λ (z : List Argument). call n (arguments z)) (append_assoc done (a ∷ []) (b ∷ items ts)))
-       h.tail_is.front_is
-       h.tail_is.back_is)
+      (λ u r g e. argument_passes b lim (n, done ++ a ∷ []) st u r g e)
+      (λ u g. more_pass ts lim n (done ++ a ∷ []) b st u rest g)
+      (ap (λ (z : List Argument). call n (arguments z)) (append_assoc done (a ∷ []) (b ∷ items ts)))
+      h.tail_is.front_is
+      h.tail_is.back_is)
 
 -- a whole text
 pub call_heard : (lim : Bool) (a : Argument) (t : List ℕ) → SpellsCall a t → Passed lim (Fits a) 0 (run_by lim (prefix states_word) [] t) (Ok a)

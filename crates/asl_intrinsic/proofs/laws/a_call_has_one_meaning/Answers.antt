@@ -1,4 +1,3 @@
-use Rattle.asl_intrinsic.specs.Steps.{heard}
 use Rattle.asl_intrinsic.proofs.Passing.{one_tree}
 use Rattle.asl_intrinsic.proofs.Answering.{meaning, wrong_elsewhere}
 use Rattle.asl_intrinsic.proofs.laws.a_call_has_one_meaning.Goals as goal
