@@ -23,7 +23,7 @@ use Rattle.asl_intrinsic.proofs.Leaves.{quote_ends, escape_on, figure_run, fits_
 use Rattle.asl_intrinsic.proofs.Turns.{opening_closes, ended_bracket}
 use Rattle.asl_intrinsic.proofs.Reaching.{Reached, empty, run_spells}
 use Rattle.asl_intrinsic.proofs.Ending.{number_stops, path_stops}
-use Rattle.asl_intrinsic.proofs.Passing.{null_passes, wanted, wanting_wants}
+use Rattle.asl_intrinsic.proofs.Passing.{null_passes, wanted, at_comma}
 
 -- some bytes with which the machine, without limits, ends well
 pub record GoesOn (m : Mode) (st : List Frame) : Type 0 where
@@ -82,7 +82,7 @@ prefix_goes_on (w ∷ ws) st =
 wanting_goes_on : (f : Frame) (st : List Frame) → GoesOn wanting (f ∷ st)
 wanting_goes_on f st =
     ends_well wanting (f ∷ st) null_word (constant null)
-    (wanted false wanting (f ∷ st) null_word (closing (f ∷ st)) (wanting_wants false (f ∷ st)) (record { first = 110; others = 117 ∷ 108 ∷ 108 ∷ []; parts = refl; no_space = refl; no_bracket = refl })
+    (wanted false wanting (f ∷ st) null_word (closing (f ∷ st)) (at_comma false (f ∷ st)) (record { first = 110; others = 117 ∷ 108 ∷ 108 ∷ []; parts = refl; no_space = refl; no_bracket = refl })
     ∙ null_passes false (f ∷ st) (closing (f ∷ st)))
 
 word_run : (ws : List ℕ) (d : Data) (st : List Frame) (rest : List ℕ) → 0 < length ws → run_by false (word ws d) st (ws ++ rest) ≡ run_by false (ended (constant d)) st rest

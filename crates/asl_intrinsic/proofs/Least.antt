@@ -6,6 +6,7 @@ use Rattle.asl_json.specs.Number.{IsNumeral, is_over}
 use Rattle.asl_json.specs.Open.{EndsNumber}
 use Rattle.asl_json.proofs.Numerals.{numeral_accepted, longest_stops}
 use Rattle.asl_json.specs.declared.number.Part.{Part}
+use Rattle.asl_path.proofs.Judging.{ahead}
 use Rattle.asl_intrinsic.specs.Tree.{Argument, Frame}
 use Rattle.asl_intrinsic.specs.Grammar.{states_word, IsSpelled, IsPrefix, Fits}
 use Rattle.asl_intrinsic.specs.Fronts.{SpellsBefore, OpensCall, Opens}
@@ -13,7 +14,8 @@ use Rattle.asl_intrinsic.specs.Faults.{EndsAt, SyntaxAt, NumberAt, IsWrongAt, Is
 use Rattle.asl_intrinsic.specs.Steps.{Mode, prefix, opening, wanting, ended, run, heard}
 use Rattle.asl_intrinsic.proofs.Stretches.{spaces_pass}
 use Rattle.asl_intrinsic.proofs.Leaves.{IsPart, Stops, figure_run, over_on}
-use Rattle.asl_intrinsic.proofs.Passing.{Passed, Wants, opening_wants, wanting_wants, wanted, spaced_passes, argument_passes, comma_passes, head_passes, head_begun, head_first, begun_numeral, numeral_first}
+use Rattle.asl_intrinsic.proofs.Turns.{comma_wants}
+use Rattle.asl_intrinsic.proofs.Passing.{Passed, Wants, at_opening, at_comma, wanted, spaced_passes, argument_passes, head_passes, head_begun, head_first, begun_numeral, numeral_first}
 use Rattle.asl_intrinsic.proofs.Ending.{Ends}
 use Rattle.asl_intrinsic.proofs.Alive.{awaits_alive}
 use Rattle.asl_intrinsic.proofs.Judging.{SyntaxLeft, NumberLeft, Judged, heard_judged}
@@ -58,8 +60,8 @@ before_arrives (a ∷ ts) done n st m u rest h w =
     let ends = subst (λ (z : List ℕ). Ends (z ++ rest)) (sym h.back_is.parts) refl in
     let one = forgets true (Fits a) (length tail) (run m ((n, done) ∷ st) (h.front ++ tail)) (run (ended a) ((n, done) ∷ st) tail)
     (spaced_passes a true m (n, done) st h.front tail w (λ v r g e. argument_passes a true (n, done) st v r g e) h.front_is ends) in
-    let two : run (ended a) ((n, done) ∷ st) tail ≡ next = comma_passes true n done a st h.back h.back_is.tail rest h.back_is.parts in
-    let again = before_arrives ts (done ++ a ∷ []) n st wanting h.back_is.tail rest h.back_is.tail_is (wanting_wants true ((n, done ++ a ∷ []) ∷ st)) in
+    let two : run (ended a) ((n, done) ∷ st) tail ≡ next = comma_wants true tail (h.back_is.tail ++ rest) a (n, done) st (ap (λ (z : List ℕ). z ++ rest) h.back_is.parts) in
+    let again = before_arrives ts (done ++ a ∷ []) n st wanting h.back_is.tail rest h.back_is.tail_is (at_comma true ((n, done ++ a ∷ []) ∷ st)) in
     let same : (n, (done ++ a ∷ []) ++ ts) ∷ st ≡ (n, done ++ a ∷ ts) ∷ st = ap (λ (z : List Argument). (n, z) ∷ st) (append_assoc done (a ∷ []) ts) in
     record {
       mode = again.mode;
@@ -76,7 +78,7 @@ before_arrives (a ∷ ts) done n st m u rest h w =
 call_arrives : (f : Frame) (st : List Frame) (t rest : List ℕ) → OpensCall f t → Arrives (run (prefix states_word) st (t ++ rest)) (f ∷ st) rest
 call_arrives f st t rest h =
     let i = h.back_is in
-    let b = before_arrives f.1 [] f.0 st opening i.front (i.back ++ rest) i.front_is (opening_wants true ((f.0, []) ∷ st)) in
+    let b = before_arrives f.1 [] f.0 st opening i.front (i.back ++ rest) i.front_is (at_opening true ((f.0, []) ∷ st)) in
     let regrouped : t ++ rest ≡ h.front ++ (i.front ++ (i.back ++ rest)) =
     ap (λ (z : List ℕ). z ++ rest) (h.parts ∙ ap (λ (z : List ℕ). h.front ++ z) i.parts) ∙ append_assoc h.front (i.front ++ i.back) rest ∙ ap (λ (z : List ℕ). h.front ++ z) (append_assoc i.front i.back rest) in
     let there : run (prefix states_word) st (t ++ rest) ≡ run opening ((f.0, []) ∷ st) (i.front ++ (i.back ++ rest)) =
@@ -149,17 +151,6 @@ number_stops_it t at h =
     told (inr g) o = record { answered = g.left; stops = g.stops; at_least = omega (arith, g.before) }
 
 -- ---- places from the start
-
--- one of two fronts of a list is the longer one
-ahead : (a b c d : List ℕ) → a ++ b ≡ c ++ d → length a < length c → (x : ℕ) × (mid : List ℕ) × (rest : List ℕ) × ((b ≡ x ∷ rest) × (c ≡ a ++ x ∷ mid))
-ahead [] b [] d e l = absurd (omega arith)
-ahead [] b (y ∷ c) d e l = (y, c, c ++ d, (e, refl))
-ahead (z ∷ a) b [] d e l = absurd (omega arith)
-ahead (z ∷ a) b (y ∷ c) d e l =
-    let tails : a ++ b ≡ c ++ d = cc in
-    let heads : z ≡ y = cc in
-    let x = ahead a b c d tails (omega arith) in
-    (x.0, x.1, x.2, (x.3.0, ap (λ (n : ℕ). n ∷ c) (sym heads) ∙ ap (λ (l : List ℕ). z ∷ l) x.3.1))
 
 shorter_prefix : (t u : List ℕ) → IsPrefix (t ++ u) → IsPrefix t
 shorter_prefix t u h = record { more = u ++ h.more; is_call = subst IsSpelled (append_assoc t u h.more) h.is_call }

@@ -16,7 +16,7 @@ use Rattle.asl_intrinsic.specs.Steps.{Mode, prefix, named, opening, wanting, cha
 use Rattle.asl_intrinsic.specs.Leads.{begun_by}
 use Rattle.asl_intrinsic.proofs.Stretches.{goes, spaces_pass, name_some, named_space, named_opens}
 use Rattle.asl_intrinsic.proofs.Leaves.{char_on, backslash_on, quote_ends, escape_on, figure_run, fits_on, over_on, along_run, along_whole, path_prefix, quote_begins, dollar_begins, figure_begins}
-use Rattle.asl_intrinsic.proofs.Turns.{opening_space, wanting_space, ended_space, opening_closes, opening_begins, wanting_begins, ended_comma, ended_bracket}
+use Rattle.asl_intrinsic.proofs.Turns.{opening_space, wanting_space, ended_space, opening_begins, wanting_begins, comma_wants, bracket_ends, bracket_closes}
 use Rattle.asl_intrinsic.proofs.Ending.{Ends, number_stops, number_begins, other_first, path_stops, path_begins}
 
 -- ---- the machine gets over a stretch, or stops at a number in it
@@ -273,11 +273,11 @@ pub record Wants (lim : Bool) (m : Mode) (st : List Frame) : Type 0 where
   pub space : step_by lim m st 32 ≡ go m st
   pub begins_there : (c : ℕ) (cs : List ℕ) → (c == 32) ≡ false → (c == 41) ≡ false → run_by lim m st (c ∷ cs) ≡ begun_by lim st (c ∷ cs)
 
-pub opening_wants : (lim : Bool) (st : List Frame) → Wants lim opening st
-opening_wants lim st = record { space = opening_space st; begins_there = λ c cs e f. ap (λ (z : Next). onward z (suc (length cs)) (λ n s. run_by lim n s cs)) (opening_begins st c e f) }
+pub at_opening : (lim : Bool) (st : List Frame) → Wants lim opening st
+at_opening lim st = record { space = opening_space st; begins_there = λ c cs e f. ap (λ (z : Next). onward z (suc (length cs)) (λ n s. run_by lim n s cs)) (opening_begins st c e f) }
 
-pub wanting_wants : (lim : Bool) (st : List Frame) → Wants lim wanting st
-wanting_wants lim st = record { space = wanting_space st; begins_there = λ c cs e f. ap (λ (z : Next). onward z (suc (length cs)) (λ n s. run_by lim n s cs)) (wanting_begins st c e) }
+pub at_comma : (lim : Bool) (st : List Frame) → Wants lim wanting st
+at_comma lim st = record { space = wanting_space st; begins_there = λ c cs e f. ap (λ (z : Next). onward z (suc (length cs)) (λ n s. run_by lim n s cs)) (wanting_begins st c e) }
 
 pub wanted : (lim : Bool) (m : Mode) (st : List Frame) (t rest : List ℕ) → Wants lim m st → BeginsArgument t → run_by lim m st (t ++ rest) ≡ begun_by lim st (t ++ rest)
 wanted lim m st t rest w b =
@@ -326,7 +326,7 @@ none_passes lim n st t rest h =
     let same : t ++ rest ≡ h.front ++ 41 ∷ rest = ap (λ (z : List ℕ). z ++ rest) (h.parts ∙ ap (λ (z : List ℕ). h.front ++ z) h.back_is) ∙ append_assoc h.front (41 ∷ []) rest in
     ap (run_by lim opening ((n, []) ∷ st)) same
     ∙ spaces_pass lim opening ((n, []) ∷ st) h.front (41 ∷ rest) (opening_space ((n, []) ∷ st)) h.front_is
-    ∙ goes lim opening (ended (call n none)) ((n, []) ∷ st) st 41 rest (opening_closes (n, []) st)
+    ∙ bracket_closes lim (41 ∷ rest) rest (n, []) st refl
 
 pub call_passes : (n : List ℕ) (ts : Arguments) (lim : Bool) (st : List Frame) (t rest : List ℕ) → SpellsArgument (call n ts) t
     → ((u : List ℕ) → SpellsArguments ts u → Passed lim (FitAll ts) (length rest) (run_by lim opening ((n, []) ∷ st) (u ++ rest)) (run_by lim (ended (call n ts)) st rest))
@@ -341,14 +341,6 @@ call_starts : (n : List ℕ) (ts : Arguments) (lim : Bool) (st : List Frame) (t 
 call_starts n ts lim st t rest h =
     let same : t ++ rest ≡ h.front ++ (h.back ++ rest) = ap (λ (z : List ℕ). z ++ rest) h.parts ∙ append_assoc h.front h.back rest in
     ap (begun_by lim st) same ∙ head_begun lim n h.front (h.back ++ rest) st h.front_is ∙ ap (run_by lim (prefix states_word) st) (sym same)
-
-pub comma_passes : (lim : Bool) (n : List ℕ) (done : List Argument) (a : Argument) (st : List Frame) (t tail rest : List ℕ) → t ≡ 44 ∷ tail → run_by lim (ended a) ((n, done) ∷ st) (t ++ rest) ≡ run_by lim wanting ((n, done ++ a ∷ []) ∷ st) (tail ++ rest)
-comma_passes lim n done a st t tail rest e =
-    ap (λ (z : List ℕ). run_by lim (ended a) ((n, done) ∷ st) (z ++ rest)) e ∙ goes lim (ended a) wanting ((n, done) ∷ st) ((n, done ++ a ∷ []) ∷ st) 44 (tail ++ rest) (ended_comma a (n, done) st)
-
-last_passes : (lim : Bool) (n : List ℕ) (done : List Argument) (a : Argument) (st : List Frame) (t rest : List ℕ) → t ≡ 41 ∷ [] → run_by lim (ended a) ((n, done) ∷ st) (t ++ rest) ≡ run_by lim (ended (call n (arguments (done ++ a ∷ [])))) st rest
-last_passes lim n done a st t rest e =
-    ap (λ (z : List ℕ). run_by lim (ended a) ((n, done) ∷ st) (z ++ rest)) e ∙ goes lim (ended a) (ended (call n (arguments (done ++ a ∷ [])))) ((n, done) ∷ st) st 41 rest (ended_bracket a (n, done) st)
 
 -- an argument and those behind it, which make this call
 first_passes : (a : Argument) (ts : Arguments) (lim : Bool) (n : List ℕ) (done : List Argument) (st : List Frame) (front back rest : List ℕ) (m : Mode) (t : List ℕ) (y : Argument) → t ≡ front ++ back → Wants lim m ((n, done) ∷ st)
@@ -383,7 +375,7 @@ mutual
   pub arguments_pass : (ts : Arguments) (lim : Bool) (n : List ℕ) (st : List Frame) (t rest : List ℕ) → SpellsArguments ts t → Passed lim (FitAll ts) (length rest) (run_by lim opening ((n, []) ∷ st) (t ++ rest)) (run_by lim (ended (call n ts)) st rest)
   arguments_pass none lim n st t rest h = plain lim (Unit {0}) (length rest) (run_by lim opening ((n, []) ∷ st) (t ++ rest)) (run_by lim (ended (call n none)) st rest) tt (none_passes lim n st t rest h)
   arguments_pass (argument a ts) lim n st t rest h =
-      first_passes a ts lim n [] st h.front h.back rest opening t (call n (argument a ts)) h.parts (opening_wants lim ((n, []) ∷ st))
+      first_passes a ts lim n [] st h.front h.back rest opening t (call n (argument a ts)) h.parts (at_opening lim ((n, []) ∷ st))
       (λ u r g e. argument_passes a lim (n, []) st u r g e)
       (λ u g. more_pass ts lim n [] a st u rest g)
       (ap (λ (z : Arguments). call n (argument a z)) (arguments_items ts))
@@ -393,11 +385,11 @@ mutual
   more_pass : (ts : Arguments) (lim : Bool) (n : List ℕ) (done : List Argument) (a : Argument) (st : List Frame) (t rest : List ℕ) → SpellsMore ts t
       → Passed lim (FitAll ts) (length rest) (run_by lim (ended a) ((n, done) ∷ st) (t ++ rest)) (run_by lim (ended (call n (arguments (done ++ a ∷ items ts)))) st rest)
   more_pass none lim n done a st t rest h =
-      plain lim (Unit {0}) (length rest) (run_by lim (ended a) ((n, done) ∷ st) (t ++ rest)) (run_by lim (ended (call n (arguments (done ++ a ∷ [])))) st rest) tt (last_passes lim n done a st t rest h)
+      plain lim (Unit {0}) (length rest) (run_by lim (ended a) ((n, done) ∷ st) (t ++ rest)) (run_by lim (ended (call n (arguments (done ++ a ∷ [])))) st rest) tt (bracket_ends lim (t ++ rest) rest a (n, done) st (ap (λ (z : List ℕ). z ++ rest) h))
   more_pass (argument b ts) lim n done a st t rest h =
       from_equal lim (Fits b × FitAll ts) (length rest) (run_by lim (ended a) ((n, done) ∷ st) (t ++ rest)) (run_by lim wanting ((n, done ++ a ∷ []) ∷ st) (h.tail ++ rest)) (run_by lim (ended (call n (arguments (done ++ a ∷ items (argument b ts))))) st rest)
-      (comma_passes lim n done a st t h.tail rest h.parts)
-      (first_passes b ts lim n (done ++ a ∷ []) st h.tail_is.front h.tail_is.back rest wanting h.tail (call n (arguments (done ++ a ∷ items (argument b ts)))) h.tail_is.parts (wanting_wants lim ((n, done ++ a ∷ []) ∷ st))
+      (comma_wants lim (t ++ rest) (h.tail ++ rest) a (n, done) st (ap (λ (z : List ℕ). z ++ rest) h.parts))
+      (first_passes b ts lim n (done ++ a ∷ []) st h.tail_is.front h.tail_is.back rest wanting h.tail (call n (arguments (done ++ a ∷ items (argument b ts)))) h.tail_is.parts (at_comma lim ((n, done ++ a ∷ []) ∷ st))
       (λ u r g e. argument_passes b lim (n, done ++ a ∷ []) st u r g e)
       (λ u g. more_pass ts lim n (done ++ a ∷ []) b st u rest g)
       (ap (λ (z : List Argument). call n (arguments z)) (append_assoc done (a ∷ []) (b ∷ items ts)))

@@ -1,10 +1,10 @@
 -- Turns of the reader, as stretches of the machine's run.
-use Rattle.std.proofs.Common.{◌≡◌, ◌<◌, ◌==◌, ℕ, suc, true, false, List, [], ◌∷◌, ◌++◌, length, reverse, refl, sym, ◌∙◌, ap, subst, arith}
+use Rattle.std.proofs.Common.{◌≡◌, ◌<◌, ◌==◌, ℕ, suc, Bool, false, List, [], ◌∷◌, ◌++◌, length, reverse, refl, sym, ◌∙◌, ap, subst, arith}
 use Rattle.std.specs.Prelude.{Result, Ok, Err, IfOk, IfErr, MatchResult}
 use Rattle.std.proofs.lemmas.List.{reverse-append, length-reverse}
 use Rattle.asl_path.specs.Leads.{NotFirst}
 use Rattle.asl_intrinsic.specs.Tree.{Argument, call, arguments, Frame}
-use Rattle.asl_intrinsic.specs.Steps.{Mode, opening, wanting, ended, Next, go, stop, begins, closes, in_opening, in_wanting, in_ended, step, onward, run}
+use Rattle.asl_intrinsic.specs.Steps.{Mode, opening, wanting, ended, Next, go, stop, begins, closes, in_opening, in_wanting, in_ended, step, onward, run_by, run}
 use Rattle.asl_intrinsic.specs.Leads.{Fails, begun, Skips}
 use Rattle.asl_intrinsic.specs.Grammar.{is_space}
 use Rattle.asl_intrinsic.specs.Keeps.{Keeps, KeepsAll}
@@ -61,8 +61,8 @@ pub opening_closes : (f : Frame) (st : List Frame) → step opening (f ∷ st) 4
 unfolding in_opening closes
 opening_closes f st = refl
 
-pub bracket_closes : (t rest : List ℕ) (f : Frame) (st : List Frame) → t ≡ 41 ∷ rest → run opening (f ∷ st) t ≡ run (ended (call f.0 (arguments f.1))) st rest
-bracket_closes t rest f st e = ap (run opening (f ∷ st)) e ∙ goes true opening (ended (call f.0 (arguments f.1))) (f ∷ st) st 41 rest (opening_closes f st)
+pub bracket_closes : (lim : Bool) (t rest : List ℕ) (f : Frame) (st : List Frame) → t ≡ 41 ∷ rest → run_by lim opening (f ∷ st) t ≡ run_by lim (ended (call f.0 (arguments f.1))) st rest
+bracket_closes lim t rest f st e = ap (run_by lim opening (f ∷ st)) e ∙ goes lim opening (ended (call f.0 (arguments f.1))) (f ∷ st) st 41 rest (opening_closes f st)
 
 pub opening_begins : (st : List Frame) (c : ℕ) → (c == 32) ≡ false → (c == 41) ≡ false → step opening st c ≡ begins st c
 unfolding in_opening
@@ -92,11 +92,11 @@ ended_lacks : (a : Argument) (f : Frame) (st : List Frame) (c : ℕ) → (c == 3
 unfolding in_ended
 ended_lacks a f st c e g h = rw (e, g, h) refl
 
-pub comma_wants : (t rest : List ℕ) (a : Argument) (f : Frame) (st : List Frame) → t ≡ 44 ∷ rest → run (ended a) (f ∷ st) t ≡ run wanting ((f.0, f.1 ++ a ∷ []) ∷ st) rest
-comma_wants t rest a f st e = ap (run (ended a) (f ∷ st)) e ∙ goes true (ended a) wanting (f ∷ st) ((f.0, f.1 ++ a ∷ []) ∷ st) 44 rest (ended_comma a f st)
+pub comma_wants : (lim : Bool) (t rest : List ℕ) (a : Argument) (f : Frame) (st : List Frame) → t ≡ 44 ∷ rest → run_by lim (ended a) (f ∷ st) t ≡ run_by lim wanting ((f.0, f.1 ++ a ∷ []) ∷ st) rest
+comma_wants lim t rest a f st e = ap (run_by lim (ended a) (f ∷ st)) e ∙ goes lim (ended a) wanting (f ∷ st) ((f.0, f.1 ++ a ∷ []) ∷ st) 44 rest (ended_comma a f st)
 
-pub bracket_ends : (t rest : List ℕ) (a : Argument) (f : Frame) (st : List Frame) → t ≡ 41 ∷ rest → run (ended a) (f ∷ st) t ≡ run (ended (call f.0 (arguments (f.1 ++ a ∷ [])))) st rest
-bracket_ends t rest a f st e = ap (run (ended a) (f ∷ st)) e ∙ goes true (ended a) (ended (call f.0 (arguments (f.1 ++ a ∷ [])))) (f ∷ st) st 41 rest (ended_bracket a f st)
+pub bracket_ends : (lim : Bool) (t rest : List ℕ) (a : Argument) (f : Frame) (st : List Frame) → t ≡ 41 ∷ rest → run_by lim (ended a) (f ∷ st) t ≡ run_by lim (ended (call f.0 (arguments (f.1 ++ a ∷ [])))) st rest
+bracket_ends lim t rest a f st e = ap (run_by lim (ended a) (f ∷ st)) e ∙ goes lim (ended a) (ended (call f.0 (arguments (f.1 ++ a ∷ [])))) (f ∷ st) st 41 rest (ended_bracket a f st)
 
 pub neither_follows : (t : List ℕ) (a : Argument) (f : Frame) (st : List Frame) → NotFirst is_space t → NotFirst (λ c. c == 44) t → NotFirst (λ c. c == 41) t → run (ended a) (f ∷ st) t ≡ Err (length t)
 neither_follows [] a f st e g h = refl

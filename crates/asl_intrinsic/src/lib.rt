@@ -1,9 +1,10 @@
 //! Calls of intrinsic functions, as the Amazon States Language has them ("Intrinsic Functions",
 //! <https://states-language.net/spec.html>): reading them, and their values on an input and a context.
 //!
-//! `specs/Tree.antt` is a call as a tree, `specs/Names.antt` says which functions there are, `specs/Steps.antt` how a text is
-//! read, `specs/Faults.antt` what is wrong with one, `specs/Calls.antt` what a call's value is; `specs/Lists.antt`, `Format`,
-//! `Texts`, `Coding` and `Merge` have the functions, one definition each.
+//! `specs/Tree.antt` is a call as a tree, `specs/Grammar.antt` says which texts spell which calls, `specs/Fronts.antt` what stands
+//! open behind the front of one, `specs/Names.antt` which functions there are, `specs/Faults.antt` what is wrong with a text,
+//! `specs/Calls.antt` what a call's value is; `specs/Lists.antt`, `Format`, `Texts`, `Coding` and `Merge` have the functions, one
+//! definition each. `specs/Laws.antt` says how texts, calls and values go together.
 //! Modules in reading order: `expr`, `fault` and `call` are the types; `front`, `leaf`, `frame` and `reading` the reader; `eval`
 //! goes through a call, `convert` takes arguments as what a function wants, and the others are the functions.
 #![tactic(auto)]

@@ -170,7 +170,7 @@ path_faultless t at h p = faultless h.rest h.parts h.dead
     faultless (c ∷ rest) e dead = dead (record { more = rest; is_path = subst IsPath (e ∙ sym (append_assoc h.front (c ∷ []) rest)) p })
 
 -- one of two fronts of a list is the longer one
-ahead : (a b c d : List ℕ) → a ++ b ≡ c ++ d → length a < length c → (x : ℕ) × (mid : List ℕ) × (rest : List ℕ) × ((b ≡ x ∷ rest) × (c ≡ a ++ x ∷ mid))
+pub ahead : (a b c d : List ℕ) → a ++ b ≡ c ++ d → length a < length c → (x : ℕ) × (mid : List ℕ) × (rest : List ℕ) × ((b ≡ x ∷ rest) × (c ≡ a ++ x ∷ mid))
 ahead [] b [] d e l = absurd (omega arith)
 ahead [] b (y ∷ c) d e l = (y, c, c ++ d, (e, refl))
 ahead (z ∷ a) b [] d e l = absurd (omega arith)

@@ -1,4 +1,4 @@
-use Rattle.std.proofs.Common.{◌<◌, ℕ, List, suc, length, reverse, subst, ◌∙◌, ap}
+use Rattle.std.proofs.Common.{true, ◌<◌, ℕ, List, suc, length, reverse, subst, ◌∙◌, ap}
 use Rattle.asl_intrinsic.specs.Steps.{opening, run}
 use Rattle.asl_intrinsic.specs.Tree.{Frame}
 use Rattle.asl_intrinsic.specs.Keeps.{KeepsOne, KeepsAll}
@@ -13,7 +13,7 @@ returns-in-Some-clause-hears c = λ o h.
     let x = split h.st s.1 in
     let goes = opening_goes o h.mode c.args.reader.rest.now rest h.st s.0 c.skip_spaces-rest.ensures.skips h.leads in
     memory_fails o c.close.result
-    (c.close.ensures.hears o x.0 x.1 (subst (KeepsAll (reverse calls)) x.2 h.keeps) (goes ∙ ap (λ (z : List Frame). run opening z rest) x.2 ∙ bracket_closes rest c.in-Some.outside.now x.0 x.1 c.in-Some.ensures.found))
+    (c.close.ensures.hears o x.0 x.1 (subst (KeepsAll (reverse calls)) x.2 h.keeps) (goes ∙ ap (λ (z : List Frame). run opening z rest) x.2 ∙ bracket_closes true rest c.in-Some.outside.now x.0 x.1 c.in-Some.ensures.found))
     c.close.ensures.memory
 
 pub returns-in_default-clause-hears : goal.returns-in_default-clause-hears
