@@ -1,16 +1,11 @@
--- The names of members of a template, and the sets of keys.
+-- The names of members of a template.
 use Rattle.std.proofs.Common.{◌≡◌, ◌≢◌, ℕ, List, [], ◌∷◌, ◌++◌, Bool, true, false, ◌||◌, cond, refl, sym, ap, subst, ◌∙◌}
 use Rattle.std.specs.Prelude.{map, Option, Some, None}
-use Rattle.std.specs.String.{string_eq, string_bytes}
-use Rattle.std.specs.declared.string.String.{String}
-use Rattle.std.specs.HashSet.{HashSet, UpdatesBy, contains_text}
-use Rattle.std.proofs.lemmas.Map.Text.{hash_set_updates_text}
 use Rattle.std.specs.Cmp.Lexicographic.{same_text}
 use Rattle.asl_json.specs.Data.{Data, pairs}
 use Rattle.asl_json.specs.Same.{bytes_eq}
 use Rattle.asl_json.specs.SameLaws.{bytes_refl}
 use Rattle.asl_json.specs.Distinct.{Members, has_key, AreDistinct}
-use Rattle.asl_json.proofs.Knowing.{has_key-push, bytes_eq-flip}
 use Rattle.asl_template.specs.Names.{mark, name_before, first_of, name_of, named, has_name, is_double}
 use Rattle.asl_template.specs.Faults.{Claim, double_claims, member_claims, Each, Holds}
 use Rattle.asl_template.proofs.Marks.{name_before-mark, ends_in_mark}
@@ -74,14 +69,6 @@ names_differ seen (m ∷ ms) distinct hold =
       subst (λ (xs : Members). AreDistinct xs (named ms)) (named_push seen m) (names_differ (seen ++ m ∷ []) ms distinct.1 (behind _ (member_claims (seen ++ m ∷ []) (pairs ms)) hold)),
     )
 
--- ---- the sets
-
-put_in : (a b : Bool) → cond a true b ≡ (b || a)
-put_in true true = refl
-put_in true false = refl
-put_in false true = refl
-put_in false false = refl
-
 some : (k n : List ℕ) → Some k ≡ Some n → k ≡ n
 some k n e = ap (λ (o : Option (List ℕ)). first_of o k) e
 
@@ -92,22 +79,5 @@ same_mark k n = decided (bytes_eq n k) refl
     decided true e = sym (subst (λ (x : List ℕ). bytes_eq (k ++ mark) (x ++ mark) ≡ true) (sym (same_text n k (sym e))) (bytes_refl (k ++ mark)))
     decided false e = sym (differ (k ++ mark) (n ++ mark) (λ same. apart n k e (sym (some k n (sym (name_before-mark k) ∙ ap name_before same ∙ name_before-mark n)))))
 
--- the name of a computed member is put in
-pub computed-push : {Y S : Type 0} (name key : List ℕ) (s n : HashSet (String Y) S) (ms : Members) (d : Data) → UpdatesBy string_eq (λ k. bytes_eq name (string_bytes k)) s n true → name_before key ≡ Some name → ((k : List ℕ) → contains_text s k ≡ has_key (k ++ mark) ms) → (k : List ℕ) → contains_text n k ≡ has_key (k ++ mark) (ms ++ (key, d) ∷ [])
-computed-push name key s n ms d updates is has = λ k.
-    hash_set_updates_text name s n true updates k
-    ∙ ap (cond (bytes_eq name k) true) (has k)
-    ∙ put_in (bytes_eq name k) (has_key (k ++ mark) ms)
-    ∙ ap (λ (b : Bool). has_key (k ++ mark) ms || b) (same_mark k name ∙ ap (bytes_eq (k ++ mark)) (sym (ends_in_mark key name is)))
-    ∙ sym (has_key-push (k ++ mark) ms (key, d))
-
 pub unmarked : (key k : List ℕ) → name_before key ≡ None → k ++ mark ≡ key → ⊥
 unmarked key k none same = let both : Some k ≡ None = sym (name_before-mark k) ∙ ap name_before same ∙ none in cc
-
--- a key without the mark changes nothing
-pub plain-push : (key : List ℕ) (ms : Members) (d : Data) (has : List ℕ → Bool) → name_before key ≡ None → ((k : List ℕ) → has k ≡ has_key (k ++ mark) ms) → (k : List ℕ) → has k ≡ has_key (k ++ mark) (ms ++ (key, d) ∷ [])
-plain-push key ms d has none all = λ k. all k ∙ sym (has_key-push (k ++ mark) ms (key, d) ∙ ap (λ (b : Bool). has_key (k ++ mark) ms || b) (differ (k ++ mark) key (unmarked key k none)) ∙ or_false (has_key (k ++ mark) ms))
-  where
-    or_false : (a : Bool) → (a || false) ≡ a
-    or_false true = refl
-    or_false false = refl

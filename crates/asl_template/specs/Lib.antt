@@ -7,5 +7,4 @@ pub mod Faults
 pub mod Broken
 pub mod Places
 pub mod Answer
-pub mod Keys
 pub mod SameLaws

@@ -8,7 +8,6 @@
 mod equal;
 mod fault;
 mod fill;
-mod keys;
 mod name;
 mod part;
 mod read;

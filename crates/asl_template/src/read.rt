@@ -3,19 +3,18 @@ ghost use Rattle.std.specs.Prelude.{◌≡◌, ◌∷◌, ◌++◌, [], true, fa
 ghost use Rattle.asl_json.specs.Data.{chain, pairs, text as spec_text};
 ghost use Rattle.asl_json.specs.Distinct.{Members};
 ghost use Rattle.asl_json.specs.View.{data_of, items_of, member_of, members_of};
-ghost use Rattle.asl_template.specs.Names.{mark, name_before as spec_name_before, is_double};
+ghost use Rattle.asl_json.specs.Keys.{Knows};
+ghost use Rattle.asl_template.specs.Names.{mark, name_before as spec_name_before, is_double as spec_is_double};
 ghost use Rattle.asl_template.specs.View.{part_data, field_data, fields_data, Fits};
 ghost use Rattle.asl_template.specs.Filling.{is_path as begins_path, chosen};
 ghost use Rattle.asl_template.specs.Faults.{text_claim, double_claims, claims, item_claims, member_claims};
 ghost use Rattle.asl_template.specs.Broken.{Reads};
-ghost use Rattle.asl_template.specs.Keys.{Knows};
 
 use crate::fault::{Fault, Kind, judged, take_in, under_index, under_name};
-use crate::keys::Keys;
-use crate::name::name_before;
+use crate::name::{marked, name_before};
 use crate::part::{Field, Fields, Part, Parts};
 use asl_intrinsic::{CallFault, Expr};
-use asl_json::{Items, Json, Member, Members, Txt};
+use asl_json::{Items, Json, Keys, Member, Members, Txt};
 use asl_path::{PathFault, RefPath};
 use std::alloc::{AllocError, Global};
 
@@ -119,20 +118,41 @@ fn parts(alloc: Global, items: &Items) -> Result<Result<Parts, Fault>, AllocErro
     }
 }
 
+/// Whether of `k` and `k.$` the other one is among these members, which are those so far.
+fn is_double(
+    alloc: Global,
+    keys: &Keys,
+    members: &[Member],
+    key: &str,
+) -> Result<bool, AllocError>
+    requires { Knows keys.now (members_of members.now) }
+    ensures { IfOk result (λ double. double ≡ spec_is_double (members_of members.now) key.now) }
+{
+    let computed = marked(alloc, key)?;
+    if keys.has(members, computed.as_str()) {
+        return Ok(true);
+    }
+    match name_before(key) {
+        Some(name) => Ok(keys.has(members, name)),
+        None => Ok(false),
+    }
+}
+
 /// The members of an object.
 #[cycle(read)]
 fn fields(alloc: Global, members: &Members) -> Result<Result<Fields, Fault>, AllocError>
     ensures { IfOk result (Reads (λ f. f) members.now (member_claims [] (pairs members.now))) }
 {
-    let mut keys = Keys::new(alloc);
+    let mut keys = Keys::new();
     let mut read = Ok(Vec::new(alloc));
     let members = members.members();
-    for member in members {
+    for (i, member) in members.iter().enumerate() {
+        let so_far = &members[..i];
         let key = member.key.as_str();
-        let name = name_before(key);
-        let own = judged(alloc, keys.double(key, name), field(alloc, member)?);
+        let double = is_double(alloc, &keys, so_far, key)?;
+        let own = judged(alloc, double, field(alloc, member)?);
         read = take_in(read, under_name(alloc, own, key)?)?;
-        keys = keys.add(alloc, key, name)?;
+        keys.add(alloc, so_far, key)?;
     }
     match read {
         Ok(fields) => Ok(Ok(Fields { fields })),

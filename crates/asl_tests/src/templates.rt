@@ -1,126 +1,185 @@
 // What no clause says of templates: worked examples, and each call once with ample memory.
-use asl_template::{FillFault, Template, TemplateFault, Word};
+use asl_intrinsic::CallFault;
 use asl_json::{Json, read, write};
+use asl_template::{FillFault, Template, TemplateFault, Word};
 use std::alloc::Global;
 use std::test::Fail;
+
+fn word(word: Word) -> &'static str {
+    match word {
+        Word::Unfit => "unfit",
+        Word::Range => "range",
+        Word::Count => "count",
+        Word::Undecoded => "undecoded",
+        Word::Path => "path",
+    }
+}
+
+fn call_word(fault: &CallFault) -> &'static str {
+    match fault {
+        CallFault::Syntax(_) => "syntax",
+        CallFault::Unknown(_) => "unknown",
+        CallFault::Depth => "depth",
+        CallFault::Arity => "arity",
+        CallFault::OutOfMemory => "memory",
+    }
+}
+
+fn joined(alloc: Global, number: &str, place: &str, behind: &str) -> Option<String> {
+    format!(in alloc; "{number} {place}{behind}").ok()
+}
+
+/// The text of a fault: its number, its key and its word.
+fn unfilled(alloc: Global, fault: &FillFault) -> Option<String> {
+    match fault {
+        FillFault::PathFails(key) => joined(alloc, "L3", key.as_str(), ""),
+        FillFault::IntrinsicFails(key, reason) => {
+            format!(in alloc; "L4 {} {}", key.as_str(), word(*reason)).ok()
+        }
+        FillFault::OutOfMemory => None,
+    }
+}
+
+/// The text of a fault: its number, its place, and where the text of a path goes wrong or what is wrong with a call.
+fn refused(alloc: Global, fault: &TemplateFault) -> Option<String> {
+    match fault {
+        TemplateFault::NotText(place) => joined(alloc, "L1", place.as_str(), ""),
+        TemplateFault::Both(place) => joined(alloc, "L2", place.as_str(), ""),
+        TemplateFault::PathText(place, at) => {
+            format!(in alloc; "L5 {} {}", place.as_str(), *at).ok()
+        }
+        TemplateFault::CallText(place, fault) => {
+            format!(in alloc; "L6 {} {}", place.as_str(), call_word(fault)).ok()
+        }
+        TemplateFault::OutOfMemory => None,
+    }
+}
 
 fn value(alloc: Global, text: &str) -> Option<Json> {
     read(alloc, text.as_bytes()).ok()
 }
 
-fn template(alloc: Global, text: &str) -> Option<Template> {
-    Template::read(alloc, &value(alloc, text)?).ok()
-}
-
-/// A text and another one behind it.
-fn joined(alloc: Global, front: &str, back: &str) -> Option<String> {
-    let mut text = String::from_str(alloc, front).ok()?;
-    text.push_str(back).ok()?;
-    Some(text)
-}
-
-fn fault_text(alloc: Global, fault: &FillFault) -> Option<String> {
-    match fault {
-        FillFault::PathFails(key) => joined(alloc, "L3 PathFails ", key.as_str()),
-        FillFault::IntrinsicFails(key, _) => joined(alloc, "L4 IntrinsicFails ", key.as_str()),
-        FillFault::OutOfMemory => None,
-    }
-}
-
-fn filled_text(alloc: Global, template: &Template, input: &Json, context: &Json) -> Option<String> {
-    match template.fill(alloc, input, context) {
-        Ok(value) => write(alloc, &value).ok(),
-        Err(fault) => fault_text(alloc, &fault),
-    }
-}
-
-/// The text that a template is filled to, or its fault.
-fn filled(alloc: Global, text: &str, input: &str, context: &str) -> Option<String> {
-    let template = template(alloc, text)?;
+/// The compact text of what a template gives on an input and the context `{"n":"c"}`, or its fault.
+fn outcome(alloc: Global, template: &str, input: &str) -> Option<String> {
+    let context = value(alloc, r#"{"n":"c"}"#)?;
     let input = value(alloc, input)?;
-    let context = value(alloc, context)?;
-    filled_text(alloc, &template, &input, &context)
-}
-
-fn numbered(alloc: Global, place: &str, at: usize) -> Option<String> {
-    let mut text = joined(alloc, "L5 ", place)?;
-    write!(text, " {at}").ok()?;
-    Some(text)
-}
-
-fn refusal_text(alloc: Global, fault: &TemplateFault) -> Option<String> {
-    match fault {
-        TemplateFault::NotText(place) => joined(alloc, "L1 ", place.as_str()),
-        TemplateFault::Both(place) => joined(alloc, "L2 ", place.as_str()),
-        TemplateFault::PathText(place, at) => numbered(alloc, place.as_str(), *at),
-        TemplateFault::CallText(place, _) => joined(alloc, "L6 ", place.as_str()),
-        TemplateFault::OutOfMemory => None,
+    let template = match Template::read(alloc, &value(alloc, template)?) {
+        Ok(template) => template,
+        Err(fault) => return refused(alloc, &fault),
+    };
+    match template.fill(alloc, &input, &context) {
+        Ok(value) => write(alloc, &value).ok(),
+        Err(fault) => unfilled(alloc, &fault),
     }
 }
 
-/// The fault of a value that is no template.
-fn refused(alloc: Global, text: &str) -> Option<String> {
-    let value = value(alloc, text)?;
-    match Template::read(alloc, &value) {
-        Ok(_) => joined(alloc, "none", ""),
-        Err(fault) => refusal_text(alloc, &fault),
-    }
-}
-
-fn is(text: Option<String>, expected: &str) -> bool {
-    match text {
-        Some(text) => text.as_str() == expected,
+fn gives(alloc: Global, template: &str, input: &str, wanted: &str) -> bool {
+    match outcome(alloc, template, input) {
+        Some(text) => text.as_str() == wanted,
         None => false,
     }
 }
 
+/// The texts of a template, of an input and of what is given.
+type Row = (&'static str, &'static str, &'static str);
+
+const FILLED: [Row; 17] = [
+    (r#"[{"x.$":"$.a"},3]"#, r#"{"a":[1]}"#, r#"[{"x":[1]},3]"#),
+    (r#"[{"x.$":"$.a"},3]"#, "{}", "L3 x.$"),
+    (
+        r#"{"s.$":"States.Format('{} is {}', $.n, 2.50)"}"#,
+        r#"{"n":"x"}"#,
+        r#"{"s":"x is 2.50"}"#,
+    ),
+    (
+        r#"{"s.$":"States.Format('{} is {}', $.n, 2.50)"}"#,
+        "{}",
+        "L4 s.$ path",
+    ),
+    (
+        r#"{"a":1,"b.$":"$.n","c":[],"d.$":"$$.n","e.$":"States.Array($$.n,$)"}"#,
+        r#"{"n":2.50}"#,
+        r#"{"a":1,"b":2.50,"c":[],"d":"c","e":["c",{"n":2.50}]}"#,
+    ),
+    (r#"{"n.$":"States.MathAdd($.n, 1)"}"#, r#"{"n":1}"#, r#"{"n":2}"#),
+    (
+        r#"{"flagged":true,"parts":{"first.$":"$.vals[0]","last.$":"$.vals[2]"}}"#,
+        r#"{"vals":[0,10,20]}"#,
+        r#"{"flagged":true,"parts":{"first":0,"last":20}}"#,
+    ),
+    (r#"{".$":"$"}"#, "null", r#"{"":null}"#),
+    (r#"{"x.$.$":"$"}"#, "1", r#"{"x.$":1}"#),
+    (
+        r#"{"x$":"$","$":"$",".":"$"}"#,
+        "1",
+        r#"{"x$":"$","$":"$",".":"$"}"#,
+    ),
+    (
+        r#"[true,false,null,"$.a",-0.10,[],{}]"#,
+        "{}",
+        r#"[true,false,null,"$.a",-0.10,[],{}]"#,
+    ),
+    (
+        r#"{"b":{"y.$":"$.b"},"a.$":"$.a"}"#,
+        "{}",
+        "L3 y.$",
+    ),
+    (r#"{"s.$":"States.Format('{}')"}"#, "{}", "L4 s.$ count"),
+    (r#"{"s.$":"States.Format('{}',$)"}"#, "[1]", "L4 s.$ unfit"),
+    (
+        r#"{"s.$":"States.ArrayGetItem($,1)"}"#,
+        "[5]",
+        "L4 s.$ range",
+    ),
+    (
+        r#"{"s.$":"States.Base64Decode('Zh==')"}"#,
+        "{}",
+        "L4 s.$ undecoded",
+    ),
+    (r#"{"s.$":"States.Array()","t.$":"$.t"}"#, "{}", "L3 t.$"),
+];
+
+const REFUSED: [Row; 17] = [
+    (r#"{"x":1,"x.$":"$.a"}"#, "{}", "L2 /x.$"),
+    (r#"{"x.$":"$.a","x":1}"#, "{}", "L2 /x"),
+    (r#"{"x.$":"$.a","x.$.$":"$.a"}"#, "{}", "L2 /x.$.$"),
+    (r#"{"x.$":5}"#, "{}", "L1 /x.$"),
+    (r#"{"x.$":{"y.$":5}}"#, "{}", "L1 /x.$"),
+    (r#"{"x.$":5,"x":1}"#, "{}", "L1 /x.$"),
+    (
+        r#"[0,{"a/b~":[{"x.$":"$.a..b"}]}]"#,
+        "{}",
+        "L5 /1/a~1b~0/0/x.$ 4",
+    ),
+    (r#"{"x.$":"$$x"}"#, "{}", "L5 /x.$ 2"),
+    (
+        r#"{"x.$":"$.","y":{"z":1,"z.$":"$"}}"#,
+        "{}",
+        "L2 /y/z.$",
+    ),
+    (r#"[{"a.$":"$x"},{"b.$":"$y"}]"#, "{}", "L5 /0/a.$ 1"),
+    (r#"[{"a":1,"a.$":"$"},{"b.$":null}]"#, "{}", "L1 /1/b.$"),
+    (r#"[{"b.$":[]},{"b.$":null}]"#, "{}", "L1 /0/b.$"),
+    (
+        r#"{"x.$":"States.UUID()"}"#,
+        "{}",
+        "L6 /x.$ unknown",
+    ),
+    (r#"{"x.$":"x"}"#, "{}", "L6 /x.$ syntax"),
+    (r#"{"x.$":""}"#, "{}", "L6 /x.$ syntax"),
+    (
+        r#"{"x.$":"States.ArrayLength()"}"#,
+        "{}",
+        "L6 /x.$ arity",
+    ),
+    (r#"{"x.$":"x","y.$":"$."}"#, "{}", "L5 /y.$ 2"),
+];
+
 #[test]
 fn templates_are_filled(rt: HostRuntime) -> Result<(), Fail> {
     let alloc = rt.alloc();
-    let rows = [
-        (
-            "[{\"x.$\":\"$.a\"},3]",
-            "{\"a\":[1]}",
-            "{}",
-            "[{\"x\":[1]},3]",
-        ),
-        (
-            "{\"a\":1,\"b.$\":\"$\",\"c\":[]}",
-            "2.50",
-            "{}",
-            "{\"a\":1,\"b\":2.50,\"c\":[]}",
-        ),
-        (
-            "{\"a.$\":\"$$.n\",\"b.$\":\"$.n\"}",
-            "{\"n\":1}",
-            "{\"n\":2}",
-            "{\"a\":2,\"b\":1}",
-        ),
-        ("{\".$\":\"$\"}", "null", "{}", "{\"\":null}"),
-        ("{\"x.$.$\":\"$\"}", "1", "{}", "{\"x.$\":1}"),
-        (
-            "{\"x$\":\"$\",\"$\":\"$\",\".\":\"$\"}",
-            "1",
-            "{}",
-            "{\"x$\":\"$\",\"$\":\"$\",\".\":\"$\"}",
-        ),
-        ("7", "{}", "{}", "7"),
-        (
-            "[true,false,null,\"$.a\",-0.10,[],{}]",
-            "{}",
-            "{}",
-            "[true,false,null,\"$.a\",-0.10,[],{}]",
-        ),
-        ("[{\"x.$\":\"$.a\"},3]", "{}", "{}", "L3 PathFails x.$"),
-        (
-            "{\"b\":{\"y.$\":\"$.b\"},\"a.$\":\"$.a\"}",
-            "{}",
-            "{}",
-            "L3 PathFails y.$",
-        ),
-    ];
-    for (text, input, context, expected) in rows {
-        assert!(rt; is(filled(alloc, text, input, context), expected));
+    for (template, input, wanted) in FILLED {
+        assert!(rt; gives(alloc, template, input, wanted));
     }
     Ok(())
 }
@@ -128,70 +187,37 @@ fn templates_are_filled(rt: HostRuntime) -> Result<(), Fail> {
 #[test]
 fn faults_of_templates(rt: HostRuntime) -> Result<(), Fail> {
     let alloc = rt.alloc();
-    let rows = [
-        ("{\"x\":1,\"x.$\":\"$.a\"}", "L2 /x.$"),
-        ("{\"x.$\":\"$.a\",\"x\":1}", "L2 /x"),
-        ("{\"x.$\":\"$.a\",\"x.$.$\":\"$.a\"}", "L2 /x.$.$"),
-        ("{\"x.$\":5}", "L1 /x.$"),
-        ("{\"x.$\":{\"y.$\":5}}", "L1 /x.$"),
-        ("{\"x.$\":5,\"x\":1}", "L1 /x.$"),
-        (
-            "[0,{\"a/b~\":[{\"x.$\":\"$.a..b\"}]}]",
-            "L5 /1/a~1b~0/0/x.$ 4",
-        ),
-        ("{\"x.$\":\"$$x\"}", "L5 /x.$ 2"),
-        (
-            "{\"x.$\":\"$.\",\"y\":{\"z\":1,\"z.$\":\"$\"}}",
-            "L2 /y/z.$",
-        ),
-        ("[{\"a.$\":\"$x\"},{\"b.$\":\"$y\"}]", "L5 /0/a.$ 1"),
-        ("[{\"a\":1,\"a.$\":\"$\"},{\"b.$\":null}]", "L1 /1/b.$"),
-        ("[{\"b.$\":[]},{\"b.$\":null}]", "L1 /0/b.$"),
-    ];
-    for (text, expected) in rows {
-        assert!(rt; is(refused(alloc, text), expected));
+    for (template, input, wanted) in REFUSED {
+        assert!(rt; gives(alloc, template, input, wanted));
     }
     Ok(())
 }
 
+/// The text of a copy of the template of this text, which has to equal it.
 fn rebuilt(alloc: Global, text: &str) -> Option<String> {
-    let template = template(alloc, text)?.try_clone(alloc).ok()?;
-    write(alloc, &template.rebuild(alloc).ok()?).ok()
+    let template = Template::read(alloc, &value(alloc, text)?).ok()?;
+    let copy = template.try_clone(alloc).ok()?;
+    if copy != template {
+        return None;
+    }
+    write(alloc, &copy.rebuild(alloc).ok()?).ok()
+}
+
+fn is_given_back(alloc: Global, text: &str) -> bool {
+    match rebuilt(alloc, text) {
+        Some(back) => back.as_str() == text,
+        None => false,
+    }
 }
 
 #[test]
 fn templates_are_given_back(rt: HostRuntime) -> Result<(), Fail> {
     let alloc = rt.alloc();
-    let rows = [
-        "[{\"x.$\":\"$.a\"},3]",
-        "{\"b\":1.0e1,\"a.$\":\"$$.a['b']\",\".$\":\"$\",\"c\":[{\"d\":null}]}",
-        "{}",
-    ];
-    for text in rows {
-        assert!(rt; is(rebuilt(alloc, text), text));
-    }
-    Ok(())
-}
-
-fn are_equal(alloc: Global, one: &str, other: &str) -> Option<bool> {
-    Some(template(alloc, one)? == template(alloc, other)?)
-}
-
-#[test]
-fn equal_templates_are_of_equal_values(rt: HostRuntime) -> Result<(), Fail> {
-    let alloc = rt.alloc();
-    let text = "{\"a\":[1.0,{}],\"b.$\":\"$.c\"}";
-    assert!(rt; matches!(are_equal(alloc, text, text), Some(true)));
-    let others = [
-        "{\"b.$\":\"$.c\",\"a\":[1.0,{}]}",
-        "{\"a\":[1,{}],\"b.$\":\"$.c\"}",
-        "{\"a\":[1.0,{}],\"b.$\":\"$.d\"}",
-        "{\"a\":[1.0,{}],\"b\":\"$.c\"}",
-        "{\"a\":[1.0,{}]}",
-        "[]",
-    ];
-    for other in others {
-        assert!(rt; matches!(are_equal(alloc, text, other), Some(false)));
+    for text in &[
+        r#"[{"x.$":"$.a"},3]"#,
+        r#"{"b":1.0e1,"a.$":"$$.a['b']",".$":"States.Array ( 1.0 , '\\'' )","c":[{"d":null}]}"#,
+    ] {
+        assert!(rt; is_given_back(alloc, text));
     }
     Ok(())
 }
@@ -207,14 +233,18 @@ fn wide(alloc: Global, count: usize, last: &str) -> Option<String> {
     Some(text)
 }
 
-fn wide_is_read(alloc: Global) -> Option<bool> {
-    let fine = wide(alloc, 30000, "\"x\":1")?;
-    let twice = wide(alloc, 30000, "\"k7\":1")?;
-    Some(is(refused(alloc, fine.as_str()), "none") && is(refused(alloc, twice.as_str()), "L2 /k7"))
+fn wide_gives(alloc: Global, last: &str, wanted: &str) -> bool {
+    match wide(alloc, 30000, last) {
+        Some(text) => gives(alloc, text.as_str(), "1", wanted),
+        None => false,
+    }
 }
 
+// In quadratic time this takes longer than a test may.
 #[test]
 fn wide_objects_are_read(rt: HostRuntime) -> Result<(), Fail> {
-    assert!(rt; matches!(wide_is_read(rt.alloc()), Some(true)));
+    let alloc = rt.alloc();
+    assert!(rt; wide_gives(alloc, r#""k7":1"#, "L2 /k7"));
+    assert!(rt; wide_gives(alloc, r#""x.$":"$.x""#, "L3 x.$"));
     Ok(())
 }

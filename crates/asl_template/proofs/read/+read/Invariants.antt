@@ -5,7 +5,7 @@ use Rattle.asl_json.specs.View.{data_of, items_of, members_of}
 use Rattle.asl_template.specs.View.{part_data, field_data, AllFit}
 use Rattle.asl_template.specs.Faults.{item_claims, member_claims}
 use Rattle.asl_template.specs.Broken.{Reads, listed}
-use Rattle.asl_template.specs.Keys.{Knows}
+use Rattle.asl_json.specs.Keys.{Knows}
 use Rattle.asl_template.proofs.read.+read.Given as goal
 
 abbrev pub decreases-part : goal.decreases-part
@@ -25,7 +25,7 @@ invariant-parts-loop-i l =
     let ds = items_of (take l.i l.values) in
     Reads (map part_data) ds (item_claims 0 (chain ds)) (listed l.read)
 
-abbrev pub invariant-fields-loop-member : goal.invariant-fields-loop-member
-invariant-fields-loop-member l =
-    let ms = members_of (take l.member-index l.members) in
+abbrev pub invariant-fields-loop-i : goal.invariant-fields-loop-i
+invariant-fields-loop-i l =
+    let ms = members_of (take l.i l.members) in
     Reads (map field_data) ms (member_claims [] (pairs ms)) (listed l.read) × IfOk (listed l.read) AllFit × Knows l.keys ms
