@@ -1,12 +1,12 @@
 -- The fault that reading finds is the one to answer.
-use Rattle.std.proofs.Common.{◌≡◌, ℕ, List, [], ◌∷◌, ◌++◌, refl, sym, ap, subst, ◌∙◌}
+use Rattle.std.proofs.Common.{◌≡◌, ℕ, List, [], ◌∷◌, ◌++◌, sym, subst}
 use Rattle.asl_json.specs.Data.{Data}
 use Rattle.asl_path.specs.Faults.{FaultAt}
 use Rattle.asl_path.specs.declared.step.Step.{Step}
 use Rattle.asl_intrinsic.specs.Faults.{IsFaultOf}
 use Rattle.asl_intrinsic.specs.declared.expr.CallFault.{CallFault}
 use Rattle.asl_intrinsic.specs.declared.expr.CallFault.TheVariants.{OutOfMemory as NoMemory}
-use Rattle.asl_template.specs.Faults.{Rule, no_text, beside, path, call, Claim, claims, Each, Holds, IsTemplate, IsFirst}
+use Rattle.asl_template.specs.Faults.{Rule, no_text, beside, path, call, Claim, claims, Each, Holds, IsTemplate}
 use Rattle.asl_template.specs.Places.{pointer_text}
 use Rattle.asl_template.specs.Broken.{Found, Says, IsFound}
 use Rattle.asl_template.specs.Answer.{Tells, Carries, IsTold, IsAnswer}

@@ -1,6 +1,6 @@
 -- Filling a list or an object part by part.
-use Rattle.std.proofs.Common.{◌≡◌, ◌<◌, ◌≤◌, ℕ, ◌+◌, List, [], ◌∷◌, ◌++◌, Bool, true, false, length, get_or, take, drop, refl, sym, ap, subst, ◌∙◌, zero, suc, arith}
-use Rattle.std.specs.Prelude.{Option, Some, None, Result, Ok, Err, map, if◌then◌else◌}
+use Rattle.std.proofs.Common.{◌≡◌, ◌<◌, ◌≤◌, ℕ, ◌+◌, List, [], ◌∷◌, ◌++◌, Bool, true, false, length, get_or, drop, refl, sym, ap, subst, ◌∙◌, zero, suc}
+use Rattle.std.specs.Prelude.{None, Result, Ok, Err, if◌then◌else◌}
 use Rattle.std.proofs.lemmas.List.{drop_more, map_push, drop_all}
 use Rattle.asl_json.specs.Data.{Data, text, Chain, no_items, item, Pairs, no_members, member, chain, pairs}
 use Rattle.asl_json.specs.View.{data_of, items_of}

@@ -1,6 +1,6 @@
 -- A fault that is passed on.
-use Rattle.std.proofs.Common.{◌≡◌, refl, ap, ◌∙◌}
-use Rattle.std.specs.Prelude.{Result, Ok, Err}
+use Rattle.std.proofs.Common.{ap}
+use Rattle.std.specs.Prelude.{Err}
 use Rattle.asl_template.specs.declared.fill.FillFault.{FillFault}
 use Rattle.asl_template.specs.declared.fill.FillFault.TheVariants.{PathFails, IntrinsicFails, OutOfMemory}
 use Rattle.asl_template.specs.Filling.{Outcome, and_then}

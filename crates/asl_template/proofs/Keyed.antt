@@ -1,8 +1,8 @@
 -- The names of members of a template.
-use Rattle.std.proofs.Common.{◌≡◌, ◌≢◌, ℕ, List, [], ◌∷◌, ◌++◌, Bool, true, false, ◌||◌, cond, refl, sym, ap, subst, ◌∙◌}
+use Rattle.std.proofs.Common.{◌≡◌, ℕ, List, [], ◌∷◌, ◌++◌, Bool, true, false, ◌||◌, refl, sym, ap, subst, ◌∙◌}
 use Rattle.std.specs.Prelude.{map, Option, Some, None}
 use Rattle.std.specs.Cmp.Lexicographic.{same_text}
-use Rattle.asl_json.specs.Data.{Data, pairs}
+use Rattle.asl_json.specs.Data.{pairs}
 use Rattle.asl_json.specs.Same.{bytes_eq}
 use Rattle.asl_json.specs.SameLaws.{bytes_refl}
 use Rattle.asl_json.specs.Distinct.{Members, has_key, AreDistinct}

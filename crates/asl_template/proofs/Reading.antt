@@ -1,8 +1,8 @@
 -- Reading a list or an object part by part.
-use Rattle.std.proofs.Common.{◌≡◌, ◌<◌, ◌≤◌, ℕ, zero, suc, ◌+◌, List, [], ◌∷◌, ◌++◌, Bool, true, false, length, get_or, take, refl, sym, ap, subst, ◌∙◌, append_assoc, arith}
-use Rattle.std.specs.Prelude.{map, Option, Some, None, Result, Ok, Err, IfOk}
-use Rattle.std.proofs.lemmas.List.{map_more, append-nil, length-map}
-use Rattle.asl_json.specs.Data.{Data, Chain, no_items, item, Pairs, no_members, member, chain, pairs}
+use Rattle.std.proofs.Common.{◌≡◌, ◌<◌, ℕ, zero, suc, ◌+◌, List, [], ◌∷◌, ◌++◌, Bool, true, false, length, get_or, take, refl, sym, ap, subst, ◌∙◌, append_assoc, arith}
+use Rattle.std.specs.Prelude.{map, Result, Ok, Err, IfOk}
+use Rattle.std.proofs.lemmas.List.{map_more, append-nil}
+use Rattle.asl_json.specs.Data.{Data, chain, pairs}
 use Rattle.asl_json.specs.View.{data_of, items_of, member_of, members_of}
 use Rattle.asl_json.specs.Distinct.{Members}
 use Rattle.asl_json.specs.declared.value.Json.{Json}
@@ -12,7 +12,7 @@ use Rattle.asl_path.specs.declared.step.Step.TheVariants.{Name, Index}
 use Rattle.asl_template.specs.Names.{name_before, is_double}
 use Rattle.asl_template.specs.Filling.{chosen}
 use Rattle.asl_template.specs.View.{part_data, field_data, Fits, AllFit}
-use Rattle.asl_template.specs.Faults.{Claim, under, text_claim, double_claims, claims, item_claims, member_claims, Each, Holds}
+use Rattle.asl_template.specs.Faults.{Claim, under, text_claim, double_claims, claims, item_claims, member_claims}
 use Rattle.asl_template.specs.Broken.{Found, under_read, taken, judged_read, Reads}
 use Rattle.asl_template.specs.declared.part.Part.{Part}
 use Rattle.asl_template.specs.declared.part.Field.{Field}

@@ -1,6 +1,6 @@
 -- A computed member that is wrong.
-use Rattle.std.proofs.Common.{◌≡◌, ℕ, List, [], ◌∷◌, ◌++◌, Bool, true, false, refl, sym, ap, subst, ◌∙◌, length, ◌≤◌, take}
-use Rattle.std.specs.Prelude.{Option, Some, None, Result, Ok, Err, IfOk, map, if◌then◌else◌}
+use Rattle.std.proofs.Common.{◌≡◌, ℕ, List, [], ◌∷◌, ◌++◌, true, false, refl, sym, subst, ◌∙◌, length, ◌≤◌, take}
+use Rattle.std.specs.Prelude.{Option, Some, Result, Ok, IfOk, map}
 use Rattle.std.proofs.lemmas.List.{take_all}
 use Rattle.asl_json.specs.Data.{Data, text, pairs}
 use Rattle.asl_json.specs.View.{data_of, members_of}
@@ -19,8 +19,8 @@ use Rattle.asl_intrinsic.specs.declared.expr.CallFault.{CallFault}
 use Rattle.asl_intrinsic.specs.declared.expr.CallFault.TheVariants.{OutOfMemory as NoCallMemory}
 use Rattle.asl_template.specs.Names.{mark, name_before, named}
 use Rattle.asl_template.specs.Filling.{is_path, chosen}
-use Rattle.asl_template.specs.View.{field_data, fields_data, AllFit, IsObject}
-use Rattle.asl_template.specs.Faults.{Rule, no_text, path, call, Claim, IsBroken, text_claim, member_claims, Each, Holds}
+use Rattle.asl_template.specs.View.{field_data, AllFit, IsObject}
+use Rattle.asl_template.specs.Faults.{Rule, no_text, path, call, Claim, IsBroken, text_claim, member_claims}
 use Rattle.asl_template.specs.Broken.{Found, Says, IsFound, Reads}
 use Rattle.asl_template.specs.declared.fault.Kind.{Kind}
 use Rattle.asl_template.specs.declared.fault.Kind.TheVariants.{NotText, PathText, CallText}

@@ -3,7 +3,6 @@ use Rattle.std.specs.Prelude.{◌≡◌, ℕ, List}
 use Rattle.asl_json.specs.Data.{Data}
 use Rattle.asl_path.specs.Faults.{FaultAt}
 use Rattle.asl_intrinsic.specs.Faults.{IsFaultOf}
-use Rattle.asl_intrinsic.specs.declared.expr.CallFault.{CallFault}
 use Rattle.asl_intrinsic.specs.declared.expr.CallFault.TheVariants.{OutOfMemory as NoMemory}
 use Rattle.asl_template.specs.Faults.{Rule, no_text, beside, path, call, Claim, claims, IsFirst}
 use Rattle.asl_template.specs.Places.{pointer_text}

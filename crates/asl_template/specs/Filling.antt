@@ -1,5 +1,5 @@
 -- What a template gives on an input and a Context Object. (Amazon States Language, "Payload Template".)
-use Rattle.std.specs.Prelude.{ℕ, List, [], ◌∷◌, Bool, true, false, ◌&&◌, ◌==◌, Option, Some, None, if◌then◌else◌, Result, Ok, Err}
+use Rattle.std.specs.Prelude.{ℕ, List, [], ◌∷◌, Bool, false, ◌&&◌, ◌==◌, Option, Some, None, if◌then◌else◌, Result, Ok, Err}
 use Rattle.asl_json.specs.Data.{Data, null, boolean, number, text, list, dict, Chain, no_items, item, Pairs, no_members, member}
 use Rattle.asl_path.specs.Paths.{part_at}
 use Rattle.asl_intrinsic.specs.Values.{ev}

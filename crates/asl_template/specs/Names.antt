@@ -1,5 +1,5 @@
 -- Keys of a template's members. (Amazon States Language, "Payload Template".)
-use Rattle.std.specs.Prelude.{◌≡◌, ℕ, List, [], ◌∷◌, ◌++◌, Bool, true, false, ◌||◌, Option, Some, None, if◌then◌else◌, map, option_map}
+use Rattle.std.specs.Prelude.{ℕ, List, [], ◌∷◌, ◌++◌, Bool, false, ◌||◌, Option, Some, None, if◌then◌else◌, map, option_map}
 use Rattle.asl_json.specs.Data.{Data}
 use Rattle.asl_json.specs.Distinct.{Members, has_key}
 use Rattle.asl_json.specs.Same.{bytes_eq}

@@ -1,4 +1,4 @@
-use Rattle.std.proofs.Common.{◌≡◌, ◌+◌, ◌*◌, take, []}
+use Rattle.std.proofs.Common.{◌+◌, ◌*◌, take, []}
 use Rattle.std.specs.Prelude.{map, IfOk}
 use Rattle.asl_json.specs.Data.{chain, pairs, depth, items_depth, members_depth}
 use Rattle.asl_json.specs.View.{data_of, items_of, members_of}
