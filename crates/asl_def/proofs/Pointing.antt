@@ -1,24 +1,9 @@
 -- The text of a place, from the outermost step in.
-use Rattle.std.proofs.Common.{◌≡◌, ℕ, ◌+◌, ◌-◌, ◌<◌, List, [], ◌∷◌, ◌++◌, length, get_or, drop, refl, sym, ◌∙◌, ap, append_assoc, arith, reverse}
-use Rattle.std.specs.Prelude.{map}
-use Rattle.std.specs.List.{flat_map}
-use Rattle.std.proofs.lemmas.Grind.{flat_map-append}
-use Rattle.std.proofs.lemmas.List.{append-nil, drop_more, reverse-append}
+use Rattle.std.proofs.Common.{◌≡◌, ℕ, ◌+◌, ◌-◌, ◌<◌, List, [], ◌∷◌, ◌++◌, length, get_or, drop, sym, ◌∙◌, ap, arith, reverse}
+use Rattle.std.proofs.lemmas.List.{drop_more, reverse-append}
+use Rattle.asl_json.proofs.Pointing.{one_more}
 use Rattle.asl_def.specs.declared.fault.Step.{Step}
-use Rattle.asl_def.specs.Pointers.{escaped_char, pointer_part, pointer_text}
-
-map_same : (xs : List ℕ) → map (λ c. c) xs ≡ xs
-map_same [] = refl
-map_same (x ∷ xs) = ap (λ (ys : List ℕ). x ∷ ys) (map_same xs)
-
-one_more : {X : Type 0} (f : X → List ℕ) (xs : List X) (x : X) → flat_map f (xs ++ x ∷ []) ≡ flat_map f xs ++ f x
-one_more f xs x = flat_map-append f xs (x ∷ []) ∙ ap (λ (ys : List ℕ). flat_map f xs ++ ys) (append-nil (f x))
-
-pub name_step : (start old new ys : List ℕ) (c : ℕ) → old ≡ start ++ flat_map escaped_char ys → new ≡ old ++ escaped_char c → new ≡ start ++ flat_map escaped_char (ys ++ c ∷ [])
-name_step start old new ys c so_far is = is ∙ ap (λ (x : List ℕ). x ++ escaped_char c) so_far ∙ append_assoc start (flat_map escaped_char ys) (escaped_char c) ∙ ap (λ (x : List ℕ). start ++ x) (sym (one_more escaped_char ys c))
-
-pub name_end : (start out ys cs : List ℕ) → out ≡ start ++ flat_map escaped_char ys → map (λ c. c) ys ≡ cs → out ≡ start ++ flat_map escaped_char cs
-name_end start out ys cs so_far all = so_far ∙ ap (λ (x : List ℕ). start ++ flat_map escaped_char x) (sym (map_same ys) ∙ all)
+use Rattle.asl_def.specs.Pointers.{pointer_part, pointer_text}
 
 pub pointer_step : (ss : List Step) (i : ℕ) (s : Step) (old new : List ℕ) → i < length ss → s ≡ get_or ss (length ss - 1 - i) s → old ≡ pointer_text (reverse (drop (length ss - i) ss)) → new ≡ old ++ pointer_part s → new ≡ pointer_text (reverse (drop (length ss - (i + 1)) ss))
 pointer_step ss i s old new lt at so_far is =

@@ -3,8 +3,8 @@ ghost use Rattle.std.specs.Prelude.{◌≡◌, [], IfOk, option_map};
 ghost use Rattle.asl_def.specs.Faults.{number_of, under, better, step};
 ghost use Rattle.asl_def.specs.Pointers.{pointer_text};
 
-use crate::pointer::{Pointer, pointer_of};
-use asl_json::Txt;
+use crate::pointer::pointer_of;
+use asl_json::{Pointer, Txt};
 use std::alloc::{AllocError, Global};
 use std::marker::Model;
 

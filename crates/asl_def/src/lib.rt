@@ -17,5 +17,5 @@ mod state;
 mod table;
 
 pub use machine::{Machine, parse};
-pub use pointer::{DefFault, Pointer};
+pub use pointer::DefFault;
 pub use state::{Next, Pass, PathField, State, Succeed, Target};

@@ -1,37 +1,14 @@
 // Places as text, and the faults that are answered.
-ghost use Rattle.std.specs.Prelude.{◌≡◌, ◌++◌, [], IfOk, OnOk, string_bytes, option_map, reverse};
-ghost use Rattle.asl_def.specs.Pointers.{escaped_char, escaped, pointer_part, pointer_text};
+ghost use Rattle.std.specs.Prelude.{◌≡◌, IfOk, string_bytes, option_map, reverse};
+ghost use Rattle.asl_def.specs.Pointers.{pointer_text};
 ghost use Rattle.asl_def.specs.Answer.{Tells, fault_words, place_in, fault_text};
-ghost use Rattle.std.specs.List.{flat_map};
 
 use crate::fault::{Fault, FaultKind, Step};
+use asl_json::Pointer;
 use std::alloc::{AllocError, Global};
-use std::marker::Model;
 
-/// A place in a definition as a JSON Pointer (RFC 6901), as `/States/A/Next`. Contracts see it as its text.
-#[derive(Drop)]
-pub struct Pointer {
-    text: String,
-}
-
-impl Model for Pointer {
-    ghost use Rattle.std.specs.Prelude.{List, ℕ, string_bytes};
-
-    ghost Value = { List ℕ };
-
-    ghost view = { λ a. string_bytes a.text };
-}
-
-impl Pointer {
-    /// The text of the pointer.
-    pub fn as_str(&self) -> &str
-        ensures { result.now ≡ self.now }
-    {
-        self.text.as_str()
-    }
-}
-
-/// Why a definition is refused. A member that is missing has the place where it would stand.
+/// Why a definition is refused, with the place in the definition, as `/States/A/Next`. A member that is missing has the place
+/// where it would stand.
 #[derive(Drop)]
 pub enum DefFault {
     /// F2: the definition isn't an object.
@@ -123,42 +100,16 @@ impl DefFault {
     }
 }
 
-fn put_char(out: &mut String, c: char) -> Result<(), AllocError>
-    ensures { OnOk result (string_bytes out.new ≡ string_bytes out.old ++ escaped_char c) }
-{
-    match c {
-        '~' => out.push_str("~0"),
-        '/' => out.push_str("~1"),
-        c => out.push(c),
-    }
-}
-
-fn put_name(out: &mut String, name: &str) -> Result<(), AllocError>
-    ensures { OnOk result (string_bytes out.new ≡ string_bytes out.old ++ escaped name.now) }
-{
-    for c in name.chars() {
-        put_char(out, c)?;
-    }
-    Ok(())
-}
-
-fn put_step(out: &mut String, step: &Step) -> Result<(), AllocError>
-    ensures { OnOk result (string_bytes out.new ≡ string_bytes out.old ++ pointer_part step.now) }
-{
-    out.push('/')?;
-    put_name(out, step.name.as_str())
-}
-
 /// The pointer of these steps, of which the innermost is first.
 pub(crate) fn pointer_of(alloc: Global, steps: &[Step]) -> Result<Pointer, AllocError>
     ensures { IfOk result (λ p. p ≡ pointer_text (reverse steps.now)) }
 {
-    let mut text = String::new(alloc);
+    let mut place = Pointer::whole(alloc);
     let count = steps.len();
     for i in 0..count {
-        put_step(&mut text, &steps[count - 1 - i])?;
+        place = place.at_name(steps[count - 1 - i].name.as_str())?;
     }
-    Ok(Pointer { text })
+    Ok(place)
 }
 
 fn at_place(kind: FaultKind, place: Pointer) -> DefFault

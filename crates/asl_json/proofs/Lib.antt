@@ -25,3 +25,4 @@ pub mod Equality
 pub mod Counting
 pub mod Accessing
 pub mod Wholes
+pub mod Pointing

@@ -25,3 +25,4 @@ pub mod Keys
 pub mod FaultText
 pub mod Whole
 pub mod Reading
+pub mod Pointers

@@ -2,7 +2,7 @@
 //!
 //! Modules in reading order: `value` and `fault` are the types, `whole` the whole numbers; `front`, `units`, `number`, `escape`,
 //! `keys` and `reading` the reader, which `judging` turns into `read`; `writing` the printer, and `within` the length of what it
-//! prints; `equal` and `sameness` compare; `access` reaches into a value.
+//! prints; `equal` and `sameness` compare; `access` reaches into a value, and `pointer` writes where a part of it is.
 #![tactic(auto)]
 
 mod access;
@@ -13,6 +13,7 @@ mod front;
 mod judging;
 mod keys;
 mod number;
+mod pointer;
 mod reading;
 mod sameness;
 mod units;
@@ -23,7 +24,9 @@ mod writing;
 
 pub use fault::JsonFault;
 pub use judging::{a_text_has_the_value_that_it_spells, a_text_is_read_as_one_value, read};
+pub use keys::Keys;
 pub use number::{Part, longest_number};
+pub use pointer::Pointer;
 pub use sameness::same;
 pub use value::{Dec, Items, Json, Member, Members, Txt, clone_text};
 pub use writing::write;

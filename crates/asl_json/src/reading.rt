@@ -57,7 +57,7 @@ fn key<'a>(
     keys: &Keys,
 ) -> Result<(Txt, &'a [u8]), Stop>
     requires utf8 { IsUtf8 bytes.now }
-    requires known { Knows keys.now.names (members_of members.now) }
+    requires known { Knows keys.now (members_of members.now) }
     ensures run { (st : List Frame) → Leads (λ x. run true value (in_dict (members_of members.now) x.0 ∷ st) x.1.now) result (run true (key (members_of members.now)) st bytes.now) }
     ensures shorter { IfOk result (λ x. length x.1.now < length bytes.now) }
     ensures utf8 { IfOk result (λ x. IsUtf8 x.1.now) }
@@ -68,7 +68,7 @@ fn key<'a>(
         return Err(syntax(rest));
     };
     let (name, behind) = text(alloc, inside)?;
-    if keys.has(members, &name) {
+    if keys.has(members, name.as_str()) {
         return Err(Stop::Fault(Fault {
             kind: Kind::Duplicate,
             left: rest.len(),
@@ -210,7 +210,7 @@ fn members(alloc: Global, bytes: &[u8], levels: usize) -> Result<(Members, &[u8]
     loop {
         let (name, behind) = key(alloc, rest, &members, &keys)?;
         let (member, behind) = value(alloc, behind, levels)?;
-        keys.add(alloc, &members, &name)?;
+        keys.add(alloc, &members, name.as_str())?;
         members.push(Member {
             key: name,
             value: member,

@@ -1,9 +1,9 @@
 //! What no clause says of the crates below, tried from outside: worked examples, that each call succeeds with ample memory, and what
 //! libraries that aren't ours read.
 //!
-//! `json`, `cases`, `second_reader` and `deep` try values; `calls` and `functions` the calls of intrinsic functions; `paths`, `time`,
-//! `history`, `definitions` and `runs` the crate of that subject. They stand here since the tests of a crate have it proved once
-//! more: here only they are.
+//! `json`, `cases`, `second_reader` and `deep` try values; `calls` and `functions` the calls of intrinsic functions, `templates` what
+//! stands on them; `paths`, `time`, `history`, `definitions` and `runs` the crate of that subject. They stand here since the tests
+//! of a crate have it proved once more: here only they are.
 #![tactic(auto)]
 
 #[cfg(test)]
@@ -26,5 +26,7 @@ mod paths;
 mod runs;
 #[cfg(test)]
 mod second_reader;
+#[cfg(test)]
+mod templates;
 #[cfg(test)]
 mod time;

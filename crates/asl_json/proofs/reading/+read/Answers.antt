@@ -1,4 +1,4 @@
-use Rattle.std.proofs.Common.{List, [], ◌∷◌, ◌++◌, true, length, arith, ap, sym, subst, ◌∙◌}
+use Rattle.std.proofs.Common.{ℕ, List, [], ◌∷◌, ◌++◌, true, length, arith, ap, sym, subst, ◌∙◌}
 use Rattle.std.proofs.lemmas.Result.{err_from_is_err_and}
 use Rattle.asl_json.specs.Data.{Data, list, dict, chain, pairs}
 use Rattle.asl_json.specs.View.{data_of, items_of, members_of}
@@ -19,7 +19,7 @@ members-returns-in-Some-clause-run t c = λ st h.
 
 pub members-loop-keys-init : goal.members-loop-keys-init
 members-loop-keys-init t c =
-    (λ st h. rw c.new-members.ensures.items (first_key st c.args.bytes.now _ c.skip_spaces-rest.ensures.skips c.in_default.ensures.none), skips_shorter _ _ c.skip_spaces-rest.ensures.skips, c.skip_spaces-rest.ensures.utf8 c.requires, rw c.new-members.ensures.items tt, rw (c.new-members.ensures.items, c.new-keys.ensures) tt)
+    (λ st h. rw c.new-members.ensures.items (first_key st c.args.bytes.now _ c.skip_spaces-rest.ensures.skips c.in_default.ensures.none), skips_shorter _ _ c.skip_spaces-rest.ensures.skips, c.skip_spaces-rest.ensures.utf8 c.requires, rw c.new-members.ensures.items tt, rw c.new-members.ensures.items c.new-keys.ensures)
 
 pub members-returns-in-Some-after_byte-clause-run : goal.members-returns-in-Some-after_byte-clause-run
 members-returns-in-Some-after_byte-clause-run t c = λ st h.
@@ -50,7 +50,7 @@ members-loop-keys-preserved t c =
       omega (arith, ap length c.in-Some-after_byte-2.ensures.found, skips_shorter _ _ c.skip_spaces-behind.ensures.skips, c.in_ok-member.ensures.shorter, c.in_ok-name.ensures.shorter, c.loop-keys.invariant.1),
       c.in-Some-after_byte-2.ensures.utf8 (c.skip_spaces-behind.ensures.utf8 c.in_ok-member.ensures.utf8),
       still_distinct c.deref.result.now c.loop-keys.members.items c.push.new.self.items _ c.deref.ensures.value c.in_ok-push.ensures.items c.loop-keys.invariant.3 c.in_ok-name.ensures.new,
-      subst (Knows c.add.new.self.names) (ap (λ (ms : List Member). members_of ms ++ (k, d) ∷ []) c.deref-in-loop-keys.ensures.value ∙ pushed ms c.push.new.self.items _ c.in_ok-push.ensures.items) (c.in_ok-add.ensures.keys d),
+      subst (Knows c.add.new.self) (ap (λ (l : List ℕ). members_of c.deref-in-loop-keys.result.now ++ (l, d) ∷ []) c.as_str.ensures ∙ ap (λ (ms : List Member). members_of ms ++ (k, d) ∷ []) c.deref-in-loop-keys.ensures.value ∙ pushed ms c.push.new.self.items _ c.in_ok-push.ensures.items) (c.in_ok-add.ensures d),
     )
 
 pub value-returns-in_err-content-clause-run : goal.value-returns-in_err-content-clause-run
@@ -96,15 +96,10 @@ pub members-invariant_of-result-in-Some-after_byte : goal.members-invariant_of-r
 members-invariant_of-result-in-Some-after_byte t c = still_distinct c.deref.result.now c.loop-keys.members.items c.push.new.self.items _ c.deref.ensures.value c.in_ok-push.ensures.items c.loop-keys.invariant.3 c.in_ok-name.ensures.new
 
 pub members-key-requires-clause-known : goal.members-key-requires-clause-known
-members-key-requires-clause-known t c = subst (λ (ms : List Member). Knows c.loop-keys.keys.names (members_of ms)) (sym c.deref.ensures.value) c.loop-keys.invariant.4
+members-key-requires-clause-known t c = subst (λ (ms : List Member). Knows c.loop-keys.keys (members_of ms)) (sym c.deref.ensures.value) c.loop-keys.invariant.4
 
 pub members-add-requires : goal.members-add-requires
-members-add-requires t c = subst (λ (ms : List Member). Knows c.loop-keys.keys.names (members_of ms)) (sym c.deref-in-loop-keys.ensures.value) c.loop-keys.invariant.4
-
-pub members-returns-in_err-add-clause-run : goal.members-returns-in_err-add-clause-run
-members-returns-in_err-add-clause-run t c = λ st h.
-    let p = err_from_is_err_and c.from_residual-in_err-add.result c.from_residual-in_err-add.ensures.1 in
-    rw (p.1, p.2, c.in_err-add.ensures.memory) tt
+members-add-requires t c = subst (λ (ms : List Member). Knows c.loop-keys.keys (members_of ms)) (sym c.deref-in-loop-keys.ensures.value) c.loop-keys.invariant.4
 
 pub value-returns-in_err-found-clause-run : goal.value-returns-in_err-found-clause-run
 value-returns-in_err-found-clause-run t c = λ st h w.

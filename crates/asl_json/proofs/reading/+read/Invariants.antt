@@ -25,7 +25,7 @@ invariant-members-loop-keys l =
     × (length l.rest ≤ length l.bytes)
     × IsUtf8 l.rest
     × AreDistinct [] (members_of l.members.items)
-    × Knows l.keys.names (members_of l.members.items)
+    × Knows l.keys (members_of l.members.items)
 
 abbrev pub decreases-members-loop-keys : goal.decreases-members-loop-keys
 decreases-members-loop-keys l = length l.rest

@@ -2,8 +2,8 @@ use Rattle.std.proofs.Common.{string_bytes}
 use Rattle.std.proofs.lemmas.Iterator.{YieldsList-from_chars}
 use Rattle.std.proofs.lemmas.Iterator.Consumers.{YieldsList-end}
 use Rattle.std.specs.Str.{chars}
-use Rattle.asl_def.proofs.Pointing.{name_end}
-use Rattle.asl_def.proofs.pointer.put_name.Goals as goal
+use Rattle.asl_json.proofs.Pointing.{name_end}
+use Rattle.asl_json.proofs.pointer.put_name.Goals as goal
 
 pub returns : goal.returns
 returns c =

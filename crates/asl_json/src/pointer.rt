@@ -1,0 +1,76 @@
+// Places in a value, as text.
+ghost use Rattle.std.specs.Prelude.{◌≡◌, ◌++◌, [], IfOk, OnOk, string_bytes};
+ghost use Rattle.asl_json.specs.Pointers.{escaped_char, escaped, name_part, index_part};
+
+use std::alloc::{AllocError, Global};
+use std::marker::Model;
+
+/// A place in a value as a JSON Pointer (RFC 6901), as `/a/0`. Contracts see it as its text.
+#[derive(Drop)]
+pub struct Pointer {
+    text: String,
+}
+
+impl Model for Pointer {
+    ghost use Rattle.std.specs.Prelude.{List, ℕ, string_bytes};
+
+    ghost Value = { List ℕ };
+
+    ghost view = { λ a. string_bytes a.text };
+}
+
+fn put_char(out: &mut String, c: char) -> Result<(), AllocError>
+    ensures { OnOk result (string_bytes out.new ≡ string_bytes out.old ++ escaped_char c) }
+{
+    match c {
+        '~' => out.push_str("~0"),
+        '/' => out.push_str("~1"),
+        c => out.push(c),
+    }
+}
+
+fn put_name(out: &mut String, name: &str) -> Result<(), AllocError>
+    ensures { OnOk result (string_bytes out.new ≡ string_bytes out.old ++ escaped name.now) }
+{
+    for c in name.chars() {
+        put_char(out, c)?;
+    }
+    Ok(())
+}
+
+impl Pointer {
+    /// The place of the whole value.
+    pub fn whole(alloc: Global) -> Pointer
+        ensures { result ≡ [] }
+    {
+        Pointer {
+            text: String::new(alloc),
+        }
+    }
+
+    /// The place of the member of this name. The error is that memory ran out.
+    pub fn at_name(self, name: &str) -> Result<Pointer, AllocError>
+        ensures { IfOk result (λ p. p ≡ self ++ name_part name.now) }
+    {
+        let Pointer { mut text } = self;
+        text.push('/')?;
+        put_name(&mut text, name)?;
+        Ok(Pointer { text })
+    }
+
+    /// The place of the item of this number, counted from 0. The error is that memory ran out.
+    pub fn at_index(self, index: usize) -> Result<Pointer, AllocError>
+        ensures { IfOk result (λ p. p ≡ self ++ index_part index) }
+    {
+        let Pointer { mut text } = self;
+        write!(text, "/{index}")?;
+        Ok(Pointer { text })
+    }
+
+    /// The text of the pointer.
+    pub fn as_str(&self) -> &str
+        ensures { result.now ≡ self.now }
+    {
+        self.text.as_str()
+    }
+}

@@ -1,0 +1,12 @@
+mod Marks
+mod Handing
+mod Filled
+mod Apart
+mod Pointing
+mod First
+mod Within
+mod Reading
+mod Keyed
+mod Single
+mod Answered
+mod Equality
