@@ -20,7 +20,7 @@ use Rattle.asl_intrinsic.specs.Fronts.{AwaitsArgument}
 use Rattle.asl_intrinsic.specs.Steps.{Mode, prefix, naming, named, opening, wanting, word, chars, escape, figure, along, ended, is_part, is_begun, is_number_front, is_path_front, run_by}
 use Rattle.asl_intrinsic.proofs.Stretches.{goes, alike, prefix_on, name_begins, name_off, named_opens, word_on, word_ends}
 use Rattle.asl_intrinsic.proofs.Leaves.{quote_ends, escape_on, figure_run, fits_on, along_run, along_whole, path_prefix}
-use Rattle.asl_intrinsic.proofs.Turns.{opening_closes, ended_bracket}
+use Rattle.asl_intrinsic.proofs.Turns.{bracket_closes, bracket_ends}
 use Rattle.asl_intrinsic.proofs.Reaching.{Reached, empty, run_spells}
 use Rattle.asl_intrinsic.proofs.Ending.{number_stops, path_stops}
 use Rattle.asl_intrinsic.proofs.Passing.{null_passes, wanted, at_comma}
@@ -40,7 +40,7 @@ closes_all : (st : List Frame) (a : Argument) → (b : Argument) × (run_by fals
 closes_all [] a = (a, refl)
 closes_all (f ∷ st) a =
     let again = closes_all st (call f.0 (arguments (f.1 ++ a ∷ []))) in
-    (again.0, goes false (ended a) (ended (call f.0 (arguments (f.1 ++ a ∷ [])))) (f ∷ st) st 41 (closing st) (ended_bracket a f st) ∙ again.1)
+    (again.0, bracket_ends false (41 ∷ closing st) (closing st) a f st refl ∙ again.1)
 
 -- it gets to the end of an argument
 ends_well : (m : Mode) (st : List Frame) (more : List ℕ) (a : Argument) → run_by false m st (more ++ closing st) ≡ run_by false (ended a) st (closing st) → GoesOn m st
@@ -50,7 +50,7 @@ opening_goes_on : (f : Frame) (st : List Frame) → GoesOn opening (f ∷ st)
 opening_goes_on f st =
     let a = call f.0 (arguments f.1) in
     let all = closes_all st a in
-    record { more = 41 ∷ closing st; tree = all.0; leads = goes false opening (ended a) (f ∷ st) st 41 (closing st) (opening_closes f st) ∙ all.1 }
+    record { more = 41 ∷ closing st; tree = all.0; leads = bracket_closes false (41 ∷ closing st) (closing st) f st refl ∙ all.1 }
 
 named_goes_on : (n : List ℕ) (st : List Frame) → GoesOn (named n) st
 named_goes_on n st = let g = opening_goes_on (n, []) st in record { more = 40 ∷ g.more; tree = g.tree; leads = goes false (named n) opening st ((n, []) ∷ st) 40 g.more (named_opens n st) ∙ g.leads }

@@ -61,7 +61,7 @@ only_memory t OutOfMemory h c = refl
 -- ---- what a text means
 
 pub meaning : (a : Argument) (t : List ℕ) → SpellsCall a t → Fits a → Means t a
-meaning a t h f = record { only = λ b g. one_tree b a t g h; nowhere = λ at w. nowhere_wrong t a at h f w; value = λ x c. ap (λ (z : Result Argument ℕ). value_by z x c) (fitting_heard a t h f) }
+meaning a t h f = record { nowhere = λ at w. nowhere_wrong t a at h f w; value = λ x c. ap (λ (z : Result Argument ℕ). value_by z x c) (fitting_heard a t h f) }
 
 pub wrong_elsewhere : (t : List ℕ) → ((a : Argument) → SpellsCall a t → Fits a → ⊥) → (at : ℕ) × IsFirstWrong t at
 wrong_elsewhere t h = told (heard t) refl

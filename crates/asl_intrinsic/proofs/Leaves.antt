@@ -150,7 +150,7 @@ pub number_is : (p : Part) (s : List ℕ) (b : Bool) → IsPart p s → may_end 
 unfolding is_number
 number_is p s b h e = rw h e
 
-pub front_off : (p : Part) (s : List ℕ) (c : ℕ) → IsPart p s → next_part p c ≡ None → is_number_front (s ++ c ∷ []) ≡ false
+front_off : (p : Part) (s : List ℕ) (c : ℕ) → IsPart p s → next_part p c ≡ None → is_number_front (s ++ c ∷ []) ≡ false
 unfolding is_number_front
 front_off p s c h e = ap is_part (part_append (Some Start) s (c ∷ []) ∙ ap (λ (z : Option Part). part_behind z (c ∷ [])) h ∙ e)
 
@@ -242,7 +242,7 @@ shorter_prefix t u h = record { more = u ++ h.more; is_path = subst IsPath (appe
 pub path_prefix : (t : List ℕ) → IsPath t → IsPrefix t
 path_prefix t h = record { more = []; is_path = subst IsPath (sym (append-nil t)) h }
 
-pub front_alive : (t : List ℕ) → IsPrefix t → is_path_front t ≡ true
+front_alive : (t : List ℕ) → IsPrefix t → is_path_front t ≡ true
 unfolding is_path_front
 front_alive t h = judged (steps t) (path_judged t)
   where
@@ -254,7 +254,7 @@ front_alive t h = judged (steps t) (path_judged t)
         at [] e l dead = grind (arith, l)
         at (c ∷ rest) e l dead = absurd (dead (shorter_prefix (j.front ++ c ∷ []) rest (subst IsPrefix (e ∙ sym (append_assoc j.front (c ∷ []) rest)) h)))
 
-pub front_dead : (t : List ℕ) → (IsPrefix t → ⊥) → is_path_front t ≡ false
+front_dead : (t : List ℕ) → (IsPrefix t → ⊥) → is_path_front t ≡ false
 unfolding is_path_front
 front_dead t h = judged (steps t) (path_judged t)
   where
@@ -266,7 +266,7 @@ front_dead t h = judged (steps t) (path_judged t)
         at [] e l = absurd (h (subst IsPrefix (sym (e ∙ append-nil j.front)) j.alive))
         at (c ∷ rest) e l = grind (arith, l)
 
-pub path_is : (t : List ℕ) → IsPath t → is_path t ≡ true
+path_is : (t : List ℕ) → IsPath t → is_path t ≡ true
 unfolding is_path
 path_is t h = ap is_read (path_passes h.root h.steps t h.spelled)
 
@@ -428,19 +428,19 @@ pub dollar_begins : (st : List Frame) → begins st 36 ≡ step (along []) st 36
 unfolding begins
 dollar_begins st = refl
 
-pub null_begins : (st : List Frame) → begins st 110 ≡ step (word null_word null) st 110
+null_begins : (st : List Frame) → begins st 110 ≡ step (word null_word null) st 110
 unfolding begins
 null_begins st = refl
 
-pub true_begins : (st : List Frame) → begins st 116 ≡ step (word true_word (boolean true)) st 116
+true_begins : (st : List Frame) → begins st 116 ≡ step (word true_word (boolean true)) st 116
 unfolding begins
 true_begins st = refl
 
-pub false_begins : (st : List Frame) → begins st 102 ≡ step (word false_word (boolean false)) st 102
+false_begins : (st : List Frame) → begins st 102 ≡ step (word false_word (boolean false)) st 102
 unfolding begins
 false_begins st = refl
 
-pub call_begins : (st : List Frame) → begins st 83 ≡ step (prefix states_word) st 83
+call_begins : (st : List Frame) → begins st 83 ≡ step (prefix states_word) st 83
 unfolding begins
 call_begins st = refl
 
@@ -474,7 +474,7 @@ begun_false t st f = begun_as (word false_word (boolean false)) 102 t st (false_
 pub begun_call : (t : List ℕ) (st : List Frame) → first_is 83 t ≡ true → begun st t ≡ run (prefix states_word) st t
 begun_call t st f = begun_as (prefix states_word) 83 t st (call_begins st) f
 
-pub nothing_number : is_number [] ≡ false
+nothing_number : is_number [] ≡ false
 unfolding is_number
 nothing_number = refl
 

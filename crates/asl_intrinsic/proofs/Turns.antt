@@ -57,7 +57,7 @@ ended_skips t rest a f st h = skipped (ended a) (f ∷ st) t rest (ended_space a
 
 -- ---- brackets and commas
 
-pub opening_closes : (f : Frame) (st : List Frame) → step opening (f ∷ st) 41 ≡ go (ended (call f.0 (arguments f.1))) st
+opening_closes : (f : Frame) (st : List Frame) → step opening (f ∷ st) 41 ≡ go (ended (call f.0 (arguments f.1))) st
 unfolding in_opening closes
 opening_closes f st = refl
 
@@ -80,11 +80,11 @@ pub wanting_wants : (t : List ℕ) (st : List Frame) → NotFirst is_space t →
 wanting_wants [] st e = refl
 wanting_wants (c ∷ cs) st e = ap (λ (z : Next). onward z (suc (length cs)) (λ n s. run n s cs)) (wanting_begins st c e)
 
-pub ended_comma : (a : Argument) (f : Frame) (st : List Frame) → step (ended a) (f ∷ st) 44 ≡ go wanting ((f.0, f.1 ++ a ∷ []) ∷ st)
+ended_comma : (a : Argument) (f : Frame) (st : List Frame) → step (ended a) (f ∷ st) 44 ≡ go wanting ((f.0, f.1 ++ a ∷ []) ∷ st)
 unfolding in_ended
 ended_comma a f st = refl
 
-pub ended_bracket : (a : Argument) (f : Frame) (st : List Frame) → step (ended a) (f ∷ st) 41 ≡ go (ended (call f.0 (arguments (f.1 ++ a ∷ [])))) st
+ended_bracket : (a : Argument) (f : Frame) (st : List Frame) → step (ended a) (f ∷ st) 41 ≡ go (ended (call f.0 (arguments (f.1 ++ a ∷ [])))) st
 unfolding in_ended closes
 ended_bracket a f st = refl
 

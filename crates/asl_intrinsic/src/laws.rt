@@ -1,5 +1,5 @@
 // Laws of calls: each is a contract, over every text and every value.
-ghost use Rattle.asl_intrinsic.specs.Laws.{HasOneTree, HasOneMeaning, IsWrongElsewhere};
+ghost use Rattle.asl_intrinsic.specs.Laws.{HasOneTree, HasOneMeaning, OthersAreWrong};
 
 /// What a text means, by the call that it spells.
 pub fn a_call_has_one_meaning()
@@ -8,5 +8,5 @@ pub fn a_call_has_one_meaning()
     // Where it spells one with numbers in the limits, no place is wrong, and its value is that of the call.
     ensures meaning { HasOneMeaning }
     // Every other text has a first place that is wrong.
-    ensures wrong { IsWrongElsewhere }
+    ensures wrong { OthersAreWrong }
 {}
