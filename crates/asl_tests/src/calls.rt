@@ -12,23 +12,33 @@ enum Answer<'a> {
     Arity,
 }
 
-fn answers(alloc: Global, text: &str, expected: &Answer) -> bool {
-    match (Expr::read(alloc, text), expected) {
-        (Ok(call), Answer::Call) => call.text() == text,
-        (Err(CallFault::Syntax(at)), Answer::At(place)) => at == *place,
-        (Err(CallFault::Unknown(name)), Answer::Unknown(word)) => name.as_str() == *word,
-        (Err(CallFault::Depth), Answer::Depth) => true,
-        (Err(CallFault::Arity), Answer::Arity) => true,
+fn is_fault(fault: &CallFault, expected: &Answer) -> bool {
+    match (fault, expected) {
+        (CallFault::Syntax(at), Answer::At(place)) => *at == *place,
+        (CallFault::Unknown(name), Answer::Unknown(word)) => name.as_str() == *word,
+        (CallFault::Depth, Answer::Depth) => true,
+        (CallFault::Arity, Answer::Arity) => true,
         _ => false,
     }
 }
 
-fn equals_its_copy(alloc: Global, text: &str) -> bool {
-    let Ok(call) = Expr::read(alloc, text) else {
-        return false;
-    };
+fn answers(alloc: Global, text: &str, expected: &Answer) -> bool {
+    match Expr::read(alloc, text) {
+        Ok(call) => matches!(expected, Answer::Call) && call.text() == text,
+        Err(fault) => is_fault(&fault, expected),
+    }
+}
+
+fn has_a_copy(alloc: Global, call: &Expr) -> bool {
     match call.try_clone(alloc) {
-        Ok(copy) => copy == call && copy.text() == text,
+        Ok(copy) => copy == *call && copy.text() == call.text(),
+        Err(_) => false,
+    }
+}
+
+fn equals_its_copy(alloc: Global, text: &str) -> bool {
+    match Expr::read(alloc, text) {
+        Ok(call) => has_a_copy(alloc, &call) && call.text() == text,
         Err(_) => false,
     }
 }

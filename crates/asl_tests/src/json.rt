@@ -55,69 +55,73 @@ fn repeated(alloc: Global, piece: &[u8], count: usize) -> Option<Vec<u8>> {
     Some(text)
 }
 
+/// Texts, and the byte of their fault J1.
+const SYNTAX: &[(&[u8], usize)] = &[
+    (b"", 0),
+    (b"nul", 3),
+    (b"null x", 5),
+    (b"{x\xff", 1),
+    (b"{\"a\":1,\"a", 9),
+    (b"-", 1),
+    (b"-x", 1),
+    (b"01", 1),
+    (b"{\"a\":1", 6),
+    (b"[1,2", 4),
+    (b"[1,]", 3),
+    (b"[,", 1),
+    (b"[]]", 2),
+    (b"[1}", 2),
+    (b"{\"a\":[}", 6),
+    (b"{\"a\":1]", 6),
+    (b"1e", 2),
+    (b"1.", 2),
+    (b"1e+", 3),
+    (b"1.x", 2),
+    (b"1ex", 2),
+    (b"1.5.", 3),
+    (b".5", 0),
+    (b"\"a\x01\"", 2),
+    (b"\"\\x", 2),
+    (b"\"\\u12g", 5),
+    (b"\"\\ud800", 7),
+    (b"\"\\ud800\\u", 9),
+    (b"\"\\ud800\"", 1),
+    (b"\"\\ud800x", 1),
+    (b"\"\\ud800\\n", 1),
+    (b"\"\\ud800\\u0041", 1),
+    (b"\"\\ud800\\ud8", 1),
+    (b"{\"\\uDC", 2),
+    (b"\"\\ud800\\udcg", 11),
+    (b"\xef\xbb\xbf{}", 0),
+];
+
 #[test]
 fn faults_of_syntax(rt: HostRuntime) -> Result<(), Fail> {
     let alloc = rt.alloc();
-    let rows: [(&[u8], usize); 36] = [
-        (b"", 0),
-        (b"nul", 3),
-        (b"null x", 5),
-        (b"{x\xff", 1),
-        (b"{\"a\":1,\"a", 9),
-        (b"-", 1),
-        (b"-x", 1),
-        (b"01", 1),
-        (b"{\"a\":1", 6),
-        (b"[1,2", 4),
-        (b"[1,]", 3),
-        (b"[,", 1),
-        (b"[]]", 2),
-        (b"[1}", 2),
-        (b"{\"a\":[}", 6),
-        (b"{\"a\":1]", 6),
-        (b"1e", 2),
-        (b"1.", 2),
-        (b"1e+", 3),
-        (b"1.x", 2),
-        (b"1ex", 2),
-        (b"1.5.", 3),
-        (b".5", 0),
-        (b"\"a\x01\"", 2),
-        (b"\"\\x", 2),
-        (b"\"\\u12g", 5),
-        (b"\"\\ud800", 7),
-        (b"\"\\ud800\\u", 9),
-        (b"\"\\ud800\"", 1),
-        (b"\"\\ud800x", 1),
-        (b"\"\\ud800\\n", 1),
-        (b"\"\\ud800\\u0041", 1),
-        (b"\"\\ud800\\ud8", 1),
-        (b"{\"\\uDC", 2),
-        (b"\"\\ud800\\udcg", 11),
-        (b"\xef\xbb\xbf{}", 0),
-    ];
-    for (text, at) in rows {
-        assert_eq!(rt; fault_of(alloc, text), Some(JsonFault::Syntax(at)));
+    for (text, at) in SYNTAX {
+        assert_eq!(rt; fault_of(alloc, text), Some(JsonFault::Syntax(*at)));
     }
     Ok(())
 }
 
+/// Texts, and their other faults.
+const LIMITS_AND_UTF8: &[(&[u8], JsonFault)] = &[
+    (b"{\"a\":1,\"a\":2}", JsonFault::Duplicate(7)),
+    (b"{\"a\":1,\"a\"", JsonFault::Duplicate(7)),
+    (b"1000000000000000000", JsonFault::Number(0)),
+    (b"-1000000000000000000", JsonFault::Number(0)),
+    (b"{\"a\":1000000000000000000x", JsonFault::Number(5)),
+    (b"nul\xff", JsonFault::Utf8(3)),
+    (b"{\"\xff\":tru}", JsonFault::Utf8(2)),
+    (b"\"\xc3", JsonFault::Utf8(1)),
+    (b"1000000000000000000\xff", JsonFault::Number(0)),
+];
+
 #[test]
 fn faults_of_limits_and_utf8(rt: HostRuntime) -> Result<(), Fail> {
     let alloc = rt.alloc();
-    let rows: [(&[u8], JsonFault); 9] = [
-        (b"{\"a\":1,\"a\":2}", JsonFault::Duplicate(7)),
-        (b"{\"a\":1,\"a\"", JsonFault::Duplicate(7)),
-        (b"1000000000000000000", JsonFault::Number(0)),
-        (b"-1000000000000000000", JsonFault::Number(0)),
-        (b"{\"a\":1000000000000000000x", JsonFault::Number(5)),
-        (b"nul\xff", JsonFault::Utf8(3)),
-        (b"{\"\xff\":tru}", JsonFault::Utf8(2)),
-        (b"\"\xc3", JsonFault::Utf8(1)),
-        (b"1000000000000000000\xff", JsonFault::Number(0)),
-    ];
-    for (text, fault) in rows {
-        assert_eq!(rt; fault_of(alloc, text), Some(fault));
+    for (text, fault) in LIMITS_AND_UTF8 {
+        assert_eq!(rt; fault_of(alloc, text), Some(*fault));
     }
     Ok(())
 }
@@ -134,63 +138,67 @@ fn the_sixty_fifth_level_and_a_text_too_long(rt: HostRuntime) -> Result<(), Fail
     Ok(())
 }
 
+/// Texts, and the byte of their fault J4.
+const PAST_THE_LIMITS: &[(&[u8], usize)] = &[
+    (b"1e400", 0),
+    (b"1e-400", 0),
+    (b"1e99999999999999999999999999999999999999", 0),
+    (b"0.1234567891", 0),
+    (b"1e-10", 0),
+    (b"1.0e19", 0),
+    (b"1e18", 0),
+    (b"0.000000000000000000000000000000000000000", 0),
+    (b"1e400x", 0),
+    (b"{\"a\":1e400", 5),
+    (b" 9999999999999999999999999999999999999999", 1),
+];
+
 #[test]
 fn numbers_past_the_limits(rt: HostRuntime) -> Result<(), Fail> {
     let alloc = rt.alloc();
-    let rows: [(&[u8], usize); 11] = [
-        (b"1e400", 0),
-        (b"1e-400", 0),
-        (b"1e99999999999999999999999999999999999999", 0),
-        (b"0.1234567891", 0),
-        (b"1e-10", 0),
-        (b"1.0e19", 0),
-        (b"1e18", 0),
-        (b"0.000000000000000000000000000000000000000", 0),
-        (b"1e400x", 0),
-        (b"{\"a\":1e400", 5),
-        (b" 9999999999999999999999999999999999999999", 1),
-    ];
-    for (text, at) in rows {
-        assert_eq!(rt; fault_of(alloc, text), Some(JsonFault::Number(at)));
+    for (text, at) in PAST_THE_LIMITS {
+        assert_eq!(rt; fault_of(alloc, text), Some(JsonFault::Number(*at)));
     }
     Ok(())
 }
 
+/// Objects, and the units of their number at `n`.
+const UNITS: &[(&str, i128)] = &[
+    ("{\"n\":0}", 0),
+    ("{\"n\":-0}", 0),
+    ("{\"n\":7}", 7_000_000_000),
+    ("{\"n\":-12}", -12_000_000_000),
+    (
+        "{\"n\":999999999999999999}",
+        999_999_999_999_999_999_000_000_000,
+    ),
+    ("{\"n\":0.1}", 100_000_000),
+    ("{\"n\":0.000000001}", 1),
+    ("{\"n\":1.0e-9}", 1),
+    ("{\"n\":10e-10}", 1),
+    ("{\"n\":-1.50E+2}", -150_000_000_000),
+    ("{\"n\":0e999999999}", 0),
+    ("{\"n\":-0.0e-99999999999999999999999999999999}", 0),
+    ("{\"n\":0.00000001000000000000000000000000000000}", 10),
+    (
+        "{\"n\":1000000000000000000000e-4}",
+        100_000_000_000_000_000_000_000_000,
+    ),
+    ("{\"n\":100000000000000000000000000000000e-41}", 1),
+    (
+        "{\"n\":0.0000000000000000000000000000000001e33}",
+        100_000_000,
+    ),
+    ("{\"n\":1e17}", 100_000_000_000_000_000_000_000_000),
+    ("{\"n\":12.0345}", 12_034_500_000),
+];
+
 #[test]
 fn numbers_keep_their_value_and_spelling(rt: HostRuntime) -> Result<(), Fail> {
     let alloc = rt.alloc();
-    let rows: [(&str, i128); 18] = [
-        ("{\"n\":0}", 0),
-        ("{\"n\":-0}", 0),
-        ("{\"n\":7}", 7_000_000_000),
-        ("{\"n\":-12}", -12_000_000_000),
-        (
-            "{\"n\":999999999999999999}",
-            999_999_999_999_999_999_000_000_000,
-        ),
-        ("{\"n\":0.1}", 100_000_000),
-        ("{\"n\":0.000000001}", 1),
-        ("{\"n\":1.0e-9}", 1),
-        ("{\"n\":10e-10}", 1),
-        ("{\"n\":-1.50E+2}", -150_000_000_000),
-        ("{\"n\":0e999999999}", 0),
-        ("{\"n\":-0.0e-99999999999999999999999999999999}", 0),
-        ("{\"n\":0.00000001000000000000000000000000000000}", 10),
-        (
-            "{\"n\":1000000000000000000000e-4}",
-            100_000_000_000_000_000_000_000_000,
-        ),
-        ("{\"n\":100000000000000000000000000000000e-41}", 1),
-        (
-            "{\"n\":0.0000000000000000000000000000000001e33}",
-            100_000_000,
-        ),
-        ("{\"n\":1e17}", 100_000_000_000_000_000_000_000_000),
-        ("{\"n\":12.0345}", 12_034_500_000),
-    ];
-    for (text, units) in rows {
-        assert_eq!(rt; units_at(alloc, text, "n"), Some(units));
-        assert_eq!(rt; compact_of(alloc, text).ok_or("not read")?.as_str(), text);
+    for (text, units) in UNITS {
+        assert_eq!(rt; units_at(alloc, text, "n"), Some(*units));
+        assert_eq!(rt; compact_of(alloc, text).ok_or("not read")?.as_str(), *text);
     }
     Ok(())
 }
@@ -208,21 +216,23 @@ fn the_compact_text_has_no_spaces(rt: HostRuntime) -> Result<(), Fail> {
     Ok(())
 }
 
+/// Texts, and their compact texts.
+const ESCAPES: &[(&str, &str)] = &[
+    ("\"\\u0041\\/\\u00E9\"", "\"A/\u{e9}\""),
+    ("\"\\uD83d\\uDe00\"", "\"\u{1f600}\""),
+    ("\"\\u0008\\f\\n\\r\\t\\b\"", "\"\\b\\f\\n\\r\\t\\b\""),
+    ("\"\\u001F\\u0000\u{7f}\"", "\"\\u001f\\u0000\u{7f}\""),
+    ("\"\\\"\\\\\"", "\"\\\"\\\\\""),
+    ("[\"\\ud800\\udc00\", 1 ]", "[\"\u{10000}\",1]"),
+];
+
 #[test]
 fn escapes_are_read_and_written_where_they_are_needed(rt: HostRuntime) -> Result<(), Fail> {
     let alloc = rt.alloc();
-    let rows: [(&str, &str); 6] = [
-        ("\"\\u0041\\/\\u00E9\"", "\"A/\u{e9}\""),
-        ("\"\\uD83d\\uDe00\"", "\"\u{1f600}\""),
-        ("\"\\u0008\\f\\n\\r\\t\\b\"", "\"\\b\\f\\n\\r\\t\\b\""),
-        ("\"\\u001F\\u0000\u{7f}\"", "\"\\u001f\\u0000\u{7f}\""),
-        ("\"\\\"\\\\\"", "\"\\\"\\\\\""),
-        ("[\"\\ud800\\udc00\", 1 ]", "[\"\u{10000}\",1]"),
-    ];
-    for (text, compact) in rows {
+    for (text, compact) in ESCAPES {
         assert_eq!(rt;
             compact_of(alloc, text).ok_or("not read")?.as_str(),
-            compact
+            *compact
         );
     }
     assert_eq!(rt;
@@ -246,36 +256,34 @@ fn lists_are_read_and_written(rt: HostRuntime) -> Result<(), Fail> {
     let mut deep = repeated(alloc, b"[", 64).ok_or("memory")?;
     deep.extend_from_slice(&repeated(alloc, b"]", 64).ok_or("memory")?)?;
     assert_eq!(rt; fault_of(alloc, &deep), None);
-    assert_eq!(rt;
-        compared(alloc, "[1,{\"a\":2.0}]", "[1.0,{\"a\":2}]"),
-        Some((true, false))
-    );
+    Ok(())
+}
+
+/// Pairs of texts, whether they are read as values that mean the same, and whether as equal ones.
+const PAIRS: &[(&str, &str, bool, bool)] = &[
+    ("[1,{\"a\":2.0}]", "[1.0,{\"a\":2}]", true, false),
+    (
+        "{\"a\":{\"b\":\"x\"},\"c\":0}",
+        "{\"c\":-0,\"a\":{\"b\":\"x\"}}",
+        true,
+        false,
+    ),
+    ("{\"a\":1}", "{\"a\":2}", false, false),
+    ("{\"a\":1}", "{\"a\":1}", true, true),
+];
+
+#[test]
+fn objects_in_another_order_mean_the_same(rt: HostRuntime) -> Result<(), Fail> {
+    for (one, other, is_same, is_equal) in PAIRS {
+        assert!(rt; compared(rt.alloc(), one, other) == Some((*is_same, *is_equal)));
+    }
     Ok(())
 }
 
 #[test]
-fn objects_in_another_order_mean_the_same(rt: HostRuntime) -> Result<(), Fail> {
-    let alloc = rt.alloc();
-    assert_eq!(rt;
-        compared(
-            alloc,
-            "{\"a\":{\"b\":\"x\"},\"c\":0}",
-            "{\"c\":-0,\"a\":{\"b\":\"x\"}}"
-        ),
-        Some((true, false))
-    );
-    assert_eq!(rt;
-        compared(alloc, "{\"a\":1}", "{\"a\":2}"),
-        Some((false, false))
-    );
-    assert_eq!(rt;
-        compared(alloc, "{\"a\":1}", "{\"a\":1}"),
-        Some((true, true))
-    );
-    assert_eq!(rt;
-        clones(alloc, "{\"a\":1,\"b\":{\"c\":\"x\"},\"d\":null}"),
-        Some(true)
-    );
+fn clones_are_equal(rt: HostRuntime) -> Result<(), Fail> {
+    let text = "{\"a\":1,\"b\":{\"c\":\"x\"},\"d\":null}";
+    assert!(rt; clones(rt.alloc(), text) == Some(true));
     Ok(())
 }
 
@@ -323,44 +331,61 @@ fn are_a_and_null_b(members: &Members) -> bool {
     }
 }
 
+/// Whether an object's members are found by their keys.
+fn finds_its_members(value: &Json) -> bool {
+    match value {
+        Json::Dict(members) => {
+            members.len() == 2
+                && are_a_and_null_b(members)
+                && members.position("b") == Some(1)
+                && members.position("c") == None
+                && members.find("b") == Some(&Json::Null)
+        }
+        _ => false,
+    }
+}
+
+/// Whether the items are this value and then true.
+fn are_this_and_true(items: &Items, value: &Json) -> bool {
+    items.len() == 2
+        && items.values().len() == 2
+        && items.values()[0] == *value
+        && items.get(1) == Some(&Json::Bool(true))
+        && items.get(2) == None
+}
+
+/// The list of a value's copy and true.
+fn with_true(alloc: Global, value: &Json) -> Option<Items> {
+    list_of(alloc, value.try_clone(alloc).ok()?, Json::Bool(true))
+}
+
 #[test]
 fn parts_of_lists_and_objects(rt: HostRuntime) -> Result<(), Fail> {
-    let alloc = rt.alloc();
-    let one = value_of(alloc, "{\"a\":1,\"b\":null}").ok_or("not read")?;
-    let Json::Dict(members) = &one else {
-        return Err(Fail::from("no object"));
-    };
-    assert_eq!(rt; members.len(), 2);
-    assert_eq!(rt; are_a_and_null_b(members), true);
-    assert_eq!(rt; members.position("b"), Some(1));
-    assert_eq!(rt; members.position("c"), None);
-    assert_eq!(rt; members.find("b") == Some(&Json::Null), true);
-    let copy = one.try_clone(alloc).ok().ok_or("memory")?;
-    let items = list_of(alloc, copy, Json::Bool(true)).ok_or("memory")?;
-    assert_eq!(rt; items.len(), 2);
-    assert_eq!(rt; items.values().len(), 2);
-    assert_eq!(rt; items.values()[0] == one, true);
-    assert_eq!(rt; items.get(1) == Some(&Json::Bool(true)), true);
-    assert_eq!(rt; items.get(2) == None, true);
+    let one = value_of(rt.alloc(), "{\"a\":1,\"b\":null}").ok_or("not read")?;
+    assert!(rt; finds_its_members(&one));
+    let items = with_true(rt.alloc(), &one).ok_or("memory")?;
+    assert!(rt; are_this_and_true(&items, &one));
     Ok(())
 }
+
+/// Texts whose compact texts are measured.
+const MEASURED: &[&str] = &[
+    "null",
+    "true",
+    "false",
+    "-12.50e3",
+    "\"\"",
+    "\"a\\u0000\\n\\\"\\\\\u{20ac}\\/\"",
+    "[ ]",
+    "[ 1 , [ true ] , { } ]",
+    "{ }",
+    "{ \"a\" : 1 , \"\\u001f\" : { \"b\" : [ ] } , \"\" : false }",
+];
 
 #[test]
 fn the_length_of_the_compact_text_is_found_without_it(rt: HostRuntime) -> Result<(), Fail> {
     let alloc = rt.alloc();
-    let rows = [
-        "null",
-        "true",
-        "false",
-        "-12.50e3",
-        "\"\"",
-        "\"a\\u0000\\n\\\"\\\\\u{20ac}\\/\"",
-        "[ ]",
-        "[ 1 , [ true ] , { } ]",
-        "{ }",
-        "{ \"a\" : 1 , \"\\u001f\" : { \"b\" : [ ] } , \"\" : false }",
-    ];
-    for text in rows {
+    for text in MEASURED {
         assert_eq!(rt; is_measured(alloc, text), Some(true));
     }
     Ok(())
@@ -379,33 +404,35 @@ fn whole_again(alloc: Global, amount: i128, other: &str) -> Option<(String, Opti
     }
 }
 
+/// Whole numbers with their spellings, and other numbers with their whole values.
+const WHOLE: &[(i128, &str, &str, Option<i128>)] = &[
+    (0, "0", "-0", Some(0)),
+    (-12, "-12", "1.0", Some(1)),
+    (7, "7", "1.5", None),
+    (
+        999_999_999_999_999_999,
+        "999999999999999999",
+        "999999999999999999",
+        Some(999_999_999_999_999_999),
+    ),
+    (
+        -999_999_999_999_999_999,
+        "-999999999999999999",
+        "-25e-1",
+        None,
+    ),
+    (1_000, "1000", "-250e-1", Some(-25)),
+];
+
 #[test]
 fn whole_numbers(rt: HostRuntime) -> Result<(), Fail> {
     let alloc = rt.alloc();
-    let rows: [(i128, &str, &str, Option<i128>); 6] = [
-        (0, "0", "-0", Some(0)),
-        (-12, "-12", "1.0", Some(1)),
-        (7, "7", "1.5", None),
-        (
-            999_999_999_999_999_999,
-            "999999999999999999",
-            "999999999999999999",
-            Some(999_999_999_999_999_999),
-        ),
-        (
-            -999_999_999_999_999_999,
-            "-999999999999999999",
-            "-25e-1",
-            None,
-        ),
-        (1_000, "1000", "-250e-1", Some(-25)),
-    ];
-    for (amount, spelled, other, whole) in rows {
-        let Some((text, value)) = whole_again(alloc, amount, other) else {
+    for (amount, spelled, other, whole) in WHOLE {
+        let Some((text, value)) = whole_again(alloc, *amount, other) else {
             return Err(Fail::from("no number"));
         };
-        assert!(rt; text.as_str() == spelled);
-        assert_eq!(rt; value, whole);
+        assert!(rt; text.as_str() == *spelled);
+        assert_eq!(rt; value, *whole);
     }
     Ok(())
 }

@@ -1,9 +1,9 @@
-//! What no clause says of the crates below, tried from outside: worked examples, that each call succeeds with ample memory, and what
-//! libraries that aren't ours read.
+//! What no clause says of values and of what is reckoned with them, tried from outside: worked examples, that each call succeeds with
+//! ample memory, and what libraries that aren't ours read.
 //!
 //! `json`, `cases`, `second_reader` and `deep` try values; `calls` and `functions` the calls of intrinsic functions, `templates` what
-//! stands on them; `paths`, `time`, `history`, `definitions` and `runs` the crate of that subject. They stand here since the tests
-//! of a crate have it proved once more: here only they are.
+//! stands on them; `paths` and `time` the crate of that subject. They stand here since the tests of a crate have it proved once
+//! more: here only they are. The tests of executions stand in `asl_run_tests`.
 #![tactic(auto)]
 
 #[cfg(test)]
@@ -13,17 +13,11 @@ mod cases;
 #[cfg(test)]
 mod deep;
 #[cfg(test)]
-mod definitions;
-#[cfg(test)]
 mod functions;
-#[cfg(test)]
-mod history;
 #[cfg(test)]
 mod json;
 #[cfg(test)]
 mod paths;
-#[cfg(test)]
-mod runs;
 #[cfg(test)]
 mod second_reader;
 #[cfg(test)]

@@ -33,12 +33,16 @@ fn are_equal(alloc: Global, one: &str, other: &str) -> bool {
     }
 }
 
-fn equals_its_copy(alloc: Global, text: &str) -> bool {
-    let Ok(path) = RefPath::read(alloc, text) else {
-        return false;
-    };
+fn has_a_copy(alloc: Global, path: &RefPath) -> bool {
     match path.try_clone(alloc) {
-        Ok(copy) => copy == path && copy.text() == text && copy.root() == path.root(),
+        Ok(copy) => copy == *path && copy.text() == path.text() && copy.root() == path.root(),
+        Err(_) => false,
+    }
+}
+
+fn equals_its_copy(alloc: Global, text: &str) -> bool {
+    match RefPath::read(alloc, text) {
+        Ok(path) => has_a_copy(alloc, &path) && path.text() == text,
         Err(_) => false,
     }
 }
@@ -66,14 +70,26 @@ fn both(alloc: Global, one: &Json, other: &Json) -> Option<String> {
     Some(text)
 }
 
+/// The text of what a put gives: the whole, or both values where there is no such place.
+fn put_shown(alloc: Global, put: &Result<Json, PutFault>) -> Option<String> {
+    match put {
+        Ok(whole) => write(alloc, whole).ok(),
+        Err(PutFault::NoMatch(base, part)) => both(alloc, base, part),
+        Err(PutFault::OutOfMemory(_, _)) => None,
+    }
+}
+
+/// What is given where the value of a text is put at a path.
+fn put_at(alloc: Global, path: &RefPath, base: Json, part: &str) -> Option<Result<Json, PutFault>> {
+    let part = value(alloc, part)?;
+    Some(path.put(alloc, base, part))
+}
+
 /// The text of a value with another at a path, or of both where there is no such place.
 fn put_text(alloc: Global, text: &str, base: &str, part: &str) -> Option<String> {
     let path = RefPath::read(alloc, text).ok()?;
-    match path.put(alloc, value(alloc, base)?, value(alloc, part)?) {
-        Ok(whole) => write(alloc, &whole).ok(),
-        Err(PutFault::NoMatch(base, part)) => both(alloc, &base, &part),
-        Err(PutFault::OutOfMemory(_, _)) => None,
-    }
+    let base = value(alloc, base)?;
+    put_shown(alloc, &put_at(alloc, &path, base, part)?)
 }
 
 fn names(alloc: Global, text: &str, base: &str, expected: &str) -> bool {
@@ -136,20 +152,26 @@ fn puts_into_a_long_list(alloc: Global, count: usize) -> Option<bool> {
     Some(is_true(alloc, "$.l[7]", &whole))
 }
 
+/// Texts that are no paths, and their first byte that cannot go on.
+const NO_PATHS: &[(&str, usize)] = &[
+    ("$.a[*]", 4),
+    ("$..a", 2),
+    ("$[-1]", 2),
+    ("$.", 2),
+    ("x", 0),
+    ("", 0),
+    ("$[1234567890]", 11),
+    ("$['a\\b']", 4),
+    ("$['a", 4),
+    ("$['ä'x", 6),
+    ("$$$", 2),
+];
+
 #[test]
 fn the_first_byte_that_cannot_go_on(rt: HostRuntime) -> Result<(), Fail> {
-    let alloc = rt.alloc();
-    assert_eq!(rt; fault_at(alloc, "$.a[*]"), Some(4));
-    assert_eq!(rt; fault_at(alloc, "$..a"), Some(2));
-    assert_eq!(rt; fault_at(alloc, "$[-1]"), Some(2));
-    assert_eq!(rt; fault_at(alloc, "$."), Some(2));
-    assert_eq!(rt; fault_at(alloc, "x"), Some(0));
-    assert_eq!(rt; fault_at(alloc, ""), Some(0));
-    assert_eq!(rt; fault_at(alloc, "$[1234567890]"), Some(11));
-    assert_eq!(rt; fault_at(alloc, "$['a\\b']"), Some(4));
-    assert_eq!(rt; fault_at(alloc, "$['a"), Some(4));
-    assert_eq!(rt; fault_at(alloc, "$['ä'x"), Some(6));
-    assert_eq!(rt; fault_at(alloc, "$$$"), Some(2));
+    for (text, at) in NO_PATHS {
+        assert_eq!(rt; fault_at(rt.alloc(), text), Some(*at));
+    }
     Ok(())
 }
 
@@ -171,92 +193,73 @@ fn equal_paths_have_one_text(rt: HostRuntime) -> Result<(), Fail> {
     Ok(())
 }
 
+/// Paths, values, and the parts that the paths name.
+const PARTS: &[(&str, &str, &str)] = &[
+    ("$.a['b c']", "{\"a\":{\"b c\":true}}", "true"),
+    ("$.a", "{\"a\":{\"b c\":true}}", "{\"b c\":true}"),
+    ("$.a.b", "{\"a\":null}", "nothing"),
+    ("$[001]", "[true,null]", "null"),
+    ("$[2]", "[true,null]", "nothing"),
+    // The examples of the Amazon States Language, "Reference Paths".
+    ("$", FOO_BAR_CAR, FOO_BAR_CAR),
+    ("$.foo", FOO_BAR_CAR, "123"),
+    ("$.bar", FOO_BAR_CAR, "[\"a\",\"b\",\"c\"]"),
+    ("$.car.cdr", FOO_BAR_CAR, "true"),
+];
+
 #[test]
 fn the_part_that_a_path_names(rt: HostRuntime) -> Result<(), Fail> {
-    let alloc = rt.alloc();
-    assert!(rt; names(alloc, "$.a['b c']", "{\"a\":{\"b c\":true}}", "true"));
-    assert!(rt; names(alloc, "$.a", "{\"a\":{\"b c\":true}}", "{\"b c\":true}"));
-    assert!(rt; names(alloc, "$.a.b", "{\"a\":null}", "nothing"));
-    assert!(rt; names(alloc, "$[001]", "[true,null]", "null"));
-    assert!(rt; names(alloc, "$[2]", "[true,null]", "nothing"));
+    for (text, base, part) in PARTS {
+        assert!(rt; names(rt.alloc(), text, base, part));
+    }
     Ok(())
 }
 
-/// The examples of the Amazon States Language, "Reference Paths".
-#[test]
-fn the_parts_that_the_standard_names(rt: HostRuntime) -> Result<(), Fail> {
-    let alloc = rt.alloc();
-    assert!(rt; names(alloc, "$", FOO_BAR_CAR, FOO_BAR_CAR));
-    assert!(rt; names(alloc, "$.foo", FOO_BAR_CAR, "123"));
-    assert!(rt; names(alloc, "$.bar", FOO_BAR_CAR, "[\"a\",\"b\",\"c\"]"));
-    assert!(rt; names(alloc, "$.car.cdr", FOO_BAR_CAR, "true"));
-    Ok(())
-}
-
-/// The examples of the Amazon States Language, "ResultPath".
-#[test]
-fn the_results_that_the_standard_places(rt: HostRuntime) -> Result<(), Fail> {
-    let alloc = rt.alloc();
-    let master = "{\"master\":{\"detail\":[1,2,3]}}";
-    assert!(rt;
-        puts(
-            alloc,
-            "$.master.detail",
-            master,
-            "6",
-            "{\"master\":{\"detail\":6}}"
-        )
-    );
-    assert!(rt;
-        puts(
-            alloc,
-            "$.master.result.sum",
-            master,
-            "6",
-            "{\"master\":{\"detail\":[1,2,3],\"result\":{\"sum\":6}}}"
-        )
-    );
-    Ok(())
-}
+/// Paths, values, parts that are put there, and what comes of it: the whole, or both values where there is no such place.
+const PUT: &[(&str, &str, &str, &str)] = &[
+    // The examples of the Amazon States Language, "ResultPath".
+    (
+        "$.master.detail",
+        "{\"master\":{\"detail\":[1,2,3]}}",
+        "6",
+        "{\"master\":{\"detail\":6}}",
+    ),
+    (
+        "$.master.result.sum",
+        "{\"master\":{\"detail\":[1,2,3]}}",
+        "6",
+        "{\"master\":{\"detail\":[1,2,3],\"result\":{\"sum\":6}}}",
+    ),
+    ("$['a b'].c", "{}", "1", "{\"a b\":{\"c\":1}}"),
+    ("$.l[2]", "{\"l\":[0,1,2]}", "9", "{\"l\":[0,1,9]}"),
+    (
+        "$.a.b",
+        "{\"a\":{\"b\":true,\"c\":true},\"d\":true}",
+        "null",
+        "{\"a\":{\"b\":null,\"c\":true},\"d\":true}",
+    ),
+    ("$", "null", "true", "true"),
+    ("$[1]", "[true,null]", "false", "[true,false]"),
+    ("$.l[1]", "{\"l\":[0]}", "1", "{\"l\":[0]} 1"),
+    ("$.l[3]", "{\"l\":[0,1,2]}", "9", "{\"l\":[0,1,2]} 9"),
+    ("$[0]", "{}", "1", "{} 1"),
+    ("$.a", "5", "1", "5 1"),
+    ("$.a", "null", "1", "null 1"),
+    ("$[1].a", "[true,null]", "true", "[true,null] true"),
+    ("$.a[0]", "{}", "true", "{} true"),
+    (
+        "$.a.b.c",
+        "{\"a\":{\"b\":true}}",
+        "null",
+        "{\"a\":{\"b\":true}} null",
+    ),
+];
 
 #[test]
 fn a_value_is_put_where_a_path_leads(rt: HostRuntime) -> Result<(), Fail> {
-    let alloc = rt.alloc();
-    assert!(rt; puts(alloc, "$['a b'].c", "{}", "1", "{\"a b\":{\"c\":1}}"));
-    assert!(rt; puts(alloc, "$.l[2]", "{\"l\":[0,1,2]}", "9", "{\"l\":[0,1,9]}"));
-    assert!(rt;
-        puts(
-            alloc,
-            "$.a.b",
-            "{\"a\":{\"b\":true,\"c\":true},\"d\":true}",
-            "null",
-            "{\"a\":{\"b\":null,\"c\":true},\"d\":true}"
-        )
-    );
-    assert!(rt; puts(alloc, "$", "null", "true", "true"));
-    assert!(rt; puts(alloc, "$[1]", "[true,null]", "false", "[true,false]"));
-    Ok(())
-}
-
-#[test]
-fn both_values_come_back_where_no_place_is(rt: HostRuntime) -> Result<(), Fail> {
-    let alloc = rt.alloc();
-    assert!(rt; puts(alloc, "$.l[1]", "{\"l\":[0]}", "1", "{\"l\":[0]} 1"));
-    assert!(rt; puts(alloc, "$.l[3]", "{\"l\":[0,1,2]}", "9", "{\"l\":[0,1,2]} 9"));
-    assert!(rt; puts(alloc, "$[0]", "{}", "1", "{} 1"));
-    assert!(rt; puts(alloc, "$.a", "5", "1", "5 1"));
-    assert!(rt; puts(alloc, "$.a", "null", "1", "null 1"));
-    assert!(rt; puts(alloc, "$[1].a", "[true,null]", "true", "[true,null] true"));
-    assert!(rt; puts(alloc, "$.a[0]", "{}", "true", "{} true"));
-    assert!(rt;
-        puts(
-            alloc,
-            "$.a.b.c",
-            "{\"a\":{\"b\":true}}",
-            "null",
-            "{\"a\":{\"b\":true}} null"
-        )
-    );
+    for (text, base, part, expected) in PUT {
+        assert!(rt; puts(rt.alloc(), text, base, part, expected));
+    }
     Ok(())
 }
 

@@ -12,66 +12,75 @@ fn printed(rt: &HostRuntime, millis: u64) -> Result<String, Fail> {
     Ok(print_stamp(rt.alloc(), moment)?)
 }
 
+/// Timestamps, and their moments.
+const TIMESTAMPS: &[(&str, u64)] = &[
+    ("1985-04-12T23:20:50.52Z", 482_196_050_520),
+    ("1996-12-19T16:39:57-08:00", 851_042_397_000),
+    ("1996-12-20T00:39:57Z", 851_042_397_000),
+    ("2024-02-29T00:00:00Z", 1_709_164_800_000),
+    ("2024-01-01T00:00:00-00:00", 1_704_067_200_000),
+    ("2024-01-01T01:00:00.0001+01:00", 1_704_067_200_001),
+    (
+        "2024-01-01T00:00:00.0000000000000000000000000000000000000001Z",
+        1_704_067_200_001,
+    ),
+    (
+        "2024-01-01T00:00:00.1230000000000000000000000000000000000000Z",
+        1_704_067_200_123,
+    ),
+    ("2024-01-01T23:59:00+23:59", 1_704_067_200_000),
+    ("1969-12-31T23:59:59.9995Z", 0),
+    ("1969-12-31T23:30:00-01:00", 1_800_000),
+    ("9999-12-31T23:59:59.999Z", 253_402_300_799_999),
+    ("9999-12-31T23:59:00+23:59", 253_402_214_400_000),
+];
+
 #[test]
 fn timestamps_have_their_moments(rt: HostRuntime) {
-    for (text, millis) in [
-        ("1985-04-12T23:20:50.52Z", 482_196_050_520),
-        ("1996-12-19T16:39:57-08:00", 851_042_397_000),
-        ("1996-12-20T00:39:57Z", 851_042_397_000),
-        ("2024-02-29T00:00:00Z", 1_709_164_800_000),
-        ("2024-01-01T00:00:00-00:00", 1_704_067_200_000),
-        ("2024-01-01T01:00:00.0001+01:00", 1_704_067_200_001),
-        (
-            "2024-01-01T00:00:00.0000000000000000000000000000000000000001Z",
-            1_704_067_200_001,
-        ),
-        (
-            "2024-01-01T00:00:00.1230000000000000000000000000000000000000Z",
-            1_704_067_200_123,
-        ),
-        ("2024-01-01T23:59:00+23:59", 1_704_067_200_000),
-        ("1969-12-31T23:59:59.9995Z", 0),
-        ("1969-12-31T23:30:00-01:00", 1_800_000),
-        ("9999-12-31T23:59:59.999Z", 253_402_300_799_999),
-        ("9999-12-31T23:59:00+23:59", 253_402_214_400_000),
-    ] {
-        assert_eq!(rt; millis_of(text), Some(millis), "{text}");
+    for (text, millis) in TIMESTAMPS {
+        assert_eq!(rt; millis_of(text), Some(*millis), "{text}");
     }
 }
 
+/// Texts that are timestamps of no moment.
+const NO_TIMESTAMPS: &[&str] = &[
+    "1990-12-31T23:59:60Z",
+    "1990-12-31T15:59:60-08:00",
+    "1937-01-01T12:00:27.87+00:20",
+    "2024-02-30T00:00:00Z",
+    "2023-02-29T00:00:00Z",
+    "2100-02-29T00:00:00Z",
+    "2024-01-01T24:00:00Z",
+    "9999-12-31T23:59:59-00:01",
+    "2024-01-01t00:00:00Z",
+    "2024-01-01T00:00:00z",
+    "2024-01-01T00:00:00",
+    "2024-01-01T00:00:00.Z",
+    "2024-01-01T00:00:00+24:00",
+    "2024-01-01T00:00:00Z ",
+    "9999-12-31T23:59:59.9991Z",
+    "0000-02-29T00:00:00Z",
+    "",
+];
+
 #[test]
 fn other_texts_have_none(rt: HostRuntime) {
-    for text in [
-        "1990-12-31T23:59:60Z",
-        "1990-12-31T15:59:60-08:00",
-        "1937-01-01T12:00:27.87+00:20",
-        "2024-02-30T00:00:00Z",
-        "2023-02-29T00:00:00Z",
-        "2100-02-29T00:00:00Z",
-        "2024-01-01T24:00:00Z",
-        "9999-12-31T23:59:59-00:01",
-        "2024-01-01t00:00:00Z",
-        "2024-01-01T00:00:00z",
-        "2024-01-01T00:00:00",
-        "2024-01-01T00:00:00.Z",
-        "2024-01-01T00:00:00+24:00",
-        "2024-01-01T00:00:00Z ",
-        "9999-12-31T23:59:59.9991Z",
-        "0000-02-29T00:00:00Z",
-        "",
-    ] {
+    for text in NO_TIMESTAMPS {
         assert_eq!(rt; millis_of(text), None, "{text}");
     }
 }
 
+/// Moments, and their texts.
+const STAMPS: &[(u64, &str)] = &[
+    (0, "1970-01-01T00:00:00.000Z"),
+    (951_827_696_789, "2000-02-29T12:34:56.789Z"),
+    (253_402_300_799_999, "9999-12-31T23:59:59.999Z"),
+];
+
 #[test]
 fn moments_have_their_texts(rt: HostRuntime) -> Result<(), Fail> {
-    for (millis, text) in [
-        (0, "1970-01-01T00:00:00.000Z"),
-        (951_827_696_789, "2000-02-29T12:34:56.789Z"),
-        (253_402_300_799_999, "9999-12-31T23:59:59.999Z"),
-    ] {
-        assert_eq!(rt; printed(&rt, millis)?.as_str(), text);
+    for (millis, text) in STAMPS {
+        assert_eq!(rt; printed(&rt, *millis)?.as_str(), *text);
     }
     Ok(())
 }
@@ -89,28 +98,54 @@ fn sums_stop_at_the_last_moment(rt: HostRuntime) -> Result<(), Fail> {
     Ok(())
 }
 
+/// Rates in units of 10^-9.
+const TWICE: i128 = 2_000_000_000;
+
+const HALF_AGAIN: i128 = 1_500_000_000;
+
+/// First delays in seconds, rates, caps in seconds, how manieth delay, and that delay in milliseconds.
+const DELAYS: &[(u32, i128, Option<u32>, u32, u64)] = &[
+    (3, TWICE, None, 1, 3_000),
+    (3, TWICE, Some(5), 1, 3_000),
+    (1, HALF_AGAIN, None, 1, 1_000),
+    (3, TWICE, None, 2, 6_000),
+    (3, TWICE, Some(5), 2, 5_000),
+    (1, HALF_AGAIN, None, 2, 1_500),
+    (3, TWICE, None, 3, 12_000),
+    (3, TWICE, Some(5), 3, 5_000),
+    (1, HALF_AGAIN, None, 3, 2_250),
+    (3, TWICE, None, 4, 24_000),
+    (3, TWICE, Some(5), 4, 5_000),
+    (1, HALF_AGAIN, None, 4, 3_375),
+    (3, TWICE, None, 5, 48_000),
+    (3, TWICE, Some(5), 5, 5_000),
+    (1, HALF_AGAIN, None, 5, 5_062),
+    (3, TWICE, None, u32::MAX, 31_622_400_000),
+    (3, TWICE, Some(5), u32::MAX, 5_000),
+    (1, HALF_AGAIN, None, u32::MAX, 31_622_400_000),
+    (3, HALF_AGAIN, None, 1, 3_000),
+    (3, HALF_AGAIN, Some(4), 1, 3_000),
+    (3, HALF_AGAIN, None, 2, 4_500),
+    (3, HALF_AGAIN, Some(4), 2, 4_000),
+    (3, HALF_AGAIN, None, 3, 6_750),
+    (3, HALF_AGAIN, Some(4), 3, 4_000),
+    (3, HALF_AGAIN, Some(5), 3, 5_000),
+    (5, TWICE, Some(2), 1, 2_000),
+];
+
+/// The delay of this number, from 1; none where something is out of bounds.
+fn delayed(first: u32, rate: i128, cap: Option<u32>, k: u32) -> Option<u64> {
+    if k == 0 || first > 99_999_999 || cap.unwrap_or(0) > 31_622_400 {
+        return None;
+    }
+    Some(delay(first, Rate::of(rate)?, cap, k))
+}
+
 #[test]
 fn delays_grow_by_the_rate_up_to_the_cap(rt: HostRuntime) -> Result<(), Fail> {
-    let twice = Rate::of(2_000_000_000).ok_or("no rate")?;
-    let half_again = Rate::of(1_500_000_000).ok_or("no rate")?;
-    for (k, doubled, capped, grown) in [
-        (1, 3_000, 3_000, 1_000),
-        (2, 6_000, 5_000, 1_500),
-        (3, 12_000, 5_000, 2_250),
-        (4, 24_000, 5_000, 3_375),
-        (5, 48_000, 5_000, 5_062),
-        (u32::MAX, 31_622_400_000, 5_000, 31_622_400_000),
-    ] {
-        assert_eq!(rt; delay(3, twice, None, k), doubled);
-        assert_eq!(rt; delay(3, twice, Some(5), k), capped);
-        assert_eq!(rt; delay(1, half_again, None, k), grown);
+    for (first, rate, cap, k, millis) in DELAYS {
+        assert_eq!(rt; delayed(*first, *rate, *cap, *k), Some(*millis));
     }
-    for (k, grown, capped) in [(1, 3_000, 3_000), (2, 4_500, 4_000), (3, 6_750, 4_000)] {
-        assert_eq!(rt; delay(3, half_again, None, k), grown);
-        assert_eq!(rt; delay(3, half_again, Some(4), k), capped);
-    }
-    assert_eq!(rt; delay(3, half_again, Some(5), 3), 5_000);
-    assert_eq!(rt; delay(5, twice, Some(2), 1), 2_000);
     assert!(rt; Rate::of(999_999_999) == None);
     assert!(rt; Rate::of(1_000_000_000_001) == None);
     Ok(())

@@ -66,27 +66,29 @@ fn add(
     body: &str,
 ) -> Option<()> {
     let moment = read_stamp("2024-01-01T00:00:00.000Z")?;
+    history.reserve(1).ok()?;
     let place = place(alloc, at)?;
     let name = Txt::new(String::from_str(alloc, name).ok()?);
     let body = read(alloc, body.as_bytes()).ok()?;
-    history.reserve(1).ok()?;
     history.append(moment, kind, place, name, body);
     Some(())
 }
 
+/// What is told of a Pass `P` and a Succeed `S` after it.
+const TOLD: &[(EventKind, &str, &str)] = &[
+    (EventKind::ExecutionStarted, "", "{}"),
+    (EventKind::PassStateEntered, "P", "{}"),
+    (EventKind::PassStateExited, "P", "{\"a\":{\"b\":7}}"),
+    (EventKind::SucceedStateEntered, "S", "{\"a\":{\"b\":7}}"),
+    (EventKind::SucceedStateExited, "S", "{\"a\":{\"b\":7}}"),
+    (EventKind::ExecutionSucceeded, "", "{\"a\":{\"b\":7}}"),
+];
+
 /// The events of a Pass `P` and a Succeed `S` after it.
 fn pass_and_succeed(alloc: Global) -> Option<History> {
     let mut history = History::new(alloc);
-    let told = [
-        (EventKind::ExecutionStarted, "", "{}"),
-        (EventKind::PassStateEntered, "P", "{}"),
-        (EventKind::PassStateExited, "P", "{\"a\":{\"b\":7}}"),
-        (EventKind::SucceedStateEntered, "S", "{\"a\":{\"b\":7}}"),
-        (EventKind::SucceedStateExited, "S", "{\"a\":{\"b\":7}}"),
-        (EventKind::ExecutionSucceeded, "", "{\"a\":{\"b\":7}}"),
-    ];
-    for (kind, name, body) in told {
-        add(alloc, &mut history, "/", kind, name, body)?;
+    for (kind, name, body) in TOLD {
+        add(alloc, &mut history, "/", *kind, name, body)?;
     }
     Some(history)
 }
@@ -120,68 +122,102 @@ fn a_pass_and_a_succeed_have_six_lines(rt: HostRuntime) -> Result<(), Fail> {
     Ok(())
 }
 
+/// Sinks that fail before the end, by their room and their width.
+const SINKS: &[(usize, usize)] = &[(10, 1000), (10, 3), (0, 1), (70, 7)];
+
+/// Whether such a sink gets so many bytes of the lines, and this is told.
+fn is_cut(alloc: Global, history: &History, room: usize, width: usize) -> bool {
+    let mut sink = make_narrow(alloc, room, width);
+    let fault = written(history, &mut sink);
+    fault == Some(WriteFault::Write { sent: room as u128 })
+        && sink.memory.bytes().len() == room
+        && LINES.as_bytes().starts_with(sink.memory.bytes())
+}
+
 #[test]
 fn a_sink_that_fails_has_a_beginning(rt: HostRuntime) -> Result<(), Fail> {
     let history = pass_and_succeed(rt.alloc()).ok_or("no history")?;
-    for (room, width) in [(10, 1000), (10, 3), (0, 1), (70, 7)] {
-        let mut sink = make_narrow(rt.alloc(), room, width);
-        let fault = written(&history, &mut sink);
-        assert!(rt;
-            fault == Some(WriteFault::Write { sent: room as u128 }),
-            "{room}"
-        );
-        assert!(rt;
-            sink.memory.bytes().len() == room && LINES.as_bytes().starts_with(sink.memory.bytes()),
-            "{room}"
-        );
+    for (room, width) in SINKS {
+        assert!(rt; is_cut(rt.alloc(), &history, *room, *width), "{room}");
     }
     Ok(())
+}
+
+/// Places of events, and the number of the event that each is linked to.
+const LINKS: &[(&str, u64)] = &[
+    ("/", 0),
+    ("/", 1),
+    ("/", 2),
+    ("/1", 3),
+    ("/1", 4),
+    ("/0", 3),
+    ("/0", 6),
+    ("/0", 7),
+    ("/0", 8),
+    ("/1", 5),
+    ("/1", 10),
+    ("/", 11),
+    ("/", 12),
+    ("/", 13),
+];
+
+/// The events of these places.
+fn linked(alloc: Global) -> Option<History> {
+    let mut history = History::new(alloc);
+    for (at, _) in LINKS {
+        add(alloc, &mut history, at, EventKind::TaskStarted, "T", "{}")?;
+    }
+    Some(history)
 }
 
 #[test]
 fn links_go_along_places(rt: HostRuntime) -> Result<(), Fail> {
-    let mut history = History::new(rt.alloc());
-    for at in [
-        "/", "/", "/", "/1", "/1", "/0", "/0", "/0", "/0", "/1", "/1", "/", "/", "/",
-    ] {
-        add(
-            rt.alloc(),
-            &mut history,
-            at,
-            EventKind::TaskStarted,
-            "T",
-            "{}",
-        )
-        .ok_or("no event")?;
+    let history = linked(rt.alloc()).ok_or("no history")?;
+    for (event, (_, want)) in history.events().iter().zip(LINKS) {
+        assert_eq!(rt; event.previous, *want, "{}", event.id);
     }
-    let previous = [0, 1, 2, 3, 4, 3, 6, 7, 8, 5, 10, 11, 12, 13];
-    for (event, want) in history.events().iter().zip(previous) {
-        assert_eq!(rt; event.previous, want, "{}", event.id);
+    Ok(())
+}
+
+/// Texts that are read as places and written again.
+const PLACES: &[&str] = &["/", "/0", "/1/0/2", "/999999999", "/10/0"];
+
+/// Texts that are no places.
+const NO_PLACES: &[&str] = &[
+    "",
+    "0",
+    "//",
+    "/0/",
+    "/01",
+    "/00",
+    "/1000000000",
+    "/-1",
+    "/+1",
+    "/1 ",
+    "/a",
+];
+
+/// Whether a text is read as a place and written again as it was.
+fn is_spelled_again(alloc: Global, text: &str) -> bool {
+    match spelled_again(alloc, text) {
+        Some(again) => again.as_str() == text,
+        None => false,
+    }
+}
+
+#[test]
+fn places_are_read_as_they_are_written(rt: HostRuntime) -> Result<(), Fail> {
+    for text in PLACES {
+        assert!(rt; is_spelled_again(rt.alloc(), text), "{text}");
+    }
+    for text in NO_PLACES {
+        assert!(rt; place(rt.alloc(), text).is_none(), "{text}");
     }
     Ok(())
 }
 
 #[test]
-fn places_are_read_as_they_are_written(rt: HostRuntime) -> Result<(), Fail> {
-    for text in ["/", "/0", "/1/0/2", "/999999999", "/10/0"] {
-        let again = spelled_again(rt.alloc(), text).ok_or("no place")?;
-        assert_eq!(rt; again.as_str(), text);
-    }
-    for text in [
-        "",
-        "0",
-        "//",
-        "/0/",
-        "/01",
-        "/00",
-        "/1000000000",
-        "/-1",
-        "/+1",
-        "/1 ",
-        "/a",
-    ] {
-        assert!(rt; place(rt.alloc(), text) == None, "{text}");
-    }
+fn places_and_their_kin(rt: HostRuntime) -> Result<(), Fail> {
     let root = Place::root(rt.alloc());
     let child = root.child(rt.alloc(), 3)?;
     assert!(rt; root.is_parent_of(&child) && root.is_prefix_of(&child) && root.is_root());

@@ -1,5 +1,5 @@
 // What no clause says: that calls succeed with ample memory, worked examples, and which texts are refused.
-use asl_def::parse;
+use asl_def::{Machine, parse};
 use asl_exec::{
     EmulateFault, Emulated, Execution, Refusal, Setup, StepAt, StepsFault, emulate, read_steps,
 };
@@ -7,6 +7,7 @@ use asl_history::Place;
 use asl_json::{Json, Txt, read as read_json, write};
 use asl_kinds::record::Record;
 use asl_time::Moment;
+use std::alloc::Global;
 use std::test::Fail;
 
 fn read(rt: &HostRuntime, text: &str) -> Result<Vec<StepAt>, Fail> {
@@ -35,28 +36,31 @@ fn files_are_read(rt: HostRuntime) -> Result<(), Fail> {
     Ok(())
 }
 
+/// Files, and the number of their first bad line; 0 where there is none.
+const BAD_LINES: &[(&str, usize)] = &[
+    ("/ 2024-01-01T00:00:00.000Z\n", 0),
+    ("\n", 1),
+    ("/ 2024-01-01T00:00:00.000Z\n/01 x", 2),
+    (
+        "/ 2024-01-01T00:00:00.000Z\n/01 2024-01-01T00:00:00.000Z\n",
+        2,
+    ),
+    (
+        "/ 2024-01-01T00:00:00.000Z\n\n/ 2024-01-01T00:00:00.000Z\n",
+        2,
+    ),
+    ("/ 2024-01-01T00:00:00.000Z\n\n", 2),
+    ("/ 2024-01-01T00:00:00.000Z\r\n", 1),
+    ("/  2024-01-01T00:00:00.000Z\n", 1),
+    (" / 2024-01-01T00:00:00.000Z\n", 1),
+    ("/ 2024-01-01T00:00:00.000Z \n", 1),
+    ("/\n", 1),
+];
+
 #[test]
 fn bad_lines_have_their_numbers(rt: HostRuntime) {
-    for (text, number) in [
-        ("/ 2024-01-01T00:00:00.000Z\n", 0),
-        ("\n", 1),
-        ("/ 2024-01-01T00:00:00.000Z\n/01 x", 2),
-        (
-            "/ 2024-01-01T00:00:00.000Z\n/01 2024-01-01T00:00:00.000Z\n",
-            2,
-        ),
-        (
-            "/ 2024-01-01T00:00:00.000Z\n\n/ 2024-01-01T00:00:00.000Z\n",
-            2,
-        ),
-        ("/ 2024-01-01T00:00:00.000Z\n\n", 2),
-        ("/ 2024-01-01T00:00:00.000Z\r\n", 1),
-        ("/  2024-01-01T00:00:00.000Z\n", 1),
-        (" / 2024-01-01T00:00:00.000Z\n", 1),
-        ("/ 2024-01-01T00:00:00.000Z \n", 1),
-        ("/\n", 1),
-    ] {
-        assert_eq!(rt; bad_line(&rt, text.as_bytes()), number, "{text}");
+    for (text, number) in BAD_LINES {
+        assert_eq!(rt; bad_line(&rt, text.as_bytes()), *number, "{text}");
     }
     assert_eq!(rt; bad_line(&rt, b"/ 2024-01-01T00:00:00.000Z\n\xff"), 2);
 }
@@ -130,73 +134,94 @@ fn runs_are_printed(rt: HostRuntime) -> Result<(), Fail> {
     Ok(())
 }
 
+/// Definitions, inputs, and how the text of a run of one step ends.
+const FAULTS_OF_DATA: &[(&str, &str, &str)] = &[
+    (
+        NO_INPUT,
+        "{}",
+        "status FAILED {\"Error\":\"States.Runtime\",\"Cause\":\"InputPath: no value\"}\n",
+    ),
+    (
+        TWO_STATES,
+        "{\"a\":5}",
+        "status FAILED {\"Error\":\"States.ResultPathMatchFailure\",\"Cause\":\"ResultPath: no place\"}\n",
+    ),
+];
+
 #[test]
 fn faults_of_data_end_an_execution(rt: HostRuntime) -> Result<(), Fail> {
-    for (definition, input, status) in [
-        (
-            NO_INPUT,
-            "{}",
-            "status FAILED {\"Error\":\"States.Runtime\",\"Cause\":\"InputPath: no value\"}\n",
-        ),
-        (
-            TWO_STATES,
-            "{\"a\":5}",
-            "status FAILED {\"Error\":\"States.ResultPathMatchFailure\",\"Cause\":\"ResultPath: no place\"}\n",
-        ),
-    ] {
+    for (definition, input, status) in FAULTS_OF_DATA {
         let failed = run(&rt, definition, input, ONE_STEP)?;
-        assert!(rt; failed.text.ends_with(status), "{}", failed.text.as_str());
+        assert!(rt; failed.text.ends_with(*status), "{}", failed.text.as_str());
         assert!(rt; failed.text.contains("\n3 2 ") && !failed.text.contains("\n4 3 "));
         assert!(rt; !failed.good);
     }
     Ok(())
 }
 
+/// The texts of a run (definition, mocks, what is chosen, input, steps), and the line of the first fault.
+const REFUSED: &[([&str; 5], &str)] = &[
+    (
+        ["{", "[]", "M#c", "{", "x"],
+        "definition: F1 Json J1 Syntax 1",
+    ),
+    (
+        ["{}", "[]", "M#c", "{", "x"],
+        "definition: F3 Missing /StartAt",
+    ),
+    (
+        [TWO_STATES, "[", "M#c", "{", "x"],
+        "mocks: M1 Json J1 Syntax 1",
+    ),
+    ([TWO_STATES, "[]", "M#c", "{", "x"], "mocks: M2 Shape"),
+    ([TWO_STATES, "{}", "M#c", "{", "x"], "case: M7 NoMachine"),
+    ([TWO_STATES, "{}", "M#", "{", "x"], "input: J1 Syntax 1"),
+    (
+        [
+            TWO_STATES,
+            "{}",
+            "",
+            "{}",
+            "/ 2024-01-01T00:00:00.000Z\n/01 x",
+        ],
+        "steps: E1 StepLine 2",
+    ),
+];
+
 #[test]
 fn texts_are_refused_in_their_order(rt: HostRuntime) {
-    for (texts, want) in [
-        (
-            ["{", "[]", "M#c", "{", "x"],
-            "definition: F1 Json J1 Syntax 1",
-        ),
-        (
-            ["{}", "[]", "M#c", "{", "x"],
-            "definition: F3 Missing /StartAt",
-        ),
-        (
-            [TWO_STATES, "[", "M#c", "{", "x"],
-            "mocks: M1 Json J1 Syntax 1",
-        ),
-        ([TWO_STATES, "[]", "M#c", "{", "x"], "mocks: M2 Shape"),
-        ([TWO_STATES, "{}", "M#c", "{", "x"], "case: M7 NoMachine"),
-        ([TWO_STATES, "{}", "M#", "{", "x"], "input: J1 Syntax 1"),
-        (
-            [
-                TWO_STATES,
-                "{}",
-                "",
-                "{}",
-                "/ 2024-01-01T00:00:00.000Z\n/01 x",
-            ],
-            "steps: E1 StepLine 2",
-        ),
-    ] {
-        assert!(rt; is_refused_for(&rt, texts, want), "{want}");
+    for (texts, want) in REFUSED {
+        assert!(rt; is_refused_for(&rt, *texts, want), "{want}");
     }
+}
+
+fn text(alloc: Global, text: &str) -> Option<Txt> {
+    Some(Txt::new(String::from_str(alloc, text).ok()?))
+}
+
+/// The machine of the two states.
+fn two_states(alloc: Global) -> Option<Machine> {
+    let definition = read_json(alloc, TWO_STATES.as_bytes()).ok()?;
+    parse(alloc, &definition).ok()
+}
+
+fn setup(alloc: Global) -> Option<Setup> {
+    let name_of_machine = text(alloc, "M")?;
+    let name = text(alloc, "run")?;
+    let machine = two_states(alloc)?;
+    let input = read_json(alloc, b"{}").ok()?;
+    Some(Setup {
+        machine,
+        name_of_machine,
+        input,
+        name,
+        start: Moment::FIRST,
+    })
 }
 
 /// An execution of the two states.
 fn opened(rt: &HostRuntime) -> Option<Execution> {
-    let alloc = rt.alloc();
-    let definition = read_json(alloc, TWO_STATES.as_bytes()).ok()?;
-    let setup = Setup {
-        machine: parse(alloc, &definition).ok()?,
-        name_of_machine: Txt::new(String::from_str(alloc, "M").ok()?),
-        input: read_json(alloc, b"{}").ok()?,
-        name: Txt::new(String::from_str(alloc, "run").ok()?),
-        start: Moment::FIRST,
-    };
-    Execution::open(alloc, setup).ok()
+    Execution::open(rt.alloc(), setup(rt.alloc())?).ok()
 }
 
 /// Whether the branch at the root is about to enter a state with this input.

@@ -17,12 +17,13 @@ fn fault(rt: &HostRuntime, text: &str) -> Option<DefFault> {
     parse(rt.alloc(), &value).err()
 }
 
+fn fault_line(rt: &HostRuntime, text: &str) -> Option<String> {
+    fault(rt, text)?.text(rt.alloc()).ok()
+}
+
 fn is_refused(rt: &HostRuntime, text: &str, line: &str) -> bool {
-    match fault(rt, text) {
-        Some(fault) => match fault.text(rt.alloc()) {
-            Ok(told) => told.as_str() == line,
-            Err(_) => false,
-        },
+    match fault_line(rt, text) {
+        Some(told) => told.as_str() == line,
         None => false,
     }
 }
@@ -51,133 +52,93 @@ fn is_accepted(rt: &HostRuntime, members: &str) -> bool {
     }
 }
 
+/// Definitions, and the lines of their faults.
+const REFUSED: &[(&str, &str)] = &[
+    ("1", "F2 NotObject"),
+    ("{\"StartAt\":\"A\"}", "F3 Missing /States"),
+    ("{}", "F3 Missing /StartAt"),
+    (
+        "{\"StartAt\":\"\",\"States\":{\"\":{\"Type\":\"Succeed\"}}}",
+        "F7 Range /States/",
+    ),
+    ("{\"StartAt\":\"A\",\"States\":{}}", "F10 NoTarget /StartAt"),
+];
+
+/// The members of a state, and the lines of their faults.
+const REFUSED_IN_STATE: &[(&str, &str)] = &[
+    ("\"Next\":\"X\"", "F3 Missing /States/A/Type"),
+    (
+        "\"Type\":\"Pass\",\"Next\":\"X\",\"Foo\":1",
+        "F4 UnknownField /States/A/Foo",
+    ),
+    (
+        "\"Type\":\"Succeed\",\"a/b~c\":1",
+        "F4 UnknownField /States/A/a~1b~0c",
+    ),
+    (
+        "\"Type\":\"Foo\",\"Bar\":1",
+        "F5 Unsupported /States/A/Type",
+    ),
+    ("\"Type\":1,\"Bar\":1", "F6 WrongType /States/A/Type"),
+    ("\"Type\":\"Pass\",\"End\":0", "F6 WrongType /States/A/End"),
+    (
+        "\"Type\":\"Pass\",\"Next\":\"A\",\"End\":true",
+        "F8 Both /States/A/End",
+    ),
+    (
+        "\"Type\":\"Pass\",\"End\":true,\"Next\":\"A\"",
+        "F8 Both /States/A/Next",
+    ),
+    ("\"Type\":\"Pass\",\"End\":false", "F9 Neither /States/A"),
+    (
+        "\"Type\":\"Pass\",\"Next\":\"X\"",
+        "F10 NoTarget /States/A/Next",
+    ),
+    (
+        "\"Type\":\"Succeed\",\"InputPath\":\"$.a[*]\"",
+        "F13 Path /States/A/InputPath",
+    ),
+    (
+        "\"Type\":\"Pass\",\"ResultPath\":\"$$.a\",\"End\":true",
+        "F13 Path /States/A/ResultPath",
+    ),
+    (
+        "\"Type\":\"Pass\",\"InputPath\":\"$$.x\",\"End\":true",
+        "F13 Path /States/A/InputPath",
+    ),
+    (
+        "\"Type\":\"Succeed\",\"OutputPath\":\"$$\"",
+        "F13 Path /States/A/OutputPath",
+    ),
+];
+
+/// The members of states that have no fault.
+const ACCEPTED: &[&str] = &[
+    "\"Type\":\"Succeed\",\"InputPath\":\"$.a\",\"OutputPath\":null",
+    "\"Type\":\"Pass\",\"End\":false,\"Next\":\"A\",\"Result\":{\"Type\":1}",
+];
+
 #[test]
-fn faults_of_objects(rt: HostRuntime) -> Result<(), Fail> {
-    assert!(rt; is_refused(&rt, "1", "F2 NotObject"));
-    assert!(rt; is_refused(&rt, "{\"StartAt\":\"A\"}", "F3 Missing /States"));
-    assert!(rt; is_refused(&rt, "{}", "F3 Missing /StartAt"));
-    assert!(rt; is_refused_in_state(&rt, "\"Next\":\"X\"", "F3 Missing /States/A/Type"));
-    assert!(rt;
-        is_refused_in_state(
-            &rt,
-            "\"Type\":\"Pass\",\"Next\":\"X\",\"Foo\":1",
-            "F4 UnknownField /States/A/Foo"
-        )
-    );
-    assert!(rt;
-        is_refused_in_state(
-            &rt,
-            "\"Type\":\"Succeed\",\"a/b~c\":1",
-            "F4 UnknownField /States/A/a~1b~0c"
-        )
-    );
-    assert!(rt;
-        is_refused_in_state(
-            &rt,
-            "\"Type\":\"Foo\",\"Bar\":1",
-            "F5 Unsupported /States/A/Type"
-        )
-    );
-    assert!(rt; is_refused_in_state(&rt, "\"Type\":1,\"Bar\":1", "F6 WrongType /States/A/Type"));
-    assert!(rt;
-        is_refused_in_state(
-            &rt,
-            "\"Type\":\"Pass\",\"End\":0",
-            "F6 WrongType /States/A/End"
-        )
-    );
+fn faults_of_definitions(rt: HostRuntime) -> Result<(), Fail> {
+    for (text, line) in REFUSED {
+        assert!(rt; is_refused(&rt, text, line), "{line}");
+    }
     Ok(())
 }
 
 #[test]
 fn faults_of_states(rt: HostRuntime) -> Result<(), Fail> {
-    assert!(rt;
-        is_refused(
-            &rt,
-            "{\"StartAt\":\"\",\"States\":{\"\":{\"Type\":\"Succeed\"}}}",
-            "F7 Range /States/"
-        )
-    );
-    assert!(rt;
-        is_refused_in_state(
-            &rt,
-            "\"Type\":\"Pass\",\"Next\":\"A\",\"End\":true",
-            "F8 Both /States/A/End"
-        )
-    );
-    assert!(rt;
-        is_refused_in_state(
-            &rt,
-            "\"Type\":\"Pass\",\"End\":true,\"Next\":\"A\"",
-            "F8 Both /States/A/Next"
-        )
-    );
-    assert!(rt;
-        is_refused_in_state(
-            &rt,
-            "\"Type\":\"Pass\",\"End\":false",
-            "F9 Neither /States/A"
-        )
-    );
-    assert!(rt;
-        is_refused_in_state(
-            &rt,
-            "\"Type\":\"Pass\",\"Next\":\"X\"",
-            "F10 NoTarget /States/A/Next"
-        )
-    );
-    assert!(rt;
-        is_refused(
-            &rt,
-            "{\"StartAt\":\"A\",\"States\":{}}",
-            "F10 NoTarget /StartAt"
-        )
-    );
-    assert!(rt;
-        is_refused_in_state(
-            &rt,
-            "\"Type\":\"Succeed\",\"InputPath\":\"$.a[*]\"",
-            "F13 Path /States/A/InputPath"
-        )
-    );
-    assert!(rt;
-        is_refused_in_state(
-            &rt,
-            "\"Type\":\"Pass\",\"ResultPath\":\"$$.a\",\"End\":true",
-            "F13 Path /States/A/ResultPath"
-        )
-    );
-    assert!(rt;
-        is_refused_in_state(
-            &rt,
-            "\"Type\":\"Pass\",\"InputPath\":\"$$.x\",\"End\":true",
-            "F13 Path /States/A/InputPath"
-        )
-    );
-    assert!(rt;
-        is_refused_in_state(
-            &rt,
-            "\"Type\":\"Succeed\",\"OutputPath\":\"$$\"",
-            "F13 Path /States/A/OutputPath"
-        )
-    );
+    for (members, line) in REFUSED_IN_STATE {
+        assert!(rt; is_refused_in_state(&rt, members, line), "{line}");
+    }
     Ok(())
 }
 
 #[test]
 fn accepted_definitions(rt: HostRuntime) -> Result<(), Fail> {
-    assert!(rt;
-        is_accepted(
-            &rt,
-            "\"Type\":\"Succeed\",\"InputPath\":\"$.a\",\"OutputPath\":null"
-        )
-    );
-    assert!(rt;
-        is_accepted(
-            &rt,
-            "\"Type\":\"Pass\",\"End\":false,\"Next\":\"A\",\"Result\":{\"Type\":1}"
-        )
-    );
+    for members in ACCEPTED {
+        assert!(rt; is_accepted(&rt, members), "{members}");
+    }
     Ok(())
 }
 
