@@ -16,4 +16,6 @@ mod template;
 
 pub use fault::TemplateFault;
 pub use fill::{FillFault, Word};
+pub use name::name_before;
+pub use read::{is_double, is_path};
 pub use template::Template;

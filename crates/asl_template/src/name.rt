@@ -5,8 +5,8 @@ ghost use Rattle.asl_template.specs.Names.{mark, name_before as spec_name_before
 use asl_json::Txt;
 use std::alloc::{AllocError, Global};
 
-/// The name before `.$`, of a key that ends so.
-pub(crate) fn name_before(key: &str) -> Option<&str>
+/// The name before `.$`, of a key that ends so: the name that a computed member has once the template is filled.
+pub fn name_before(key: &str) -> Option<&str>
     ensures { option_map (λ n. n.now) result ≡ spec_name_before key.now }
 {
     match key.strip_suffix('$') {

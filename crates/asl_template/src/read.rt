@@ -18,8 +18,8 @@ use asl_json::{Items, Json, Keys, Member, Members, Txt};
 use asl_path::{PathFault, RefPath};
 use std::alloc::{AllocError, Global};
 
-/// Whether a text is to be a path.
-fn is_path(text: &str) -> bool
+/// Whether the text of a computed member is to be a path, since it begins with `$`; else it is to be a call.
+pub fn is_path(text: &str) -> bool
     ensures { result ≡ begins_path text.now }
 {
     let bytes = text.as_bytes();
@@ -118,8 +118,9 @@ fn parts(alloc: Global, items: &Items) -> Result<Result<Parts, Fault>, AllocErro
     }
 }
 
-/// Whether of `k` and `k.$` the other one is among these members, which are those so far.
-fn is_double(alloc: Global, keys: &Keys, members: &[Member], key: &str) -> Result<bool, AllocError>
+/// Whether of `k` and `k.$` the other one is among these members, which are those so far, and whose keys these are. The error
+/// is that memory ran out.
+pub fn is_double(alloc: Global, keys: &Keys, members: &[Member], key: &str) -> Result<bool, AllocError>
     requires { Knows keys.now (members_of members.now) }
     ensures { IfOk result (λ double. double ≡ spec_is_double (members_of members.now) key.now) }
 {

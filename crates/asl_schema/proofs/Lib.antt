@@ -1,0 +1,9 @@
+pub mod Answering
+pub mod Counting
+pub mod Forms
+pub mod Roots
+pub mod Walking
+pub mod Naming
+pub mod Objects
+pub mod Doubles
+pub mod Pointing

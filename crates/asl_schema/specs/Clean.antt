@@ -1,0 +1,57 @@
+-- What holds of the values of a definition without faults, wherever they stand.
+use Rattle.std.specs.Prelude.{◌≡◌, ℕ, List, [], Bool, true, false, Option, Some, None, is_some, codes}
+use Rattle.asl_json.specs.Data.{Data, Pairs}
+use Rattle.asl_json.specs.Meaning.{count}
+use Rattle.asl_schema.specs.declared.sort.Sort.{Sort}
+use Rattle.asl_schema.specs.declared.sort.Sort.TheVariants.{Truth}
+use Rattle.asl_schema.specs.Members.{Shape}
+use Rattle.asl_schema.specs.Claims.{Spot, claims, member_claims, row_claims, group_demands, heres, is_true}
+use Rattle.asl_schema.specs.First.{Each, Hold}
+
+-- nothing is wrong with a value, where targets may have these names
+pub record IsCleanAmong (names : List ℕ → Bool) (s : Sort) (d : Data) : Type 0 where
+  pub spot : Spot
+  pub named : (k : List ℕ) → spot.names k ≡ names k
+  pub hold : Each Hold (claims spot s d)
+
+-- nor with the members of an object of this shape
+pub record IsCleanInside (names : List ℕ → Bool) (sh : Shape) (ms : Pairs) : Type 0 where
+  pub spot : Spot
+  pub named : (k : List ℕ) → spot.names k ≡ names k
+  pub groups : Each Hold (heres (group_demands sh.groups ms))
+  pub members : Each Hold (member_claims spot sh [] 0 ms)
+  pub rows : Each Hold (row_claims (count ms) sh.rows ms)
+
+-- whatever names targets may have
+pub record IsClean (s : Sort) (d : Data) : Type 0 where
+  pub names : List ℕ → Bool
+  pub is : IsCleanAmong names s d
+
+-- the value of a member is clean, where it is there
+abbrev pub Fits : Sort → Option Data → Type 0
+Fits s None = Unit {0}
+Fits s (Some d) = IsClean s d
+
+abbrev pub FitsAmong : (List ℕ → Bool) → Sort → Option Data → Type 0
+FitsAmong names s None = Unit {0}
+FitsAmong names s (Some d) = IsCleanAmong names s d
+
+-- the value of a member is there, and clean
+abbrev pub IsThere : Sort → Option Data → Type 0
+IsThere s None = ⊥
+IsThere s (Some d) = IsClean s d
+
+abbrev pub IsThereAmong : (List ℕ → Bool) → Sort → Option Data → Type 0
+IsThereAmong names s None = ⊥
+IsThereAmong names s (Some d) = IsCleanAmong names s d
+
+-- a true End
+abbrev pub is_ending : Option Data → Bool
+is_ending None = false
+is_ending (Some d) = is_true d
+
+-- exactly one of Next and a true End
+pub record GoesOneWay (next ends : Option Data) : Type 0 where
+  pub fits : Fits Truth ends
+  pub both : is_some next ≡ true → is_ending ends ≡ true → ⊥
+  pub neither : is_some next ≡ false → is_ending ends ≡ false → ⊥

@@ -1,0 +1,10 @@
+pub mod Members
+pub mod Demands
+pub mod Claims
+pub mod First
+pub mod States
+pub mod Faults
+pub mod Code
+pub mod Pointers
+pub mod Canon
+pub mod Clean

@@ -1,0 +1,139 @@
+// A fault at its place.
+ghost use Rattle.std.specs.Prelude.{◌≡◌, ◌∷◌, [], IfOk, reverse};
+ghost use Rattle.std.specs.Fmt.{decimal};
+ghost use Rattle.asl_schema.specs.Demands.{number_of};
+ghost use Rattle.asl_schema.specs.Claims.{step};
+ghost use Rattle.asl_schema.specs.Pointers.{pointer_text};
+
+use asl_json::{Pointer, Txt};
+use std::alloc::{AllocError, Global};
+use std::marker::Model;
+
+/// What a definition is refused for.
+#[derive(Clone, Copy, Debug, PartialEq, Eq)]
+pub enum FaultKind {
+    NotObject,
+    Missing,
+    UnknownField,
+    Unsupported,
+    WrongType,
+    Range,
+    Both,
+    Neither,
+    NoTarget,
+    DuplicateState,
+    AllNotLast,
+    Path,
+    Expression,
+    Nesting,
+}
+
+impl FaultKind {
+    /// The number of a fault line.
+    pub fn number(self) -> u8
+        ensures { result ≡ number_of self }
+    {
+        match self {
+            FaultKind::NotObject => 2,
+            FaultKind::Missing => 3,
+            FaultKind::UnknownField => 4,
+            FaultKind::Unsupported => 5,
+            FaultKind::WrongType => 6,
+            FaultKind::Range => 7,
+            FaultKind::Both => 8,
+            FaultKind::Neither => 9,
+            FaultKind::NoTarget => 10,
+            FaultKind::DuplicateState => 11,
+            FaultKind::AllNotLast => 12,
+            FaultKind::Path => 13,
+            FaultKind::Expression => 14,
+            FaultKind::Nesting => 15,
+        }
+    }
+}
+
+/// A step down a definition: to the member or item of this number, counted from 0, which has this name. A member that is
+/// missing has a number behind those that are there.
+#[derive(Drop)]
+pub struct Step {
+    pub at: usize,
+    pub name: Txt,
+}
+
+/// A fault and its place. The steps are kept with the innermost one first, and seen with the outermost one first.
+#[derive(Drop)]
+pub struct Fault {
+    kind: FaultKind,
+    steps: Vec<Step>,
+}
+
+impl Model for Fault {
+    ghost use Rattle.std.specs.Prelude.{List};
+    ghost use Rattle.asl_schema.specs.declared.fault.FaultKind.{FaultKind};
+    ghost use Rattle.asl_schema.specs.declared.fault.Step.{Step};
+
+    ghost Value = { FaultKind × List Step };
+
+    ghost use Rattle.asl_schema.specs.Code.{seen};
+
+    ghost view = { seen };
+}
+
+impl Fault {
+    pub(crate) fn here(alloc: Global, kind: FaultKind) -> Fault
+        ensures { result ≡ (kind, []) }
+    {
+        Fault {
+            kind,
+            steps: Vec::new(alloc),
+        }
+    }
+
+    pub fn kind(&self) -> FaultKind
+        ensures { result ≡ self.now.0 }
+    {
+        self.kind
+    }
+
+    /// The fault, as it is seen from outside the member with this number and name.
+    pub(crate) fn under(self, alloc: Global, at: usize, name: &str) -> Result<Fault, AllocError>
+        ensures { IfOk result (λ f. f ≡ (self.0, step at name.now ∷ self.1)) }
+    {
+        let mut steps = self.steps;
+        let name = Txt::new(String::from_str(alloc, name)?);
+        steps.push(Step { at, name })?;
+        Ok(Fault {
+            kind: self.kind,
+            steps,
+        })
+    }
+
+    /// The fault, as it is seen from outside the item of this number.
+    pub(crate) fn under_index(self, alloc: Global, at: usize) -> Result<Fault, AllocError>
+        ensures { IfOk result (λ f. f ≡ (self.0, step at (decimal at) ∷ self.1)) }
+    {
+        let mut name = String::new(alloc);
+        write!(name, "{at}")?;
+        self.under(alloc, at, name.as_str())
+    }
+
+    /// Its place in the definition, as `/States/A/Next`. A member that is missing has the place where it would stand. The error
+    /// is that memory ran out.
+    pub fn place(&self, alloc: Global) -> Result<Pointer, AllocError>
+        ensures { IfOk result (λ p. p ≡ pointer_text self.now.1) }
+    {
+        pointer_of(alloc, &self.steps)
+    }
+}
+
+/// The pointer of these steps, of which the innermost is first.
+fn pointer_of(alloc: Global, steps: &[Step]) -> Result<Pointer, AllocError>
+    ensures { IfOk result (λ p. p ≡ pointer_text (reverse steps.now)) }
+{
+    let mut place = Pointer::whole(alloc);
+    let count = steps.len();
+    for i in 0..count {
+        place = place.at_name(steps[count - 1 - i].name.as_str())?;
+    }
+    Ok(place)
+}
