@@ -1,10 +1,14 @@
--- What is read for a run, what is emulated then, and why nothing is.
+-- What is read for a command, what is judged or emulated then, and why nothing is.
 use Rattle.std.specs.Prelude.{ℕ, Bool, List, ◌≡◌, ◌++◌, ◌⊎◌, ⊤, codes}
+use Rattle.asl_check.specs.Judged.{IsDefinition, IsFaultOf}
+use Rattle.asl_check.specs.Lines.{fault_line as definition_fault_line}
+use Rattle.asl_check.specs.declared.fault.Fault.{Fault}
 use Rattle.asl_exec.specs.declared.fault.EmulateFault.{EmulateFault}
 use Rattle.asl_exec.specs.Emulations.{IsRunOf, IsRefused}
 use Rattle.asl_exec.specs.Texts.{Unless, refusal_line}
 use Rattle.asl_cli.specs.declared.refusal.Refusal.{Refusal}
-use Rattle.asl_cli.specs.declared.refusal.Refusal.TheVariants.{File, Emulation, OutOfMemory}
+use Rattle.asl_cli.specs.declared.refusal.Refusal.TheVariants.{File, Definition, Emulation, OutOfMemory}
+use Rattle.asl_cli.specs.declared.words.CheckWords.{CheckWords}
 use Rattle.asl_cli.specs.declared.words.RunWords.{RunWords}
 
 -- the files that the words name may give these bytes: a definition, mocks, an input and steps
@@ -33,6 +37,7 @@ pub record IsRefusedFor (gives : List ℕ → List ℕ → Type 0) (w : RunWords
 -- a file that can't be read is the one of this name, and may be lacking
 abbrev pub IsUnread : (List ℕ → Type 0) → List ℕ → Refusal → Type 0
 IsUnread lacks wanted (File name) = (name.now ≡ wanted) × lacks name.now
+IsUnread lacks wanted (Definition fault) = ⊥
 IsUnread lacks wanted (Emulation fault) = ⊥
 IsUnread lacks wanted OutOfMemory = ⊤
 
@@ -43,12 +48,33 @@ IsNamed w name = (name ≡ w.definition.now) ⊎ (name ≡ w.mocks.now) ⊎ (nam
 -- why nothing is emulated: a file that the words name may be lacking, what was read is refused, or memory ran out
 abbrev pub IsReason : (List ℕ → List ℕ → Type 0) → (List ℕ → Type 0) → RunWords → Refusal → Type 0
 IsReason gives lacks w (File name) = IsNamed w name.now × lacks name.now
+IsReason gives lacks w (Definition fault) = ⊥
 IsReason gives lacks w (Emulation fault) = IsRefusedFor gives w fault
 IsReason gives lacks w OutOfMemory = ⊤
+
+-- the file that the word names may give a definition without faults
+pub record IsJudged (gives : List ℕ → List ℕ → Type 0) (w : CheckWords) : Type 0 where
+  pub text : List ℕ
+  pub given : gives w.definition.now text
+  pub is_definition : IsDefinition text
+
+-- it may give a text with this fault
+pub record IsFaulty (gives : List ℕ → List ℕ → Type 0) (w : CheckWords) (fault : Fault) : Type 0 where
+  pub text : List ℕ
+  pub given : gives w.definition.now text
+  pub is_fault : IsFaultOf text fault
+
+-- why nothing is passed: the file may be lacking, what was read is no definition, or memory ran out
+abbrev pub IsCheckReason : (List ℕ → List ℕ → Type 0) → (List ℕ → Type 0) → CheckWords → Refusal → Type 0
+IsCheckReason gives lacks w (File name) = (name.now ≡ w.definition.now) × lacks name.now
+IsCheckReason gives lacks w (Definition fault) = IsFaulty gives w fault
+IsCheckReason gives lacks w (Emulation fault) = ⊥
+IsCheckReason gives lacks w OutOfMemory = ⊤
 
 -- the text of a refusal
 abbrev pub reason_text : Refusal → List ℕ
 reason_text (File name) = codes "file " ++ name.now
+reason_text (Definition fault) = codes "definition: " ++ definition_fault_line fault
 reason_text (Emulation fault) = refusal_line fault
 reason_text OutOfMemory = codes "OutOfMemory"
 

@@ -1,9 +1,10 @@
-//! The program `asl`: emulates state machines of the Amazon States Language.
+//! The program `asl`: judges and emulates state machines of the Amazon States Language.
 //!
 //! Modules in reading order: `words` reads the command line; `files` what files give; `streams` the streams that are written;
-//! `refusal` why nothing was emulated, and its line; `run` the program behind them.
+//! `refusal` why a command isn't done, and its line; `check` and `run` the commands, and the program behind them.
 #![tactic(auto)]
 
+mod check;
 mod files;
 mod refusal;
 mod run;

@@ -1,18 +1,22 @@
-// Why nothing was emulated, and the line that tells it.
+// Why a command isn't done, and the line that tells it.
 ghost use Rattle.std.specs.Prelude.{◌≡◌, ◌++◌, List, ℕ, codes, IfOk, OnOk, OnErr, string_bytes};
+ghost use Rattle.asl_check.specs.Lines.{fault_line as definition_fault_line};
 ghost use Rattle.asl_cli.specs.Outcomes.{fault_line, IsWhole, IsBroken, IsTold};
 ghost use Rattle.asl_cli.specs.Refusals.{reason_text, Tells};
 
+use asl_check::Fault;
 use asl_exec::EmulateFault;
 use asl_history::{Sink, SinkFault, write_all};
 use std::alloc::{AllocError, Global};
 
-/// Why nothing was emulated.
+/// Why a command isn't done.
 #[derive(Drop)]
 pub enum Refusal<'a> {
     /// The file of this name can't be read.
     File(&'a str),
-    /// What was read is refused.
+    /// What was read is no definition.
+    Definition(Fault),
+    /// What was read for a run is refused.
     Emulation(EmulateFault),
     OutOfMemory,
 }
@@ -34,10 +38,20 @@ impl<'a> Refusal<'a> {
     {
         match self {
             Refusal::File(name) => file_text(alloc, name),
+            Refusal::Definition(fault) => definition_text(alloc, fault),
             Refusal::Emulation(fault) => fault.text(alloc),
             Refusal::OutOfMemory => String::from_str(alloc, "OutOfMemory"),
         }
     }
+}
+
+fn definition_text(alloc: Global, fault: &Fault) -> Result<String, AllocError>
+    ensures { IfOk result (λ t. string_bytes t ≡ codes "definition: " ++ definition_fault_line fault.now) }
+{
+    let mut text = String::from_str(alloc, "definition: ")?;
+    let line = fault.text(alloc)?;
+    text.push_str(line.as_str())?;
+    Ok(text)
 }
 
 fn file_text(alloc: Global, name: &str) -> Result<String, AllocError>

@@ -1,12 +1,13 @@
 // The program behind its words, files and streams.
 ghost use Rattle.std.specs.Prelude.{◌≡◌, ◌⊎◌, List, ℕ, string_bytes, IfOk, IfErr};
-ghost use Rattle.asl_cli.specs.Answers.{IsRan, IsAnswered};
+ghost use Rattle.asl_cli.specs.Answers.{IsRan, IsChecked, IsAnswered};
 ghost use Rattle.asl_cli.specs.Outcomes.{status_of, IsPrinted, IsTold};
 ghost use Rattle.asl_cli.specs.Refusals.{IsEmulated, IsReason, IsUnread};
 
+use crate::check::check;
 use crate::files::{Files, ReadFault};
 use crate::refusal::{Refusal, tell_fault, write_piece};
-use crate::words::{GivenFault, RunWords, Words, malformed_word, read_words};
+use crate::words::{CheckWords, GivenFault, RunWords, Words, malformed_word, read_words};
 use asl_exec::{EmulateFault, Emulated, emulate};
 use asl_history::Sink;
 use clap::Error;
@@ -19,7 +20,7 @@ const GOOD: u8 = 0;
 /// The status where an execution didn't end in success.
 const FAILED: u8 = 1;
 /// The status where a command line, a file or its content is refused, or a write fails.
-const REFUSED: u8 = 2;
+pub(crate) const REFUSED: u8 = 2;
 
 /// The whole program: does what the words ask for, of which the first is the program's name, and tells its status.
 pub fn run_words<S: AsStr, F: Files, O: Sink, E: Sink>(
@@ -29,11 +30,13 @@ pub fn run_words<S: AsStr, F: Files, O: Sink, E: Sink>(
     out: &mut O,
     err: &mut E,
 ) -> u8
-    // What words of a run ask for was done; or other words were answered, and no file was read.
+    // What words of a run or of a check ask for was done; or other words were answered, and no file was read.
     ensures { ((w : RunWords) × IsRan O.taken O.failures E.taken E.failures (F.gives files.old) (F.lacks files.old) w out.old out.new err.old err.new result)
+        ⊎ ((w : CheckWords) × IsChecked O.taken O.failures E.taken E.failures (F.gives files.old) (F.lacks files.old) w out.old out.new err.old err.new result)
         ⊎ ((files.new ≡ files.old) × IsAnswered O.taken O.failures E.taken E.failures out.old out.new err.old err.new result) }
 {
     match read_words(alloc, words) {
+        Ok(Words::Check(words)) => check(alloc, &words, files, out, err),
         Ok(Words::Run(words)) => run(alloc, &words, files, out, err),
         Err(error) => answer_words(alloc, &error, out, err),
     }
@@ -99,7 +102,7 @@ fn emulate_files<'a, F: Files>(
 }
 
 /// Reads a file that a word names.
-fn read_file<'a, F: Files>(
+pub(crate) fn read_file<'a, F: Files>(
     alloc: Global,
     files: &mut F,
     name: &'a str,
@@ -136,7 +139,7 @@ fn answer_words<O: Sink, E: Sink>(alloc: Global, error: &Error, out: &mut O, err
         return REFUSED;
     }
     match error.to_string(alloc) {
-        Ok(text) => print_help(text.as_str(), out),
+        Ok(text) => print_good(text.as_str(), out),
         Err(_) => {
             tell_fault(err, "OutOfMemory");
             REFUSED
@@ -144,8 +147,8 @@ fn answer_words<O: Sink, E: Sink>(alloc: Global, error: &Error, out: &mut O, err
     }
 }
 
-/// Prints help that was asked for.
-fn print_help<O: Sink>(text: &str, out: &mut O) -> u8
+/// Prints what was asked for, where all is good.
+pub(crate) fn print_good<O: Sink>(text: &str, out: &mut O) -> u8
     ensures { IsPrinted O.taken O.failures out.old out.new text.now 0 result }
 {
     match write_piece(out, text) {

@@ -9,8 +9,16 @@ use std::{env, io};
 /// What a command line asks for.
 #[derive(Clone, Copy)]
 pub enum Words<'a> {
+    /// A definition is to be judged.
+    Check(CheckWords<'a>),
     /// An execution is to be emulated.
     Run(RunWords<'a>),
+}
+
+/// The word of `check`: the name of a file.
+#[derive(Clone, Copy)]
+pub struct CheckWords<'a> {
+    pub definition: &'a str,
 }
 
 /// The words of `run`: names of files, and the machine and the case that are chosen.
@@ -50,8 +58,8 @@ pub fn given<R: Env + AllocGlobal>(rt: &R) -> Result<Vec<String>, GivenFault> {
 pub fn read_words<'a, S: AsStr>(alloc: Global, words: &'a [S]) -> Result<Words<'a>, Error> {
     let mut command = asl_command(alloc)?;
     let matches = command.try_get_matches_from_mut(words)?;
-    match matches.subcommand_matches("run").and_then(run_words_of) {
-        Some(words) => Ok(Words::Run(words)),
+    match words_of(&matches) {
+        Some(words) => Ok(words),
         None => Err(command.error(ErrorKind::MissingSubcommand, "no command was given")?),
     }
 }
@@ -61,6 +69,20 @@ pub fn malformed_word(alloc: Global) -> Result<Error, Error> {
     let mut command = asl_command(alloc)?;
     let message = "invalid UTF-8 was detected in one or more arguments";
     Ok(command.error(ErrorKind::InvalidValue, message)?)
+}
+
+fn words_of<'a>(matches: &ArgMatches<'a>) -> Option<Words<'a>> {
+    if let Some(matches) = matches.subcommand_matches("check") {
+        return Some(Words::Check(check_words_of(matches)?));
+    }
+    let matches = matches.subcommand_matches("run")?;
+    Some(Words::Run(run_words_of(matches)?))
+}
+
+fn check_words_of<'a>(matches: &ArgMatches<'a>) -> Option<CheckWords<'a>> {
+    Some(CheckWords {
+        definition: matches.get_str("DEF")?,
+    })
 }
 
 fn run_words_of<'a>(matches: &ArgMatches<'a>) -> Option<RunWords<'a>> {
@@ -80,7 +102,14 @@ fn asl_command<'a>(alloc: Global) -> Result<Command<'a>, AllocError> {
         .about("Emulates state machines of the Amazon States Language")
         .version("0.1.0")
         .subcommand_required(true);
-    asl.subcommand(run_command(alloc)?)
+    asl.subcommand(check_command(alloc)?)?
+        .subcommand(run_command(alloc)?)
+}
+
+fn check_command<'a>(alloc: Global) -> Result<Command<'a>, AllocError> {
+    Command::new(alloc, "check")
+        .about("Judges a state machine's definition: prints ok, or tells its first fault")
+        .arg(word(alloc, "DEF", "The file of the state machine's definition"))
 }
 
 fn run_command<'a>(alloc: Global) -> Result<Command<'a>, AllocError> {

@@ -1,0 +1,45 @@
+-- Which texts are definitions, and which fault is answered for any other.
+use Rattle.std.specs.Prelude.{◌≡◌, ℕ, List}
+use Rattle.asl_json.specs.Data.{Data}
+use Rattle.asl_json.specs.Wrong.{ReadsAs, IsFaultOf as IsJsonFaultOf, IsFirstOf}
+use Rattle.asl_json.specs.declared.fault.JsonFault.{JsonFault}
+use Rattle.asl_json.specs.declared.fault.JsonFault.TheVariants as json
+use Rattle.asl_schema.specs.declared.fault.FaultKind.{FaultKind}
+use Rattle.asl_schema.specs.declared.fault.Step.{Step}
+use Rattle.asl_schema.specs.Faults.{Accepted, claims_of}
+use Rattle.asl_schema.specs.First.{Found, IsFirst}
+use Rattle.asl_schema.specs.Pointers.{pointer_text}
+use Rattle.asl_check.specs.declared.fault.Fault.{Fault}
+use Rattle.asl_check.specs.declared.fault.Fault.TheVariants.{Json, Definition, OutOfMemory}
+
+-- a text of a value without faults
+pub record IsDefinition (b : List ℕ) : Type 0 where
+  pub value : Data
+  pub reads : ReadsAs b value
+  pub accepted : Accepted value
+
+-- the first fault of a JSON text
+pub record IsTextFault (b : List ℕ) (f : JsonFault) : Type 0 where
+  pub is_fault : IsJsonFaultOf b f
+  pub is_first : IsFirstOf b f
+  pub told : f ≡ json.OutOfMemory → ⊥
+
+-- the first fault of the value that a text spells
+pub record IsValueFault (b : List ℕ) (k : FaultKind) (p : List ℕ) : Type 0 where
+  pub value : Data
+  pub reads : ReadsAs b value
+  pub place : List Step
+  pub is_first : IsFirst (claims_of value) (k, place)
+  pub pointer : p ≡ pointer_text place
+
+-- why a text is no definition, unless memory ran out
+abbrev pub IsFaultOf : List ℕ → Fault → Type 0
+IsFaultOf b (Json f) = IsTextFault b f
+IsFaultOf b (Definition k p) = IsValueFault b k p
+IsFaultOf b OutOfMemory = Unit {0}
+
+-- the answer tells of this fault, or memory ran out
+abbrev pub Tells : FaultKind → List Step → Fault → Type 0
+Tells k at (Json f) = ⊥
+Tells k at (Definition l p) = (l ≡ k) × (p ≡ pointer_text at)
+Tells k at OutOfMemory = Unit {0}
