@@ -1,5 +1,5 @@
 -- What is demanded of the values of a definition. To break a demand is a fault, and each demand says one sentence.
-use Rattle.std.specs.Prelude.{◌≡◌, ℕ, List, Bool, true, false, Option, is_some}
+use Rattle.std.specs.Prelude.{◌≡◌, ℕ, List, Bool, true, false, Option, is_some, codes}
 use Rattle.asl_json.specs.Data.{Data, null, boolean, number, text, list, dict}
 use Rattle.asl_path.specs.Grammar.{IsPath, StartsFrom}
 use Rattle.asl_path.specs.declared.step.Root.TheVariants.{Input}
@@ -146,3 +146,20 @@ number_of kind.AllNotLast = 12
 number_of kind.Path = 13
 number_of kind.Expression = 14
 number_of kind.Nesting = 15
+
+-- the number and the name that a fault line begins with
+abbrev pub words_of : FaultKind → List ℕ
+words_of kind.NotObject = codes "F2 NotObject"
+words_of kind.Missing = codes "F3 Missing"
+words_of kind.UnknownField = codes "F4 UnknownField"
+words_of kind.Unsupported = codes "F5 Unsupported"
+words_of kind.WrongType = codes "F6 WrongType"
+words_of kind.Range = codes "F7 Range"
+words_of kind.Both = codes "F8 Both"
+words_of kind.Neither = codes "F9 Neither"
+words_of kind.NoTarget = codes "F10 NoTarget"
+words_of kind.DuplicateState = codes "F11 DuplicateState"
+words_of kind.AllNotLast = codes "F12 AllNotLast"
+words_of kind.Path = codes "F13 Path"
+words_of kind.Expression = codes "F14 Expression"
+words_of kind.Nesting = codes "F15 Nesting"

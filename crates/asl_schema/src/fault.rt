@@ -1,7 +1,7 @@
 // A fault at its place.
 ghost use Rattle.std.specs.Prelude.{◌≡◌, ◌∷◌, [], IfOk, reverse};
 ghost use Rattle.std.specs.Fmt.{decimal};
-ghost use Rattle.asl_schema.specs.Demands.{number_of};
+ghost use Rattle.asl_schema.specs.Demands.{number_of, words_of};
 ghost use Rattle.asl_schema.specs.Claims.{step};
 ghost use Rattle.asl_schema.specs.Pointers.{pointer_text};
 
@@ -12,19 +12,33 @@ use std::marker::Model;
 /// What a definition is refused for.
 #[derive(Clone, Copy, Debug, PartialEq, Eq)]
 pub enum FaultKind {
+    /// F2: the definition isn't an object.
     NotObject,
+    /// F3: a required member is missing.
     Missing,
+    /// F4: the object may not have this member.
     UnknownField,
+    /// F5: something of the language that isn't supported.
     Unsupported,
+    /// F6: a value of a wrong type.
     WrongType,
+    /// F7: a value outside its range.
     Range,
+    /// F8: a member beside another of its group: the later of the two.
     Both,
+    /// F9: an object with no member of a group.
     Neither,
+    /// F10: no state of the same machine has this name.
     NoTarget,
+    /// F11: a state before this one has its name.
     DuplicateState,
+    /// F12: `States.ALL` not alone, or not in the last retrier or catcher.
     AllNotLast,
+    /// F13: a text that isn't a path, or is one into the Context Object where a result is put.
     Path,
+    /// F14: a text that isn't a call of an intrinsic function.
     Expression,
+    /// F15: a machine inside 16 others.
     Nesting,
 }
 
@@ -48,6 +62,28 @@ impl FaultKind {
             FaultKind::Path => 13,
             FaultKind::Expression => 14,
             FaultKind::Nesting => 15,
+        }
+    }
+
+    /// The number and the name that a fault line begins with.
+    pub fn words(self) -> &'static str
+        ensures { result.now ≡ words_of self }
+    {
+        match self {
+            FaultKind::NotObject => "F2 NotObject",
+            FaultKind::Missing => "F3 Missing",
+            FaultKind::UnknownField => "F4 UnknownField",
+            FaultKind::Unsupported => "F5 Unsupported",
+            FaultKind::WrongType => "F6 WrongType",
+            FaultKind::Range => "F7 Range",
+            FaultKind::Both => "F8 Both",
+            FaultKind::Neither => "F9 Neither",
+            FaultKind::NoTarget => "F10 NoTarget",
+            FaultKind::DuplicateState => "F11 DuplicateState",
+            FaultKind::AllNotLast => "F12 AllNotLast",
+            FaultKind::Path => "F13 Path",
+            FaultKind::Expression => "F14 Expression",
+            FaultKind::Nesting => "F15 Nesting",
         }
     }
 }
@@ -89,6 +125,7 @@ impl Fault {
         }
     }
 
+    /// What the definition is refused for.
     pub fn kind(&self) -> FaultKind
         ensures { result ≡ self.now.0 }
     {

@@ -16,6 +16,3 @@ mod walk;
 pub use definition::first_fault;
 pub use fault::{Fault, FaultKind, Step};
 pub use sort::Kind;
-
-#[cfg(test)]
-mod tests;

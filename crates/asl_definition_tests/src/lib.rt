@@ -1,0 +1,8 @@
+//! What no clause says of the first fault of a definition, tried from outside: definitions with planted faults, and that each call
+//! succeeds with ample memory.
+//!
+//! They stand apart from the tests of values in `asl_tests`, which wait for fewer crates.
+#![tactic(auto)]
+
+#[cfg(test)]
+mod faults;
