@@ -2,7 +2,7 @@
 use Rattle.std.specs.Prelude.{ℕ, List, [], ◌∷◌, ◌++◌, codes}
 use Rattle.asl_json.specs.FaultText.{fault_text}
 use Rattle.asl_schema.specs.declared.fault.FaultKind.{FaultKind}
-use Rattle.asl_schema.specs.Words.{fault_words}
+use Rattle.asl_schema.specs.Demands.{words_of}
 use Rattle.asl_check.specs.declared.fault.Fault.{Fault}
 use Rattle.asl_check.specs.declared.fault.Fault.TheVariants.{Json, Definition, OutOfMemory}
 
@@ -11,7 +11,7 @@ with_place words [] = words
 with_place words (b ∷ p) = words ++ 32 ∷ b ∷ p
 
 abbrev pub definition_line : FaultKind → List ℕ → List ℕ
-definition_line k p = with_place (fault_words k) p
+definition_line k p = with_place (words_of k) p
 
 abbrev pub fault_line : Fault → List ℕ
 fault_line (Json f) = codes "F1 Json " ++ fault_text f

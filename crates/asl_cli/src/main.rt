@@ -1,10 +1,10 @@
 //! The program `asl`: judges and emulates state machines of the Amazon States Language.
 //!
 //! Modules in reading order: `words` reads the command line; `files` what files give; `streams` the streams that are written;
-//! `refusal` why a command isn't done, and its line; `check` and `run` the commands, and the program behind them.
+//! `refusal` why a command isn't done, and its line; `checking` and `run` the commands, and the program behind them.
 #![tactic(auto)]
 
-mod check;
+mod checking;
 mod files;
 mod refusal;
 mod run;

@@ -4,7 +4,7 @@ ghost use Rattle.asl_cli.specs.Answers.{IsRan, IsChecked, IsAnswered};
 ghost use Rattle.asl_cli.specs.Outcomes.{status_of, IsPrinted, IsTold};
 ghost use Rattle.asl_cli.specs.Refusals.{IsEmulated, IsReason, IsUnread};
 
-use crate::check::check;
+use crate::checking::check;
 use crate::files::{Files, ReadFault};
 use crate::refusal::{Refusal, tell_fault, write_piece};
 use crate::words::{CheckWords, GivenFault, RunWords, Words, malformed_word, read_words};
