@@ -7,3 +7,4 @@ pub mod Naming
 pub mod Objects
 pub mod Doubles
 pub mod Pointing
+pub mod Canons

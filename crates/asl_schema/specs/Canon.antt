@@ -1,5 +1,5 @@
 -- The canonical form of a definition: members in the order of the table, and `End: false` left out.
-use Rattle.std.specs.Prelude.{ℕ, List, [], ◌∷◌, ◌++◌, true, false, Option, Some, None, if◌then◌else◌, codes, option_map}
+use Rattle.std.specs.Prelude.{ℕ, List, [], ◌∷◌, ◌++◌, Bool, true, false, Option, Some, None, if◌then◌else◌, codes, option_map}
 use Rattle.asl_json.specs.Data.{Data, null, boolean, number, text, list, dict, Chain, no_items, item, Pairs, no_members, member, pairs}
 use Rattle.asl_json.specs.Same.{bytes_eq}
 use Rattle.asl_json.specs.Meaning.{value_at}
@@ -82,6 +82,23 @@ kept_at k s ms = kept k (option_map (canon s) (value_at k ms))
 abbrev pub picked_at : Shape → List Row → Pairs → List Named
 picked_at sh [] ms = []
 picked_at sh (r ∷ rs) ms = opt r.name (kept_at r.name (sort_at sh r.name) ms) ++ picked_at sh rs ms
+
+-- what isn't put in order, nor what it holds
+abbrev pub is_plain : Sort → Bool
+is_plain sort.Definition = false
+is_plain sort.Machine = false
+is_plain sort.Machines = false
+is_plain sort.States = false
+is_plain sort.State = false
+is_plain sort.Rules = false
+is_plain sort.Rule = false
+is_plain sort.InnerRules = false
+is_plain sort.InnerRule = false
+is_plain sort.Retriers = false
+is_plain sort.Retrier = false
+is_plain sort.Catchers = false
+is_plain sort.Catcher = false
+is_plain s = true
 
 abbrev pub canonical : Data → Data
 canonical d = canon sort.Definition d
