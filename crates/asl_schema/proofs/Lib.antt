@@ -8,3 +8,5 @@ pub mod Objects
 pub mod Doubles
 pub mod Pointing
 pub mod Canons
+pub mod Inside
+pub mod Parts
