@@ -88,7 +88,7 @@ pub or_right : (a b : Bool) → b ≡ true → (a || b) ≡ true
 or_right true b e = refl
 or_right false b e = e
 
-any_there : (l : List ℕ) (ks : List (List ℕ)) (ms : Pairs) → is_among l ks ≡ true → is_some (value_at l ms) ≡ true → has_any ks ms ≡ true
+pub any_there : (l : List ℕ) (ks : List (List ℕ)) (ms : Pairs) → is_among l ks ≡ true → is_some (value_at l ms) ≡ true → has_any ks ms ≡ true
 any_there l [] ms e h = absurd cc
 any_there l (k ∷ ks) ms e h = by (bytes_eq l k) refl (λ f. any_there l ks ms f h)
   where

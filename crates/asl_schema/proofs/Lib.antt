@@ -10,3 +10,7 @@ pub mod Pointing
 pub mod Canons
 pub mod Inside
 pub mod Parts
+pub mod Typed
+pub mod Kept
+pub mod Deciding
+pub mod Ways

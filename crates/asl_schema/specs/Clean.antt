@@ -6,6 +6,8 @@ use Rattle.asl_json.specs.Distinct.{Members}
 use Rattle.asl_json.specs.Meaning.{count}
 use Rattle.asl_schema.specs.declared.sort.Sort.{Sort}
 use Rattle.asl_schema.specs.declared.sort.Sort.TheVariants as sort
+use Rattle.asl_schema.specs.declared.sort.Kind.{Kind}
+use Rattle.asl_schema.specs.declared.sort.Kind.TheVariants as kind
 use Rattle.asl_schema.specs.Members.{Row, Shape, is_among}
 use Rattle.asl_schema.specs.Claims.{Spot, claims, member_claims, row_claims, group_demands, heres, is_true, names_in, is_name}
 use Rattle.asl_schema.specs.First.{Each, Hold}
@@ -72,6 +74,13 @@ AreItemsClean names s (d ∷ ds) = IsCleanAmong names s d × AreItemsClean names
 abbrev pub AreStatesClean : (List ℕ → Bool) → Members → Type 0
 AreStatesClean names [] = Unit {0}
 AreStatesClean names (m ∷ ms) = IsCleanAmong names sort.State m.1 × (is_name m.0 ≡ true) × AreStatesClean names ms
+
+-- the types of states that name what comes next
+abbrev pub goes_on : Kind → Bool
+goes_on kind.Choice = false
+goes_on kind.Succeed = false
+goes_on kind.Fail = false
+goes_on k = true
 
 -- a true End
 abbrev pub is_ending : Option Data → Bool
