@@ -1,15 +1,14 @@
 -- Of a group at most one member counts, and of an exact one some member does.
-use Rattle.std.proofs.Common.{◌≡◌, ℕ, suc, List, [], ◌∷◌, ◌++◌, Bool, true, false, ◌||◌, ◌&&◌, not, ◌⊎◌, inl, inr, refl, sym, subst, ap, ◌∙◌}
-use Rattle.std.specs.Prelude.{Option, Some, None, is_some, map, codes}
+use Rattle.std.proofs.Common.{◌≡◌, ℕ, suc, List, [], ◌∷◌, ◌++◌, Bool, true, false, ◌||◌, ◌&&◌, not, ◌⊎◌, inl, inr, refl, sym, subst, ◌∙◌}
+use Rattle.std.specs.Prelude.{Some, map}
 use Rattle.std.specs.Cmp.Lexicographic.{same_text}
-use Rattle.asl_json.specs.Data.{Data, null, boolean, number, text, list, dict, Pairs, no_members, member, pairs}
+use Rattle.asl_json.specs.Data.{Data, Pairs, no_members, member}
 use Rattle.asl_json.specs.Same.{bytes_eq}
 use Rattle.asl_json.specs.SameLaws.{bytes_refl}
 use Rattle.asl_json.specs.Meaning.{value_at}
 use Rattle.asl_json.specs.Distinct.{Members}
-use Rattle.asl_schema.specs.declared.sort.Sort.{Sort}
-use Rattle.asl_schema.specs.Members.{Group, Shape, sort_at, is_among}
-use Rattle.asl_schema.specs.Claims.{Claim, Spot, step, under, heres, demands, claims, at_member, member_claims, group_demands, counts, any_counts, is_doubled, is_twice, any_in, is_true, has_any}
+use Rattle.asl_schema.specs.Members.{Group, Shape, sort_at}
+use Rattle.asl_schema.specs.Claims.{Spot, step, under, heres, claims, at_member, member_claims, group_demands, counts, any_counts, is_doubled, is_twice, any_in}
 use Rattle.asl_schema.specs.First.{Each, Hold}
 use Rattle.asl_schema.specs.Clean.{IsCleanInside}
 use Rattle.asl_schema.proofs.Inside.{each_left, each_right, each_under, own_hold, or_right}

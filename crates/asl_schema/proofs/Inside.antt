@@ -1,6 +1,6 @@
 -- What a value without faults holds is without faults.
-use Rattle.std.proofs.Common.{◌≡◌, ℕ, suc, List, [], ◌∷◌, ◌++◌, Bool, true, false, ◌||◌, refl, sym, subst, ap, ◌∙◌}
-use Rattle.std.specs.Prelude.{Option, Some, None, is_some, map, codes, if◌then◌else◌}
+use Rattle.std.proofs.Common.{◌≡◌, ℕ, suc, List, [], ◌∷◌, ◌++◌, Bool, true, false, ◌||◌, refl, sym, subst}
+use Rattle.std.specs.Prelude.{Option, Some, None, is_some, map, if◌then◌else◌}
 use Rattle.std.specs.Cmp.Lexicographic.{same_text}
 use Rattle.asl_json.specs.Data.{Data, null, boolean, number, text, list, dict, Pairs, no_members, member}
 use Rattle.asl_json.specs.Same.{bytes_eq}
@@ -11,9 +11,9 @@ use Rattle.asl_schema.specs.declared.sort.Sort.{Sort}
 use Rattle.asl_schema.specs.declared.sort.Sort.TheVariants as sort
 use Rattle.asl_schema.specs.Members.{Row, Shape, sort_at, shape_in, is_among}
 use Rattle.asl_schema.specs.Demands.{there}
-use Rattle.asl_schema.specs.Claims.{Claim, Spot, under, heres, step, demands, claims, at_member, member_claims, row_claims, group_demands, inside, names_in, has_any, is_object, is_needed, object_claims}
+use Rattle.asl_schema.specs.Claims.{Claim, Spot, under, heres, step, demands, claims, at_member, member_claims, row_claims, group_demands, inside, has_any, is_object, is_needed, object_claims}
 use Rattle.asl_schema.specs.First.{Each, Hold}
-use Rattle.asl_schema.specs.Clean.{IsCleanAmong, IsCleanInside, IsClean, Fits, FitsAmong, IsThere, IsThereAmong, is_required, is_beside, names_within}
+use Rattle.asl_schema.specs.Clean.{IsCleanAmong, IsCleanInside, IsClean, Fits, FitsAmong, IsThereAmong, is_required, is_beside, names_within}
 
 pub each_left : (P : Claim → Type 0) (xs ys : List Claim) → Each P (xs ++ ys) → Each P xs
 each_left P [] ys h = tt

@@ -1,7 +1,7 @@
 -- What the value of a member keeps, by what it is to be.
-use Rattle.std.proofs.Common.{◌≡◌, ℕ, List, [], ◌∷◌, ◌++◌, Bool, true, false, refl}
-use Rattle.std.specs.Prelude.{Option, Some, None, pos, nat_le, ◌&&◌}
-use Rattle.asl_json.specs.Data.{Data, null, boolean, number, text, list, dict, Chain}
+use Rattle.std.proofs.Common.{◌≡◌, ℕ, List, [], ◌∷◌, ◌++◌, Bool, true, false}
+use Rattle.std.specs.Prelude.{pos, nat_le, ◌&&◌}
+use Rattle.asl_json.specs.Data.{Data, number, text, list, Chain}
 use Rattle.asl_json.specs.Number.{units_of}
 use Rattle.asl_json.specs.Whole.{whole_of}
 use Rattle.asl_path.specs.Grammar.{IsPath, StartsFrom}
@@ -11,9 +11,9 @@ use Rattle.asl_template.specs.Filling.{is_path}
 use Rattle.asl_schema.specs.declared.sort.Sort.{Sort}
 use Rattle.asl_schema.specs.declared.sort.Sort.TheVariants as sort
 use Rattle.asl_schema.specs.Demands.{Demand, Holds, form_of, is_of, HasMoment}
-use Rattle.asl_schema.specs.Claims.{Spot, heres, demands, spot_demands, form_demand, value_demands, is_between, is_between_whole, is_nonempty, item_count}
+use Rattle.asl_schema.specs.Claims.{heres, spot_demands, form_demand, value_demands, is_between, is_between_whole, is_nonempty, item_count}
 use Rattle.asl_schema.specs.First.{Each, Hold}
-use Rattle.asl_schema.specs.Clean.{IsCleanAmong, IsClean, Fits}
+use Rattle.asl_schema.specs.Clean.{IsCleanAmong, IsClean}
 use Rattle.asl_schema.proofs.Inside.{own_hold}
 
 -- of demands in a row

@@ -14,3 +14,4 @@ pub mod Typed
 pub mod Kept
 pub mod Deciding
 pub mod Ways
+pub mod Templates

@@ -1,8 +1,8 @@
 -- The items of a list and the states of a machine that are without faults.
-use Rattle.std.proofs.Common.{◌≡◌, ℕ, zero, suc, ◌<◌, List, [], ◌∷◌, ◌++◌, length, get_or, Bool, true, false, refl, sym, subst, ap, ◌∙◌, arith}
-use Rattle.std.specs.Prelude.{Option, Some, None, map, codes, not}
+use Rattle.std.proofs.Common.{◌≡◌, ℕ, zero, suc, ◌<◌, List, [], ◌∷◌, ◌++◌, length, get_or, Bool, true, refl, sym, subst, arith}
+use Rattle.std.specs.Prelude.{Option, map, codes, not}
 use Rattle.std.specs.Fmt.{decimal}
-use Rattle.asl_json.specs.Data.{Data, null, boolean, number, text, list, dict, chain, pairs}
+use Rattle.asl_json.specs.Data.{Data, list, dict, chain, pairs}
 use Rattle.asl_json.specs.Meaning.{value_at}
 use Rattle.asl_json.specs.Distinct.{Members}
 use Rattle.asl_json.specs.View.{data_of, items_of, members_of}
@@ -11,12 +11,11 @@ use Rattle.asl_json.specs.declared.value.Member.{Member}
 use Rattle.asl_schema.specs.declared.sort.Sort.{Sort}
 use Rattle.asl_schema.specs.declared.sort.Sort.TheVariants as sort
 use Rattle.asl_schema.specs.declared.sort.Kind.{Kind}
-use Rattle.asl_schema.specs.declared.sort.Kind.TheVariants as kind
-use Rattle.asl_schema.specs.Members.{Shape, shape_of, shape_in, state_shape, kind_named, kind_of, item_sort}
+use Rattle.asl_schema.specs.Members.{shape_of, kind_named, item_sort}
 use Rattle.asl_schema.specs.Claims.{Spot, step, under, heres, demands, claims, at_item, at_member, item_claims, member_claims, is_nonempty, is_list, is_name}
 use Rattle.asl_schema.specs.First.{Each, Hold}
-use Rattle.asl_schema.specs.Clean.{IsCleanAmong, IsCleanInside, IsClean, IsThere, IsThereAmong, AreItemsClean, AreStatesClean}
-use Rattle.asl_schema.proofs.Inside.{each_left, each_right, each_under, own_hold, object_inside, there_at}
+use Rattle.asl_schema.specs.Clean.{IsCleanAmong, AreItemsClean, AreStatesClean}
+use Rattle.asl_schema.proofs.Inside.{each_left, each_right, each_under, own_hold, object_inside}
 
 items_hold : (names : List ℕ → Bool) (p : Spot) (s : Sort) (i : ℕ) (ds : List Data) → ((k : List ℕ) → p.names k ≡ names k) → Each Hold (item_claims p s i (chain ds)) → AreItemsClean names s ds
 items_hold names p s i [] named h = tt

@@ -1,16 +1,13 @@
 -- The type of a state without faults.
-use Rattle.std.proofs.Common.{◌≡◌, ℕ, List, Bool, true, false, refl, subst}
+use Rattle.std.proofs.Common.{◌≡◌, ℕ, List, Bool, refl, subst}
 use Rattle.std.specs.Prelude.{Option, Some, None, codes}
 use Rattle.asl_json.specs.Data.{Data, null, boolean, number, text, list, dict, Pairs}
-use Rattle.asl_json.specs.Same.{bytes_eq}
 use Rattle.asl_json.specs.Meaning.{value_at}
-use Rattle.std.specs.Cmp.Lexicographic.{same_text}
-use Rattle.asl_schema.specs.declared.sort.Sort.{Sort}
 use Rattle.asl_schema.specs.declared.sort.Sort.TheVariants as sort
 use Rattle.asl_schema.specs.declared.sort.Kind.{Kind}
 use Rattle.asl_schema.specs.declared.sort.Kind.TheVariants as kind
-use Rattle.asl_schema.specs.Members.{Shape, kind_of, kind_named, state_shape, sort_at, untyped_rows}
-use Rattle.asl_schema.specs.Clean.{IsCleanAmong, IsCleanInside, IsClean, IsThereAmong, is_required}
+use Rattle.asl_schema.specs.Members.{kind_named, state_shape, untyped_rows}
+use Rattle.asl_schema.specs.Clean.{IsCleanAmong, IsCleanInside, IsThereAmong}
 use Rattle.asl_schema.proofs.Inside.{object_inside, there_at}
 
 pub state_inside : (names : List ℕ → Bool) (ms : Pairs) → IsCleanAmong names sort.State (dict ms) → IsCleanInside names (state_shape (kind_named (value_at (codes "Type") ms))) ms

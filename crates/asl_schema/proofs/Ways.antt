@@ -1,8 +1,8 @@
 -- How a state goes on, and which of some members is there.
-use Rattle.std.proofs.Common.{◌≡◌, ℕ, suc, List, [], ◌∷◌, ◌++◌, Bool, true, false, ◌||◌, ◌&&◌, not, inl, inr, refl, sym, subst, ap, ◌∙◌}
-use Rattle.std.specs.Prelude.{Option, Some, None, is_some, map, codes, if◌then◌else◌}
+use Rattle.std.proofs.Common.{◌≡◌, ℕ, List, [], ◌∷◌, ◌++◌, Bool, true, false, ◌||◌, ◌&&◌, not, inl, inr, refl, sym, subst, ap, ◌∙◌}
+use Rattle.std.specs.Prelude.{Option, Some, None, is_some, codes, if◌then◌else◌}
 use Rattle.std.specs.Cmp.Lexicographic.{same_text}
-use Rattle.asl_json.specs.Data.{Data, null, boolean, number, text, list, dict, Pairs, no_members, member, pairs}
+use Rattle.asl_json.specs.Data.{Data, Pairs, no_members, member, pairs}
 use Rattle.asl_json.specs.Same.{bytes_eq}
 use Rattle.asl_json.specs.SameLaws.{bytes_refl}
 use Rattle.asl_json.specs.Meaning.{value_at}
@@ -11,10 +11,10 @@ use Rattle.asl_schema.specs.declared.sort.Sort.{Sort}
 use Rattle.asl_schema.specs.declared.sort.Sort.TheVariants as sort
 use Rattle.asl_schema.specs.declared.sort.Kind.{Kind}
 use Rattle.asl_schema.specs.declared.sort.Kind.TheVariants as kind
-use Rattle.asl_schema.specs.Members.{Group, Shape, sort_at, state_shape, shape_of, is_among, transition, wait_time, operators, connectives, rule_groups, kind_groups, task_rows, pass_rows, wait_rows, parallel_rows, map_rows}
+use Rattle.asl_schema.specs.Members.{Group, Shape, sort_at, state_shape, is_among, transition, wait_time, operators, connectives, rule_groups, task_rows, pass_rows, wait_rows, parallel_rows, map_rows}
 use Rattle.asl_schema.specs.Claims.{counts, any_in, is_true, has_any}
 use Rattle.asl_schema.specs.Clean.{IsCleanInside, Fits, GoesOneWay, is_ending, goes_on}
-use Rattle.asl_schema.proofs.Inside.{fits_at, any_there, or_right}
+use Rattle.asl_schema.proofs.Inside.{fits_at, any_there}
 use Rattle.asl_schema.proofs.Deciding.{IsGroup, one_counts, some_counts}
 
 -- ---- which of some members is there
