@@ -71,7 +71,7 @@ needed_there n r rs ms h e = (rw e at h).0
 row_rest : (n : ℕ) (r : Row) (rs : List Row) (ms : Pairs) → Each Hold (row_claims n (r ∷ rs) ms) → Each Hold (row_claims (suc n) rs ms)
 row_rest n r rs ms h = each_right Hold (if is_needed r ms then (there (value_at r.name ms), step n r.name ∷ []) ∷ [] else []) (row_claims (suc n) rs ms) h
 
-is_there : (names : List ℕ → Bool) (s : Sort) (o : Option Data) → FitsAmong names s o → is_some o ≡ true → IsThereAmong names s o
+pub is_there : (names : List ℕ → Bool) (s : Sort) (o : Option Data) → FitsAmong names s o → is_some o ≡ true → IsThereAmong names s o
 is_there names s None f e = absurd cc
 is_there names s (Some d) f e = f
 

@@ -1,6 +1,6 @@
 -- What the value of a member keeps, by what it is to be.
-use Rattle.std.proofs.Common.{◌≡◌, ℕ, List, [], ◌∷◌, ◌++◌, Bool, true, false}
-use Rattle.std.specs.Prelude.{pos, nat_le, ◌&&◌}
+use Rattle.std.proofs.Common.{◌≡◌, ℕ, List, [], ◌∷◌, ◌++◌, Bool, true, false, sym, ◌∙◌}
+use Rattle.std.specs.Prelude.{Option, Some, None, IfSome, pos, nat_le, ◌&&◌}
 use Rattle.asl_json.specs.Data.{Data, number, text, list, Chain}
 use Rattle.asl_json.specs.Number.{units_of}
 use Rattle.asl_json.specs.Whole.{whole_of}
@@ -13,7 +13,7 @@ use Rattle.asl_schema.specs.declared.sort.Sort.TheVariants as sort
 use Rattle.asl_schema.specs.Demands.{Demand, Holds, form_of, is_of, HasMoment}
 use Rattle.asl_schema.specs.Claims.{heres, spot_demands, form_demand, value_demands, is_between, is_between_whole, is_nonempty, item_count}
 use Rattle.asl_schema.specs.First.{Each, Hold}
-use Rattle.asl_schema.specs.Clean.{IsCleanAmong, IsClean}
+use Rattle.asl_schema.specs.Clean.{IsCleanAmong, IsClean, Fits}
 use Rattle.asl_schema.proofs.Inside.{own_hold}
 
 -- of demands in a row
@@ -29,7 +29,14 @@ of_form s d h = h
 pub form_fits : {s : Sort} {d : Data} → IsClean s d → is_of (form_of s) d ≡ true
 form_fits {s} {d} c = of_form s d (middle (spot_demands c.is.spot s) (form_demand s d) (value_demands c.is.spot s d) (own_hold c.is.spot s d c.is.hold).1)
 
--- and no object, list, ..
+pub unfit : (s : Sort) (d : Data) → IsClean s d → is_of (form_of s) d ≡ false → ⊥
+unfit s d c e = absurd (let h = form_fits c in let x : true ≡ false = sym h ∙ e in cc)
+
+pub option_form : (s : Sort) (o : Option Data) → Fits s o → IfSome o (λ d. is_of (form_of s) d ≡ true)
+option_form s None f = tt
+option_form s (Some d) f = form_fits f
+
+-- ---- by sort
 
 pub path_text : (t : List ℕ) → IsClean sort.Path (text t) → IsPath t
 path_text t c = c.is.hold.1.1.0

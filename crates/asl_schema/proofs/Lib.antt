@@ -15,3 +15,4 @@ pub mod Kept
 pub mod Deciding
 pub mod Ways
 pub mod Templates
+pub mod Required

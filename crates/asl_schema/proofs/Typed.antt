@@ -1,12 +1,15 @@
 -- The type of a state without faults.
-use Rattle.std.proofs.Common.{◌≡◌, ℕ, List, Bool, refl, subst}
-use Rattle.std.specs.Prelude.{Option, Some, None, codes}
+use Rattle.std.proofs.Common.{◌≡◌, ℕ, List, Bool, true, false, refl, sym, ap, ◌∙◌, subst}
+use Rattle.std.specs.Prelude.{Option, Some, None, codes, if◌then◌else◌}
+use Rattle.std.specs.Cmp.Lexicographic.{same_text}
 use Rattle.asl_json.specs.Data.{Data, null, boolean, number, text, list, dict, Pairs}
+use Rattle.asl_json.specs.Same.{bytes_eq}
 use Rattle.asl_json.specs.Meaning.{value_at}
 use Rattle.asl_schema.specs.declared.sort.Sort.TheVariants as sort
 use Rattle.asl_schema.specs.declared.sort.Kind.{Kind}
 use Rattle.asl_schema.specs.declared.sort.Kind.TheVariants as kind
-use Rattle.asl_schema.specs.Members.{kind_named, state_shape, untyped_rows}
+use Rattle.asl_schema.specs.Members.{kind_of, kind_named, state_shape, untyped_rows}
+use Rattle.asl_schema.specs.Canon.{kind_text}
 use Rattle.asl_schema.specs.Clean.{IsCleanAmong, IsCleanInside, IsThereAmong}
 use Rattle.asl_schema.proofs.Inside.{object_inside, there_at}
 
@@ -36,12 +39,29 @@ pub kind_inside : (names : List ℕ → Bool) (ms : Pairs) (k : Kind) → IsClea
 kind_inside names ms k c e = subst (λ (o : Option Kind). IsCleanInside names (state_shape o) ms) e (state_inside names ms c)
 
 -- the text of the type
-abbrev pub kind_text : Kind → List ℕ
-kind_text kind.Task = codes "Task"
-kind_text kind.Pass = codes "Pass"
-kind_text kind.Choice = codes "Choice"
-kind_text kind.Wait = codes "Wait"
-kind_text kind.Parallel = codes "Parallel"
-kind_text kind.Map = codes "Map"
-kind_text kind.Succeed = codes "Succeed"
-kind_text kind.Fail = codes "Fail"
+
+named_so : (b : Bool) (j k : Kind) (rest : Option Kind) (t : List ℕ) → bytes_eq t (kind_text j) ≡ b → (if b then Some j else rest) ≡ Some k → (rest ≡ Some k → t ≡ kind_text k) → t ≡ kind_text k
+named_so true j k rest t e h more =
+    let same : j ≡ k = cc in
+    same_text t (kind_text j) (sym e) ∙ ap kind_text same
+named_so false j k rest t e h more = more h
+
+of_kind : (t : List ℕ) (k : Kind) → kind_of t ≡ Some k → t ≡ kind_text k
+of_kind t k e =
+    named_so (bytes_eq t (codes "Task")) kind.Task k _ t refl e (λ e.
+    named_so (bytes_eq t (codes "Pass")) kind.Pass k _ t refl e (λ e.
+    named_so (bytes_eq t (codes "Choice")) kind.Choice k _ t refl e (λ e.
+    named_so (bytes_eq t (codes "Wait")) kind.Wait k _ t refl e (λ e.
+    named_so (bytes_eq t (codes "Parallel")) kind.Parallel k _ t refl e (λ e.
+    named_so (bytes_eq t (codes "Map")) kind.Map k _ t refl e (λ e.
+    named_so (bytes_eq t (codes "Succeed")) kind.Succeed k _ t refl e (λ e.
+    named_so (bytes_eq t (codes "Fail")) kind.Fail k None t refl e (λ e. absurd cc))))))))
+
+pub type_is : (o : Option Data) (k : Kind) → kind_named o ≡ Some k → o ≡ Some (text (kind_text k))
+type_is None k e = absurd cc
+type_is (Some null) k e = absurd cc
+type_is (Some (boolean b)) k e = absurd cc
+type_is (Some (number n)) k e = absurd cc
+type_is (Some (list ds)) k e = absurd cc
+type_is (Some (dict ms)) k e = absurd cc
+type_is (Some (text t)) k e = ap (λ (x : List ℕ). Some (text x)) (of_kind t k e)
