@@ -1,5 +1,5 @@
 -- How a state goes on, and which of some members is there.
-use Rattle.std.proofs.Common.{◌≡◌, ℕ, List, [], ◌∷◌, ◌++◌, Bool, true, false, ◌||◌, ◌&&◌, not, inl, inr, refl, sym, subst, ap, ◌∙◌}
+use Rattle.std.proofs.Common.{◌≡◌, ℕ, List, [], ◌∷◌, ◌++◌, Bool, true, false, ◌||◌, ◌&&◌, not, inl, inr, refl, sym, subst, ◌∙◌}
 use Rattle.std.specs.Prelude.{Option, Some, None, is_some, codes, if◌then◌else◌}
 use Rattle.std.specs.Cmp.Lexicographic.{same_text}
 use Rattle.asl_json.specs.Data.{Data, Pairs, no_members, member, pairs}
@@ -7,6 +7,7 @@ use Rattle.asl_json.specs.Same.{bytes_eq}
 use Rattle.asl_json.specs.SameLaws.{bytes_refl}
 use Rattle.asl_json.specs.Meaning.{value_at}
 use Rattle.asl_json.specs.Distinct.{Members, has_key, AreDistinct}
+use Rattle.asl_json.proofs.Knowing.{has_key-push}
 use Rattle.asl_schema.specs.declared.sort.Sort.{Sort}
 use Rattle.asl_schema.specs.declared.sort.Sort.TheVariants as sort
 use Rattle.asl_schema.specs.declared.sort.Kind.{Kind}
@@ -15,7 +16,7 @@ use Rattle.asl_schema.specs.Members.{Group, exactly_one, at_most_one, Shape, sor
 use Rattle.asl_schema.specs.Claims.{counts, any_in, is_true, has_any}
 use Rattle.asl_schema.specs.Clean.{IsCleanInside, Fits, GoesOneWay, is_ending, goes_on}
 use Rattle.asl_schema.proofs.Inside.{fits_at, any_there, or_right}
-use Rattle.asl_schema.proofs.Deciding.{IsGroup, one_counts, some_counts}
+use Rattle.asl_schema.proofs.Deciding.{IsGroup, neither_is, one_counts, some_counts}
 
 -- ---- which of some members is there
 
@@ -104,18 +105,6 @@ rule_unbound names sh ms k e c a h = two_there names sh unbound ms k (codes "Var
 
 -- ---- how a state goes on
 
-has_key-append : (k : List ℕ) (xs ys : Members) → has_key k (xs ++ ys) ≡ (has_key k xs || has_key k ys)
-has_key-append k [] ys = refl
-has_key-append k (x ∷ xs) ys = ap (λ (b : Bool). bytes_eq k x.0 || b) (has_key-append k xs ys) ∙ or_assoc (bytes_eq k x.0) (has_key k xs) (has_key k ys)
-  where
-    or_assoc : (a b c : Bool) → (a || (b || c)) ≡ ((a || b) || c)
-    or_assoc true b c = refl
-    or_assoc false b c = refl
-
-both_false : (a b : Bool) → (a || b) ≡ false → (a ≡ false) × (b ≡ false)
-both_false true b e = absurd cc
-both_false false b e = (refl, e)
-
 -- a key that is there isn't among those before
 is_new : (seen xs : Members) (k : List ℕ) (d : Data) → AreDistinct seen xs → value_at k (pairs xs) ≡ Some d → has_key k seen ≡ false
 is_new seen [] k d h e = absurd cc
@@ -123,7 +112,7 @@ is_new seen (x ∷ xs) k d h e = by (bytes_eq k x.0) refl (λ f. is_new (seen ++
   where
     by : (b : Bool) → bytes_eq k x.0 ≡ b → (value_at k (pairs xs) ≡ Some d → has_key k (seen ++ x ∷ []) ≡ false) → has_key k seen ≡ false
     by true p rest = subst (λ (l : List ℕ). has_key l seen ≡ false) (sym (same_text k x.0 (sym p))) h.0
-    by false p rest = (both_false (has_key k seen) (has_key k (x ∷ [])) (sym (has_key-append k seen (x ∷ [])) ∙ rest (rw p at e))).0
+    by false p rest = (neither_is (has_key k seen) (bytes_eq k x.0) (sym (has_key-push k seen x) ∙ rest (rw p at e))).0
 
 none_in : (g : Group) (seen xs : Members) → AreDistinct seen xs → ((k : List ℕ) (d : Data) → value_at k (pairs xs) ≡ Some d → counts g k d ≡ false) → any_in g (pairs xs) ≡ false
 none_in g seen [] h off = refl
@@ -134,8 +123,8 @@ none_in g seen (x ∷ xs) h off =
     behind : (k : List ℕ) (d : Data) → value_at k (pairs xs) ≡ Some d → value_at k (pairs (x ∷ xs)) ≡ Some d
     behind k d e =
         let new = is_new (seen ++ x ∷ []) xs k d h.1 e in
-        let apart = both_false (has_key k seen) (has_key k (x ∷ [])) (sym (has_key-append k seen (x ∷ [])) ∙ new) in
-        rw (both_false (bytes_eq k x.0) false apart.1).0 e
+        let apart = neither_is (has_key k seen) (bytes_eq k x.0) (sym (has_key-push k seen x) ∙ new) in
+        rw apart.1 e
 
 is_transition : (k : Kind) → goes_on k ≡ true → IsGroup transition (state_shape (Some k)).groups
 is_transition kind.Task e = inr (inr (inl refl))
