@@ -9,7 +9,7 @@ use Rattle.asl_schema.proofs.Inside.{each_right}
 
 -- not all claims hold where one is answered
 first_broken : (cs : List Claim) (f : Found) → IsFirst cs f → Each Hold cs → ⊥
-first_broken cs f h all = h.broken (each_right h.before (h.claim ∷ h.after) (subst (λ (xs : List Claim). Each Hold xs) h.parts all)).0
+first_broken cs f h all = h.broken (each_right Hold h.before (h.claim ∷ h.after) (subst (λ (xs : List Claim). Each Hold xs) h.parts all)).0
 
 pub refuted : (d : Data) (f : Found) → IsFirst (claims_of d) f → (v : Data) → d ≡ v → Accepted v → ⊥
 refuted d f h v e a = first_broken (claims_of d) f h (subst (λ (x : Data). Each Hold (claims_of x)) (sym e) a.hold)

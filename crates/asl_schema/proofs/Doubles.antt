@@ -1,6 +1,6 @@
 -- Names of states that come again.
-use Rattle.std.proofs.Common.{◌≡◌, ℕ, zero, suc, ◌+◌, ◌<◌, ◌≤◌, Bool, true, false, cond, ◌||◌, not, List, [], ◌∷◌, ◌++◌, length, get_or, drop, refl, sym, subst, ◌∙◌, ap, add-one, append_assoc, arith}
-use Rattle.std.specs.Prelude.{Option, Some, None, Result, Ok, Err, IfOk, map}
+use Rattle.std.proofs.Common.{◌≡◌, ℕ, ◌+◌, ◌<◌, ◌≤◌, Bool, true, false, cond, ◌||◌, not, List, [], ◌∷◌, ◌++◌, length, get_or, drop, refl, sym, subst, ◌∙◌, ap, add-one, append_assoc, arith}
+use Rattle.std.specs.Prelude.{Some, None, Result, Ok, Err, IfOk, map}
 use Rattle.std.specs.Fmt.{decimal}
 use Rattle.std.specs.declared.string.String.{String}
 use Rattle.std.specs.HashSet.{HashSet, contains_text, Updates}
@@ -19,9 +19,9 @@ use Rattle.asl_schema.specs.declared.sort.Sort.{Sort}
 use Rattle.asl_schema.specs.Members.{Shape, sort_at, is_among}
 use Rattle.asl_schema.specs.Demands.{number_of, unique}
 use Rattle.asl_schema.specs.Claims.{Claim, step, under}
-use Rattle.asl_schema.specs.First.{Hold, Each, Found, number, IsFirst, IsBroken, Answers, under_step}
+use Rattle.asl_schema.specs.First.{Hold, Each, Found, number, IsFirst, under_step}
 use Rattle.asl_schema.specs.States.{Named, further, own_name, states_in, item_states, member_states, unique_claims, names_of, Has, Finds}
-use Rattle.asl_schema.proofs.Answering.{each-append, each-weaken, first_before, first_behind, vacuous, answers-under, one_broken, one_holds}
+use Rattle.asl_schema.proofs.Answering.{each-append, each-weaken, first_before, first_behind, vacuous, answers-under, one_broken}
 
 unique_append : (ks : List (List ℕ)) (xs ys : List Named) → unique_claims ks (xs ++ ys) ≡ unique_claims ks xs ++ unique_claims (ks ++ names_of xs) ys
 unique_append ks [] ys = ap (λ (ls : List (List ℕ)). unique_claims ls ys) (sym (append-nil ks))

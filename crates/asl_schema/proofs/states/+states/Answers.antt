@@ -1,7 +1,7 @@
-use Rattle.std.proofs.Common.{◌≡◌, ◌≤◌, ◌∙◌, ◌++◌, ap, sym, subst, arith, List, ℕ, [], ◌∷◌}
+use Rattle.std.proofs.Common.{◌≡◌, ◌∙◌, ◌++◌, ap, subst, arith, List, ℕ, ◌∷◌}
 use Rattle.std.specs.Prelude.{IfOk}
-use Rattle.asl_json.specs.Data.{Data, pairs, chain, depth, members_depth, items_depth}
-use Rattle.asl_json.specs.View.{data_of, items_of, members_of}
+use Rattle.asl_json.specs.Data.{Data, pairs, chain, members_depth, items_depth}
+use Rattle.asl_json.specs.View.{data_of}
 use Rattle.asl_schema.specs.Code.{shape_seen}
 use Rattle.asl_schema.specs.Claims.{step}
 use Rattle.asl_schema.specs.First.{IsFirst}

@@ -1,7 +1,5 @@
-use Rattle.std.proofs.Common.{◌∙◌, ap, sym, subst, ◌∷◌, [], ◌||◌}
+use Rattle.std.proofs.Common.{sym, subst}
 use Rattle.std.specs.Prelude.{Ok}
-use Rattle.std.specs.HashSet.{contains_text}
-use Rattle.asl_json.specs.Same.{bytes_eq}
 use Rattle.asl_schema.specs.First.{IsFirst}
 use Rattle.asl_schema.specs.States.{Finds, own_name, unique_claims}
 use Rattle.asl_schema.proofs.Doubles.{old_name, new_name}
