@@ -7,7 +7,7 @@ use Rattle.asl_json.specs.declared.fault.JsonFault.TheVariants as json
 use Rattle.asl_schema.specs.declared.fault.FaultKind.{FaultKind}
 use Rattle.asl_schema.specs.declared.fault.Step.{Step}
 use Rattle.asl_schema.specs.Faults.{Accepted, claims_of}
-use Rattle.asl_schema.specs.First.{Found, IsFirst}
+use Rattle.asl_schema.specs.First.{IsFirst}
 use Rattle.asl_schema.specs.Pointers.{pointer_text}
 use Rattle.asl_check.specs.declared.fault.Fault.{Fault}
 use Rattle.asl_check.specs.declared.fault.Fault.TheVariants.{Json, Definition, OutOfMemory}
