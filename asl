@@ -2,8 +2,8 @@
 # Builds the program where a source is newer than the built one, and runs it with the words given.
 set -eu
 top=$(cd "$(dirname "$0")" && pwd)
-crate=$top/crates/asl_cli
-program=$crate/out/asl_cli
+crate=$top/crates/asl
+program=$crate/out/asl
 
 is_current() {
   [ -x "$program" ] && [ -z "$(find "$top/crates" "$top/crates.txt" -name out -prune -o \

@@ -2,9 +2,11 @@
 //! ample memory.
 //!
 //! `history` tries places, events and lines; `definitions` fault lines, and what a machine lends; `runs` files of steps, whole runs
-//! and single steps. The tests of values stand in `asl_tests`, which waits for none of these crates.
+//! and single steps; `commands` whole command lines. The tests of values stand in `asl_tests`, which waits for none of these crates.
 #![tactic(auto)]
 
+#[cfg(test)]
+mod commands;
 #[cfg(test)]
 mod definitions;
 #[cfg(test)]

@@ -1,9 +1,7 @@
 // What no clause says: the texts that are printed, statuses of whole command lines, and that calls succeed with ample memory.
 ghost use Rattle.std.specs.Prelude.{⊤};
 
-use crate::files::{Files, MOST_BYTES, ReadFault, read_whole};
-use crate::run::{refuse_words, run_words};
-use crate::words::GivenFault;
+use asl_cli::{Files, GivenFault, MOST_BYTES, ReadFault, read_whole, refuse_words, run_words};
 use asl_history::{Memory, Sink, SinkFault};
 use std::alloc::Global;
 use std::io::{Error, ErrorKind, Read};

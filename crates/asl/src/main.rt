@@ -1,23 +1,10 @@
-//! The program `asl`: judges and emulates state machines of the Amazon States Language.
-//!
-//! Modules in reading order: `words` reads the command line; `files` what files give; `streams` the streams that are written;
-//! `refusal` why a command isn't done, and its line; `checking` and `run` the commands, and the program behind them.
+//! The program `asl`: judges and emulates state machines of the Amazon States Language. What it does stands in `asl_cli`; here it gets its
+//! words, files and streams from the system, and a stack.
 #![tactic(auto)]
 
-mod checking;
-mod files;
-mod refusal;
-mod run;
-mod streams;
-#[cfg(test)]
-mod tests;
-mod words;
-
-use files::Machine;
-use run::{refuse_words, run_words};
+use asl_cli::{Machine, Stream, given, refuse_words, run_words};
 use std::process::ExitCode;
 use std::thread::Builder;
-use streams::Stream;
 
 /// The stack that the program runs with, in bytes; the system gives it page by page, as it is used. A run may put a value into itself again
 /// and again, and writing, cloning, comparing and dropping one take up to 336 bytes for each of its levels.
@@ -29,7 +16,7 @@ fn program(rt: HostRuntime) -> u8 {
     let mut out = Stream::new(alloc, rt.stdout());
     let mut err = Stream::new(alloc, rt.stderr());
     let mut files = Machine::new(&rt);
-    match words::given(&rt) {
+    match given(&rt) {
         Ok(words) => run_words(alloc, words.as_slice(), &mut files, &mut out, &mut err),
         Err(fault) => refuse_words(alloc, fault, &mut err),
     }
