@@ -5,7 +5,7 @@ ghost use Rattle.asl_cli.specs.Refusals.{IsJudged, IsCheckReason};
 
 use crate::files::Files;
 use crate::refusal::Refusal;
-use crate::run::{REFUSED, print_good, read_file};
+use crate::command::{REFUSED, print_good, read_file};
 use crate::words::CheckWords;
 use asl_check::Fault;
 use asl_history::Sink;

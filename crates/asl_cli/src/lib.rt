@@ -1,19 +1,20 @@
 //! The command line of the emulator: one function over words, files and two sinks, which the program `asl` calls.
 //!
 //! Modules in reading order: `words` reads the command line; `files` what files give; `streams` the streams that are written;
-//! `refusal` why a command isn't done, and its line; `checking` and `run` the commands, and the program behind them.
+//! `refusal` why a command isn't done, and its line; `checking` the command `check`; `command` the command `run`, and all that a
+//! command line may ask for.
 #![tactic(auto)]
 
 mod checking;
+mod command;
 mod files;
 mod refusal;
-mod run;
 mod streams;
 mod words;
 
 pub use checking::check;
+pub use command::{refuse_words, run, run_words};
 pub use files::{Files, MOST_BYTES, Machine, ReadFault, read_whole};
 pub use refusal::Refusal;
-pub use run::{refuse_words, run, run_words};
 pub use streams::Stream;
 pub use words::{CheckWords, GivenFault, RunWords, given};
