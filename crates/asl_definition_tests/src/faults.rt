@@ -1,26 +1,13 @@
-// What no clause says of first faults: definitions with planted faults, each with the line that tells of it.
-use asl_json::read;
-use asl_schema::{Fault, first_fault};
-use std::alloc::{AllocError, Global};
+// What no clause says of judged definitions: texts with planted faults, each with the line that tells of it.
+use asl_check::check;
+use std::alloc::Global;
 use std::test::Fail;
 
-/// The line of a fault, as `F10 NoTarget /States/A/Next`.
-fn line(alloc: Global, fault: &Fault) -> Result<String, AllocError> {
-    let mut line = String::from_str(alloc, fault.kind().words())?;
-    let place = fault.place(alloc)?;
-    if !place.as_str().is_empty() {
-        line.push(' ')?;
-        line.push_str(place.as_str())?;
-    }
-    Ok(line)
-}
-
-/// The line of a definition's first fault, or `ok`.
+/// The line of a text's fault, or `ok`.
 fn told(alloc: Global, text: &str) -> Option<String> {
-    let definition = read(alloc, text.as_bytes()).ok()?;
-    match first_fault(alloc, &definition).ok()? {
-        None => String::from_str(alloc, "ok").ok(),
-        Some(fault) => line(alloc, &fault).ok(),
+    match check(alloc, text.as_bytes()) {
+        Ok(()) => String::from_str(alloc, "ok").ok(),
+        Err(fault) => fault.text(alloc).ok(),
     }
 }
 
@@ -45,6 +32,9 @@ fn is_told_of_state(alloc: Global, members: &str, wanted: &str) -> bool {
 
 /// Definitions, and what is told of each.
 const WHOLE: &[(&str, &str)] = &[
+    ("", "F1 Json J1 Syntax 0"),
+    (r#"{"a":1.0e19}"#, "F1 Json J4 Number 5"),
+    (r#"{"StartAt":"A","StartAt":5}"#, "F1 Json J2 Duplicate 15"),
     ("[]", "F2 NotObject"),
     (r#"{"StartAt":"A"}"#, "F3 Missing /States"),
     (r#"{"StartAt":"A","States":{}}"#, "F10 NoTarget /StartAt"),

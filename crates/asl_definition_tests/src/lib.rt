@@ -1,4 +1,4 @@
-//! What no clause says of the first fault of a definition, tried from outside: definitions with planted faults, and that each call
+//! What no clause says of judged definitions, tried from outside: texts with planted faults, and that each call
 //! succeeds with ample memory.
 //!
 //! They stand apart from the tests of values in `asl_tests`, which wait for fewer crates.

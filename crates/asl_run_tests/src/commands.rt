@@ -152,6 +152,41 @@ fn prints_an_execution_that_succeeds(rt: HostRuntime) {
     assert_eq!(rt; files.asked.as_str(), "machine mocks input steps ");
 }
 
+/// Definitions, and what `check` prints and tells of each.
+const JUDGED: [(&str, &str, &str, u8); 4] = [
+    (DEFINITION, "ok\n", "", 0),
+    ("[]", "", "fault: definition: F2 NotObject\n", 2),
+    ("{", "", "fault: definition: F1 Json J1 Syntax 1\n", 2),
+    (
+        r#"{"StartAt":"A","States":{"A":{"Type":"Task","Resource":"r","Next":"X"}}}"#,
+        "",
+        "fault: definition: F10 NoTarget /States/A/Next\n",
+        2,
+    ),
+];
+
+#[test]
+fn definitions_are_judged(rt: HostRuntime) {
+    let alloc = rt.alloc();
+    for (definition, printed, told, want) in JUDGED {
+        let mut files = make_shelf(alloc, definition, "");
+        let (mut out, mut err) = (Memory::new(alloc), Memory::new(alloc));
+        let words = ["asl", "check", "machine"];
+        let status = run_words(alloc, words.as_slice(), &mut files, &mut out, &mut err);
+        assert_eq!(rt; text(&out), printed);
+        assert_eq!(rt; text(&err), told);
+        assert_eq!(rt; status, want);
+        assert_eq!(rt; files.asked.as_str(), "machine ");
+    }
+    let mut files = make_shelf(alloc, DEFINITION, "");
+    files.failing = "machine";
+    let (mut out, mut err) = (Memory::new(alloc), Memory::new(alloc));
+    let words = ["asl", "check", "machine"];
+    let status = run_words(alloc, words.as_slice(), &mut files, &mut out, &mut err);
+    assert_eq!(rt; text(&err), "fault: file machine\n");
+    assert!(rt; status == 2 && out.bytes().is_empty());
+}
+
 #[test]
 fn execution_that_goes_on_is_1(rt: HostRuntime) {
     let alloc = rt.alloc();
@@ -189,8 +224,9 @@ fn refusals_are_one_line(rt: HostRuntime) {
 #[test]
 fn help_goes_to_standard_output(rt: HostRuntime) {
     let alloc = rt.alloc();
-    let cases: [(&[&str], &str); 4] = [
+    let cases: [(&[&str], &str); 5] = [
         (&["asl", "--help"], "Usage: asl <COMMAND>"),
+        (&["asl", "check", "--help"], "Usage: asl check <DEF>"),
         (&["asl", "help"], "Usage: asl <COMMAND>"),
         (
             &["asl", "run", "--help"],
@@ -210,8 +246,9 @@ fn help_goes_to_standard_output(rt: HostRuntime) {
 #[test]
 fn wrong_command_lines_are_told_on_standard_error(rt: HostRuntime) {
     let alloc = rt.alloc();
-    let cases: [(&[&str], &str); 5] = [
+    let cases: [(&[&str], &str); 6] = [
         (&[], "requires a subcommand"),
+        (&["asl", "check"], "<DEF>"),
         (&["asl"], "requires a subcommand"),
         (&["asl", "walk"], "unrecognized subcommand 'walk'"),
         (
