@@ -1,5 +1,5 @@
 -- The mark of a value. Values that are the same have one mark; others mostly have another.
-use Rattle.std.specs.Prelude.{◌≡◌, ℕ, ◌+◌, ◌*◌, ◌%◌, List, [], ◌∷◌, Bool, cond, None}
+use Rattle.std.specs.Prelude.{◌≡◌, ℕ, ◌+◌, ◌*◌, ◌%◌, List, [], ◌∷◌, cond, None}
 use Rattle.std.specs.Int.RustNames.{unsigned_abs}
 use Rattle.asl_json.specs.Data.{Data, null, boolean, number, text, list, dict, Chain, no_items, item, Pairs, no_members, member}
 use Rattle.asl_json.specs.Meaning.{value_at}
