@@ -1,6 +1,7 @@
 pub mod Converting
 pub mod Faulting
 pub mod Merging
+pub mod Marking
 pub mod Starting
 pub mod Filling
 pub mod Counting

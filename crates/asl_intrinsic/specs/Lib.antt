@@ -5,6 +5,7 @@ pub mod Names
 pub mod Outcome
 pub mod Converting
 pub mod Lists
+pub mod Marks
 pub mod Letters
 pub mod Format
 pub mod Texts

@@ -23,6 +23,7 @@ mod laws;
 mod leaf;
 mod letter;
 mod lists;
+mod mark;
 mod merge;
 mod range;
 mod reading;

@@ -6,10 +6,12 @@ use Rattle.std.specs.HashSet.{HashSet, UpdatesBy, Updates}
 use Rattle.std.proofs.lemmas.Map.Text.{hash_set_updates_text}
 use Rattle.std.proofs.lemmas.List.{map_more}
 use Rattle.std.specs.Cmp.Lexicographic.{same_text}
+use Rattle.std.specs.List.{list_any}
+use Rattle.std.specs.Prelude.{map, Option, Some, option_map}
 use Rattle.std.specs.Str.{bytes_eq}
 use Rattle.asl_json.specs.Data.{Data}
 use Rattle.asl_json.specs.Distinct.{Members, has_key}
-use Rattle.asl_json.specs.Keys.{HasKeys}
+use Rattle.asl_json.specs.Keys.{HasKeys, AreKeys, Knows, texts_in}
 use Rattle.asl_json.specs.View.{data_of, member_of, members_of}
 use Rattle.asl_json.specs.declared.value.Member.{Member}
 use Rattle.asl_json.specs.SameLaws.{bytes_refl}
@@ -56,3 +58,23 @@ pub has_keys-next : {Y S : Type 0} (s n : HashSet (String Y) S) (ms : List Membe
 has_keys-next s n ms i m key lt is bytes updates has =
     let grown : members_of (take i ms) ++ (string_bytes key, data_of m.value) ∷ [] ≡ members_of (take (i + 1) ms) = sym (map_more member_of ms i m lt ∙ ap (λ (x : Member). members_of (take i ms) ++ member_of x ∷ []) (sym is) ∙ ap (λ (k : List ℕ). members_of (take i ms) ++ (k, data_of m.value) ∷ []) (sym bytes)) in
     subst (HasKeys n) grown (has_keys-push (string_bytes key) s n (members_of (take i ms)) (data_of m.value) updates has)
+
+any_text : {Y : Type 0} (ks : List (String Y)) (k : List ℕ) → list_any (bytes_eq k) (map string_bytes ks) ≡ list_any (λ x. bytes_eq k (string_bytes x)) ks
+any_text [] k = refl
+any_text (x ∷ ks) k = ap (λ (b : Bool). bytes_eq k (string_bytes x) || b) (any_text ks k)
+
+pub are_keys : {Y S : Type 0} (s : HashSet (String Y) S) (ms : Members) → HasKeys s ms → AreKeys (texts_in s) ms
+are_keys s ms has = λ k. any_text s.keys k ∙ has k
+
+-- where a set is kept, it has the keys of the members that are known
+pub has_known : {Y S : Type 0} (o : Option (HashSet (String Y) S)) (s : HashSet (String Y) S) (v : Option (List (List ℕ))) (ms : Members) → o ≡ Some s → option_map texts_in o ≡ v → Knows v ms → HasKeys s ms
+has_known o s v ms is seen known =
+    let kept : Some (texts_in s) ≡ v = ap (option_map texts_in) (sym is) ∙ seen in
+    let are : AreKeys (texts_in s) ms = subst (λ (x : Option (List (List ℕ))). Knows x ms) (sym kept) known in
+    λ k. sym (any_text s.keys k) ∙ are k
+
+-- one key more, whatever its value
+pub keys_push : {Y S : Type 0} (key : List ℕ) (name : String Y) (s n : HashSet (String Y) S) (ms : Members) → string_bytes name ≡ key → UpdatesBy string_eq (λ k. bytes_eq (string_bytes name) (string_bytes k)) s n true → HasKeys s ms
+    → (d : Data) → AreKeys (texts_in n) (ms ++ (key, d) ∷ [])
+keys_push key name s n ms bytes updates has d =
+    are_keys n (ms ++ (key, d) ∷ []) (subst (λ (k : List ℕ). HasKeys n (ms ++ (k, d) ∷ [])) bytes (has_keys-push (string_bytes name) s n ms d updates has))

@@ -1,21 +1,32 @@
 // The keys of an object's members while they are gone through.
-ghost use Rattle.std.specs.Prelude.{◌≡◌, ◌∷◌, ◌++◌, [], IfOk, OnOk};
+ghost use Rattle.std.specs.Prelude.{◌≡◌, ◌∷◌, ◌++◌, [], IfOk, OnOk, OnErr};
 ghost use Rattle.asl_json.specs.Data.{Data};
 ghost use Rattle.asl_json.specs.View.{members_of};
 ghost use Rattle.asl_json.specs.Distinct.{has_key};
-ghost use Rattle.asl_json.specs.Keys.{HasKeys, KnowsBy, Knows};
+ghost use Rattle.asl_json.specs.Keys.{HasKeys, Knows};
 
 use crate::value::Member;
 use std::alloc::{AllocError, Global};
 use std::collections::HashSet;
+use std::marker::Model;
 
 /// From so many members on their keys are kept in a set, so that wide objects are read in linear time.
 const MANY: usize = 16;
 
 /// The keys of an object's members so far, once there are many. They are asked for and added together with these members.
+/// Contracts see them as a list in some order, where there are any yet.
 #[derive(Drop)]
 pub struct Keys {
     names: Option<HashSet<String>>,
+}
+
+impl Model for Keys {
+    ghost use Rattle.std.specs.Prelude.{List, ℕ, Option, option_map};
+    ghost use Rattle.asl_json.specs.Keys.{texts_in};
+
+    ghost Value = { Option (List (List ℕ)) };
+
+    ghost view = { λ a. option_map texts_in a.names };
 }
 
 /// Whether a key is among the members.
@@ -41,21 +52,6 @@ fn set_of(alloc: Global, members: &[Member]) -> Result<HashSet<String>, AllocErr
     Ok(names)
 }
 
-/// The set of the members' keys, made where it isn't there yet.
-fn known(
-    alloc: Global,
-    names: Option<HashSet<String>>,
-    members: &[Member],
-) -> Result<HashSet<String>, AllocError>
-    requires { KnowsBy names (members_of members.now) }
-    ensures { IfOk result (λ s. HasKeys s (members_of members.now)) }
-{
-    match names {
-        Some(names) => Ok(names),
-        None => set_of(alloc, members),
-    }
-}
-
 impl Keys {
     /// The keys of no members.
     pub fn new() -> Keys
@@ -76,18 +72,27 @@ impl Keys {
         }
     }
 
-    /// Takes in the key of the next member behind these. The error is that memory ran out.
+    /// Takes in the key of the next member behind these. The error is that memory ran out, and then nothing is changed.
     pub fn add(&mut self, alloc: Global, members: &[Member], key: &str) -> Result<(), AllocError>
         requires { Knows self.old (members_of members.now) }
-        ensures { OnOk result ((d : Data) → Knows self.new (members_of members.now ++ (key.now, d) ∷ [])) }
+        ensures ok { OnOk result ((d : Data) → Knows self.new (members_of members.now ++ (key.now, d) ∷ [])) }
+        ensures err { OnErr result (self.new ≡ self.old) }
     {
         if members.len() < MANY {
             self.names = None;
             return Ok(());
         }
-        let mut names = known(alloc, self.names.take(), members)?;
-        names.insert(String::from_str(alloc, key)?)?;
-        self.names = Some(names);
+        let name = String::from_str(alloc, key)?;
+        match &mut self.names {
+            Some(names) => {
+                names.insert(name)?;
+            }
+            None => {
+                let mut names = set_of(alloc, members)?;
+                names.insert(name)?;
+                self.names = Some(names);
+            }
+        }
         Ok(())
     }
 }

@@ -136,6 +136,17 @@ const ON_LISTS: &[(&str, &str, &str)] = &[
         r#"[[1.0,1,"1",[1],[1.0],{},{}]]"#,
         r#"[1.0,"1",[1],{}]"#,
     ),
+    // These differ, and some have the mark of another.
+    (
+        "ArrayUnique",
+        r#"[[1,-1,0,2.147483647,null,1e-9,true,2e-9,false,3e-9,"",5e-9,[],7e-9,{},11e-9]]"#,
+        r#"[1,-1,0,2.147483647,null,1e-9,true,2e-9,false,3e-9,"",5e-9,[],7e-9,{},11e-9]"#,
+    ),
+    (
+        "ArrayUnique",
+        r#"[[{"a":1,"b":[2.0,{"c":1e1,"d":null}]},{"b":[2,{"d":null,"c":10}],"a":1.0},{"a":1,"b":2},{"a":2,"b":1},{"b":2,"a":1}]]"#,
+        r#"[{"a":1,"b":[2.0,{"c":1e1,"d":null}]},{"a":1,"b":2},{"a":2,"b":1}]"#,
+    ),
     ("ArrayUnique", "[null]", "unfit"),
 ];
 

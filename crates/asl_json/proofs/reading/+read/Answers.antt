@@ -50,7 +50,7 @@ members-loop-keys-preserved t c =
       omega (arith, ap length c.in-Some-after_byte-2.ensures.found, skips_shorter _ _ c.skip_spaces-behind.ensures.skips, c.in_ok-member.ensures.shorter, c.in_ok-name.ensures.shorter, c.loop-keys.invariant.1),
       c.in-Some-after_byte-2.ensures.utf8 (c.skip_spaces-behind.ensures.utf8 c.in_ok-member.ensures.utf8),
       still_distinct c.deref.result.now c.loop-keys.members.items c.push.new.self.items _ c.deref.ensures.value c.in_ok-push.ensures.items c.loop-keys.invariant.3 c.in_ok-name.ensures.new,
-      subst (Knows c.add.new.self) (ap (λ (l : List ℕ). members_of c.deref-in-loop-keys.result.now ++ (l, d) ∷ []) c.as_str.ensures ∙ ap (λ (ms : List Member). members_of ms ++ (k, d) ∷ []) c.deref-in-loop-keys.ensures.value ∙ pushed ms c.push.new.self.items _ c.in_ok-push.ensures.items) (c.in_ok-add.ensures d),
+      subst (Knows c.add.new.self) (ap (λ (l : List ℕ). members_of c.deref-in-loop-keys.result.now ++ (l, d) ∷ []) c.as_str.ensures ∙ ap (λ (ms : List Member). members_of ms ++ (k, d) ∷ []) c.deref-in-loop-keys.ensures.value ∙ pushed ms c.push.new.self.items _ c.in_ok-push.ensures.items) (c.in_ok-add.ensures.ok d),
     )
 
 pub value-returns-in_err-content-clause-run : goal.value-returns-in_err-content-clause-run

@@ -27,7 +27,7 @@ fields-loop-i-preserved t c =
     let seen_from = c.in_ok-under_name.ensures ∙ ap (λ k. under_read (Name k) c.judged-own.result) key in (
       fields_read ms i m (listed c.loop-i.read) (listed c.in_ok-read.read) c.in_ok-double.double c.in_ok-field.field-0 c.judged-own.result c.in_ok-under_name.field-0 c.loop-i-test.true c.index-members-i.is c.in_ok-field.ensures.reads double c.judged-own.ensures seen_from c.in_ok-read.ensures c.loop-i.invariant.0,
       fields_fit (listed c.loop-i.read) (listed c.in_ok-read.read) (Name m.key) c.in_ok-double.double c.in_ok-field.field-0 c.judged-own.result c.in_ok-under_name.field-0 c.judged-own.ensures seen_from c.in_ok-read.ensures c.loop-i.invariant.1 c.in_ok-field.ensures.fits,
-      subst (Knows c.add.new.self) (ap (λ k. so_far ++ (k, data_of m.value) ∷ []) key ∙ sym (members_more ms i m c.loop-i-test.true c.index-members-i.is)) (c.in_ok-add.ensures (data_of m.value)),
+      subst (Knows c.add.new.self) (ap (λ k. so_far ++ (k, data_of m.value) ∷ []) key ∙ sym (members_more ms i m c.loop-i-test.true c.index-members-i.is)) (c.in_ok-add.ensures.ok (data_of m.value)),
     )
 
 pub parts-loop-i-preserved : goal.parts-loop-i-preserved
