@@ -1,13 +1,14 @@
 -- An object is made of named values, one by one.
-use Rattle.std.proofs.Common.{◌≡◌, ℕ, List, [], ◌∷◌, ◌++◌, Bool, true, false, refl, sym, ◌∙◌, ap}
-use Rattle.std.specs.Prelude.{Option, Some, None, not, ◌&&◌, ◌||◌, nat_eq}
-use Rattle.std.specs.Cmp.Lexicographic.{pointwise, same_text}
+use Rattle.std.proofs.Common.{◌≡◌, ℕ, List, [], ◌∷◌, ◌++◌, Bool, true, false, refl, sym, ◌∙◌}
+use Rattle.std.specs.Prelude.{Option, Some, None, not, ◌&&◌, ◌||◌, nat_eq, option_map}
+use Rattle.std.specs.Cmp.Lexicographic.{pointwise}
 use Rattle.std.proofs.lemmas.List.{append-nil}
 use Rattle.std.proofs.Common.{append_assoc}
-use Rattle.std.proofs.lemmas.Cmp.{nat_list_eq_equiv}
 use Rattle.asl_json.specs.Data.{Data}
+use Rattle.asl_json.specs.View.{data_of}
+use Rattle.asl_json.specs.declared.value.Json.{Json}
 use Rattle.asl_json.specs.Distinct.{has_key}
-use Rattle.asl_schema.specs.Canon.{Named, opt, present}
+use Rattle.asl_schema.specs.Canon.{Named, present}
 use Rattle.asl_schema.specs.Members.{is_among}
 use Rattle.asl_members.specs.Entries.{are_apart}
 
@@ -63,3 +64,6 @@ there all made k d left h = record {
 
 pub ends : (all : List (List ℕ × Option Data)) (made : List Named) → IsOnTheWay all made [] → made ≡ present all
 ends all made h = sym (append-nil made) ∙ h.makes
+
+pub pushed : (all : List (List ℕ × Option Data)) (made new : List Named) (name key : List ℕ) (o : Option Json) (v : Json) (left : List (List ℕ × Option Data)) → IsOnTheWay all made ((name, option_map data_of o) ∷ left) → o ≡ Some v → key ≡ name → new ≡ made ++ (key, data_of v) ∷ [] → IsOnTheWay all new left
+pushed all made new name key o v left h found named is = rw (is, named) (there all made name (data_of v) left (rw found at h))

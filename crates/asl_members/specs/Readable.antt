@@ -1,9 +1,8 @@
 -- The values that members are compiled from.
-use Rattle.std.specs.Prelude.{◌≡◌, List, [], ◌∷◌, true, pos}
-use Rattle.asl_json.specs.Data.{Data, null, boolean, number, text}
+use Rattle.std.specs.Prelude.{◌≡◌, true, pos}
+use Rattle.asl_json.specs.Data.{Data, null, boolean, number, text, list, Chain, no_items, item}
 use Rattle.asl_json.specs.Number.{units_of}
 use Rattle.asl_json.specs.Whole.{whole_of}
-use Rattle.asl_json.specs.View.{unchained}
 use Rattle.asl_path.specs.Grammar.{IsPath}
 use Rattle.asl_schema.specs.Demands.{Holds, HasMoment}
 use Rattle.asl_schema.specs.Claims.{path_or_call, is_between, is_between_whole}
@@ -47,10 +46,11 @@ abbrev pub IsStamp : Data → Type 0
 IsStamp (text t) = HasMoment t
 IsStamp d = ⊥
 
-abbrev pub Each : (Data → Type 0) → List Data → Type 0
-Each P [] = Unit {0}
-Each P (d ∷ ds) = P d × Each P ds
+-- each item is such a value
+abbrev pub Each : (Data → Type 0) → Chain → Type 0
+Each P no_items = Unit {0}
+Each P (item d ds) = P d × Each P ds
 
 abbrev pub AreNames : Data → Type 0
-AreNames (list ds) = Each IsText (unchained ds)
+AreNames (list ds) = Each IsText ds
 AreNames d = ⊥

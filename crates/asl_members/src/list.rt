@@ -1,5 +1,6 @@
 // Lists of compiled values. In each call the error is that memory ran out.
 ghost use Rattle.std.specs.Prelude.{◌≡◌, IfOk, map};
+ghost use Rattle.asl_json.specs.Data.{chain};
 ghost use Rattle.asl_json.specs.View.{items_of};
 ghost use Rattle.asl_members.specs.Readable.{Each};
 
@@ -9,7 +10,7 @@ use std::alloc::{AllocError, Global};
 
 /// Compiles each of these values.
 pub fn read_all<T: Compile>(alloc: Global, values: &[Json]) -> Result<Vec<T>, AllocError>
-    requires { Each T.Fits (items_of values.now) }
+    requires { Each T.Fits (chain (items_of values.now)) }
     ensures { IfOk result (λ xs. map T.shown xs.items ≡ items_of values.now) }
 {
     let mut compiled = Vec::new(alloc);

@@ -129,8 +129,7 @@ impl Compiled for Retrier {
         let interval = json_optional(alloc, &self.interval)?;
         let attempts = json_optional(alloc, &self.attempts)?;
         let rate = json_optional(alloc, &self.rate)?;
-        let entries = vec![
-            in alloc;
+        let entries = vec![in alloc;
             Entry {
                 name: "Comment",
                 value: comment,
@@ -173,7 +172,10 @@ impl Retriers {
     }
 
     /// Compiles the value of `Retry`, where it is there. The error is that memory ran out.
-    pub fn read_optional(alloc: Global, value: Option<&Json>) -> Result<Option<Retriers>, AllocError>
+    pub fn read_optional(
+        alloc: Global,
+        value: Option<&Json>,
+    ) -> Result<Option<Retriers>, AllocError>
         requires { Fits retriers_sort (option_map (λ v. data_of v.now) value) }
         ensures { IfOk result (λ x. option_map (λ rs. list (chain rs)) x ≡ option_map (λ v. canon retriers_sort (data_of v.now)) value.entry) }
     {

@@ -1,7 +1,5 @@
 use Rattle.std.proofs.Common.{ℕ, List, sym, subst}
 use Rattle.asl_time.specs.Timestamp.{IsTimestamp}
-use Rattle.asl_json.specs.View.{data_of}
-use Rattle.asl_members.specs.Readable.{IsStamp}
 use Rattle.asl_members.proofs.stamp.StampCompile.read.Goals as goal
 
 pub unreachable-requires-in_default-read_stamp : goal.unreachable-requires-in_default-read_stamp
