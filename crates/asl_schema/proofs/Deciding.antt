@@ -22,7 +22,7 @@ not_true : (b : Bool) → not b ≡ true → b ≡ false
 not_true true e = absurd cc
 not_true false e = refl
 
-neither_is : (a b : Bool) → (a || b) ≡ false → (a ≡ false) × (b ≡ false)
+pub neither_is : (a b : Bool) → (a || b) ≡ false → (a ≡ false) × (b ≡ false)
 neither_is true b e = absurd cc
 neither_is false b e = (refl, e)
 

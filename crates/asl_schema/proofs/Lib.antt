@@ -16,3 +16,5 @@ pub mod Deciding
 pub mod Ways
 pub mod Templates
 pub mod Required
+pub mod Ending
+pub mod Accepting

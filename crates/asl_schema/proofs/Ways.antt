@@ -1,5 +1,5 @@
 -- How a state goes on, and which of some members is there.
-use Rattle.std.proofs.Common.{◌≡◌, ℕ, List, [], ◌∷◌, ◌++◌, Bool, true, false, ◌||◌, ◌&&◌, not, inl, inr, refl, sym, subst, ap, ◌∙◌}
+use Rattle.std.proofs.Common.{◌≡◌, ℕ, List, [], ◌∷◌, ◌++◌, Bool, true, false, ◌||◌, ◌&&◌, not, inl, inr, refl, sym, subst, ◌∙◌}
 use Rattle.std.specs.Prelude.{Option, Some, None, is_some, codes, if◌then◌else◌}
 use Rattle.std.specs.Cmp.Lexicographic.{same_text}
 use Rattle.asl_json.specs.Data.{Data, Pairs, no_members, member, pairs}
@@ -7,15 +7,16 @@ use Rattle.asl_json.specs.Same.{bytes_eq}
 use Rattle.asl_json.specs.SameLaws.{bytes_refl}
 use Rattle.asl_json.specs.Meaning.{value_at}
 use Rattle.asl_json.specs.Distinct.{Members, has_key, AreDistinct}
+use Rattle.asl_json.proofs.Knowing.{has_key-push}
 use Rattle.asl_schema.specs.declared.sort.Sort.{Sort}
 use Rattle.asl_schema.specs.declared.sort.Sort.TheVariants as sort
 use Rattle.asl_schema.specs.declared.sort.Kind.{Kind}
 use Rattle.asl_schema.specs.declared.sort.Kind.TheVariants as kind
-use Rattle.asl_schema.specs.Members.{Group, Shape, sort_at, state_shape, is_among, transition, wait_time, operators, connectives, rule_groups, task_rows, pass_rows, wait_rows, parallel_rows, map_rows}
+use Rattle.asl_schema.specs.Members.{Group, exactly_one, at_most_one, Shape, sort_at, state_shape, is_among, transition, wait_time, operators, connectives, rule_groups, task_rows, pass_rows, wait_rows, parallel_rows, map_rows}
 use Rattle.asl_schema.specs.Claims.{counts, any_in, is_true, has_any}
 use Rattle.asl_schema.specs.Clean.{IsCleanInside, Fits, GoesOneWay, is_ending, goes_on}
-use Rattle.asl_schema.proofs.Inside.{fits_at, any_there}
-use Rattle.asl_schema.proofs.Deciding.{IsGroup, one_counts, some_counts}
+use Rattle.asl_schema.proofs.Inside.{fits_at, any_there, or_right}
+use Rattle.asl_schema.proofs.Deciding.{IsGroup, neither_is, one_counts, some_counts}
 
 -- ---- which of some members is there
 
@@ -54,42 +55,55 @@ some_there names sh g ms c at e =
 counted : (g : Group) (k : List ℕ) (d : Data) → is_among k g.names ≡ true → bytes_eq k (codes "End") ≡ false → counts g k d ≡ true
 counted g k d e n = rw (e, n) refl
 
--- besides End, of two members of a group one isn't there
-pub two_there : (names : List ℕ → Bool) (sh : Shape) (g : Group) (ms : Pairs) (k l : List ℕ) → IsCleanInside names sh ms → IsGroup g sh.groups → is_among k g.names ≡ true → is_among l g.names ≡ true → bytes_eq k l ≡ false → bytes_eq k (codes "End") ≡ false → bytes_eq l (codes "End") ≡ false → is_some (value_at k ms) ≡ true → is_some (value_at l ms) ≡ false
-two_there names sh g ms k l c at a b ne m n h = by (value_at k ms) (value_at l ms) refl refl
+end_among : (l : List ℕ) (ks : List (List ℕ)) → is_among (codes "End") ks ≡ false → is_among l ks ≡ true → bytes_eq l (codes "End") ≡ false
+end_among l ks off e = by (bytes_eq l (codes "End")) refl
+  where
+    by : (b : Bool) → bytes_eq l (codes "End") ≡ b → bytes_eq l (codes "End") ≡ false
+    by false h = h
+    by true h = absurd (let is : is_among (codes "End") ks ≡ true = subst (λ (k : List ℕ). is_among k ks ≡ true) (same_text l (codes "End") (sym h)) e in let x : true ≡ false = sym is ∙ off in cc)
+
+-- of two members of a group that End isn't of, one isn't there
+pub two_there : (names : List ℕ → Bool) (sh : Shape) (g : Group) (ms : Pairs) (k l : List ℕ) → IsCleanInside names sh ms → IsGroup g sh.groups → is_among (codes "End") g.names ≡ false → is_among k g.names ≡ true → is_among l g.names ≡ true → bytes_eq k l ≡ false → is_some (value_at k ms) ≡ true → is_some (value_at l ms) ≡ false
+two_there names sh g ms k l c at off a b ne h = by (value_at k ms) (value_at l ms) refl refl
   where
     by : (o p : Option Data) → value_at k ms ≡ o → value_at l ms ≡ p → is_some (value_at l ms) ≡ false
     by o None e f = rw f refl
     by None p e f = absurd (let x = rw e at h in cc)
-    by (Some d) (Some v) e f = absurd (one_counts names sh g ms k l d v c at ne e f (counted g k d a m) (counted g l v b n))
+    by (Some d) (Some v) e f = absurd (one_counts names sh g ms k l d v c at ne e f (counted g k d a (end_among k g.names off a)) (counted g l v b (end_among l g.names off b)))
 
 -- a Wait state has one of its times
 pub wait_some : (names : List ℕ → Bool) (ms : Pairs) → IsCleanInside names (state_shape (Some kind.Wait)) ms → has_any wait_time.names ms ≡ true
 wait_some names ms c = some_there names (state_shape (Some kind.Wait)) wait_time ms c (inl refl) refl
 
-pub wait_one : (names : List ℕ → Bool) (ms : Pairs) (k l : List ℕ) → IsCleanInside names (state_shape (Some kind.Wait)) ms → is_among k wait_time.names ≡ true → is_among l wait_time.names ≡ true → bytes_eq k l ≡ false → bytes_eq k (codes "End") ≡ false → bytes_eq l (codes "End") ≡ false → is_some (value_at k ms) ≡ true → is_some (value_at l ms) ≡ false
-wait_one names ms k l c a b ne m n h = two_there names (state_shape (Some kind.Wait)) wait_time ms k l c (inl refl) a b ne m n h
+pub wait_one : (names : List ℕ → Bool) (ms : Pairs) (k l : List ℕ) → IsCleanInside names (state_shape (Some kind.Wait)) ms → is_among k wait_time.names ≡ true → is_among l wait_time.names ≡ true → bytes_eq k l ≡ false → is_some (value_at k ms) ≡ true → is_some (value_at l ms) ≡ false
+wait_one names ms k l c a b ne h = two_there names (state_shape (Some kind.Wait)) wait_time ms k l c (inl refl) refl a b ne h
 
 -- a rule has one test or connective
-pub rule_some : (names : List ℕ → Bool) (sh : Shape) (ms : Pairs) → sh.groups ≡ rule_groups → IsCleanInside names sh ms → has_any (operators ++ connectives) ms ≡ true
-rule_some names sh ms e c = some_there names sh (record { names = operators ++ connectives; exact = true }) ms c (subst (IsGroup (record { names = operators ++ connectives; exact = true })) (sym e) (inl refl)) refl
+abbrev rule_tests : Group
+rule_tests = exactly_one (operators ++ connectives)
 
-pub rule_one : (names : List ℕ → Bool) (sh : Shape) (ms : Pairs) (k l : List ℕ) → sh.groups ≡ rule_groups → IsCleanInside names sh ms → is_among k (operators ++ connectives) ≡ true → is_among l (operators ++ connectives) ≡ true → bytes_eq k l ≡ false → bytes_eq k (codes "End") ≡ false → bytes_eq l (codes "End") ≡ false → is_some (value_at k ms) ≡ true → is_some (value_at l ms) ≡ false
-rule_one names sh ms k l e c a b ne m n h = two_there names sh (record { names = operators ++ connectives; exact = true }) ms k l c (subst (IsGroup (record { names = operators ++ connectives; exact = true })) (sym e) (inl refl)) a b ne m n h
+pub rule_some : (names : List ℕ → Bool) (sh : Shape) (ms : Pairs) → sh.groups ≡ rule_groups → IsCleanInside names sh ms → has_any (operators ++ connectives) ms ≡ true
+rule_some names sh ms e c = some_there names sh rule_tests ms c (subst (IsGroup rule_tests) (sym e) (inl refl)) refl
+
+end_no_test : is_among (codes "End") (operators ++ connectives) ≡ false
+unfolding operators
+end_no_test = refl
+
+pub rule_one : (names : List ℕ → Bool) (sh : Shape) (ms : Pairs) (k l : List ℕ) → sh.groups ≡ rule_groups → IsCleanInside names sh ms → is_among k (operators ++ connectives) ≡ true → is_among l (operators ++ connectives) ≡ true → bytes_eq k l ≡ false → is_some (value_at k ms) ≡ true → is_some (value_at l ms) ≡ false
+rule_one names sh ms k l e c a b ne h = two_there names sh rule_tests ms k l c (subst (IsGroup rule_tests) (sym e) (inl refl)) end_no_test a b ne h
+
+abbrev unbound : Group
+unbound = at_most_one (codes "Variable" ∷ connectives)
+
+-- and no Variable beside a connective
+pub rule_unbound : (names : List ℕ → Bool) (sh : Shape) (ms : Pairs) (k : List ℕ) → sh.groups ≡ rule_groups → IsCleanInside names sh ms → is_among k connectives ≡ true → is_some (value_at k ms) ≡ true → is_some (value_at (codes "Variable") ms) ≡ false
+rule_unbound names sh ms k e c a h = two_there names sh unbound ms k (codes "Variable") c (subst (IsGroup unbound) (sym e) (inr (inl refl))) refl (or_right (bytes_eq k (codes "Variable")) (is_among k connectives) a) refl (apart (bytes_eq k (codes "Variable")) refl) h
+  where
+    apart : (b : Bool) → bytes_eq k (codes "Variable") ≡ b → bytes_eq k (codes "Variable") ≡ false
+    apart false q = q
+    apart true q = absurd (let x = subst (λ (l : List ℕ). is_among l connectives ≡ true) (same_text k (codes "Variable") (sym q)) a in cc)
 
 -- ---- how a state goes on
-
-has_key-append : (k : List ℕ) (xs ys : Members) → has_key k (xs ++ ys) ≡ (has_key k xs || has_key k ys)
-has_key-append k [] ys = refl
-has_key-append k (x ∷ xs) ys = ap (λ (b : Bool). bytes_eq k x.0 || b) (has_key-append k xs ys) ∙ or_assoc (bytes_eq k x.0) (has_key k xs) (has_key k ys)
-  where
-    or_assoc : (a b c : Bool) → (a || (b || c)) ≡ ((a || b) || c)
-    or_assoc true b c = refl
-    or_assoc false b c = refl
-
-both_false : (a b : Bool) → (a || b) ≡ false → (a ≡ false) × (b ≡ false)
-both_false true b e = absurd cc
-both_false false b e = (refl, e)
 
 -- a key that is there isn't among those before
 is_new : (seen xs : Members) (k : List ℕ) (d : Data) → AreDistinct seen xs → value_at k (pairs xs) ≡ Some d → has_key k seen ≡ false
@@ -98,7 +112,7 @@ is_new seen (x ∷ xs) k d h e = by (bytes_eq k x.0) refl (λ f. is_new (seen ++
   where
     by : (b : Bool) → bytes_eq k x.0 ≡ b → (value_at k (pairs xs) ≡ Some d → has_key k (seen ++ x ∷ []) ≡ false) → has_key k seen ≡ false
     by true p rest = subst (λ (l : List ℕ). has_key l seen ≡ false) (sym (same_text k x.0 (sym p))) h.0
-    by false p rest = (both_false (has_key k seen) (has_key k (x ∷ [])) (sym (has_key-append k seen (x ∷ [])) ∙ rest (rw p at e))).0
+    by false p rest = (neither_is (has_key k seen) (bytes_eq k x.0) (sym (has_key-push k seen x) ∙ rest (rw p at e))).0
 
 none_in : (g : Group) (seen xs : Members) → AreDistinct seen xs → ((k : List ℕ) (d : Data) → value_at k (pairs xs) ≡ Some d → counts g k d ≡ false) → any_in g (pairs xs) ≡ false
 none_in g seen [] h off = refl
@@ -109,8 +123,8 @@ none_in g seen (x ∷ xs) h off =
     behind : (k : List ℕ) (d : Data) → value_at k (pairs xs) ≡ Some d → value_at k (pairs (x ∷ xs)) ≡ Some d
     behind k d e =
         let new = is_new (seen ++ x ∷ []) xs k d h.1 e in
-        let apart = both_false (has_key k seen) (has_key k (x ∷ [])) (sym (has_key-append k seen (x ∷ [])) ∙ new) in
-        rw (both_false (bytes_eq k x.0) false apart.1).0 e
+        let apart = neither_is (has_key k seen) (bytes_eq k x.0) (sym (has_key-push k seen x) ∙ new) in
+        rw apart.1 e
 
 is_transition : (k : Kind) → goes_on k ≡ true → IsGroup transition (state_shape (Some k)).groups
 is_transition kind.Task e = inr (inr (inl refl))
