@@ -1,8 +1,8 @@
 //! What the members of states hold, compiled from a definition without faults.
 //!
-//! Modules in reading order: `compiled` is what all of it has in common, and `list` lists of it; `plain`, `path`, `number`, `stamp` and `retry` are
-//! the types; `entry` makes objects. `specs/Shown.antt` says what each shows, and
-//! `specs/Readable.antt` which values each is read from.
+//! Modules in reading order: `compiled` is what all of it has in common, and `list` lists of it; `plain`, `path`, `number`,
+//! `stamp` and `retry` are the types; `entry` makes objects. `specs/Shown.antt` says what each shows, `specs/Readable.antt`
+//! which values each is compiled from.
 #![tactic(auto)]
 
 mod compiled;
