@@ -1,0 +1,4 @@
+pub mod Making
+pub mod Fitting
+pub mod Items
+pub mod Retrying

@@ -1,0 +1,23 @@
+//! What the members of states hold, compiled from a definition without faults.
+//!
+//! Modules in reading order: `compiled` is what all of it has in common, and `list` lists of it; `plain`, `path`, `number`,
+//! `stamp` and `retry` are the types; `entry` makes objects. `specs/Shown.antt` says what each shows, `specs/Readable.antt`
+//! which values each is compiled from.
+#![tactic(auto)]
+
+mod compiled;
+mod entry;
+mod list;
+mod number;
+mod path;
+mod plain;
+mod retry;
+mod stamp;
+
+pub use compiled::{Compile, Compiled, clone_optional, json_optional, read_optional};
+pub use entry::{Entry, object};
+pub use list::{clone_all, json_all, read_all};
+pub use number::{BackoffRate, Count};
+pub use path::{PathField, PathOrCall};
+pub use retry::{ErrorNames, Retrier, Retriers};
+pub use stamp::Stamp;
