@@ -18,3 +18,5 @@ pub mod Templates
 pub mod Required
 pub mod Ending
 pub mod Accepting
+pub mod CanonicalTwice
+pub mod CanonicalAmounts
