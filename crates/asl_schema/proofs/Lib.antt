@@ -20,3 +20,5 @@ pub mod Ending
 pub mod Accepting
 pub mod CanonicalTwice
 pub mod CanonicalAmounts
+pub mod CanonicalStates
+pub mod CanonicalLength
