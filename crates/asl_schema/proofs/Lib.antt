@@ -22,3 +22,5 @@ pub mod CanonicalTwice
 pub mod CanonicalAmounts
 pub mod CanonicalStates
 pub mod CanonicalLength
+pub mod CanonicalRows
+pub mod CanonicalMembers
