@@ -24,3 +24,4 @@ pub mod CanonicalStates
 pub mod CanonicalLength
 pub mod CanonicalRows
 pub mod CanonicalMembers
+pub mod CanonicalHolds
