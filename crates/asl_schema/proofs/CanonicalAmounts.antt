@@ -115,7 +115,7 @@ opt_depth : (k : List ℕ) (o : Option Data) (xs : List Named) (n : ℕ) → ((d
 opt_depth k None xs n h e = e
 opt_depth k (Some d) xs n h e = omega (arith, h d refl, e)
 
-kept_is : (k : List ℕ) (o : Option Data) (d : Data) → kept k o ≡ Some d → o ≡ Some d
+pub kept_is : (k : List ℕ) (o : Option Data) (d : Data) → kept k o ≡ Some d → o ≡ Some d
 kept_is k o d e = by (kept_ways k o)
   where
     by : (kept k o ≡ None) ⊎ (kept k o ≡ o) → o ≡ Some d

@@ -161,19 +161,20 @@ under_holds s (x ∷ xs) h = (h.0, under_holds s xs h.1)
 or_off : (a b : Bool) → a ≡ false → b ≡ false → (a || b) ≡ false
 or_off a b p q = rw (p, q) refl
 
+-- a row that isn't among others is none of them
+pub apart : (n : List ℕ) (rs : List Row) (k : List ℕ) → is_row n rs ≡ false → is_row k rs ≡ true → bytes_eq k n ≡ false
+apart n rs k off on = by (bytes_eq k n) refl
+  where
+    by : (b : Bool) → bytes_eq k n ≡ b → bytes_eq k n ≡ false
+    by false q = q
+    by true q = absurd (let x : is_row n rs ≡ true = subst (λ (l : List ℕ). is_row l rs ≡ true) (same_text k n (sym q)) on in let y : true ≡ false = sym x ∙ off in cc)
+
 picked_hold : (names : List ℕ → Bool) (p : Spot) (sh : Shape) (ms : Pairs) → is_template sh.others ≡ false → IsCleanInside names sh ms → CanonHold p sh ms → (rs : List Row) (seen : Members) (i : ℕ) → rows_differ rs ≡ true → AreFrom sh ms seen → ((k : List ℕ) → is_row k rs ≡ true → has_key k seen ≡ false) → Each Hold (member_claims p sh seen i (pairs (picked rs (canon_members sh ms))))
 picked_hold names p sh ms t c all [] seen i e from new = tt
 picked_hold names p sh ms t c all (r ∷ rs) seen i e from new =
     by (kept r.name (value_at r.name (canon_members sh ms))) refl (not_is (is_row r.name rs) (both_are (not (is_row r.name rs)) (rows_differ rs) e).0)
     (λ others j. picked_hold names p sh ms t c all rs others j (both_are (not (is_row r.name rs)) (rows_differ rs) e).1)
   where
-    apart : (k : List ℕ) → is_row r.name rs ≡ false → is_row k rs ≡ true → bytes_eq k r.name ≡ false
-    apart k off on = which (bytes_eq k r.name) refl
-      where
-        which : (b : Bool) → bytes_eq k r.name ≡ b → bytes_eq k r.name ≡ false
-        which false q = q
-        which true q = absurd (let x : is_row r.name rs ≡ true = subst (λ (l : List ℕ). is_row l rs ≡ true) (same_text k r.name (sym q)) on in let y : true ≡ false = sym x ∙ off in cc)
-
     by : (o : Option Data) → kept r.name (value_at r.name (canon_members sh ms)) ≡ o → is_row r.name rs ≡ false
       → ((others : Members) (j : ℕ) → AreFrom sh ms others → ((k : List ℕ) → is_row k rs ≡ true → has_key k others ≡ false) → Each Hold (member_claims p sh others j (pairs (picked rs (canon_members sh ms)))))
       → Each Hold (member_claims p sh seen i (pairs (opt r.name o ++ picked rs (canon_members sh ms))))
@@ -188,7 +189,7 @@ picked_hold names p sh ms t c all (r ∷ rs) seen i e from new =
         let placed : Each Hold (claims spot (sort_at sh k) d) = subst (λ (b : Bool). Each Hold (claims (member_spot p k b) (sort_at sh k) d)) (sym (or_off (is_doubled sh.groups seen k d) _ single (off_and (is_template sh.others) _ t))) own in
         each-append Hold (map (under (step i k)) (claims spot (sort_at sh k) d)) (member_claims p sh (seen ++ (k, d) ∷ []) (suc i) (pairs (picked rs (canon_members sh ms))))
         (under_holds (step i k) (claims spot (sort_at sh k) d) placed)
-        (rest (seen ++ (k, d) ∷ []) (suc i) (from_push sh ms seen k d from f) (λ l on. has_key-push l seen (k, d) ∙ or_off (has_key l seen) (bytes_eq l k) (new l (or_right (bytes_eq l k) (is_row l rs) on)) (apart l off on)))
+        (rest (seen ++ (k, d) ∷ []) (suc i) (from_push sh ms seen k d from f) (λ l on. has_key-push l seen (k, d) ∙ or_off (has_key l seen) (bytes_eq l k) (new l (or_right (bytes_eq l k) (is_row l rs) on)) (apart r.name rs l off on)))
 
 pub members_hold : (names : List ℕ → Bool) (p : Spot) (sh : Shape) (ms : Pairs) → is_template sh.others ≡ false → rows_differ sh.rows ≡ true → IsCleanInside names sh ms → CanonHold p sh ms → Each Hold (member_claims p sh [] 0 (pairs (picked sh.rows (canon_members sh ms))))
 members_hold names p sh ms t e c all = picked_hold names p sh ms t c all sh.rows [] 0 e tt (λ k on. refl)

@@ -25,3 +25,5 @@ pub mod CanonicalLength
 pub mod CanonicalRows
 pub mod CanonicalMembers
 pub mod CanonicalHolds
+pub mod CanonicalKeys
+pub mod CanonicalAccepted

@@ -9,3 +9,4 @@ pub mod Pointers
 pub mod Canon
 pub mod Clean
 pub mod Keys
+pub mod Laws
