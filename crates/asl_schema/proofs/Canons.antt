@@ -51,7 +51,7 @@ plain_canon s (text t) e = refl
 plain_canon s (list ds) e = listed_plain s ds (canon_items (item_sort s) ds) e
 plain_canon s (dict ms) e = arranged_plain s (shape_in s ms).rows ms (canon_members (shape_in s ms) ms) e
 
-not_end : (k : List ℕ) (o : Option Data) → bytes_eq k (codes "End") ≡ false → kept k o ≡ o
+pub not_end : (k : List ℕ) (o : Option Data) → bytes_eq k (codes "End") ≡ false → kept k o ≡ o
 not_end k None e = refl
 not_end k (Some null) e = refl
 not_end k (Some (boolean true)) e = refl

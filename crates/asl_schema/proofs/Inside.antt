@@ -129,7 +129,7 @@ named_within p names sort.Definition ms named k = refl
 named_within p names sort.Machine ms named k = refl
 named_within p names s ms named k = named k
 
-object_hold : (p : Spot) (s : Sort) (ms : Pairs) → is_object s ≡ true → Each Hold (claims p s (dict ms)) → Each Hold (object_claims p s ms)
+pub object_hold : (p : Spot) (s : Sort) (ms : Pairs) → is_object s ≡ true → Each Hold (claims p s (dict ms)) → Each Hold (object_claims p s ms)
 object_hold p s ms e h = each_right Hold (heres (demands p s (dict ms))) (object_claims p s ms) (rw e at h)
 
 pub object_inside : (names : List ℕ → Bool) (s : Sort) (ms : Pairs) → is_object s ≡ true → IsCleanAmong names s (dict ms) → IsCleanInside (names_within s names ms) (shape_in s ms) ms

@@ -18,3 +18,12 @@ pub mod Templates
 pub mod Required
 pub mod Ending
 pub mod Accepting
+pub mod CanonicalTwice
+pub mod CanonicalAmounts
+pub mod CanonicalStates
+pub mod CanonicalLength
+pub mod CanonicalRows
+pub mod CanonicalMembers
+pub mod CanonicalHolds
+pub mod CanonicalKeys
+pub mod CanonicalAccepted

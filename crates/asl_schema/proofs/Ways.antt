@@ -25,7 +25,7 @@ record IsPresent (ks : List (List ℕ)) (ms : Pairs) : Type 0 where
   among : is_among name ks ≡ true
   there : is_some (value_at name ms) ≡ true
 
-and_left : (a b : Bool) → (a && b) ≡ true → a ≡ true
+pub and_left : (a b : Bool) → (a && b) ≡ true → a ≡ true
 and_left true b e = refl
 and_left false b e = absurd cc
 
@@ -114,7 +114,7 @@ is_new seen (x ∷ xs) k d h e = by (bytes_eq k x.0) refl (λ f. is_new (seen ++
     by true p rest = subst (λ (l : List ℕ). has_key l seen ≡ false) (sym (same_text k x.0 (sym p))) h.0
     by false p rest = (neither_is (has_key k seen) (bytes_eq k x.0) (sym (has_key-push k seen x) ∙ rest (rw p at e))).0
 
-none_in : (g : Group) (seen xs : Members) → AreDistinct seen xs → ((k : List ℕ) (d : Data) → value_at k (pairs xs) ≡ Some d → counts g k d ≡ false) → any_in g (pairs xs) ≡ false
+pub none_in : (g : Group) (seen xs : Members) → AreDistinct seen xs → ((k : List ℕ) (d : Data) → value_at k (pairs xs) ≡ Some d → counts g k d ≡ false) → any_in g (pairs xs) ≡ false
 none_in g seen [] h off = refl
 none_in g seen (x ∷ xs) h off =
     let first : counts g x.0 x.1 ≡ false = off x.0 x.1 (rw (bytes_refl x.0) refl) in

@@ -8,3 +8,5 @@ pub mod Code
 pub mod Pointers
 pub mod Canon
 pub mod Clean
+pub mod Keys
+pub mod Laws
