@@ -6,6 +6,7 @@ ghost use Rattle.asl_schema.specs.declared.sort.Sort.TheVariants.{Text, Path, Nu
 ghost use Rattle.asl_schema.specs.Clean.{IsClean};
 ghost use Rattle.asl_members.specs.Rules.{comparison_operator, operand, operand_sort, operator_name, test_named};
 
+use crate::compiled::{Compile, Compiled};
 use crate::operator::{Operator, Order, Property};
 use crate::stamp::Stamp;
 use asl_json::{Dec, Json, Txt};
@@ -89,10 +90,7 @@ fn stamp(alloc: Global, value: &Json) -> Result<Stamp, AllocError>
     requires { IsClean timestamp_sort (data_of value.now) }
     ensures { IfOk result (λ s. spec_text s ≡ data_of value.now) }
 {
-    let Json::Text(text) = value else {
-        unreachable!();
-    };
-    Stamp::read(alloc, text)
+    Stamp::read(alloc, value)
 }
 
 impl Comparison {
@@ -141,7 +139,7 @@ impl Comparison {
             Comparison::StringPath(_, path) => text_value(alloc, path.text()),
             Comparison::Numeric(_, number) => Ok(Json::Num(number.try_clone(alloc)?)),
             Comparison::NumericPath(_, path) => text_value(alloc, path.text()),
-            Comparison::Timestamp(_, stamp) => text_value(alloc, stamp.text()),
+            Comparison::Timestamp(_, stamp) => stamp.json(alloc),
             Comparison::TimestampPath(_, path) => text_value(alloc, path.text()),
             Comparison::Boolean(truth) => Ok(Json::Bool(*truth)),
             Comparison::BooleanPath(path) => text_value(alloc, path.text()),

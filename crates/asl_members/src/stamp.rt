@@ -1,13 +1,13 @@
-// Timestamps.
-ghost use Rattle.std.specs.Prelude.{◌≡◌, IfOk};
-ghost use Rattle.asl_schema.specs.Demands.{HasMoment};
+// Timestamps with their spelling.
+ghost use Rattle.asl_time.specs.Timestamp.{IsTimestamp};
 
-use asl_json::Txt;
+use crate::compiled::{Compile, Compiled};
+use asl_json::{Json, Txt};
 use asl_time::{Moment, read_stamp};
 use std::alloc::{AllocError, Global};
 use std::marker::Model;
 
-/// A timestamp. Contracts see it as its text.
+/// A timestamp. (Amazon States Language, "Timestamps".) Contracts see it as its text.
 #[derive(Drop)]
 pub struct Stamp {
     text: Txt,
@@ -26,35 +26,48 @@ impl Model for Stamp {
 }
 
 impl Stamp {
-    /// The timestamp that a text is.
-    pub(crate) fn read(alloc: Global, text: &Txt) -> Result<Stamp, AllocError>
-        requires { HasMoment text.now }
-        ensures { IfOk result (λ s. s ≡ text.now) }
+    /// Its moment.
+    pub fn moment(&self) -> Moment
+        ensures { IsTimestamp self.now result }
     {
+        let Stamp { moment, .. } = self;
+        *moment
+    }
+}
+
+impl Compiled for Stamp {
+    ghost use Rattle.asl_json.specs.Data.{text};
+
+    ghost shown = { text };
+
+    fn try_clone(&self, alloc: Global) -> Result<Stamp, AllocError> {
+        let Stamp { text, moment } = self;
+        Ok(Stamp {
+            text: text.try_clone(alloc)?,
+            moment: *moment,
+        })
+    }
+
+    fn json(&self, alloc: Global) -> Result<Json, AllocError> {
+        self.text.json(alloc)
+    }
+}
+
+impl Compile for Stamp {
+    ghost use Rattle.asl_members.specs.Readable.{IsStamp};
+
+    ghost Fits = { IsStamp };
+
+    fn read(alloc: Global, value: &Json) -> Result<Stamp, AllocError> {
+        let Json::Text(text) = value else {
+            unreachable!();
+        };
         let Some(moment) = read_stamp(text.as_str()) else {
             unreachable!();
         };
         Ok(Stamp {
             text: text.try_clone(alloc)?,
             moment,
-        })
-    }
-
-    /// The text that it was read from.
-    pub fn text(&self) -> &str
-        ensures { result.now ≡ self.now }
-    {
-        self.text.as_str()
-    }
-
-    /// An equal one. The error is that memory ran out.
-    pub fn try_clone(&self, alloc: Global) -> Result<Stamp, AllocError>
-        ensures { IfOk result (λ s. s ≡ self.now) }
-    {
-        let Stamp { text, moment } = self;
-        Ok(Stamp {
-            text: text.try_clone(alloc)?,
-            moment: *moment,
         })
     }
 }

@@ -7,3 +7,14 @@ pub mod Naming
 pub mod Objects
 pub mod Doubles
 pub mod Pointing
+pub mod Canons
+pub mod Inside
+pub mod Parts
+pub mod Typed
+pub mod Kept
+pub mod Deciding
+pub mod Ways
+pub mod Templates
+pub mod Required
+pub mod Ending
+pub mod Accepting

@@ -1,11 +1,13 @@
 -- The canonical form of a definition: members in the order of the table, and `End: false` left out.
-use Rattle.std.specs.Prelude.{ℕ, List, [], ◌∷◌, ◌++◌, true, false, Option, Some, None, if◌then◌else◌, codes, option_map}
+use Rattle.std.specs.Prelude.{ℕ, List, [], ◌∷◌, ◌++◌, Bool, true, false, Option, Some, None, if◌then◌else◌, codes, option_map}
 use Rattle.asl_json.specs.Data.{Data, null, boolean, number, text, list, dict, Chain, no_items, item, Pairs, no_members, member, pairs}
 use Rattle.asl_json.specs.Same.{bytes_eq}
 use Rattle.asl_json.specs.Meaning.{value_at}
 use Rattle.asl_schema.specs.Members.{Row, Shape, shape_in, sort_at, item_sort}
 use Rattle.asl_schema.specs.declared.sort.Sort.{Sort}
 use Rattle.asl_schema.specs.declared.sort.Sort.TheVariants as sort
+use Rattle.asl_schema.specs.declared.sort.Kind.{Kind}
+use Rattle.asl_schema.specs.declared.sort.Kind.TheVariants as kind
 
 -- a name and its value
 abbrev pub Named : Type 0
@@ -82,6 +84,34 @@ kept_at k s ms = kept k (option_map (canon s) (value_at k ms))
 abbrev pub picked_at : Shape → List Row → Pairs → List Named
 picked_at sh [] ms = []
 picked_at sh (r ∷ rs) ms = opt r.name (kept_at r.name (sort_at sh r.name) ms) ++ picked_at sh rs ms
+
+-- the text that names a type
+abbrev pub kind_text : Kind → List ℕ
+kind_text kind.Task = codes "Task"
+kind_text kind.Pass = codes "Pass"
+kind_text kind.Choice = codes "Choice"
+kind_text kind.Wait = codes "Wait"
+kind_text kind.Parallel = codes "Parallel"
+kind_text kind.Map = codes "Map"
+kind_text kind.Succeed = codes "Succeed"
+kind_text kind.Fail = codes "Fail"
+
+-- what isn't put in order, nor what it holds
+abbrev pub is_plain : Sort → Bool
+is_plain sort.Definition = false
+is_plain sort.Machine = false
+is_plain sort.Machines = false
+is_plain sort.States = false
+is_plain sort.State = false
+is_plain sort.Rules = false
+is_plain sort.Rule = false
+is_plain sort.InnerRules = false
+is_plain sort.InnerRule = false
+is_plain sort.Retriers = false
+is_plain sort.Retrier = false
+is_plain sort.Catchers = false
+is_plain sort.Catcher = false
+is_plain s = true
 
 abbrev pub canonical : Data → Data
 canonical d = canon sort.Definition d

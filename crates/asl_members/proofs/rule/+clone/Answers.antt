@@ -2,7 +2,7 @@ use Rattle.std.proofs.Common.{◌≡◌, ◌<◌, ◌≤◌, ℕ, List, [], ◌�
 use Rattle.std.specs.Prelude.{codes, map}
 use Rattle.asl_json.specs.Data.{chain, items_depth, members_size}
 use Rattle.asl_schema.specs.Canon.{Named}
-use Rattle.asl_template.proofs.Within.{item_within}
+use Rattle.asl_members.proofs.Within.{item_within}
 use Rattle.asl_members.specs.Rules.{rule_object, rule_list, condition_named}
 use Rattle.asl_members.proofs.rule.+clone.Goals as goal
 

@@ -4,7 +4,7 @@ use Rattle.asl_json.specs.Data.{Data, chain, items_depth, members_size}
 use Rattle.asl_json.specs.View.{data_of}
 use Rattle.asl_json.specs.Distinct.{Members, has_key}
 use Rattle.asl_schema.specs.Canon.{Named}
-use Rattle.asl_template.proofs.Within.{item_within}
+use Rattle.asl_members.proofs.Within.{item_within}
 use Rattle.asl_members.specs.Rules.{rule_object, rule_list, condition_named, rule_named}
 use Rattle.asl_members.proofs.Apart.{no_next, shown_ok, connective_shown, named_apart}
 use Rattle.asl_members.proofs.rule.+members.Goals as goal

@@ -5,7 +5,7 @@ use Rattle.asl_json.specs.View.{data_of, items_of, members_of}
 use Rattle.asl_schema.specs.declared.sort.Sort.TheVariants.{Text}
 use Rattle.asl_schema.specs.Canon.{Named, canon, opt}
 use Rattle.asl_schema.specs.Clean.{Fits}
-use Rattle.asl_template.proofs.Within.{item_within}
+use Rattle.asl_members.proofs.Within.{item_within}
 use Rattle.asl_members.specs.declared.operator.RuleKind.{RuleKind}
 use Rattle.asl_members.specs.declared.operator.RuleKind.TheVariants as kind
 use Rattle.asl_members.specs.Rules.{HasVariable, rule_object, rule_list, kind_name, kind_sort}

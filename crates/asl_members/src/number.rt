@@ -1,0 +1,142 @@
+// Numbers with their spelling.
+ghost use Rattle.std.specs.Prelude.{◌≡◌, ◌≤◌, Some, pos};
+ghost use Rattle.asl_json.specs.Number.{units_of};
+ghost use Rattle.asl_json.specs.Whole.{whole_of};
+
+use crate::compiled::{Compile, Compiled};
+use asl_json::{Dec, Json};
+use asl_time::Rate;
+use std::alloc::{AllocError, Global};
+use std::marker::Model;
+
+/// A whole number from 0 to 99,999,999. Contracts see it as its spelling.
+#[derive(Drop)]
+pub struct Count {
+    spelled: Dec,
+    value: u32,
+}
+
+impl Model for Count {
+    ghost use Rattle.std.specs.Prelude.{List, ℕ, ◌≡◌, ◌≤◌, Some, pos};
+    ghost use Rattle.asl_json.specs.Whole.{whole_of};
+
+    ghost Value = { List ℕ };
+
+    ghost view = { λ a. a.spelled };
+
+    ghost invariant = { λ a. (whole_of a.spelled ≡ Some (pos a.value)) × (a.value ≤ 99_999_999) };
+}
+
+/// The factor by which each delay before a retry is longer than the one before. (Amazon States Language, "Retrying after
+/// error".) Contracts see it as its spelling.
+#[derive(Drop)]
+pub struct BackoffRate {
+    spelled: Dec,
+    rate: Rate,
+}
+
+impl Model for BackoffRate {
+    ghost use Rattle.std.specs.Prelude.{List, ℕ, ◌≡◌, pos};
+    ghost use Rattle.asl_json.specs.Number.{units_of};
+
+    ghost Value = { List ℕ };
+
+    ghost view = { λ a. a.spelled };
+
+    ghost invariant = { λ a. pos a.rate ≡ units_of a.spelled };
+}
+
+impl Count {
+    /// The number.
+    pub fn value(&self) -> u32
+        ensures value { whole_of self.now ≡ Some (pos result) }
+        ensures bound { result ≤ 99_999_999 }
+    {
+        let Count { value, .. } = self;
+        *value
+    }
+}
+
+impl Compiled for Count {
+    ghost use Rattle.asl_json.specs.Data.{number};
+
+    ghost shown = { number };
+
+    fn try_clone(&self, alloc: Global) -> Result<Count, AllocError> {
+        let Count { spelled, value } = self;
+        Ok(Count {
+            spelled: spelled.try_clone(alloc)?,
+            value: *value,
+        })
+    }
+
+    fn json(&self, alloc: Global) -> Result<Json, AllocError> {
+        self.spelled.json(alloc)
+    }
+}
+
+impl Compile for Count {
+    ghost use Rattle.asl_members.specs.Readable.{IsCount};
+
+    ghost Fits = { IsCount };
+
+    fn read(alloc: Global, value: &Json) -> Result<Count, AllocError> {
+        let Json::Num(number) = value else {
+            unreachable!();
+        };
+        let Some(whole) = number.whole() else {
+            unreachable!();
+        };
+        Ok(Count {
+            spelled: number.try_clone(alloc)?,
+            value: whole as u32,
+        })
+    }
+}
+
+impl BackoffRate {
+    /// The factor.
+    pub fn rate(&self) -> Rate
+        ensures { pos result ≡ units_of self.now }
+    {
+        let BackoffRate { rate, .. } = self;
+        *rate
+    }
+}
+
+impl Compiled for BackoffRate {
+    ghost use Rattle.asl_json.specs.Data.{number};
+
+    ghost shown = { number };
+
+    fn try_clone(&self, alloc: Global) -> Result<BackoffRate, AllocError> {
+        let BackoffRate { spelled, rate } = self;
+        Ok(BackoffRate {
+            spelled: spelled.try_clone(alloc)?,
+            rate: *rate,
+        })
+    }
+
+    fn json(&self, alloc: Global) -> Result<Json, AllocError> {
+        self.spelled.json(alloc)
+    }
+}
+
+impl Compile for BackoffRate {
+    ghost use Rattle.asl_members.specs.Readable.{IsRate};
+
+    ghost Fits = { IsRate };
+
+    fn read(alloc: Global, value: &Json) -> Result<BackoffRate, AllocError> {
+        let Json::Num(number) = value else {
+            unreachable!();
+        };
+        let Some(rate) = Rate::of(number.units()) else {
+            unreachable!();
+        };
+        Ok(BackoffRate {
+            spelled: number.try_clone(alloc)?,
+            rate,
+        })
+    }
+}

@@ -1,0 +1,203 @@
+// Retriers.
+ghost use Rattle.std.specs.Prelude.{◌≡◌, IfOk, option_map};
+ghost use Rattle.asl_json.specs.Data.{list, chain};
+ghost use Rattle.asl_json.specs.View.{data_of};
+ghost use Rattle.asl_schema.specs.declared.sort.Sort.TheVariants.{Retrier as retrier_sort, Retriers as retriers_sort};
+ghost use Rattle.asl_schema.specs.Canon.{canon};
+ghost use Rattle.asl_schema.specs.Clean.{IsClean, Fits};
+ghost use Rattle.asl_members.specs.Shown.{retrier_object};
+
+use crate::compiled::{Compile, Compiled, clone_optional, json_optional, read_optional};
+use crate::entry::{Entry, object};
+use crate::list::{clone_all, json_all, read_all};
+use crate::number::{BackoffRate, Count};
+use asl_json::{Json, Txt};
+use std::alloc::{AllocError, Global};
+use std::marker::Model;
+
+/// The names of the errors that a retrier or a catcher is for. (Amazon States Language, "Errors".) Contracts see them as the
+/// list of their texts.
+#[derive(Drop)]
+pub struct ErrorNames {
+    names: Vec<Txt>,
+}
+
+impl Model for ErrorNames {
+    ghost use Rattle.std.specs.Prelude.{List, ℕ};
+
+    ghost Value = { List (List ℕ) };
+
+    ghost view = { λ a. a.names.items };
+}
+
+/// A retrier. (Amazon States Language, "Retrying after error".) Contracts speak of its canonical object, `retrier_object`.
+#[derive(Drop)]
+pub struct Retrier {
+    comment: Option<Txt>,
+    errors: ErrorNames,
+    interval: Option<Count>,
+    attempts: Option<Count>,
+    rate: Option<BackoffRate>,
+}
+
+/// The retriers of a state, in the order in which they are tried. Contracts see them as the list of their canonical objects.
+#[derive(Drop)]
+pub struct Retriers {
+    retriers: Vec<Retrier>,
+}
+
+impl Model for Retriers {
+    ghost use Rattle.std.specs.Prelude.{List};
+    ghost use Rattle.asl_json.specs.Data.{Data};
+    ghost use Rattle.asl_json.specs.Code.{coded_items};
+    ghost use Rattle.asl_members.specs.Shown.{retrier_objects};
+
+    ghost Value = { List Data };
+
+    ghost coded = { coded_items };
+
+    ghost view = { λ a. retrier_objects a.retriers.items };
+}
+
+impl Compiled for ErrorNames {
+    ghost use Rattle.asl_members.specs.Shown.{names_shown};
+
+    ghost shown = { names_shown };
+
+    fn try_clone(&self, alloc: Global) -> Result<ErrorNames, AllocError> {
+        Ok(ErrorNames {
+            names: clone_all(alloc, &self.names)?,
+        })
+    }
+
+    fn json(&self, alloc: Global) -> Result<Json, AllocError> {
+        Ok(Json::List(json_all(alloc, &self.names)?))
+    }
+}
+
+impl Compile for ErrorNames {
+    ghost use Rattle.asl_members.specs.Readable.{AreNames};
+
+    ghost Fits = { AreNames };
+
+    fn read(alloc: Global, value: &Json) -> Result<ErrorNames, AllocError> {
+        let Json::List(names) = value else {
+            unreachable!();
+        };
+        Ok(ErrorNames {
+            names: read_all(alloc, names.values())?,
+        })
+    }
+}
+
+impl Retrier {
+    fn read(alloc: Global, value: &Json) -> Result<Retrier, AllocError>
+        requires { IsClean retrier_sort (data_of value.now) }
+        ensures { IfOk result (λ r. retrier_object r ≡ canon retrier_sort (data_of value.now)) }
+    {
+        let Some(errors) = value.get("ErrorEquals") else {
+            unreachable!();
+        };
+        Ok(Retrier {
+            comment: read_optional(alloc, value.get("Comment"))?,
+            errors: ErrorNames::read(alloc, errors)?,
+            interval: read_optional(alloc, value.get("IntervalSeconds"))?,
+            attempts: read_optional(alloc, value.get("MaxAttempts"))?,
+            rate: read_optional(alloc, value.get("BackoffRate"))?,
+        })
+    }
+}
+
+impl Compiled for Retrier {
+    ghost use Rattle.asl_members.specs.Shown.{retrier_object};
+
+    ghost shown = { retrier_object };
+
+    fn try_clone(&self, alloc: Global) -> Result<Retrier, AllocError> {
+        Ok(Retrier {
+            comment: clone_optional(alloc, &self.comment)?,
+            errors: self.errors.try_clone(alloc)?,
+            interval: clone_optional(alloc, &self.interval)?,
+            attempts: clone_optional(alloc, &self.attempts)?,
+            rate: clone_optional(alloc, &self.rate)?,
+        })
+    }
+
+    fn json(&self, alloc: Global) -> Result<Json, AllocError> {
+        let comment = json_optional(alloc, &self.comment)?;
+        let errors = self.errors.json(alloc)?;
+        let interval = json_optional(alloc, &self.interval)?;
+        let attempts = json_optional(alloc, &self.attempts)?;
+        let rate = json_optional(alloc, &self.rate)?;
+        let entries = vec![in alloc;
+            Entry {
+                name: "Comment",
+                value: comment,
+            },
+            Entry {
+                name: "ErrorEquals",
+                value: Some(errors),
+            },
+            Entry {
+                name: "IntervalSeconds",
+                value: interval,
+            },
+            Entry {
+                name: "MaxAttempts",
+                value: attempts,
+            },
+            Entry {
+                name: "BackoffRate",
+                value: rate,
+            },
+        ]?;
+        object(alloc, entries)
+    }
+}
+
+impl Retriers {
+    /// Compiles the value of `Retry`. The error is that memory ran out.
+    pub fn read(alloc: Global, value: &Json) -> Result<Retriers, AllocError>
+        requires { IsClean retriers_sort (data_of value.now) }
+        ensures { IfOk result (λ rs. list (chain rs) ≡ canon retriers_sort (data_of value.now)) }
+    {
+        let Json::List(values) = value else {
+            unreachable!();
+        };
+        let mut retriers = Vec::new(alloc);
+        for value in values.values() {
+            retriers.push(Retrier::read(alloc, value)?)?;
+        }
+        Ok(Retriers { retriers })
+    }
+
+    /// Compiles the value of `Retry`, where it is there. The error is that memory ran out.
+    pub fn read_optional(
+        alloc: Global,
+        value: Option<&Json>,
+    ) -> Result<Option<Retriers>, AllocError>
+        requires { Fits retriers_sort (option_map (λ v. data_of v.now) value) }
+        ensures { IfOk result (λ x. option_map (λ rs. list (chain rs)) x ≡ option_map (λ v. canon retriers_sort (data_of v.now)) value.entry) }
+    {
+        match value {
+            Some(value) => Ok(Some(Retriers::read(alloc, value)?)),
+            None => Ok(None),
+        }
+    }
+}
+
+impl Compiled for Retriers {
+    ghost use Rattle.asl_json.specs.Data.{list, chain};
+
+    ghost shown = { λ rs. list (chain rs) };
+
+    fn try_clone(&self, alloc: Global) -> Result<Retriers, AllocError> {
+        Ok(Retriers {
+            retriers: clone_all(alloc, &self.retriers)?,
+        })
+    }
+
+    fn json(&self, alloc: Global) -> Result<Json, AllocError> {
+        Ok(Json::List(json_all(alloc, &self.retriers)?))
+    }
+}
