@@ -1,3 +1,5 @@
 pub mod Shown
 pub mod Readable
 pub mod Entries
+pub mod Rules
+pub mod Falls

@@ -1,0 +1,9 @@
+-- What a list holds is no deeper than what it holds together.
+use Rattle.std.proofs.Common.{◌≡◌, ◌<◌, ◌≤◌, ℕ, zero, suc, List, [], ◌∷◌, length, get_or, ap, arith}
+use Rattle.std.specs.Prelude.{map}
+use Rattle.asl_json.specs.Data.{Data, depth, items_depth, chain}
+
+pub item_within : {A : Type 0} (f : A → Data) (xs : List A) (i : ℕ) (x : A) → i < length xs → x ≡ get_or xs i x → depth (f x) ≤ items_depth (chain (map f xs))
+item_within f [] i x lt at = omega (arith, lt)
+item_within f (y ∷ ys) zero x lt at = let same : depth (f x) ≡ depth (f y) = ap (λ z. depth (f z)) at in omega (arith, same)
+item_within f (y ∷ ys) (suc i) x lt at = omega (arith, item_within f ys i x (omega (arith, lt)) at)
