@@ -3,9 +3,9 @@ ghost use Rattle.std.specs.Prelude.{IfOk, IfErr};
 ghost use Rattle.asl_cli.specs.Answers.{IsChecked};
 ghost use Rattle.asl_cli.specs.Refusals.{IsJudged, IsCheckReason};
 
+use crate::command::{REFUSED, print_good, read_file};
 use crate::files::Files;
 use crate::refusal::Refusal;
-use crate::command::{REFUSED, print_good, read_file};
 use crate::words::CheckWords;
 use asl_check::Fault;
 use asl_history::Sink;

@@ -120,7 +120,12 @@ fn parts(alloc: Global, items: &Items) -> Result<Result<Parts, Fault>, AllocErro
 
 /// Whether of `k` and `k.$` the other one is among these members, which are those so far, and whose keys these are. The error
 /// is that memory ran out.
-pub fn is_double(alloc: Global, keys: &Keys, members: &[Member], key: &str) -> Result<bool, AllocError>
+pub fn is_double(
+    alloc: Global,
+    keys: &Keys,
+    members: &[Member],
+    key: &str,
+) -> Result<bool, AllocError>
     requires { Knows keys.now (members_of members.now) }
     ensures { IfOk result (λ double. double ≡ spec_is_double (members_of members.now) key.now) }
 {
