@@ -95,7 +95,11 @@ fn stamp(alloc: Global, value: &Json) -> Result<Stamp, AllocError>
 
 impl Comparison {
     /// The test by this operator, with what stands at it.
-    pub(crate) fn read(alloc: Global, operator: Operator, value: &Json) -> Result<Comparison, AllocError>
+    pub(crate) fn read(
+        alloc: Global,
+        operator: Operator,
+        value: &Json,
+    ) -> Result<Comparison, AllocError>
         requires { IsClean (operand_sort operator) (data_of value.now) }
         ensures { IfOk result (λ c. test_named c ≡ (operator_name operator, data_of value.now)) }
     {
@@ -105,7 +109,10 @@ impl Comparison {
             Operator::Numeric(order) => Ok(Comparison::Numeric(order, number(alloc, value)?)),
             Operator::NumericPath(order) => Ok(Comparison::NumericPath(order, path(alloc, value)?)),
             Operator::Timestamp(order) => Ok(Comparison::Timestamp(order, stamp(alloc, value)?)),
-            Operator::TimestampPath(order) => Ok(Comparison::TimestampPath(order, path(alloc, value)?)),
+            Operator::TimestampPath(order) => Ok(Comparison::TimestampPath(
+                order,
+                path(alloc, value)?,
+            )),
             Operator::Boolean => Ok(Comparison::Boolean(truth(value))),
             Operator::BooleanPath => Ok(Comparison::BooleanPath(path(alloc, value)?)),
             Operator::Matches => Ok(Comparison::Matches(text(alloc, value)?)),
@@ -153,12 +160,30 @@ impl Comparison {
         ensures { IfOk result (λ c. c ≡ self.now) }
     {
         match self {
-            Comparison::String(order, text) => Ok(Comparison::String(*order, text.try_clone(alloc)?)),
-            Comparison::StringPath(order, path) => Ok(Comparison::StringPath(*order, path.try_clone(alloc)?)),
-            Comparison::Numeric(order, number) => Ok(Comparison::Numeric(*order, number.try_clone(alloc)?)),
-            Comparison::NumericPath(order, path) => Ok(Comparison::NumericPath(*order, path.try_clone(alloc)?)),
-            Comparison::Timestamp(order, stamp) => Ok(Comparison::Timestamp(*order, stamp.try_clone(alloc)?)),
-            Comparison::TimestampPath(order, path) => Ok(Comparison::TimestampPath(*order, path.try_clone(alloc)?)),
+            Comparison::String(order, text) => Ok(Comparison::String(
+                *order,
+                text.try_clone(alloc)?,
+            )),
+            Comparison::StringPath(order, path) => Ok(Comparison::StringPath(
+                *order,
+                path.try_clone(alloc)?,
+            )),
+            Comparison::Numeric(order, number) => Ok(Comparison::Numeric(
+                *order,
+                number.try_clone(alloc)?,
+            )),
+            Comparison::NumericPath(order, path) => Ok(Comparison::NumericPath(
+                *order,
+                path.try_clone(alloc)?,
+            )),
+            Comparison::Timestamp(order, stamp) => Ok(Comparison::Timestamp(
+                *order,
+                stamp.try_clone(alloc)?,
+            )),
+            Comparison::TimestampPath(order, path) => Ok(Comparison::TimestampPath(
+                *order,
+                path.try_clone(alloc)?,
+            )),
             Comparison::Boolean(truth) => Ok(Comparison::Boolean(*truth)),
             Comparison::BooleanPath(path) => Ok(Comparison::BooleanPath(path.try_clone(alloc)?)),
             Comparison::Matches(pattern) => Ok(Comparison::Matches(pattern.try_clone(alloc)?)),

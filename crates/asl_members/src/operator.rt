@@ -56,36 +56,126 @@ pub(crate) enum RuleKind {
 pub(crate) struct Row(&'static str, RuleKind);
 
 const RULE_KINDS: &[Row] = &[
-    Row("StringEquals", RuleKind::Test(Operator::String(Order::Equals))),
-    Row("StringEqualsPath", RuleKind::Test(Operator::StringPath(Order::Equals))),
-    Row("StringLessThan", RuleKind::Test(Operator::String(Order::LessThan))),
-    Row("StringLessThanPath", RuleKind::Test(Operator::StringPath(Order::LessThan))),
-    Row("StringGreaterThan", RuleKind::Test(Operator::String(Order::GreaterThan))),
-    Row("StringGreaterThanPath", RuleKind::Test(Operator::StringPath(Order::GreaterThan))),
-    Row("StringLessThanEquals", RuleKind::Test(Operator::String(Order::LessThanEquals))),
-    Row("StringLessThanEqualsPath", RuleKind::Test(Operator::StringPath(Order::LessThanEquals))),
-    Row("StringGreaterThanEquals", RuleKind::Test(Operator::String(Order::GreaterThanEquals))),
-    Row("StringGreaterThanEqualsPath", RuleKind::Test(Operator::StringPath(Order::GreaterThanEquals))),
-    Row("NumericEquals", RuleKind::Test(Operator::Numeric(Order::Equals))),
-    Row("NumericEqualsPath", RuleKind::Test(Operator::NumericPath(Order::Equals))),
-    Row("NumericLessThan", RuleKind::Test(Operator::Numeric(Order::LessThan))),
-    Row("NumericLessThanPath", RuleKind::Test(Operator::NumericPath(Order::LessThan))),
-    Row("NumericGreaterThan", RuleKind::Test(Operator::Numeric(Order::GreaterThan))),
-    Row("NumericGreaterThanPath", RuleKind::Test(Operator::NumericPath(Order::GreaterThan))),
-    Row("NumericLessThanEquals", RuleKind::Test(Operator::Numeric(Order::LessThanEquals))),
-    Row("NumericLessThanEqualsPath", RuleKind::Test(Operator::NumericPath(Order::LessThanEquals))),
-    Row("NumericGreaterThanEquals", RuleKind::Test(Operator::Numeric(Order::GreaterThanEquals))),
-    Row("NumericGreaterThanEqualsPath", RuleKind::Test(Operator::NumericPath(Order::GreaterThanEquals))),
-    Row("TimestampEquals", RuleKind::Test(Operator::Timestamp(Order::Equals))),
-    Row("TimestampEqualsPath", RuleKind::Test(Operator::TimestampPath(Order::Equals))),
-    Row("TimestampLessThan", RuleKind::Test(Operator::Timestamp(Order::LessThan))),
-    Row("TimestampLessThanPath", RuleKind::Test(Operator::TimestampPath(Order::LessThan))),
-    Row("TimestampGreaterThan", RuleKind::Test(Operator::Timestamp(Order::GreaterThan))),
-    Row("TimestampGreaterThanPath", RuleKind::Test(Operator::TimestampPath(Order::GreaterThan))),
-    Row("TimestampLessThanEquals", RuleKind::Test(Operator::Timestamp(Order::LessThanEquals))),
-    Row("TimestampLessThanEqualsPath", RuleKind::Test(Operator::TimestampPath(Order::LessThanEquals))),
-    Row("TimestampGreaterThanEquals", RuleKind::Test(Operator::Timestamp(Order::GreaterThanEquals))),
-    Row("TimestampGreaterThanEqualsPath", RuleKind::Test(Operator::TimestampPath(Order::GreaterThanEquals))),
+    Row(
+        "StringEquals",
+        RuleKind::Test(Operator::String(Order::Equals)),
+    ),
+    Row(
+        "StringEqualsPath",
+        RuleKind::Test(Operator::StringPath(Order::Equals)),
+    ),
+    Row(
+        "StringLessThan",
+        RuleKind::Test(Operator::String(Order::LessThan)),
+    ),
+    Row(
+        "StringLessThanPath",
+        RuleKind::Test(Operator::StringPath(Order::LessThan)),
+    ),
+    Row(
+        "StringGreaterThan",
+        RuleKind::Test(Operator::String(Order::GreaterThan)),
+    ),
+    Row(
+        "StringGreaterThanPath",
+        RuleKind::Test(Operator::StringPath(Order::GreaterThan)),
+    ),
+    Row(
+        "StringLessThanEquals",
+        RuleKind::Test(Operator::String(Order::LessThanEquals)),
+    ),
+    Row(
+        "StringLessThanEqualsPath",
+        RuleKind::Test(Operator::StringPath(Order::LessThanEquals)),
+    ),
+    Row(
+        "StringGreaterThanEquals",
+        RuleKind::Test(Operator::String(Order::GreaterThanEquals)),
+    ),
+    Row(
+        "StringGreaterThanEqualsPath",
+        RuleKind::Test(Operator::StringPath(Order::GreaterThanEquals)),
+    ),
+    Row(
+        "NumericEquals",
+        RuleKind::Test(Operator::Numeric(Order::Equals)),
+    ),
+    Row(
+        "NumericEqualsPath",
+        RuleKind::Test(Operator::NumericPath(Order::Equals)),
+    ),
+    Row(
+        "NumericLessThan",
+        RuleKind::Test(Operator::Numeric(Order::LessThan)),
+    ),
+    Row(
+        "NumericLessThanPath",
+        RuleKind::Test(Operator::NumericPath(Order::LessThan)),
+    ),
+    Row(
+        "NumericGreaterThan",
+        RuleKind::Test(Operator::Numeric(Order::GreaterThan)),
+    ),
+    Row(
+        "NumericGreaterThanPath",
+        RuleKind::Test(Operator::NumericPath(Order::GreaterThan)),
+    ),
+    Row(
+        "NumericLessThanEquals",
+        RuleKind::Test(Operator::Numeric(Order::LessThanEquals)),
+    ),
+    Row(
+        "NumericLessThanEqualsPath",
+        RuleKind::Test(Operator::NumericPath(Order::LessThanEquals)),
+    ),
+    Row(
+        "NumericGreaterThanEquals",
+        RuleKind::Test(Operator::Numeric(Order::GreaterThanEquals)),
+    ),
+    Row(
+        "NumericGreaterThanEqualsPath",
+        RuleKind::Test(Operator::NumericPath(Order::GreaterThanEquals)),
+    ),
+    Row(
+        "TimestampEquals",
+        RuleKind::Test(Operator::Timestamp(Order::Equals)),
+    ),
+    Row(
+        "TimestampEqualsPath",
+        RuleKind::Test(Operator::TimestampPath(Order::Equals)),
+    ),
+    Row(
+        "TimestampLessThan",
+        RuleKind::Test(Operator::Timestamp(Order::LessThan)),
+    ),
+    Row(
+        "TimestampLessThanPath",
+        RuleKind::Test(Operator::TimestampPath(Order::LessThan)),
+    ),
+    Row(
+        "TimestampGreaterThan",
+        RuleKind::Test(Operator::Timestamp(Order::GreaterThan)),
+    ),
+    Row(
+        "TimestampGreaterThanPath",
+        RuleKind::Test(Operator::TimestampPath(Order::GreaterThan)),
+    ),
+    Row(
+        "TimestampLessThanEquals",
+        RuleKind::Test(Operator::Timestamp(Order::LessThanEquals)),
+    ),
+    Row(
+        "TimestampLessThanEqualsPath",
+        RuleKind::Test(Operator::TimestampPath(Order::LessThanEquals)),
+    ),
+    Row(
+        "TimestampGreaterThanEquals",
+        RuleKind::Test(Operator::Timestamp(Order::GreaterThanEquals)),
+    ),
+    Row(
+        "TimestampGreaterThanEqualsPath",
+        RuleKind::Test(Operator::TimestampPath(Order::GreaterThanEquals)),
+    ),
     Row("BooleanEquals", RuleKind::Test(Operator::Boolean)),
     Row("BooleanEqualsPath", RuleKind::Test(Operator::BooleanPath)),
     Row("StringMatches", RuleKind::Test(Operator::Matches)),
@@ -94,7 +184,10 @@ const RULE_KINDS: &[Row] = &[
     Row("IsNumeric", RuleKind::Test(Operator::Is(Property::Numeric))),
     Row("IsString", RuleKind::Test(Operator::Is(Property::String))),
     Row("IsBoolean", RuleKind::Test(Operator::Is(Property::Boolean))),
-    Row("IsTimestamp", RuleKind::Test(Operator::Is(Property::Timestamp))),
+    Row(
+        "IsTimestamp",
+        RuleKind::Test(Operator::Is(Property::Timestamp)),
+    ),
     Row("And", RuleKind::And),
     Row("Or", RuleKind::Or),
     Row("Not", RuleKind::Not),

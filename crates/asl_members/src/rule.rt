@@ -167,7 +167,12 @@ fn with(members: Members, name: Txt, value: Json) -> Result<Members, AllocError>
 }
 
 /// The comment and one more member.
-fn commented(alloc: Global, comment: &Option<Txt>, name: Txt, value: Json) -> Result<Members, AllocError>
+fn commented(
+    alloc: Global,
+    comment: &Option<Txt>,
+    name: Txt,
+    value: Json,
+) -> Result<Members, AllocError>
     requires { has_key name (comment_named comment.now) ≡ false }
     ensures { IfOk result (λ ms. ms ≡ comment_named comment.now ++ (name, data_of value) ∷ []) }
 {
@@ -184,7 +189,11 @@ fn test_members(alloc: Global, comment: &Option<Txt>, test: &Test) -> Result<Mem
     } = test;
     let variable = text_value(alloc, variable.text())?;
     let members = commented(alloc, comment, key(alloc, "Variable")?, variable)?;
-    with(members, comparison.operator().name(alloc)?, comparison.operand(alloc)?)
+    with(
+        members,
+        comparison.operator().name(alloc)?,
+        comparison.operand(alloc)?,
+    )
 }
 
 #[cycle(members)]
