@@ -1,5 +1,5 @@
 -- The keys of a rule differ.
-use Rattle.std.proofs.Common.{◌≡◌, ℕ, List, [], ◌∷◌, ◌++◌, Bool, true, false, ◌||◌, refl, sym, subst, ap, ◌∙◌}
+use Rattle.std.proofs.Common.{◌≡◌, ℕ, List, [], ◌∷◌, ◌++◌, Bool, true, false, refl, sym, subst, ap, ◌∙◌}
 use Rattle.std.specs.Prelude.{Option, Some, None, Result, IfOk, codes}
 use Rattle.asl_json.specs.Data.{Data}
 use Rattle.asl_json.specs.Same.{bytes_eq}

@@ -1,10 +1,8 @@
 -- The names of what decides a rule, and what stands at them.
-use Rattle.std.proofs.Common.{◌≡◌, ℕ, ◌+◌, ◌<◌, zero, suc, length, drop, ◌∙◌, get_or, arith, ap, List, [], ◌∷◌, Bool, true, false, ◌||◌, ◌&&◌, not, refl, sym, subst}
+use Rattle.std.proofs.Common.{◌≡◌, ℕ, ◌<◌, zero, suc, length, get_or, arith, List, [], ◌∷◌, Bool, true, false, ◌||◌, ◌&&◌, not, refl, sym, subst}
 use Rattle.std.specs.Prelude.{codes}
-use Rattle.std.proofs.lemmas.List.{drop_more}
 use Rattle.std.specs.Cmp.Lexicographic.{same_text}
 use Rattle.asl_json.specs.Same.{bytes_eq}
-use Rattle.asl_schema.specs.declared.sort.Sort.{Sort}
 use Rattle.asl_schema.specs.declared.sort.Sort.TheVariants.{InnerRule, InnerRules, Unknown}
 use Rattle.asl_schema.specs.Members.{Row, optional, is_among, sort_in, operators, inner_rule_rows, test_rows}
 use Rattle.asl_members.specs.declared.operator.Order.{Order}
@@ -16,7 +14,7 @@ use Rattle.asl_members.specs.declared.operator.Operator.TheVariants as operator
 use Rattle.asl_members.specs.declared.operator.RuleKind.{RuleKind}
 use Rattle.asl_members.specs.declared.operator.RuleKind.TheVariants as kind
 use Rattle.asl_members.specs.declared.operator.Row.{Row as NamedKind}
-use Rattle.asl_members.specs.Rules.{operator_name, kind_name, kind_names, kind_sort, written, are_named}
+use Rattle.asl_members.specs.Rules.{operator_name, kind_name, kind_names, kind_sort, are_named}
 
 each_order : (P : Order → Type 0) → P order.Equals → P order.LessThan → P order.GreaterThan → P order.LessThanEquals → P order.GreaterThanEquals → (o : Order) → P o
 each_order P a b c d e order.Equals = a

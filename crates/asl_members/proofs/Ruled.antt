@@ -1,5 +1,5 @@
 -- What the members of a rule are.
-use Rattle.std.proofs.Common.{◌≡◌, ℕ, List, [], ◌∷◌, ◌++◌, Bool, true, false, ◌||◌, refl, sym, subst, ap, ◌∙◌, inl, inr}
+use Rattle.std.proofs.Common.{◌≡◌, ℕ, List, ◌∷◌, Bool, true, false, refl, sym, subst, ap, ◌∙◌, inl, inr}
 use Rattle.std.specs.Prelude.{Option, Some, None, is_some, codes}
 use Rattle.asl_json.specs.Data.{Data, Pairs}
 use Rattle.asl_json.specs.Same.{bytes_eq}
@@ -7,8 +7,8 @@ use Rattle.asl_json.specs.Meaning.{value_at}
 use Rattle.asl_schema.specs.declared.sort.Sort.{Sort}
 use Rattle.asl_schema.specs.declared.sort.Sort.TheVariants as sort
 use Rattle.asl_schema.specs.Members.{Group, Shape, shape_of, sort_at, is_among, operators, connectives, rule_groups, at_most_one, inner_rule_rows, rule_rows}
-use Rattle.asl_schema.specs.Claims.{counts, any_in, is_true}
-use Rattle.asl_schema.specs.Clean.{IsCleanInside, IsCleanAmong, Fits, IsThere, IsThereAmong, is_beside}
+use Rattle.asl_schema.specs.Claims.{counts, any_in}
+use Rattle.asl_schema.specs.Clean.{IsCleanInside, Fits, IsThere, IsThereAmong, is_beside}
 use Rattle.asl_schema.proofs.Inside.{fits_at, there_beside, clean}
 use Rattle.asl_schema.proofs.Deciding.{IsGroup, one_counts, some_counts}
 use Rattle.asl_members.specs.declared.operator.Operator.{Operator}

@@ -5,13 +5,13 @@ use Rattle.std.proofs.lemmas.List.{take_more, take_all, map-append}
 use Rattle.asl_json.specs.Data.{Data, text, list, dict, chain, Pairs, no_members, member, pairs, depth, members_depth}
 use Rattle.asl_json.specs.Same.{bytes_eq}
 use Rattle.asl_json.specs.Meaning.{value_at}
-use Rattle.asl_json.specs.View.{data_of, items_of, members_of}
+use Rattle.asl_json.specs.View.{data_of, items_of}
 use Rattle.asl_json.specs.declared.value.Json.{Json}
 use Rattle.asl_schema.specs.declared.sort.Sort.{Sort}
 use Rattle.asl_schema.specs.declared.sort.Sort.TheVariants.{Text, Path, InnerRule, InnerRules}
 use Rattle.asl_schema.specs.Members.{shape_of, sort_at, is_among, inner_rule_rows, operators, connectives, test_rows}
 use Rattle.asl_schema.specs.Canon.{Named, is_plain, opt, kept, kept_at, canon, canon_items, picked_at}
-use Rattle.asl_schema.specs.Clean.{IsClean, Fits, IsThere}
+use Rattle.asl_schema.specs.Clean.{IsClean}
 use Rattle.asl_schema.proofs.Canons.{picked-canon, plain_kept, plain_canon, not_end}
 use Rattle.asl_schema.proofs.Inside.{object_inside, clean}
 use Rattle.asl_schema.proofs.Parts.{items_clean, item_clean}
@@ -23,7 +23,7 @@ use Rattle.asl_members.specs.declared.rule.Condition.{Condition}
 use Rattle.asl_members.specs.Rules.{IsRule, inner, canonical_rule, rule_object, rule_list, rule_named, condition_named, kind_name, kind_names, kind_sort, operator_name, operand_sort}
 use Rattle.asl_members.proofs.Names.{kind_stood, kind_sorted, row_names, deciding_rows}
 use Rattle.asl_members.proofs.Picked.{picked_one}
-use Rattle.asl_members.proofs.Ruled.{Ruled, ruled}
+use Rattle.asl_members.proofs.Ruled.{ruled}
 
 among-append : (l : List ℕ) (ks bs : List (List ℕ)) → is_among l (ks ++ bs) ≡ (is_among l ks || is_among l bs)
 among-append l [] bs = refl

@@ -1,10 +1,10 @@
 -- What a rule holds is smaller than itself.
-use Rattle.std.specs.Prelude.{◌≤◌, ◌+◌, ℕ, max, List, [], ◌∷◌, ◌++◌, Option, Some, None, map}
+use Rattle.std.specs.Prelude.{◌≤◌, ◌+◌, ℕ, max, List, [], ◌∷◌, Option, Some, None, map}
 use Rattle.std.proofs.Common.{arith}
 use denote.Param.Weighed.{most}
-use Rattle.asl_json.specs.Data.{Data, depth, chain, pairs, items_depth, members_size}
+use Rattle.asl_json.specs.Data.{chain, items_depth, members_size}
 use Rattle.asl_schema.specs.Canon.{Named}
-use Rattle.asl_members.specs.Rules.{rule_object, condition_named, comment_named, rule_named}
+use Rattle.asl_members.specs.Rules.{rule_object, condition_named, rule_named}
 use Rattle.asl_members.specs.declared.rule.Condition.{Condition}
 use Rattle.asl_members.specs.declared.rule.Condition.TheVariants.{And, Or, Not, Test}
 use Rattle.asl_members.specs.declared.rule.Rule.TheDeep.{deep-Condition}

@@ -1,5 +1,5 @@
 -- Rules of Choice states. (Amazon States Language, "Choice State".)
-use Rattle.std.specs.Prelude.{◌≡◌, ℕ, List, [], ◌∷◌, ◌++◌, Bool, true, ◌&&◌, Option, Some, None, codes, map, option_map}
+use Rattle.std.specs.Prelude.{◌≡◌, ℕ, List, [], ◌∷◌, ◌++◌, Bool, true, ◌&&◌, Option, None, codes, map, option_map}
 use Rattle.asl_json.specs.Data.{Data, boolean, number, text, list, dict, chain, Pairs, pairs}
 use Rattle.asl_json.specs.Same.{bytes_eq}
 use Rattle.asl_schema.specs.declared.sort.Sort.{Sort}

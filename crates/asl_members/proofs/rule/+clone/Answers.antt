@@ -1,4 +1,4 @@
-use Rattle.std.proofs.Common.{◌≡◌, ◌<◌, ◌≤◌, ℕ, List, [], ◌∷◌, suc, sym, subst, ap, ◌∙◌, arith}
+use Rattle.std.proofs.Common.{◌≤◌, List, [], ◌∷◌, suc, sym, subst, ap, ◌∙◌, arith}
 use Rattle.std.specs.Prelude.{codes, map}
 use Rattle.asl_json.specs.Data.{chain, items_depth, members_size}
 use Rattle.asl_schema.specs.Canon.{Named}

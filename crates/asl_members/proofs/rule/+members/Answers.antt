@@ -1,6 +1,6 @@
-use Rattle.std.proofs.Common.{◌≡◌, ◌<◌, ◌≤◌, ℕ, List, [], ◌∷◌, ◌++◌, suc, false, refl, sym, subst, ap, ◌∙◌, arith}
+use Rattle.std.proofs.Common.{◌≡◌, ◌≤◌, List, suc, false, refl, sym, subst, ap, ◌∙◌, arith}
 use Rattle.std.specs.Prelude.{codes, map}
-use Rattle.asl_json.specs.Data.{Data, chain, items_depth, members_size}
+use Rattle.asl_json.specs.Data.{chain, items_depth, members_size}
 use Rattle.asl_json.specs.View.{data_of}
 use Rattle.asl_json.specs.Distinct.{Members, has_key}
 use Rattle.asl_schema.specs.Canon.{Named}

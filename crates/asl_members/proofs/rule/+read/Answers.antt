@@ -1,6 +1,6 @@
-use Rattle.std.proofs.Common.{◌≡◌, ◌≤◌, ◌<◌, ◌+◌, ◌*◌, ℕ, suc, List, [], ◌∷◌, ◌++◌, true, false, refl, sym, subst, ap, ◌∙◌, arith}
-use Rattle.std.specs.Prelude.{codes, Option, Some, None, option_map}
-use Rattle.asl_json.specs.Data.{Data, dict, list, pairs, chain, depth, items_depth, members_depth}
+use Rattle.std.proofs.Common.{◌≡◌, ◌≤◌, suc, List, [], ◌∷◌, ◌++◌, refl, sym, subst, ap, ◌∙◌, arith}
+use Rattle.std.specs.Prelude.{codes, Option, option_map}
+use Rattle.asl_json.specs.Data.{Data, pairs, chain, depth, items_depth, members_depth}
 use Rattle.asl_json.specs.View.{data_of, items_of, members_of}
 use Rattle.asl_schema.specs.declared.sort.Sort.TheVariants.{Text}
 use Rattle.asl_schema.specs.Canon.{Named, canon, opt}
