@@ -87,8 +87,8 @@ picked_more f (r ∷ rs) k d ms e = by (bytes_eq r.name k) refl (both_are (not (
         let off : is_row k rs ≡ false = subst (λ (l : List ℕ). is_row l rs ≡ false) same (not_true (is_row r.name rs) new) in
         rw p
         (behind _ _ (weigh f r.name (kept r.name (Some d))) _ _ _ (f k d) (opt_total f r.name (kept r.name (Some d)) (picked rs (member k d ms))) (opt_total f r.name (kept r.name (value_at r.name ms)) (picked rs ms))
-          (subst (λ (l : List ℕ). weigh f r.name (kept r.name (Some d)) ≤ f l d) same (kept_weight f r.name (Some d)))
-          (ap (λ (xs : List Named). total f (pairs xs)) (picked_same k d rs ms off)))
+        (subst (λ (l : List ℕ). weigh f r.name (kept r.name (Some d)) ≤ f l d) same (kept_weight f r.name (Some d)))
+        (ap (λ (xs : List Named). total f (pairs xs)) (picked_same k d rs ms off)))
     by false p new rest =
         rw p
         (between _ _ _ _ _ (f k d) (opt_total f r.name (kept r.name (value_at r.name ms)) (picked rs (member k d ms))) (opt_total f r.name (kept r.name (value_at r.name ms)) (picked rs ms)) rest)

@@ -171,9 +171,9 @@ mutual
   claims_canon p s (list ds) keys h = listed_hold p s ds h (λ g. items_canon p (item_sort s) 0 ds keys g)
   claims_canon p s (dict ms) keys h =
       arranged_hold p s ms keys.0 h (λ e.
-        let sh = shape_in s ms in
-        let others = each_right Hold (heres (group_demands sh.groups ms)) (member_claims (inside p s ms) sh [] 0 ms ++ row_claims (count ms) sh.rows ms) (object_hold p s ms e h) in
-        members_canon (inside p s ms) sh [] 0 ms keys.1 (each_left Hold (member_claims (inside p s ms) sh [] 0 ms) (row_claims (count ms) sh.rows ms) others))
+      let sh = shape_in s ms in
+      let others = each_right Hold (heres (group_demands sh.groups ms)) (member_claims (inside p s ms) sh [] 0 ms ++ row_claims (count ms) sh.rows ms) (object_hold p s ms e h) in
+      members_canon (inside p s ms) sh [] 0 ms keys.1 (each_left Hold (member_claims (inside p s ms) sh [] 0 ms) (row_claims (count ms) sh.rows ms) others))
 
   items_canon : (p : Spot) (s : Sort) (i : ℕ) (ds : Chain) → KeysDifferInItems ds → Each Hold (item_claims p s i ds) → Each Hold (item_claims p s i (canon_items s ds))
   items_canon p s i no_items keys h = tt

@@ -40,9 +40,9 @@ distinct_picked (r ∷ rs) seen cs e new =
     by (Some d) off rest = (
       new r.name (rw (bytes_refl r.name) refl),
       rest (seen ++ (r.name, d) ∷ []) (λ l on.
-        let first : has_key l seen ≡ false = new l (or_right (bytes_eq l r.name) (is_row l rs) on) in
-        let second : bytes_eq l r.name ≡ false = apart r.name rs l off on in
-        has_key-push l seen (r.name, d) ∙ (rw (first, second) refl)),
+          let first : has_key l seen ≡ false = new l (or_right (bytes_eq l r.name) (is_row l rs) on) in
+          let second : bytes_eq l r.name ≡ false = apart r.name rs l off on in
+          has_key-push l seen (r.name, d) ∙ (rw (first, second) refl)),
     )
 
 -- their values

@@ -175,8 +175,8 @@ picked_hold names p sh ms t c all (r ∷ rs) seen i e from new =
     (λ others j. picked_hold names p sh ms t c all rs others j (both_are (not (is_row r.name rs)) (rows_differ rs) e).1)
   where
     by : (o : Option Data) → kept r.name (value_at r.name (canon_members sh ms)) ≡ o → is_row r.name rs ≡ false
-      → ((others : Members) (j : ℕ) → AreFrom sh ms others → ((k : List ℕ) → is_row k rs ≡ true → has_key k others ≡ false) → Each Hold (member_claims p sh others j (pairs (picked rs (canon_members sh ms)))))
-      → Each Hold (member_claims p sh seen i (pairs (opt r.name o ++ picked rs (canon_members sh ms))))
+        → ((others : Members) (j : ℕ) → AreFrom sh ms others → ((k : List ℕ) → is_row k rs ≡ true → has_key k others ≡ false) → Each Hold (member_claims p sh others j (pairs (picked rs (canon_members sh ms)))))
+        → Each Hold (member_claims p sh seen i (pairs (opt r.name o ++ picked rs (canon_members sh ms))))
     by None q off rest = rest seen i from (λ k on. new k (or_right (bytes_eq k r.name) (is_row k rs) on))
     by (Some d) q off rest =
         let k = r.name in
