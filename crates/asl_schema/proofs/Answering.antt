@@ -14,7 +14,7 @@ pub each-append : (P : Claim → Type 0) (xs ys : List Claim) → Each P xs → 
 each-append P [] ys h k = k
 each-append P (x ∷ xs) ys h k = (h.0, each-append P xs ys h.1 k)
 
-each-map : (P Q : Claim → Type 0) (f : Claim → Claim) → ((c : Claim) → P c → Q (f c)) → (xs : List Claim) → Each P xs → Each Q (map f xs)
+pub each-map : (P Q : Claim → Type 0) (f : Claim → Claim) → ((c : Claim) → P c → Q (f c)) → (xs : List Claim) → Each P xs → Each Q (map f xs)
 each-map P Q f g [] h = tt
 each-map P Q f g (x ∷ xs) h = (g x h.0, each-map P Q f g xs h.1)
 

@@ -3,7 +3,7 @@ use Rattle.std.proofs.Common.{[]}
 use Rattle.asl_json.specs.Data.{Data}
 use Rattle.asl_schema.specs.declared.sort.Sort.TheVariants.{Definition}
 use Rattle.asl_schema.specs.Claims.{claims, outside}
-use Rattle.asl_schema.specs.First.{Each, Hold}
+use Rattle.asl_schema.specs.First.{Hold}
 use Rattle.asl_schema.specs.States.{states_in, unique_claims}
 use Rattle.asl_schema.specs.Canon.{canonical}
 use Rattle.asl_schema.specs.Faults.{Accepted}

@@ -12,7 +12,7 @@ use Rattle.asl_schema.specs.declared.sort.Kind.{Kind}
 use Rattle.asl_schema.specs.declared.sort.Kind.TheVariants as kind
 use Rattle.asl_schema.specs.Members.{Row, shape_of, untyped_rows, definition_rows, machine_rows, task_rows, pass_rows, choice_rows, wait_rows, parallel_rows, map_rows, succeed_rows, fail_rows, test_rows, inner_rule_rows, rule_rows, retrier_rows, catcher_rows}
 use Rattle.asl_schema.specs.Canon.{Named, opt, kept, picked}
-use Rattle.asl_schema.proofs.Deciding.{neither_is}
+use Rattle.asl_schema.proofs.Deciding.{neither_is, not_true}
 use Rattle.asl_schema.proofs.CanonicalTwice.{is_row, kept_ways}
 
 -- ---- no row comes twice
@@ -24,10 +24,6 @@ rows_differ (r ∷ rs) = not (is_row r.name rs) && rows_differ rs
 pub both_are : (a b : Bool) → (a && b) ≡ true → (a ≡ true) × (b ≡ true)
 both_are true b e = (refl, e)
 both_are false b e = absurd cc
-
-pub not_is : (b : Bool) → not b ≡ true → b ≡ false
-not_is true e = absurd cc
-not_is false e = refl
 
 pub shape_differs : (s : Sort) (o : Option Kind) → rows_differ (shape_of s o).rows ≡ true
 unfolding untyped_rows definition_rows machine_rows task_rows pass_rows choice_rows wait_rows parallel_rows map_rows succeed_rows fail_rows test_rows inner_rule_rows rule_rows retrier_rows catcher_rows
@@ -88,7 +84,7 @@ picked_more f (r ∷ rs) k d ms e = by (bytes_eq r.name k) refl (both_are (not (
     by : (b : Bool) → bytes_eq r.name k ≡ b → not (is_row r.name rs) ≡ true → total f (pairs (picked rs (member k d ms))) ≤ f k d + total f (pairs (picked rs ms)) → total f (pairs (picked (r ∷ rs) (member k d ms))) ≤ f k d + total f (pairs (picked (r ∷ rs) ms))
     by true p new rest =
         let same : r.name ≡ k = same_text r.name k (sym p) in
-        let off : is_row k rs ≡ false = subst (λ (l : List ℕ). is_row l rs ≡ false) same (not_is (is_row r.name rs) new) in
+        let off : is_row k rs ≡ false = subst (λ (l : List ℕ). is_row l rs ≡ false) same (not_true (is_row r.name rs) new) in
         rw p
         (behind _ _ (weigh f r.name (kept r.name (Some d))) _ _ _ (f k d) (opt_total f r.name (kept r.name (Some d)) (picked rs (member k d ms))) (opt_total f r.name (kept r.name (value_at r.name ms)) (picked rs ms))
         (subst (λ (l : List ℕ). weigh f r.name (kept r.name (Some d)) ≤ f l d) same (kept_weight f r.name (Some d)))

@@ -11,16 +11,17 @@ use Rattle.asl_schema.specs.declared.sort.Sort.{Sort}
 use Rattle.asl_schema.specs.declared.sort.Sort.TheVariants as sort
 use Rattle.asl_schema.specs.declared.sort.Kind.{Kind}
 use Rattle.asl_schema.specs.Members.{Shape, shape_of, shape_in, sort_at, item_sort, kind_named, definition_rows, machine_rows}
-use Rattle.asl_schema.specs.Claims.{Claim, Spot, under, heres, step, demands, claims, at_member, at_item, inside, one_deeper, names_in, members_in, member_claims, item_claims, row_claims, group_demands, object_claims, is_object, is_template, is_nonempty, item_count, is_twice, is_doubled}
+use Rattle.asl_schema.specs.Claims.{Spot, under, heres, step, demands, claims, at_member, at_item, inside, one_deeper, names_in, members_in, member_claims, item_claims, row_claims, group_demands, object_claims, is_object, is_template, is_nonempty, item_count}
 use Rattle.asl_schema.specs.First.{Each, Hold}
 use Rattle.asl_schema.specs.Keys.{KeysDiffer, KeysDifferInItems, KeysDifferInMembers}
 use Rattle.asl_schema.specs.Clean.{IsCleanInside}
-use Rattle.asl_schema.specs.Canon.{Named, kept, canon, canon_items, canon_members, arranged, listed, picked}
+use Rattle.asl_schema.specs.Canon.{kept, canon, canon_items, canon_members, arranged, listed, picked}
 use Rattle.asl_schema.proofs.Canons.{value_at-canon}
 use Rattle.asl_schema.proofs.Answering.{each-append}
 use Rattle.asl_schema.proofs.Inside.{each_left, each_right, each_under, own_hold, object_hold}
+use Rattle.asl_schema.proofs.Deciding.{not_true}
 use Rattle.asl_schema.proofs.CanonicalTwice.{shape_kept, picked_there}
-use Rattle.asl_schema.proofs.CanonicalAmounts.{not_is, shape_differs}
+use Rattle.asl_schema.proofs.CanonicalAmounts.{shape_differs}
 use Rattle.asl_schema.proofs.CanonicalRows.{shape_stays}
 use Rattle.asl_schema.proofs.CanonicalMembers.{CanonHold, member_spot, under_holds, members_hold, groups_hold, rows_hold}
 
@@ -194,6 +195,6 @@ mutual
       let part = map (under (step i k)) (claims spot (sort_at sh k) d) in
       let rest = member_claims p sh (seen ++ (k, d) ∷ []) (suc i) ms in
       let own = each_under (step i k) (claims spot (sort_at sh k) d) (each_left Hold part rest h) in
-      let single : spot.doubled ≡ false = not_is spot.doubled (own_hold spot (sort_at sh k) d own).0 in
+      let single : spot.doubled ≡ false = not_true spot.doubled (own_hold spot (sort_at sh k) d own).0 in
       let moved : Each Hold (claims (member_spot p k false) (sort_at sh k) d) = subst (λ (b : Bool). Each Hold (claims (member_spot p k b) (sort_at sh k) d)) single own in
       (claims_canon (member_spot p k false) (sort_at sh k) d keys.0 moved, members_canon p sh (seen ++ (k, d) ∷ []) (suc i) ms keys.1 (each_right Hold part rest h))

@@ -1,7 +1,6 @@
 -- No object of the canonical form has a key twice.
-use Rattle.std.proofs.Common.{◌≡◌, ℕ, List, [], ◌∷◌, ◌++◌, Bool, true, false, ◌||◌, ◌&&◌, not, refl, sym, ap, ◌∙◌, subst}
-use Rattle.std.specs.Prelude.{Option, Some, None, option_map, codes}
-use Rattle.std.specs.Cmp.Lexicographic.{same_text}
+use Rattle.std.proofs.Common.{◌≡◌, ℕ, List, [], ◌∷◌, ◌++◌, Bool, true, false, ◌||◌, not, refl, sym, ap, ◌∙◌, subst}
+use Rattle.std.specs.Prelude.{Option, Some, None, codes}
 use Rattle.asl_json.specs.Data.{Data, null, boolean, number, text, list, dict, Chain, no_items, item, Pairs, no_members, member, pairs}
 use Rattle.asl_json.specs.Same.{bytes_eq}
 use Rattle.asl_json.specs.SameLaws.{bytes_refl}
@@ -15,8 +14,9 @@ use Rattle.asl_schema.specs.Members.{Row, Shape, shape_in, sort_at, item_sort, k
 use Rattle.asl_schema.specs.Keys.{KeysDiffer, KeysDifferInItems, KeysDifferInMembers}
 use Rattle.asl_schema.specs.Canon.{opt, kept, canon, canon_items, canon_members, arranged, listed, picked}
 use Rattle.asl_schema.proofs.Inside.{or_right}
-use Rattle.asl_schema.proofs.CanonicalTwice.{is_row, kept_ways}
-use Rattle.asl_schema.proofs.CanonicalAmounts.{rows_differ, both_are, not_is, shape_differs, kept_is}
+use Rattle.asl_schema.proofs.Deciding.{not_true}
+use Rattle.asl_schema.proofs.CanonicalTwice.{is_row}
+use Rattle.asl_schema.proofs.CanonicalAmounts.{rows_differ, both_are, shape_differs, kept_is}
 use Rattle.asl_schema.proofs.CanonicalMembers.{apart}
 
 -- what stands before has the same keys
@@ -32,7 +32,7 @@ distinct_canon sh old new (member k v ms) h d = (sym (h k) ∙ d.0, distinct_can
 distinct_picked : (rs : List Row) (seen : Members) (cs : Pairs) → rows_differ rs ≡ true → ((k : List ℕ) → is_row k rs ≡ true → has_key k seen ≡ false) → AreDistinct seen (unpaired (pairs (picked rs cs)))
 distinct_picked [] seen cs e new = tt
 distinct_picked (r ∷ rs) seen cs e new =
-    by (kept r.name (value_at r.name cs)) (not_is (is_row r.name rs) (both_are (not (is_row r.name rs)) (rows_differ rs) e).0)
+    by (kept r.name (value_at r.name cs)) (not_true (is_row r.name rs) (both_are (not (is_row r.name rs)) (rows_differ rs) e).0)
     (λ others. distinct_picked rs others cs (both_are (not (is_row r.name rs)) (rows_differ rs) e).1)
   where
     by : (o : Option Data) → is_row r.name rs ≡ false → ((others : Members) → ((k : List ℕ) → is_row k rs ≡ true → has_key k others ≡ false) → AreDistinct others (unpaired (pairs (picked rs cs)))) → AreDistinct seen (unpaired (pairs (opt r.name o ++ picked rs cs)))

@@ -1,14 +1,14 @@
 -- The canonical form is no longer, nor deeper.
-use Rattle.std.proofs.Common.{◌≡◌, ℕ, suc, ◌+◌, ◌≤◌, List, [], ◌∷◌, ◌++◌, length, true, false, refl, sym, subst, ap, ◌∙◌, arith, length-append}
+use Rattle.std.proofs.Common.{◌≡◌, ℕ, suc, ◌≤◌, List, ◌∷◌, ◌++◌, length, refl, arith, length-append}
 use Rattle.std.specs.Prelude.{max, codes}
 use Rattle.asl_json.specs.Data.{Data, null, boolean, number, text, list, dict, Chain, no_items, item, Pairs, no_members, member, pairs, depth, items_depth, members_depth}
 use Rattle.asl_json.specs.Meaning.{value_at}
-use Rattle.asl_json.specs.Grammar.{comma, colon}
+use Rattle.asl_json.specs.Grammar.{colon}
 use Rattle.asl_json.specs.Compact.{compact, compact_items, compact_more_items, compact_members, compact_more, quoted}
 use Rattle.asl_schema.specs.declared.sort.Sort.{Sort}
 use Rattle.asl_schema.specs.declared.sort.Sort.TheVariants as sort
 use Rattle.asl_schema.specs.Members.{Shape, sort_at, shape_in, item_sort, kind_named}
-use Rattle.asl_schema.specs.Canon.{canon, canon_items, canon_members, arranged, listed, picked, canonical}
+use Rattle.asl_schema.specs.Canon.{canon, canon_items, canon_members, arranged, listed, picked}
 use Rattle.asl_schema.proofs.CanonicalAmounts.{total, shape_differs, picked_total, picked_depth}
 
 -- of a member with the comma before it

@@ -18,14 +18,14 @@ use Rattle.asl_schema.specs.Demands.{there}
 use Rattle.asl_schema.specs.Claims.{Claim, Spot, under, heres, step, claims, at_member, member_claims, row_claims, group_demands, has_any, is_needed, is_true, is_template, counts, any_counts, any_in, is_doubled}
 use Rattle.asl_schema.specs.First.{Each, Hold}
 use Rattle.asl_schema.specs.Clean.{IsCleanInside}
-use Rattle.asl_schema.specs.Canon.{Named, opt, kept, canon, canon_items, canon_members, arranged, listed, picked}
+use Rattle.asl_schema.specs.Canon.{opt, kept, canon, canon_items, canon_members, arranged, listed, picked}
 use Rattle.asl_schema.proofs.Canons.{value_at-canon, not_end}
-use Rattle.asl_schema.proofs.Answering.{each-append}
+use Rattle.asl_schema.proofs.Answering.{each-append, each-map}
 use Rattle.asl_schema.proofs.Inside.{each_right, or_right}
-use Rattle.asl_schema.proofs.Deciding.{IsGroup, neither_is, one_counts, some_counts}
+use Rattle.asl_schema.proofs.Deciding.{IsGroup, neither_is, one_counts, some_counts, not_true}
 use Rattle.asl_schema.proofs.Ways.{none_in, and_left}
 use Rattle.asl_schema.proofs.CanonicalTwice.{is_row, picked_apart, picked_there, kept_ways}
-use Rattle.asl_schema.proofs.CanonicalAmounts.{both_are, not_is, rows_differ}
+use Rattle.asl_schema.proofs.CanonicalAmounts.{both_are, rows_differ}
 use Rattle.asl_schema.proofs.CanonicalRows.{group_row, row_stays, rows_stay}
 
 -- ---- whether a member counts
@@ -155,8 +155,7 @@ hold_at p sh (member l v ms) k d h e = by (bytes_eq k l) refl (λ f. hold_at p s
     by false q rest = rest (rw q at e)
 
 pub under_holds : (s : Step) (xs : List Claim) → Each Hold xs → Each Hold (map (under s) xs)
-under_holds s [] h = tt
-under_holds s (x ∷ xs) h = (h.0, under_holds s xs h.1)
+under_holds s xs h = each-map Hold Hold (under s) (λ c k. k) xs h
 
 or_off : (a b : Bool) → a ≡ false → b ≡ false → (a || b) ≡ false
 or_off a b p q = rw (p, q) refl
@@ -172,7 +171,7 @@ apart n rs k off on = by (bytes_eq k n) refl
 picked_hold : (names : List ℕ → Bool) (p : Spot) (sh : Shape) (ms : Pairs) → is_template sh.others ≡ false → IsCleanInside names sh ms → CanonHold p sh ms → (rs : List Row) (seen : Members) (i : ℕ) → rows_differ rs ≡ true → AreFrom sh ms seen → ((k : List ℕ) → is_row k rs ≡ true → has_key k seen ≡ false) → Each Hold (member_claims p sh seen i (pairs (picked rs (canon_members sh ms))))
 picked_hold names p sh ms t c all [] seen i e from new = tt
 picked_hold names p sh ms t c all (r ∷ rs) seen i e from new =
-    by (kept r.name (value_at r.name (canon_members sh ms))) refl (not_is (is_row r.name rs) (both_are (not (is_row r.name rs)) (rows_differ rs) e).0)
+    by (kept r.name (value_at r.name (canon_members sh ms))) refl (not_true (is_row r.name rs) (both_are (not (is_row r.name rs)) (rows_differ rs) e).0)
     (λ others j. picked_hold names p sh ms t c all rs others j (both_are (not (is_row r.name rs)) (rows_differ rs) e).1)
   where
     by : (o : Option Data) → kept r.name (value_at r.name (canon_members sh ms)) ≡ o → is_row r.name rs ≡ false

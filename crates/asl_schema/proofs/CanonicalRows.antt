@@ -7,7 +7,7 @@ use Rattle.asl_schema.specs.declared.sort.Sort.{Sort}
 use Rattle.asl_schema.specs.declared.sort.Sort.TheVariants as sort
 use Rattle.asl_schema.specs.declared.sort.Kind.{Kind}
 use Rattle.asl_schema.specs.declared.sort.Kind.TheVariants as kind
-use Rattle.asl_schema.specs.Members.{Row, Group, Shape, shape_of, is_among, operators, untyped_rows, definition_rows, machine_rows, task_rows, pass_rows, choice_rows, wait_rows, parallel_rows, map_rows, succeed_rows, fail_rows, test_rows, inner_rule_rows, rule_rows, retrier_rows, catcher_rows}
+use Rattle.asl_schema.specs.Members.{Row, Group, shape_of, is_among, operators, untyped_rows, definition_rows, machine_rows, task_rows, pass_rows, choice_rows, wait_rows, parallel_rows, map_rows, succeed_rows, fail_rows, test_rows, inner_rule_rows, rule_rows, retrier_rows, catcher_rows}
 use Rattle.asl_schema.proofs.Deciding.{IsGroup}
 use Rattle.asl_schema.proofs.CanonicalTwice.{is_row}
 use Rattle.asl_schema.proofs.CanonicalAmounts.{both_are}

@@ -1,6 +1,6 @@
 -- The canonical form has no name of a state more often.
 use Rattle.std.proofs.Common.{◌≡◌, ℕ, suc, ◌+◌, ◌≤◌, List, [], ◌∷◌, ◌++◌, Bool, true, false, not, ◌||◌, refl, sym, ap, ◌∙◌, subst, arith}
-use Rattle.std.specs.Prelude.{Option, Some, None, if◌then◌else◌, map}
+use Rattle.std.specs.Prelude.{map}
 use Rattle.std.specs.Fmt.{decimal}
 use Rattle.std.specs.Cmp.Lexicographic.{same_text}
 use Rattle.asl_json.specs.Data.{Data, null, boolean, number, text, list, dict, Chain, no_items, item, Pairs, no_members, member, pairs}
@@ -9,15 +9,17 @@ use Rattle.asl_json.specs.SameLaws.{bytes_refl}
 use Rattle.asl_schema.specs.declared.fault.Step.{Step}
 use Rattle.asl_schema.specs.declared.sort.Sort.{Sort}
 use Rattle.asl_schema.specs.declared.sort.Sort.TheVariants as sort
-use Rattle.asl_schema.specs.Members.{Row, Shape, sort_at, shape_in, item_sort, is_among, kind_named}
+use Rattle.asl_schema.specs.Members.{Shape, sort_at, shape_in, item_sort, is_among, kind_named}
 use Rattle.asl_json.specs.Meaning.{value_at}
 use Rattle.std.specs.Prelude.{codes}
-use Rattle.asl_schema.specs.Claims.{step, is_list, is_object}
+use Rattle.asl_schema.specs.Claims.{step}
 use Rattle.asl_schema.specs.First.{Each, Hold}
 use Rattle.asl_schema.specs.States.{Named, further, own_name, states_in, item_states, member_states, unique_claims}
 use Rattle.asl_schema.specs.Canon.{canon, canon_items, canon_members, arranged, listed, picked, canonical}
+use Rattle.asl_schema.proofs.Walking.{among_append}
+use Rattle.asl_schema.proofs.Deciding.{not_true}
 use Rattle.asl_schema.proofs.CanonicalTwice.{shape_kept}
-use Rattle.asl_schema.proofs.CanonicalAmounts.{total, rows_differ, shape_differs, picked_total, not_is}
+use Rattle.asl_schema.proofs.CanonicalAmounts.{total, rows_differ, shape_differs, picked_total}
 
 -- ---- how often a name comes
 
@@ -129,23 +131,18 @@ room true = 0
 room false = 1
 
 among_push : (x : List ℕ) (seen : List (List ℕ)) (k : List ℕ) → is_among x (seen ++ k ∷ []) ≡ (is_among x seen || bytes_eq x k)
-among_push x [] k = by (bytes_eq x k)
+among_push x seen k = among_append x seen (k ∷ []) ∙ ap (λ (b : Bool). is_among x seen || b) (by (bytes_eq x k))
   where
     by : (b : Bool) → (b || false) ≡ b
     by true = refl
     by false = refl
-among_push x (l ∷ seen) k = by (bytes_eq x l) (among_push x seen k)
-  where
-    by : (b : Bool) → is_among x (seen ++ k ∷ []) ≡ (is_among x seen || bytes_eq x k) → (b || is_among x (seen ++ k ∷ [])) ≡ ((b || is_among x seen) || bytes_eq x k)
-    by true e = refl
-    by false e = e
 
 unique_times : (seen : List (List ℕ)) (ns : List Named) → Each Hold (unique_claims seen ns) → (x : List ℕ) → times x ns ≤ room (is_among x seen)
 unique_times seen [] h x = omega arith
 unique_times seen (n ∷ ns) h x = by (bytes_eq x n.0) (is_among x seen) refl refl (subst (λ (b : Bool). times x ns ≤ room b) (among_push x seen n.0) (unique_times (seen ++ n.0 ∷ []) ns h.1 x))
   where
     by : (a b : Bool) → bytes_eq x n.0 ≡ a → is_among x seen ≡ b → times x ns ≤ room (is_among x seen || bytes_eq x n.0) → once (bytes_eq x n.0) + times x ns ≤ room (is_among x seen)
-    by true true p q e = absurd (let off : is_among n.0 seen ≡ false = not_is (is_among n.0 seen) h.0 in let on : is_among n.0 seen ≡ true = subst (λ (l : List ℕ). is_among l seen ≡ true) (same_text x n.0 (sym p)) q in let z : true ≡ false = sym on ∙ off in cc)
+    by true true p q e = absurd (let off : is_among n.0 seen ≡ false = not_true (is_among n.0 seen) h.0 in let on : is_among n.0 seen ≡ true = subst (λ (l : List ℕ). is_among l seen ≡ true) (same_text x n.0 (sym p)) q in let z : true ≡ false = sym on ∙ off in cc)
     by true false p q e = rw (p, q) (let z = rw (p, q) at e in omega (arith, z))
     by false true p q e = rw (p, q) (let z = rw (p, q) at e in omega (arith, z))
     by false false p q e = rw (p, q) (let z = rw (p, q) at e in omega (arith, z))

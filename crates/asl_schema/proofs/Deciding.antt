@@ -18,7 +18,7 @@ abbrev pub IsGroup : Group → List Group → Type 0
 IsGroup g [] = ⊥
 IsGroup g (h ∷ hs) = (g ≡ h) ⊎ IsGroup g hs
 
-not_true : (b : Bool) → not b ≡ true → b ≡ false
+pub not_true : (b : Bool) → not b ≡ true → b ≡ false
 not_true true e = absurd cc
 not_true false e = refl
 

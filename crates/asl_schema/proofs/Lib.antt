@@ -27,3 +27,4 @@ pub mod CanonicalMembers
 pub mod CanonicalHolds
 pub mod CanonicalKeys
 pub mod CanonicalAccepted
+pub mod Differing
