@@ -45,7 +45,7 @@ check_members-loop-i-preserved t c =
     let so_far = members_of (take c.loop-i.i ms) in (
       members_step (spot_of c.args.spot) (shape_seen c.args.shape) _ c.loop-i.best c.better-best.result c.in_ok-fault.fault ms c.loop-i.i m c.loop-i-test.true c.index-pairs-i.is c.loop-i.invariant.0 c.in_ok-fault.ensures
           (c.better-best.ensures ∙ ap (better c.loop-i.best) (c.in_ok-under_name.ensures ∙ ap (λ k. option_map (under_step (step c.loop-i.i k)) c.in_ok-fault.fault) c.as_str-key.ensures)),
-      subst (Knows c.add.new.self) (ap (λ k. so_far ++ (k, data_of m.value) ∷ []) c.as_str-key.ensures ∙ sym (members_more ms c.loop-i.i m c.loop-i-test.true c.index-pairs-i.is)) (c.in_ok-add.ensures (data_of m.value)),
+      subst (Knows c.add.new.self) (ap (λ k. so_far ++ (k, data_of m.value) ∷ []) c.as_str-key.ensures ∙ sym (members_more ms c.loop-i.i m c.loop-i-test.true c.index-pairs-i.is)) (c.in_ok-add.ensures.ok (data_of m.value)),
     )
 
 pub check_members-returns : goal.check_members-returns
