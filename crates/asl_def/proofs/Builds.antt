@@ -1,177 +1,350 @@
--- What is built shows the canonical form.
-use Rattle.std.proofs.Common.{◌≡◌, ℕ, ◌+◌, ◌<◌, ◌≤◌, List, [], ◌∷◌, ◌++◌, length, take, drop, get_or, refl, sym, subst, ◌∙◌, ap, arith, Bool, true, false}
-use Rattle.std.specs.Prelude.{Option, Some, None, option_map, codes, is_some, Result, Ok, Err, IfOk}
-use Rattle.std.specs.Cmp.Lexicographic.{same_text}
-use Rattle.std.proofs.lemmas.List.{take_more, take_all, map-append}
-use Rattle.asl_json.specs.Data.{Data, Pairs, member, null, boolean, number, text, list, dict, pairs}
+-- The table of a definition is built state by state.
+use Rattle.std.proofs.Common.{◌≡◌, ℕ, ◌+◌, ◌<◌, ◌≤◌, List, [], ◌∷◌, ◌++◌, Bool, true, false, length, take, drop, get_or, refl, sym, subst, ◌∙◌, ap, arith, append_assoc, length-append}
+use Rattle.std.specs.Prelude.{Some, Result, Ok, Err, IfOk, OnOk, option_map, codes, string_bytes, max}
+use Rattle.std.proofs.lemmas.List.{take_more, take_all, drop_at, append-nil, map-append, length-map}
+use Rattle.asl_json.specs.Data.{Data, Pairs, no_members, member, Chain, depth, members_depth, text, list, dict, chain, pairs}
 use Rattle.asl_json.specs.Same.{bytes_eq}
 use Rattle.asl_json.specs.Meaning.{value_at}
-use Rattle.asl_json.specs.View.{data_of, members_of, member_of}
+use Rattle.asl_json.specs.View.{data_of, items_of, member_of, members_of}
+use Rattle.asl_json.specs.declared.value.Json.{Json}
 use Rattle.asl_json.specs.declared.value.Member.{Member}
-use Rattle.asl_def.specs.declared.sort.Sort.{Sort}
-use Rattle.asl_def.specs.declared.sort.Sort.TheVariants.{Text, Truth, ReferencePath, KindName, Target, States, Definition, Any, State as state_sort}
-use Rattle.asl_def.specs.declared.sort.Kind.{Kind}
-use Rattle.asl_def.specs.declared.sort.Kind.TheVariants.{Pass as pass_kind, Succeed as succeed_kind}
-use Rattle.asl_def.specs.Members.{Shape, kind_named, kind_rows, state_shape, shape_of, shape_in, definition_rows}
+use Rattle.asl_json.specs.Distinct.{has_key}
+use Rattle.asl_schema.specs.declared.sort.Sort.{Sort}
+use Rattle.asl_schema.specs.declared.sort.Sort.TheVariants as sort
+use Rattle.asl_schema.specs.declared.sort.Kind.{Kind}
+use Rattle.asl_schema.specs.declared.sort.Kind.TheVariants as kind
+use Rattle.asl_schema.specs.Members.{Shape, shape_in, state_shape, sort_at, kind_named, machine_rows, parallel_rows, map_rows}
+use Rattle.asl_schema.specs.States.{states_in, member_states}
+use Rattle.asl_schema.specs.Canon.{Named, canon, kept_at, opt}
+use Rattle.asl_schema.specs.Clean.{IsClean, Fits, IsThere}
+use Rattle.asl_schema.proofs.Inside.{fits_at, object_inside}
+use Rattle.asl_schema.proofs.Canons.{plain_kept}
+use Rattle.asl_schema.proofs.Required.{machine_start, machine_states as states_there}
+use Rattle.asl_members.proofs.Items.{canon_each}
+use Rattle.asl_def.specs.declared.body.Body.{Body}
+use Rattle.asl_def.specs.declared.build.Own.{Own}
+use Rattle.asl_def.specs.declared.build.Span.{Span}
 use Rattle.asl_def.specs.declared.state.State.{State}
-use Rattle.asl_def.specs.declared.state.State.TheVariants.{Pass, Succeed}
-use Rattle.asl_def.specs.declared.state.Pass.{Pass as PassState}
-use Rattle.asl_def.specs.declared.state.Succeed.{Succeed as SucceedState}
-use Rattle.asl_def.specs.declared.state.Body.{Body}
-use Rattle.asl_def.specs.Show.{Named, opt, state_of, pass_object, succeed_object, path_shown, next_shown, end_shown, StateIsWithin}
-use Rattle.asl_def.specs.Canon.{kept, canon, canon_members, picked, picked_at, kept_at}
-use Rattle.asl_def.specs.Built.{Fits, GoesOneWay, IsCleanInside, IsBody, canon_row, canon_rows}
-use Rattle.asl_def.proofs.Clean.{fits_at}
-use Rattle.asl_def.proofs.Canons.{picked-canon}
+use Rattle.asl_def.specs.declared.state.State.TheVariants.{Task, Pass, Choice, Wait, Parallel, Map, Succeed, Fail}
+use Rattle.asl_def.specs.declared.parallel.Parallel.{Parallel as ParallelState}
+use Rattle.asl_def.specs.declared.map.Map.{Map as MapState}
+use Rattle.asl_def.specs.Show.{body_of, bodies_of, state_of, parallel_object, map_object, IsWithin, AreWithin, StateIsWithin}
+use Rattle.asl_def.specs.Machines.{all_states}
+use Rattle.asl_def.specs.Built.{IsOfKind, HasRoom, HasRoomFor, Grows, IsBody, AreBodies, IsState, IsSpan, AreOwn, OwnAreWithin, row_in, rows_in, canon_row, canon_rows, tally}
+use Rattle.asl_def.proofs.Tables.{state_of-append, bodies_of-append}
+use Rattle.asl_def.proofs.Tally.{tally-append, own_once, tally-rows, tally_member, inner, tally_states, inner_at, within_items, tally_items, items_at}
+use Rattle.asl_def.proofs.Gathers.{has_machines, no_states, parallel_states, map_states, machine_states, items_all, machines_states, items_all-push, inner_all, inner_all-push, own_states_are, canon_states}
+use Rattle.asl_def.proofs.Canonical.{machine_is, kept_so}
+use Rattle.asl_def.proofs.Fits.{is_there}
 
--- a state's canonical object, by its type
-kind_is : (ms : Pairs) (k : Kind) → kind_named (value_at (codes "Type") ms) ≡ Some k → canon state_sort (dict ms) ≡ dict (pairs (picked_at (state_shape (Some k)) (kind_rows k) ms))
-kind_is ms k named =
-    let shape : shape_in state_sort ms ≡ state_shape (Some k) = ap state_shape named in
-    ap (λ (sh : Shape). dict (pairs (picked sh.rows (canon_members sh ms)))) shape ∙ ap (λ (xs : List Named). dict (pairs xs)) (picked-canon (state_shape (Some k)) (kind_rows k) ms)
+-- ---- longer tables
 
-pass_named : (o : Option Data) → kind_named o ≡ Some pass_kind → o ≡ Some (text (codes "Pass"))
-pass_named None e = absurd cc
-pass_named (Some null) e = absurd cc
-pass_named (Some (boolean b)) e = absurd cc
-pass_named (Some (number n)) e = absurd cc
-pass_named (Some (list ds)) e = absurd cc
-pass_named (Some (dict ms)) e = absurd cc
-pass_named (Some (text t)) e = by (bytes_eq t (codes "Pass")) (bytes_eq t (codes "Succeed")) refl refl
-  where
-    by : (a b : Bool) → bytes_eq t (codes "Pass") ≡ a → bytes_eq t (codes "Succeed") ≡ b → Some (text t) ≡ Some (text (codes "Pass"))
-    by true b p q = ap (λ (x : List ℕ). Some (text x)) (same_text t (codes "Pass") (sym p))
-    by false true p q = absurd (let x = rw (p, q) at e in cc)
-    by false false p q = absurd (let x = rw (p, q) at e in cc)
+bodies_more : (m n : ℕ) (bs : List Body) → AreWithin m bs → m ≤ n → AreWithin n bs
+bodies_more m n [] h le = tt
+bodies_more m n (b ∷ bs) h le = (let w : b.first + b.count ≤ m = h.0 in omega arith, bodies_more m n bs h.1 le)
 
-succeed_named : (o : Option Data) → kind_named o ≡ Some succeed_kind → o ≡ Some (text (codes "Succeed"))
-succeed_named None e = absurd cc
-succeed_named (Some null) e = absurd cc
-succeed_named (Some (boolean b)) e = absurd cc
-succeed_named (Some (number n)) e = absurd cc
-succeed_named (Some (list ds)) e = absurd cc
-succeed_named (Some (dict ms)) e = absurd cc
-succeed_named (Some (text t)) e = by (bytes_eq t (codes "Pass")) (bytes_eq t (codes "Succeed")) refl refl
-  where
-    by : (a b : Bool) → bytes_eq t (codes "Pass") ≡ a → bytes_eq t (codes "Succeed") ≡ b → Some (text t) ≡ Some (text (codes "Succeed"))
-    by true b p q = absurd (let x = rw p at e in cc)
-    by false true p q = ap (λ (x : List ℕ). Some (text x)) (same_text t (codes "Succeed") (sym q))
-    by false false p q = absurd (let x = rw (p, q) at e in cc)
+pub within_more : (m n : ℕ) (s : State) → StateIsWithin m s → m ≤ n → StateIsWithin n s
+within_more m n (Parallel x) h le = bodies_more m n x.branches h le
+within_more m n (Map x) h le = let w : x.iterator.first + x.iterator.count ≤ m = h in omega arith
+within_more m n (Task x) h le = tt
+within_more m n (Pass x) h le = tt
+within_more m n (Choice x) h le = tt
+within_more m n (Wait x) h le = tt
+within_more m n (Succeed x) h le = tt
+within_more m n (Fail x) h le = tt
 
-type_kept : (ms : Pairs) (name : List ℕ) → value_at (codes "Type") ms ≡ Some (text name) → Some (text name) ≡ kept_at (codes "Type") KindName ms
-type_kept ms name e = sym (ap (λ (o : Option Data). kept (codes "Type") (option_map (canon KindName) o)) e)
+longer : (t t' more : List Named) → t' ≡ t ++ more → length t ≤ length t'
+longer t t' more is = omega (arith, ap length is, length-append t more)
 
-pub path_kept : (k : List ℕ) (s : Sort) (o : Option Data) → Fits ReferencePath o → kept k (option_map (canon s) o) ≡ o
-path_kept k s None h = refl
-path_kept k s (Some null) h = refl
-path_kept k s (Some (text t)) h = refl
-path_kept k s (Some (boolean b)) h = absurd cc
-path_kept k s (Some (number n)) h = absurd cc
-path_kept k s (Some (list ds)) h = absurd cc
-path_kept k s (Some (dict ms)) h = absurd cc
+rows_grow : (t t' more : List Named) (os : List Own) → t' ≡ t ++ more → OwnAreWithin (length t) os → rows_in t' os ≡ rows_in t os
+rows_grow t t' more [] is h = refl
+rows_grow t t' more (o ∷ os) is h =
+    let same : state_of t' o.state ≡ state_of t o.state = rw is (state_of-append t more o.state h.0) in
+    λ i. (string_bytes o.name, same i) ∷ rows_grow t t' more os is h.1 i
 
-pub any_kept : (o : Option Data) → kept (codes "Result") (option_map (canon Any) o) ≡ o
-any_kept None = refl
-any_kept (Some null) = refl
-any_kept (Some (text t)) = refl
-any_kept (Some (boolean true)) = refl
-any_kept (Some (boolean false)) = refl
-any_kept (Some (number n)) = refl
-any_kept (Some (list ds)) = refl
-any_kept (Some (dict ms)) = refl
+own_longer : (m n : ℕ) (os : List Own) → OwnAreWithin m os → m ≤ n → OwnAreWithin n os
+own_longer m n [] h le = tt
+own_longer m n (o ∷ os) h le = (within_more m n o.state h.0 le, own_longer m n os h.1 le)
 
--- a false End is left out, and a true one kept
-pub end_off : (next ends : Option Data) → GoesOneWay next ends → is_some next ≡ true → None ≡ kept (codes "End") (option_map (canon Truth) ends)
-end_off next None h e = refl
-end_off next (Some (boolean false)) h e = refl
-end_off next (Some (boolean true)) h e = absurd (h.both e refl)
-end_off next (Some null) h e = absurd (let x = h.fits in cc)
-end_off next (Some (text t)) h e = absurd (let x = h.fits in cc)
-end_off next (Some (number n)) h e = absurd (let x = h.fits in cc)
-end_off next (Some (list ds)) h e = absurd (let x = h.fits in cc)
-end_off next (Some (dict ms)) h e = absurd (let x = h.fits in cc)
+own_push : (n : ℕ) (os : List Own) (o : Own) → OwnAreWithin n os → StateIsWithin n o.state → OwnAreWithin n (os ++ o ∷ [])
+own_push n [] o h w = (w, tt)
+own_push n (x ∷ os) o h w = (h.0, own_push n os o h.1 w)
 
-pub end_on : (next ends : Option Data) → GoesOneWay next ends → is_some next ≡ false → Some (boolean true) ≡ kept (codes "End") (option_map (canon Truth) ends)
-end_on next None h e = absurd (h.neither e refl)
-end_on next (Some (boolean false)) h e = absurd (h.neither e refl)
-end_on next (Some (boolean true)) h e = refl
-end_on next (Some null) h e = absurd (let x = h.fits in cc)
-end_on next (Some (text t)) h e = absurd (let x = h.fits in cc)
-end_on next (Some (number n)) h e = absurd (let x = h.fits in cc)
-end_on next (Some (list ds)) h e = absurd (let x = h.fits in cc)
-end_on next (Some (dict ms)) h e = absurd (let x = h.fits in cc)
+within_push : (n : ℕ) (bs : List Body) (b : Body) → AreWithin n bs → IsWithin n b → AreWithin n (bs ++ b ∷ [])
+within_push n [] b h w = (w, tt)
+within_push n (x ∷ bs) b h w = (h.0, within_push n bs b h.1 w)
 
--- a path at a name
-path_at : (k : List ℕ) (s : Sort) (ms : Pairs) (shown : Option Data) → Fits ReferencePath (value_at k ms) → shown ≡ value_at k ms → shown ≡ kept_at k s ms
-path_at k s ms shown h e = e ∙ sym (path_kept k s (value_at k ms) h)
+-- ---- states go last
 
-pub pass_shows : (ms : Pairs) (p : PassState) → kind_named (value_at (codes "Type") ms) ≡ Some pass_kind → IsCleanInside (state_shape (Some pass_kind)) ms
-    → option_map text p.comment ≡ kept_at (codes "Comment") Text ms
-    → path_shown p.input_path ≡ value_at (codes "InputPath") ms
-    → option_map data_of p.result ≡ kept_at (codes "Result") Any ms
-    → path_shown p.result_path ≡ value_at (codes "ResultPath") ms
-    → path_shown p.output_path ≡ value_at (codes "OutputPath") ms
-    → next_shown p.next ≡ kept_at (codes "Next") Target ms
-    → end_shown p.next ≡ kept_at (codes "End") Truth ms
-    → pass_object p ≡ canon state_sort (dict ms)
-pass_shows ms p kind c e1 e2 e3 e4 e5 e6 e7 =
-    let sh = state_shape (Some pass_kind) in
-    let p2 = path_at (codes "InputPath") ReferencePath ms (path_shown p.input_path) (fits_at sh ms (codes "InputPath") c) e2 in
-    let p4 = path_at (codes "ResultPath") ReferencePath ms (path_shown p.result_path) (fits_at sh ms (codes "ResultPath") c) e4 in
-    let p5 = path_at (codes "OutputPath") ReferencePath ms (path_shown p.output_path) (fits_at sh ms (codes "OutputPath") c) e5 in
-    (λ i. dict (pairs (opt (codes "Type") (type_kept ms (codes "Pass") (pass_named (value_at (codes "Type") ms) kind) i) ++ (opt (codes "Comment") (e1 i) ++ (opt (codes "InputPath") (p2 i) ++ (opt (codes "Result") (e3 i) ++ (opt (codes "ResultPath") (p4 i) ++ (opt (codes "OutputPath") (p5 i) ++ (opt (codes "Next") (e6 i) ++ (opt (codes "End") (e7 i) ++ [])))))))))) ∙ sym (kind_is ms pass_kind kind)
+-- what is left goes behind what was pushed, and makes the whole
+pub record IsPushed (whole t : List Named) (os : List Own) : Type 0 where
+  pub makes : t ++ rows_in t os ≡ whole
+  pub room : HasRoomFor t os
 
-pub succeed_shows : (ms : Pairs) (p : SucceedState) → kind_named (value_at (codes "Type") ms) ≡ Some succeed_kind → IsCleanInside (state_shape (Some succeed_kind)) ms
-    → option_map text p.comment ≡ kept_at (codes "Comment") Text ms
-    → path_shown p.input_path ≡ value_at (codes "InputPath") ms
-    → path_shown p.output_path ≡ value_at (codes "OutputPath") ms
-    → succeed_object p ≡ canon state_sort (dict ms)
-succeed_shows ms p kind c e1 e2 e3 =
-    let sh = state_shape (Some succeed_kind) in
-    let p2 = path_at (codes "InputPath") ReferencePath ms (path_shown p.input_path) (fits_at sh ms (codes "InputPath") c) e2 in
-    let p3 = path_at (codes "OutputPath") ReferencePath ms (path_shown p.output_path) (fits_at sh ms (codes "OutputPath") c) e3 in
-    (λ i. dict (pairs (opt (codes "Type") (type_kept ms (codes "Succeed") (succeed_named (value_at (codes "Type") ms) kind) i) ++ (opt (codes "Comment") (e1 i) ++ (opt (codes "InputPath") (p2 i) ++ (opt (codes "OutputPath") (p3 i) ++ [])))))) ∙ sym (kind_is ms succeed_kind kind)
+pub push_begins : (t : List Named) (os : List Own) → HasRoomFor t os → IsPushed (t ++ rows_in t os) t os
+push_begins t os h = record { makes = refl; room = h }
 
-pub always_within : (n : ℕ) (s : State) → StateIsWithin n s
-always_within n (Pass p) = tt
-always_within n (Succeed p) = tt
+at_first : {A : Type 0} (P : List A → Type 0) (xs : List A) (x : A) (rest : List A) → xs ≡ x ∷ rest → P xs → P (x ∷ rest)
+at_first P xs x rest e h = subst P e h
 
--- one state more
-pub states_step : (ms : List Member) (i : ℕ) (m : Member) (t new : List Named) (name : List ℕ) (s : State) → i < length ms → m ≡ get_or ms i m → t ≡ canon_rows (members_of (take i ms)) → name ≡ m.key → ((u : List Named) → state_of u s ≡ canon state_sort (data_of m.value)) → new ≡ t ++ (name, state_of t s) ∷ [] → new ≡ canon_rows (members_of (take (i + 1) ms))
-states_step ms i m t new name s lt at so_far named shows is =
-    let taken : take (i + 1) ms ≡ take i ms ++ m ∷ [] = take_more ms i m lt ∙ ap (λ (x : Member). take i ms ++ x ∷ []) (sym at) in
-    is ∙ (λ j. so_far j ++ (named j, shows t j) ∷ []) ∙ sym (ap (λ (xs : List Member). canon_rows (members_of xs)) taken ∙ ap canon_rows (map-append member_of (take i ms) (m ∷ [])) ∙ map-append canon_row (members_of (take i ms)) (member_of m ∷ []))
+pub push_new : (whole t : List Named) (os rest : List Own) (o : Own) → IsPushed whole t os → os ≡ o ∷ rest → has_key (string_bytes o.name) t ≡ false
+push_new whole t os rest o h e =
+    let g = at_first (IsPushed whole t) os o rest e h in
+    own_once (string_bytes o.name) t (state_of t o.state) (rows_in t rest) (g.room.once (string_bytes o.name))
 
-pub all_states : (ms : List Member) (i : ℕ) (t own : List Named) → t ≡ canon_rows (members_of (take i ms)) → length ms ≤ i → members_of ms ≡ own → t ≡ canon_rows own
-all_states ms i t own so_far past is = so_far ∙ ap (λ (xs : List Member). canon_rows (members_of xs)) (take_all i ms past) ∙ ap canon_rows is
+pub push_within : (whole t : List Named) (os rest : List Own) (o : Own) → IsPushed whole t os → os ≡ o ∷ rest → StateIsWithin (length t) o.state
+push_within whole t os rest o h e = (at_first (IsPushed whole t) os o rest e h).room.within.0
 
-states_canon : (xs : List Named) → canon States (dict (pairs xs)) ≡ dict (pairs (canon_rows xs))
-states_canon xs = ap dict (by xs)
-  where
-    by : (xs : List Named) → canon_members (record { rows = []; others = state_sort; moves = false }) (pairs xs) ≡ pairs (canon_rows xs)
-    by [] = refl
-    by (x ∷ xs) = ap (member x.0 (canon state_sort x.1)) (by xs)
-
-pub states_kept : (ms : Pairs) (own t : List Named) → value_at (codes "States") ms ≡ Some (dict (pairs own)) → t ≡ canon_rows own → Some (dict (pairs t)) ≡ kept_at (codes "States") States ms
-states_kept ms own t e is = ap (λ (xs : List Named). Some (dict (pairs xs))) is ∙ ap (λ (d : Data). Some d) (sym (states_canon own)) ∙ sym (ap (λ (o : Option Data). kept (codes "States") (option_map (canon States) o)) e)
-
-pub body_shows : (ms : Pairs) (t : List Named) (b : Body)
-    → option_map text b.comment ≡ kept_at (codes "Comment") Text ms
-    → Some (text b.start.name) ≡ kept_at (codes "StartAt") Target ms
-    → Some (dict (pairs t)) ≡ kept_at (codes "States") States ms
-    → b.first ≡ 0 → b.count ≡ length t
-    → IsBody t (dict ms) b
-body_shows ms t b e1 e2 e3 first count =
-    let slice : take b.count (drop b.first t) ≡ t = rw (first, count) (take_all (length t) t (omega arith)) in
-    let e5 : Some (dict (pairs (take b.count (drop b.first t)))) ≡ kept_at (codes "States") States ms = ap (λ (xs : List Named). Some (dict (pairs xs))) slice ∙ e3 in
+pub push_step : (whole t new : List Named) (os rest : List Own) (o : Own) → IsPushed whole t os → os ≡ o ∷ rest → new ≡ t ++ (string_bytes o.name, state_of t o.state) ∷ [] → IsPushed whole new rest
+push_step whole t new os rest o h e is =
+    let g = at_first (IsPushed whole t) os o rest e h in
+    let r : Named = (string_bytes o.name, state_of t o.state) in
+    let same : rows_in new rest ≡ rows_in t rest = rows_grow t new (r ∷ []) rest is g.room.within.1 in
     record {
-      whole = record { first = first; count = count };
-      shows = (λ i. dict (pairs (opt (codes "Comment") (e1 i) ++ (opt (codes "StartAt") (e2 i) ++ (opt (codes "States") (e5 i) ++ []))))) ∙ ap (λ (xs : List Named). dict (pairs xs)) (sym (picked-canon (shape_of Definition None) definition_rows ms));
+      makes = (λ i. is i ++ same i) ∙ append_assoc t (r ∷ []) (rows_in t rest) ∙ g.makes;
+      room = record {
+        within = own_longer (length t) (length new) rest g.room.within.1 (longer t new (r ∷ []) is);
+        once = λ k. omega (arith, g.room.once k, ap (tally k) is, tally-append k t (r ∷ []), ap (tally k) same);
+      };
     }
 
-pub table_kept : {E : Type 0} (r : Result (List Named) E) (ms : Pairs) (own : List Named) → value_at (codes "States") ms ≡ Some (dict (pairs own)) → IfOk r (λ t. t ≡ canon_rows own) → IfOk r (λ t. Some (dict (pairs t)) ≡ kept_at (codes "States") States ms)
-table_kept (Ok t) ms own e h = states_kept ms own t e h
-table_kept (Err x) ms own e h = tt
+pub push_ends : (whole t : List Named) (os : List Own) → IsPushed whole t os → os ≡ [] → t ≡ whole
+push_ends whole t os h e = let g = subst (λ (xs : List Own). IsPushed whole t xs) e h in sym (append-nil t) ∙ g.makes
 
-pub definition_shows : (v : Data) (xs ys : List Named) (t : List Named) (b : Body) → v ≡ dict (pairs ys) → xs ≡ ys → IsBody t (dict (pairs xs)) b → IsBody t v b
-definition_shows v xs ys t b e same h = subst (λ (d : Data). IsBody t d b) (ap (λ (zs : List Named). dict (pairs zs)) same ∙ sym e) h
+-- ---- the states of a machine
+
+pub record IsOnTheWay (before t : List Named) (ms : List Named) (os : List Own) : Type 0 where
+  pub is : t ≡ before ++ inner_all ms
+  pub named : (k : List ℕ) → tally k t ≤ tally k before + inner k ms
+  pub own : AreOwn t ms os
+
+pub own_begins : (t : List Named) → IsOnTheWay t t [] []
+own_begins t = record { is = sym (append-nil t); named = λ k. omega arith; own = record { within = tt; shows = refl } }
+
+-- a state may have its machines in the table
+pub own_room : (before t : List Named) (all : List Named) (ms : List Member) (i : ℕ) (m : Member) (os : List Own) → HasRoom before sort.States (dict (pairs all)) → members_of ms ≡ all → i < length ms → m ≡ get_or ms i m → IsOnTheWay before t (members_of (take i ms)) os → HasRoom t sort.State (data_of m.value)
+own_room before t all ms i m os room same lt at h = record {
+  once = λ k.
+      let o = kind_named (value_at (codes "Type") (pairs all)) in
+      omega (arith, room.once k, tally_states k o 0 all, h.named k, inner_at k ms i m lt at, ap (inner k) same);
+}
+
+pub own_step : (before t new all : List Named) (os more : List Own) (o : Own) (ms : List Member) (i : ℕ) (m : Member) → IsOnTheWay before t (members_of (take i ms)) os → Grows sort.State (data_of m.value) t new → IsState new (data_of m.value) o.state → string_bytes o.name ≡ m.key → i < length ms → m ≡ get_or ms i m → more ≡ os ++ o ∷ [] → IsOnTheWay before new (members_of (take (i + 1) ms)) more
+own_step before t new all os more o ms i m old g s named lt at is =
+    let taken : take (i + 1) ms ≡ take i ms ++ m ∷ [] = take_more ms i m lt ∙ ap (λ (x : Member). take i ms ++ x ∷ []) (sym at) in
+    let done : members_of (take (i + 1) ms) ≡ members_of (take i ms) ++ member_of m ∷ [] = ap members_of taken ∙ map-append member_of (take i ms) (m ∷ []) in
+    let one : row_in new o ≡ canon_row (member_of m) = λ j. (named j, s.shows j) in
+    let grown : rows_in new os ≡ rows_in t os = rows_grow t new (all_states sort.State (canon sort.State (data_of m.value))) os g.is old.own.within in
+    let far = longer t new (all_states sort.State (canon sort.State (data_of m.value))) g.is in
+    let P : List Named → List Own → Type 0 = λ xs ys. IsOnTheWay before new xs ys in
+    subst (λ (ys : List Own). IsOnTheWay before new (members_of (take (i + 1) ms)) ys) (sym is)
+    (subst (λ (xs : List Named). IsOnTheWay before new xs (os ++ o ∷ [])) (sym done)
+    (record {
+      is = g.is ∙ ap (λ (xs : List Named). xs ++ all_states sort.State (canon sort.State (data_of m.value))) old.is ∙ append_assoc before (inner_all (members_of (take i ms))) (all_states sort.State (canon sort.State (data_of m.value))) ∙ ap (λ (xs : List Named). before ++ xs) (sym (inner_all-push (members_of (take i ms)) (member_of m)));
+      named = λ k. omega (arith, g.named k, old.named k, inner_push k (members_of (take i ms)) (member_of m));
+      own = record {
+        within = own_push (length new) os o (own_longer (length t) (length new) os old.own.within far) s.within;
+        shows = map-append (row_in new) os (o ∷ []) ∙ (λ j. (grown ∙ old.own.shows) j ++ one j ∷ []) ∙ sym (map-append canon_row (members_of (take i ms)) (member_of m ∷ []));
+      };
+    }))
+  where
+    inner_push : (k : List ℕ) (xs : List Named) (x : Named) → inner k (xs ++ x ∷ []) ≡ inner k xs + tally k (states_in sort.State x.1)
+    inner_push k [] x = omega arith
+    inner_push k (y ∷ ys) x = omega (arith, inner_push k ys x)
+
+pub own_all : (before t all : List Named) (ms : List Member) (i : ℕ) (os : List Own) → IsOnTheWay before t (members_of (take i ms)) os → length ms ≤ i → members_of ms ≡ all → IsOnTheWay before t all os
+own_all before t all ms i os h past same =
+    subst (λ (xs : List Named). IsOnTheWay before t xs os) (ap members_of (take_all i ms past) ∙ same) h
+
+-- they may go last
+pub own_fit : (before t all : List Named) (os : List Own) → HasRoom before sort.States (dict (pairs all)) → IsOnTheWay before t all os → HasRoomFor t os
+own_fit before t all os room h = record {
+  within = h.own.within;
+  once = λ k.
+      let o = kind_named (value_at (codes "Type") (pairs all)) in
+      omega (arith, room.once k, tally_states k o 0 all, h.named k, ap (tally k) h.own.shows, tally-rows k all);
+}
+
+pub states_grow : (before t new all : List Named) (os : List Own) → IsOnTheWay before t all os → new ≡ t ++ rows_in t os → Grows sort.States (dict (pairs all)) before new
+states_grow before t new all os h is = record {
+  is = is ∙ (λ i. h.is i ++ h.own.shows i) ∙ append_assoc before (inner_all all) (canon_rows all) ∙ ap (λ (xs : List Named). before ++ xs) (sym (own_states_are all));
+  named = λ k.
+      let o = kind_named (value_at (codes "Type") (pairs all)) in
+      omega (arith, h.named k, tally_states k o 0 all, ap (tally k) is, tally-append k t (rows_in t os), ap (tally k) h.own.shows, tally-rows k all);
+}
+
+pub states_stand : (before t new all : List Named) (os : List Own) (s : Span) → IsOnTheWay before t all os → new ≡ t ++ rows_in t os → s.first ≡ length t → s.count ≡ length os → IsSpan new all s
+states_stand before t new all os s h is first count =
+    let n : new ≡ t ++ canon_rows all = is ∙ ap (λ (xs : List Named). t ++ xs) h.own.shows in
+    let c : s.count ≡ length (canon_rows all) = count ∙ sym (length-map os (row_in t)) ∙ ap length h.own.shows in
+    let slice : take s.count (drop s.first (t ++ canon_rows all)) ≡ canon_rows all = rw (first, c) (rw (drop_at t (canon_rows all) (length t) refl) (take_all (length (canon_rows all)) (canon_rows all) (omega arith))) in
+    record {
+      within = omega (arith, ap length n, length-append t (canon_rows all));
+      shows = ap (λ (xs : List Named). take s.count (drop s.first xs)) n ∙ slice;
+    }
+
+-- ---- machines
+
+pub record AreBuilt (before t : List Named) (ds : List Data) (bs : List Body) : Type 0 where
+  pub is : t ≡ before ++ items_all ds
+  pub named : (k : List ℕ) → tally k t ≤ tally k before + within_items k ds
+  pub bodies : AreBodies t ds bs
+
+pub bodies_begin : (t : List Named) → AreBuilt t t [] []
+bodies_begin t = record { is = sym (append-nil t); named = λ k. omega arith; bodies = record { within = tt; shows = refl } }
+
+pub body_room : (before t : List Named) (ds : List Data) (vs : List Json) (i : ℕ) (v : Json) (bs : List Body) → HasRoom before sort.Machines (list (chain ds)) → items_of vs ≡ ds → i < length vs → v ≡ get_or vs i v → AreBuilt before t (items_of (take i vs)) bs → HasRoom t sort.Machine (data_of v)
+body_room before t ds vs i v bs room same lt at h = record {
+  once = λ k. omega (arith, room.once k, tally_items k 0 ds, h.named k, items_at k vs i v lt at, ap (within_items k) same);
+}
+
+pub bodies_step : (before t new : List Named) (bs more : List Body) (b : Body) (vs : List Json) (i : ℕ) (v : Json) → AreBuilt before t (items_of (take i vs)) bs → Grows sort.Machine (data_of v) t new → IsBody new (data_of v) b → i < length vs → v ≡ get_or vs i v → more ≡ bs ++ b ∷ [] → AreBuilt before new (items_of (take (i + 1) vs)) more
+bodies_step before t new bs more b vs i v old g s lt at is =
+    let taken : take (i + 1) vs ≡ take i vs ++ v ∷ [] = take_more vs i v lt ∙ ap (λ (x : Json). take i vs ++ x ∷ []) (sym at) in
+    let done : items_of (take (i + 1) vs) ≡ items_of (take i vs) ++ data_of v ∷ [] = ap items_of taken ∙ map-append data_of (take i vs) (v ∷ []) in
+    let mine = all_states sort.Machine (canon sort.Machine (data_of v)) in
+    let grown : bodies_of new bs ≡ bodies_of t bs = rw g.is (bodies_of-append t mine bs old.bodies.within) in
+    subst (λ (ys : List Body). AreBuilt before new (items_of (take (i + 1) vs)) ys) (sym is)
+    (subst (λ (xs : List Data). AreBuilt before new xs (bs ++ b ∷ [])) (sym done)
+    (record {
+      is = g.is ∙ ap (λ (xs : List Named). xs ++ mine) old.is ∙ append_assoc before (items_all (items_of (take i vs))) mine ∙ ap (λ (xs : List Named). before ++ xs) (sym (items_all-push (items_of (take i vs)) (data_of v)));
+      named = λ k. omega (arith, g.named k, old.named k, within_push_items k (items_of (take i vs)) (data_of v));
+      bodies = record {
+        within = within_push (length new) bs b (bodies_more (length t) (length new) bs old.bodies.within (longer t new mine g.is)) s.within;
+        shows = map-append (body_of new) bs (b ∷ []) ∙ (λ j. (grown ∙ old.bodies.shows) j ++ s.shows j ∷ []) ∙ sym (map-append (canon sort.Machine) (items_of (take i vs)) (data_of v ∷ []));
+      };
+    }))
+  where
+    within_push_items : (k : List ℕ) (xs : List Data) (x : Data) → within_items k (xs ++ x ∷ []) ≡ within_items k xs + tally k (states_in sort.Machine x)
+    within_push_items k [] x = omega arith
+    within_push_items k (y ∷ ys) x = omega (arith, within_push_items k ys x)
+
+pub bodies_all : (before t : List Named) (ds : List Data) (vs : List Json) (i : ℕ) (bs : List Body) → AreBuilt before t (items_of (take i vs)) bs → length vs ≤ i → items_of vs ≡ ds → AreBuilt before t ds bs
+bodies_all before t ds vs i bs h past same = subst (λ (xs : List Data). AreBuilt before t xs bs) (ap items_of (take_all i vs past) ∙ same) h
+
+pub bodies_grow : (before t : List Named) (ds : List Data) (bs : List Body) → AreBuilt before t ds bs → Grows sort.Machines (list (chain ds)) before t
+bodies_grow before t ds bs h = record {
+  is = h.is ∙ ap (λ (xs : List Named). before ++ xs) (sym (machines_states ds));
+  named = λ k. omega (arith, h.named k, tally_items k 0 ds);
+}
+
+-- ---- a machine
+
+-- what stands in a member stands in the object
+pub member_room : (t : List Named) (s q : Sort) (ms : Pairs) (name : List ℕ) (d : Data) → ((k : List ℕ) → states_in s (dict ms) ≡ member_states (shape_in s ms) 0 ms) → sort_at (shape_in s ms) name ≡ q → value_at name ms ≡ Some d → HasRoom t s (dict ms) → HasRoom t q d
+member_room t s q ms name d parts e at room = subst (λ (x : Sort). HasRoom t x d) e (record {
+  once = λ k. omega (arith, room.once k, ap (tally k) (parts k), tally_member k name (shape_in s ms) 0 ms d at);
+})
+
+member_grows : (before t : List Named) (s q : Sort) (ms : Pairs) (name : List ℕ) (d : Data) → ((k : List ℕ) → states_in s (dict ms) ≡ member_states (shape_in s ms) 0 ms) → sort_at (shape_in s ms) name ≡ q → value_at name ms ≡ Some d → all_states s (canon s (dict ms)) ≡ all_states q (canon q d) → Grows q d before t → Grows s (dict ms) before t
+member_grows before t s q ms name d parts e at same g =
+    let h = subst (λ (x : Sort). Grows x d before t) (sym e) g in
+    record {
+      is = g.is ∙ ap (λ (xs : List Named). before ++ xs) (sym same);
+      named = λ k. omega (arith, h.named k, ap (tally k) (parts k), tally_member k name (shape_in s ms) 0 ms d at);
+    }
+
+pub states_room : (t : List Named) (ms : Pairs) (own : Data) → value_at (codes "States") ms ≡ Some own → HasRoom t sort.Machine (dict ms) → HasRoom t sort.States own
+unfolding machine_rows
+states_room t ms own at room = member_room t sort.Machine sort.States ms (codes "States") own (λ k. refl) refl at room
+
+pub body_grows : (before t : List Named) (ms own : Pairs) → value_at (codes "States") ms ≡ Some (dict own) → Grows sort.States (dict own) before t → Grows sort.Machine (dict ms) before t
+unfolding machine_rows
+body_grows before t ms own at g = member_grows before t sort.Machine sort.States ms (codes "States") (dict own) (λ k. refl) refl at (machine_states ms own at) g
+
+pub comment_fits : (ms : Pairs) → IsClean sort.Machine (dict ms) → Fits sort.Text (value_at (codes "Comment") ms)
+unfolding machine_rows
+comment_fits ms c = fits_at _ (shape_in sort.Machine ms) ms (codes "Comment") (object_inside c.names sort.Machine ms refl c.is)
+
+pub start_is_there : (ms : Pairs) → IsClean sort.Machine (dict ms) → IsThere sort.Target (value_at (codes "StartAt") ms)
+start_is_there ms c = is_there _ sort.Target (value_at (codes "StartAt") ms) (machine_start _ (kind_named (value_at (codes "Type") ms)) ms (object_inside c.names sort.Machine ms refl c.is))
+
+pub states_are_there : (ms : Pairs) → IsClean sort.Machine (dict ms) → IsThere sort.States (value_at (codes "States") ms)
+states_are_there ms c = is_there _ sort.States (value_at (codes "States") ms) (states_there _ (kind_named (value_at (codes "Type") ms)) ms (object_inside c.names sort.Machine ms refl c.is))
+
+pub body_shows : (t : List Named) (ms : Pairs) (own : List Named) (b : Body) (s : Span)
+    → option_map text b.comment ≡ value_at (codes "Comment") ms
+    → Some (text b.start.name) ≡ value_at (codes "StartAt") ms
+    → value_at (codes "States") ms ≡ Some (dict (pairs own))
+    → IsSpan t own s → b.first ≡ s.first → b.count ≡ s.count
+    → IsBody t (dict ms) b
+unfolding machine_rows
+body_shows t ms own b s e1 e2 e3 span first count =
+    let p1 = e1 ∙ sym (plain_kept (codes "Comment") sort.Text ms refl refl) in
+    let p2 = e2 ∙ sym (plain_kept (codes "StartAt") sort.Target ms refl refl) in
+    let slice : take b.count (drop b.first t) ≡ canon_rows own = rw (first, count) span.shows in
+    let p3 : Some (dict (pairs (take b.count (drop b.first t)))) ≡ kept_at (codes "States") sort.States ms =
+    ap (λ (xs : List Named). Some (dict (pairs xs))) slice ∙ ap (λ (d : Data). Some d) (sym (canon_states own)) ∙ ap (option_map (canon sort.States)) (sym e3) ∙ sym (kept_so (codes "States") (option_map (canon sort.States) (value_at (codes "States") ms)) refl) in
+    record {
+      within = rw (first, count) span.within;
+      shows = (λ i. dict (pairs (opt (codes "Comment") (p1 i) ++ (opt (codes "StartAt") (p2 i) ++ (opt (codes "States") (p3 i) ++ []))))) ∙ sym (machine_is ms);
+    }
+
+-- ---- a state
+
+pub leaf_grows : (v : Data) (k : Kind) (ms t : List Named) → v ≡ dict (pairs ms) → has_machines k ≡ false → kind_named (value_at (codes "Type") (pairs ms)) ≡ Some k → Grows sort.State v t t
+leaf_grows v k ms t is e named = subst (λ (d : Data). Grows sort.State d t t) (sym is) (record {
+  is = sym (append-nil t) ∙ ap (λ (xs : List Named). t ++ xs) (sym (no_states k (pairs ms) e named));
+  named = λ l. omega arith;
+})
+
+pub state_is : (t : List Named) (v : Data) (ms : List Named) (s : State) → v ≡ dict (pairs ms) → StateIsWithin (length t) s → state_of t s ≡ canon sort.State (dict (pairs ms)) → IsState t v s
+state_is t v ms s is w e = subst (λ (d : Data). IsState t d s) (sym is) (record { within = w; shows = e })
+
+pub room_as : (t : List Named) (v : Data) (ms : List Named) → v ≡ dict (pairs ms) → HasRoom t sort.State v → HasRoom t sort.State (dict (pairs ms))
+room_as t v ms is h = subst (HasRoom t sort.State) is h
+
+pub grows_as : (a b : List Named) (v : Data) (ms : List Named) → v ≡ dict (pairs ms) → Grows sort.State (dict (pairs ms)) a b → Grows sort.State v a b
+grows_as a b v ms is h = subst (λ (d : Data). Grows sort.State d a b) (sym is) h
+
+pub state_as : (t : List Named) (v : Data) (ms : List Named) (s : State) → v ≡ dict (pairs ms) → IsState t (dict (pairs ms)) s → IsState t v s
+state_as t v ms s is h = subst (λ (d : Data). IsState t d s) (sym is) h
+
+in_state : (ms : Pairs) (k : Kind) → kind_named (value_at (codes "Type") ms) ≡ Some k → shape_in sort.State ms ≡ state_shape (Some k)
+in_state ms k e = ap state_shape e
+
+pub branches_room : (t : List Named) (ms : List Named) (d : Data) → IsOfKind kind.Parallel ms → value_at (codes "Branches") (pairs ms) ≡ Some d → HasRoom t sort.State (dict (pairs ms)) → HasRoom t sort.Machines d
+unfolding parallel_rows
+branches_room t ms d h at room = member_room t sort.State sort.Machines (pairs ms) (codes "Branches") d (λ k. refl) (ap (λ (sh : Shape). sort_at sh (codes "Branches")) (in_state (pairs ms) kind.Parallel h.is)) at room
+
+pub iterator_room : (t : List Named) (ms : List Named) (d : Data) → IsOfKind kind.Map ms → value_at (codes "Iterator") (pairs ms) ≡ Some d → HasRoom t sort.State (dict (pairs ms)) → HasRoom t sort.Machine d
+unfolding map_rows
+iterator_room t ms d h at room = member_room t sort.State sort.Machine (pairs ms) (codes "Iterator") d (λ k. refl) (ap (λ (sh : Shape). sort_at sh (codes "Iterator")) (in_state (pairs ms) kind.Map h.is)) at room
+
+pub parallel_grows : (before t ms : List Named) (ds : Chain) → IsOfKind kind.Parallel ms → value_at (codes "Branches") (pairs ms) ≡ Some (list ds) → Grows sort.Machines (list ds) before t → Grows sort.State (dict (pairs ms)) before t
+unfolding parallel_rows
+parallel_grows before t ms ds h at g = member_grows before t sort.State sort.Machines (pairs ms) (codes "Branches") (list ds) (λ k. refl) (ap (λ (sh : Shape). sort_at sh (codes "Branches")) (in_state (pairs ms) kind.Parallel h.is)) at (parallel_states (pairs ms) ds h.is at) g
+
+pub map_grows : (before t ms : List Named) (own : Pairs) → IsOfKind kind.Map ms → value_at (codes "Iterator") (pairs ms) ≡ Some (dict own) → Grows sort.Machine (dict own) before t → Grows sort.State (dict (pairs ms)) before t
+unfolding map_rows
+map_grows before t ms own h at g = member_grows before t sort.State sort.Machine (pairs ms) (codes "Iterator") (dict own) (λ k. refl) (ap (λ (sh : Shape). sort_at sh (codes "Iterator")) (in_state (pairs ms) kind.Map h.is)) at (map_states (pairs ms) own h.is at) g
+
+pub branches_kept : (t ms : List Named) (ds : List Data) (bs : List Body) → value_at (codes "Branches") (pairs ms) ≡ Some (list (chain ds)) → AreBodies t ds bs → Some (list (chain (bodies_of t bs))) ≡ kept_at (codes "Branches") sort.Machines (pairs ms)
+branches_kept t ms ds bs at h =
+    ap (λ (xs : List Data). Some (list (chain xs))) h.shows ∙ ap (λ (c : Chain). Some (list c)) (canon_each sort.Machine ds) ∙ ap (option_map (canon sort.Machines)) (sym at) ∙ sym (kept_so (codes "Branches") (option_map (canon sort.Machines) (value_at (codes "Branches") (pairs ms))) refl)
+
+pub iterator_kept : (t ms : List Named) (d : Data) (b : Body) → value_at (codes "Iterator") (pairs ms) ≡ Some d → IsBody t d b → Some (body_of t b) ≡ kept_at (codes "Iterator") sort.Machine (pairs ms)
+iterator_kept t ms d b at h =
+    ap (λ (x : Data). Some x) h.shows ∙ ap (option_map (canon sort.Machine)) (sym at) ∙ sym (kept_so (codes "Iterator") (option_map (canon sort.Machine) (value_at (codes "Iterator") (pairs ms))) refl)
+
+pub parallel_is : {E : Type 0} (r : Result ParallelState E) (t ms : List Named) (ds : List Data) (bs : List Body) → value_at (codes "Branches") (pairs ms) ≡ Some (list (chain ds)) → AreBodies t ds bs → IfOk r (λ x. x.branches ≡ bs) → IfOk r (λ x. (u : List Named) → Some (list (chain (bodies_of u bs))) ≡ kept_at (codes "Branches") sort.Machines (pairs ms) → parallel_object u x ≡ canon sort.State (dict (pairs ms))) → IfOk r (λ x. IsState t (dict (pairs ms)) (Parallel x))
+parallel_is (Ok x) t ms ds bs at h e f = record { within = subst (AreWithin (length t)) (sym e) h.within; shows = f t (branches_kept t ms ds bs at h) }
+parallel_is (Err y) t ms ds bs at h e f = tt
+
+pub map_is : {E : Type 0} (r : Result MapState E) (t ms : List Named) (d : Data) (b : Body) → value_at (codes "Iterator") (pairs ms) ≡ Some d → IsBody t d b → IfOk r (λ x. x.iterator ≡ b) → IfOk r (λ x. (u : List Named) → Some (body_of u b) ≡ kept_at (codes "Iterator") sort.Machine (pairs ms) → map_object u x ≡ canon sort.State (dict (pairs ms))) → IfOk r (λ x. IsState t (dict (pairs ms)) (Map x))
+map_is (Ok x) t ms d b at h e f = record { within = subst (IsWithin (length t)) (sym e) h.within; shows = f t (iterator_kept t ms d b at h) }
+map_is (Err y) t ms d b at h e f = tt
+
+pub on_ok : {A E : Type 0} (r : Result A E) (P : Type 0) → P → OnOk r P
+on_ok (Ok x) P h = h
+on_ok (Err y) P h = tt
+
+-- ---- how deep it goes
+
+pub value_depth : (k : List ℕ) (ms : Pairs) (d : Data) → value_at k ms ≡ Some d → depth d ≤ members_depth ms
+value_depth k no_members d e = absurd cc
+value_depth k (member l v ms) d e = by (bytes_eq k l) refl (λ h. value_depth k ms d h)
+  where
+    by : (b : Bool) → bytes_eq k l ≡ b → (value_at k ms ≡ Some d → depth d ≤ members_depth ms) → depth d ≤ max (depth v) (members_depth ms)
+    by true h rest = let same : v ≡ d = let x = rw h at e in cc in rw (← same) (omega arith)
+    by false h rest = let x = rw h at e in omega (arith, rest x)

@@ -9,10 +9,11 @@ use Rattle.asl_json.specs.Data.{Data, pairs}
 use Rattle.asl_json.specs.Meaning.{value_at}
 use Rattle.asl_json.specs.Distinct.{has_key}
 use Rattle.asl_def.specs.declared.state.State.{State}
-use Rattle.asl_def.specs.declared.state.State.TheVariants.{Pass, Succeed}
-use Rattle.asl_def.specs.declared.state.Body.{Body}
+use Rattle.asl_def.specs.declared.state.State.TheVariants.{Task, Pass, Choice, Wait, Parallel, Map, Succeed, Fail}
+use Rattle.asl_def.specs.declared.body.Body.{Body}
 use Rattle.asl_def.specs.Machines.{number_at}
-use Rattle.asl_def.specs.Show.{Named, body_of, state_of, shown, IsWithin, StateIsWithin, AreInOrder}
+use Rattle.asl_schema.specs.Canon.{Named}
+use Rattle.asl_def.specs.Show.{body_of, bodies_of, state_of, shown, IsWithin, AreWithin, StateIsWithin, AreInOrder}
 
 -- what goes on behind does not change what is shown
 pub body_of-append : (t r : List Named) (b : Body) → IsWithin (length t) b → body_of (t ++ r) b ≡ body_of t b
@@ -22,9 +23,19 @@ body_of-append t r b h =
     let same : take b.count (drop b.first (t ++ r)) ≡ take b.count (drop b.first t) = ap (take b.count) front ∙ take-append-le b.count (drop b.first t) r long in
     rw same refl
 
+pub bodies_of-append : (t r : List Named) (bs : List Body) → AreWithin (length t) bs → bodies_of (t ++ r) bs ≡ bodies_of t bs
+bodies_of-append t r [] h = refl
+bodies_of-append t r (b ∷ bs) h = λ i. body_of-append t r b h.0 i ∷ bodies_of-append t r bs h.1 i
+
 pub state_of-append : (t r : List Named) (s : State) → StateIsWithin (length t) s → state_of (t ++ r) s ≡ state_of t s
-state_of-append t r (Pass p) h = refl
-state_of-append t r (Succeed p) h = refl
+state_of-append t r (Task x) h = refl
+state_of-append t r (Pass x) h = refl
+state_of-append t r (Choice x) h = refl
+state_of-append t r (Wait x) h = refl
+state_of-append t r (Parallel x) h = rw (bodies_of-append t r x.branches h) refl
+state_of-append t r (Map x) h = rw (body_of-append t r x.iterator h) refl
+state_of-append t r (Succeed x) h = refl
+state_of-append t r (Fail x) h = refl
 
 or_found : {X : Type 0} (a b : Bool) (v : X) (o : Option X) → ((a || (b || false)) || is_some o) ≡ (a || is_some (if b then Some v else o))
 or_found true true v o = refl

@@ -1,39 +1,81 @@
 -- What is built of a definition without faults.
-use Rattle.std.specs.Prelude.{◌≡◌, ℕ, List, [], ◌∷◌, Bool, true, false, Option, Some, None, is_some, map}
-use Rattle.asl_json.specs.Data.{Data, Pairs}
-use Rattle.asl_def.specs.declared.sort.Sort.{Sort}
-use Rattle.asl_def.specs.declared.sort.Sort.TheVariants.{State as state_sort, Definition, Truth}
-use Rattle.asl_def.specs.declared.state.Body.{Body}
-use Rattle.asl_def.specs.Show.{Named, body_of}
-use Rattle.asl_def.specs.Machines.{IsWhole}
-use Rattle.asl_def.specs.Canon.{canon}
-use Rattle.asl_def.specs.Members.{Shape}
-use Rattle.asl_def.specs.Faults.{own_fault, is_ending, found, found_inside}
+use Rattle.std.specs.Prelude.{◌≡◌, ◌+◌, ◌≤◌, ℕ, List, [], ◌∷◌, ◌++◌, Bool, true, false, Some, length, map, if◌then◌else◌, codes, option_map, take, drop, string_bytes}
+use Rattle.asl_json.specs.Data.{Data, Pairs, pairs}
+use Rattle.asl_json.specs.Same.{bytes_eq}
+use Rattle.asl_json.specs.Meaning.{value_at}
+use Rattle.asl_json.specs.Distinct.{AreDistinct}
+use Rattle.asl_schema.specs.declared.sort.Sort.{Sort}
+use Rattle.asl_schema.specs.declared.sort.Sort.TheVariants.{State as state_sort, Machine, Retriers, Catchers, Target, Truth}
+use Rattle.asl_schema.specs.declared.sort.Kind.{Kind}
+use Rattle.asl_schema.specs.declared.sort.Kind.TheVariants as kind
+use Rattle.asl_schema.specs.Members.{Row, Shape, state_shape, kind_named, sort_at}
+use Rattle.asl_schema.specs.States.{states_in}
+use Rattle.asl_schema.specs.Canon.{Named, canon, kept_at}
+use Rattle.asl_schema.specs.Clean.{IsCleanInside}
+use Rattle.asl_members.specs.Shown.{path_shown}
+use Rattle.asl_def.specs.declared.outcome.Outcome.{Outcome}
+use Rattle.asl_def.specs.declared.body.Body.{Body}
+use Rattle.asl_def.specs.declared.state.State.{State}
+use Rattle.asl_def.specs.declared.build.Own.{Own}
+use Rattle.asl_def.specs.declared.build.Span.{Span}
+use Rattle.asl_def.specs.Parts.{Slots, next_shown, end_shown}
+use Rattle.asl_def.specs.Show.{listed, body_of, bodies_of, state_of, IsWithin, AreWithin, StateIsWithin}
+use Rattle.asl_def.specs.Machines.{all_states}
 
--- no fault is in a value, whatever names targets may have
-pub record IsClean (s : Sort) (d : Data) : Type 0 where
+-- nothing is wrong with the members of a state of this type
+pub record IsOfKind (k : Kind) (ms : List Named) : Type 0 where
   pub names : List ℕ → Bool
-  pub is : found names s d ≡ []
+  pub is : kind_named (value_at (codes "Type") (pairs ms)) ≡ Some k
+  pub inside : IsCleanInside names (state_shape (Some k)) (pairs ms)
+  pub distinct : AreDistinct [] ms
 
--- nor in an object of this shape
-pub record IsCleanInside (sh : Shape) (ms : Pairs) : Type 0 where
-  pub names : List ℕ → Bool
-  pub is : found_inside names sh ms ≡ []
+-- the types of states that have a result or an error
+abbrev pub has_outcome : Kind → Bool
+has_outcome kind.Task = true
+has_outcome kind.Parallel = true
+has_outcome kind.Map = true
+has_outcome k = false
 
--- the value of a member fits, where it is there
-abbrev pub Fits : Sort → Option Data → Type 0
-Fits s None = Unit {0}
-Fits s (Some d) = own_fault s d ≡ None
+abbrev pub of_any_type : Kind → Bool
+of_any_type k = true
 
--- exactly one of Next and a true End
-pub record GoesOneWay (next ends : Option Data) : Type 0 where
-  pub fits : Fits Truth ends
-  pub both : is_some next ≡ true → is_ending ends ≡ true → ⊥
-  pub neither : is_some next ≡ false → is_ending ends ≡ false → ⊥
+-- nothing is wrong with the members of a state of one of these types
+pub record IsOfAny (p : Kind → Bool) (ms : List Named) : Type 0 where
+  pub kind : Kind
+  pub chosen : p kind ≡ true
+  pub is : IsOfKind kind ms
+
+-- members are those of the canonical form, row by row
+abbrev pub Shows : Shape → Pairs → List Row → Slots → Type 0
+Shows sh ms [] [] = Unit {0}
+Shows sh ms (r ∷ rs) (m ∷ os) = (m.0 ≡ r.name) × (m.1 ≡ kept_at r.name (sort_at sh r.name) ms) × Shows sh ms rs os
+Shows sh ms rs os = ⊥
+
+-- how often a name comes
+abbrev pub tally : {A : Type 0} → List ℕ → List (List ℕ × A) → ℕ
+tally k [] = 0
+tally k (m ∷ ms) = (if bytes_eq k m.0 then 1 else 0) + tally k ms
+
+-- the states of a value may still go into a table: no name comes twice
+pub record HasRoom (t : List Named) (s : Sort) (d : Data) : Type 0 where
+  pub once : (k : List ℕ) → tally k t + tally k (states_in s d) ≤ 1
+
+-- a table with the states of a value behind those that it had
+pub record Grows (s : Sort) (d : Data) (old new : List Named) : Type 0 where
+  pub is : new ≡ old ++ all_states s (canon s d)
+  pub named : (k : List ℕ) → tally k new ≤ tally k old + tally k (states_in s d)
 
 pub record IsBody (t : List Named) (d : Data) (b : Body) : Type 0 where
-  pub whole : IsWhole t b
-  pub shows : body_of t b ≡ canon Definition d
+  pub within : IsWithin (length t) b
+  pub shows : body_of t b ≡ canon Machine d
+
+pub record AreBodies (t : List Named) (ds : List Data) (bs : List Body) : Type 0 where
+  pub within : AreWithin (length t) bs
+  pub shows : bodies_of t bs ≡ map (canon Machine) ds
+
+pub record IsState (t : List Named) (d : Data) (s : State) : Type 0 where
+  pub within : StateIsWithin (length t) s
+  pub shows : state_of t s ≡ canon state_sort d
 
 -- the states of a machine, canonical
 abbrev pub canon_row : Named → Named
@@ -42,12 +84,39 @@ canon_row m = (m.0, canon state_sort m.1)
 abbrev pub canon_rows : List Named → List Named
 canon_rows ms = map canon_row ms
 
--- each state is clean
-abbrev pub AreClean : List Named → Type 0
-AreClean [] = Unit {0}
-AreClean (m ∷ ms) = IsClean state_sort m.1 × AreClean ms
+-- what becomes of a result is as the members say
+pub record IsOutcome (ms : Pairs) (o : Outcome) : Type 0 where
+  pub result_selector : o.result_selector ≡ value_at (codes "ResultSelector") ms
+  pub result_path : path_shown o.result_path ≡ value_at (codes "ResultPath") ms
+  pub output_path : path_shown o.output_path ≡ value_at (codes "OutputPath") ms
+  pub retry : listed o.retry ≡ option_map (canon Retriers) (value_at (codes "Retry") ms)
+  pub catch : listed o.catch ≡ option_map (canon Catchers) (value_at (codes "Catch") ms)
+  pub next : next_shown o.next ≡ kept_at (codes "Next") Target ms
+  pub ends : end_shown o.next ≡ kept_at (codes "End") Truth ms
 
--- a required member is there, and fits
-abbrev pub IsThere : Sort → Option Data → Type 0
-IsThere s None = ⊥
-IsThere s (Some d) = own_fault s d ≡ None
+-- states that are to go last, over the table so far
+
+abbrev pub row_in : List Named → Own → Named
+row_in t o = (string_bytes o.name, state_of t o.state)
+
+abbrev pub rows_in : List Named → List Own → List Named
+rows_in t os = map (row_in t) os
+
+abbrev pub OwnAreWithin : ℕ → List Own → Type 0
+OwnAreWithin n [] = Unit {0}
+OwnAreWithin n (o ∷ os) = StateIsWithin n o.state × OwnAreWithin n os
+
+-- they are the states of a machine
+pub record AreOwn (t : List Named) (ms : List Named) (os : List Own) : Type 0 where
+  pub within : OwnAreWithin (length t) os
+  pub shows : rows_in t os ≡ canon_rows ms
+
+-- they may go last
+pub record HasRoomFor (t : List Named) (os : List Own) : Type 0 where
+  pub within : OwnAreWithin (length t) os
+  pub once : (k : List ℕ) → tally k t + tally k (rows_in t os) ≤ 1
+
+-- they stand together
+pub record IsSpan (t : List Named) (ms : List Named) (s : Span) : Type 0 where
+  pub within : s.first + s.count ≤ length t
+  pub shows : take s.count (drop s.first t) ≡ canon_rows ms

@@ -1,189 +1,195 @@
 // The typed machine of a definition without faults.
-ghost use Rattle.std.specs.Prelude.{◌≡◌, ℕ, List, [], Some, IfOk, IsTrue, is_some, codes, option_map, length};
-ghost use Rattle.asl_json.specs.View.{data_of, members_of};
+ghost use Rattle.std.specs.Prelude.{◌≡◌, ℕ, true, List, [], ◌∷◌, ◌++◌, Some, IfOk, OnOk, codes, option_map, length};
+ghost use Rattle.asl_json.specs.View.{data_of};
 ghost use Rattle.asl_json.specs.Meaning.{value_at};
-ghost use Rattle.asl_json.specs.Data.{text, dict, pairs};
-ghost use Rattle.asl_def.specs.declared.sort.Sort.TheVariants.{Text, Truth, ReferencePath, Target as target_sort, Definition, State as state_sort, States as states_sort, Any};
-ghost use Rattle.asl_def.specs.declared.sort.Kind.TheVariants.{Pass as pass_kind, Succeed as succeed_kind};
-ghost use Rattle.asl_def.specs.Members.{state_shape, kind_named};
-ghost use Rattle.asl_def.specs.Show.{next_shown, end_shown, path_shown, pass_object, succeed_object, state_of, Named};
-ghost use Rattle.asl_def.specs.Canon.{kept_at, canon, canonical};
-ghost use Rattle.asl_def.specs.Faults.{IsFaultless, root_in};
-ghost use Rattle.asl_def.specs.Built.{Fits, GoesOneWay, IsClean, IsCleanInside, AreClean, IsThere, IsBody, canon_rows};
+ghost use Rattle.asl_json.specs.Data.{text, list, dict, chain, pairs};
+ghost use Rattle.asl_json.specs.Distinct.{AreDistinct};
+ghost use Rattle.asl_schema.specs.declared.sort.Sort.TheVariants.{Machine as machine_sort, Machines as machines_sort, State as state_sort, States as states_sort};
+ghost use Rattle.asl_schema.specs.declared.sort.Form.TheVariants.{Object, List as ListForm};
+ghost use Rattle.asl_schema.specs.Demands.{is_of};
+ghost use Rattle.asl_schema.specs.declared.sort.Kind.TheVariants.{Parallel as parallel_kind, Map as map_kind};
+ghost use Rattle.asl_schema.specs.Members.{kind_named as spec_kind_named};
+ghost use Rattle.asl_schema.specs.Canon.{Named, canon};
+ghost use Rattle.asl_schema.specs.Clean.{IsClean};
+ghost use Rattle.asl_def.specs.Built.{Grows, HasRoom, HasRoomFor, IsBody, AreBodies, IsState, IsOfKind, IsSpan, AreOwn, rows_in};
 
-use crate::fields::{find, kind_named};
-use crate::sort::Kind;
-use crate::state::{Body, Next, Pass, PathField, State, Succeed, Target};
+use crate::body::{Bodies, Body};
+use crate::choice::Choice;
+use crate::fail::Fail;
+use crate::map::Map;
+use crate::parallel::Parallel;
+use crate::pass::Pass;
+use crate::state::State;
+use crate::succeed::Succeed;
 use crate::table::Table;
-use asl_json::{Json, Member, Members, Txt};
-use asl_path::{PathFault, RefPath};
+use crate::target::Target;
+use crate::task::Task;
+use crate::wait::Wait;
+use asl_json::{Items, Json, Members};
+use asl_members::read_optional;
+use asl_schema::{Kind, kind_named};
 use std::alloc::{AllocError, Global};
 
-fn comment(alloc: Global, members: &[Member]) -> Result<Option<Txt>, AllocError>
-    requires { Fits Text (value_at (codes "Comment") (pairs (members_of members.now))) }
-    ensures { IfOk result (λ c. option_map text c ≡ kept_at (codes "Comment") Text (pairs (members_of members.now))) }
-{
-    match find(members, "Comment") {
-        Some(Json::Text(text)) => Ok(Some(text.try_clone(alloc)?)),
-        _ => Ok(None),
-    }
+/// A state that does not stand in the table yet.
+#[derive(Drop)]
+struct Own {
+    name: String,
+    state: State,
 }
 
-fn result_of(alloc: Global, members: &[Member]) -> Result<Option<Json>, AllocError>
-    ensures { IfOk result (λ v. option_map data_of v ≡ kept_at (codes "Result") Any (pairs (members_of members.now))) }
-{
-    match find(members, "Result") {
-        Some(value) => Ok(Some(value.try_clone(alloc)?)),
-        None => Ok(None),
-    }
+/// The states of a machine in the table: so many with the numbers from `first` on.
+#[derive(Drop)]
+pub(crate) struct Span {
+    pub(crate) first: usize,
+    pub(crate) count: usize,
 }
 
-/// The path of a text that was found to be one.
-fn path(alloc: Global, text: &str) -> Result<RefPath, AllocError>
-    requires { IsTrue (is_some (root_in text.now)) }
-    ensures { IfOk result (λ p. p ≡ text.now) }
-{
-    match RefPath::read(alloc, text) {
-        Ok(path) => Ok(path),
-        Err(PathFault::OutOfMemory) => Err(AllocError),
-        Err(PathFault::PathProfile(_)) => unreachable!(),
-    }
-}
-
-fn path_field(alloc: Global, value: Option<&Json>) -> Result<PathField, AllocError>
-    requires { Fits ReferencePath (option_map (λ v. data_of v.now) value) }
-    ensures { IfOk result (λ p. path_shown p ≡ option_map (λ v. data_of v.now) value.entry) }
-{
-    match value {
-        None => Ok(PathField::Whole),
-        Some(Json::Text(text)) => Ok(PathField::At(path(alloc, text.as_str())?)),
-        Some(_) => Ok(PathField::Nowhere),
-    }
-}
-
-fn next(alloc: Global, members: &[Member]) -> Result<Next, AllocError>
-    requires target { Fits target_sort (value_at (codes "Next") (pairs (members_of members.now))) }
-    requires one { GoesOneWay (value_at (codes "Next") (pairs (members_of members.now))) (value_at (codes "End") (pairs (members_of members.now))) }
-    ensures next { IfOk result (λ n. next_shown n ≡ kept_at (codes "Next") target_sort (pairs (members_of members.now))) }
-    ensures end { IfOk result (λ n. end_shown n ≡ kept_at (codes "End") Truth (pairs (members_of members.now))) }
-{
-    match find(members, "Next") {
-        Some(Json::Text(name)) => Ok(Next::To(Target {
-            name: name.try_clone(alloc)?,
-        })),
-        _ => Ok(Next::End),
-    }
-}
-
-fn pass(alloc: Global, members: &[Member]) -> Result<Pass, AllocError>
-    requires kind { kind_named (value_at (codes "Type") (pairs (members_of members.now))) ≡ Some pass_kind }
-    requires clean { IsCleanInside (state_shape (Some pass_kind)) (pairs (members_of members.now)) }
-    ensures { IfOk result (λ p. pass_object p ≡ canon state_sort (dict (pairs (members_of members.now)))) }
-{
-    let comment = comment(alloc, members)?;
-    let input_path = path_field(alloc, find(members, "InputPath"))?;
-    let result = result_of(alloc, members)?;
-    let result_path = path_field(alloc, find(members, "ResultPath"))?;
-    let output_path = path_field(alloc, find(members, "OutputPath"))?;
-    let next = next(alloc, members)?;
-    Ok(Pass {
-        comment,
-        input_path,
-        result,
-        result_path,
-        output_path,
-        next,
-    })
-}
-
-fn succeed(alloc: Global, members: &[Member]) -> Result<Succeed, AllocError>
-    requires kind { kind_named (value_at (codes "Type") (pairs (members_of members.now))) ≡ Some succeed_kind }
-    requires clean { IsCleanInside (state_shape (Some succeed_kind)) (pairs (members_of members.now)) }
-    ensures { IfOk result (λ s. succeed_object s ≡ canon state_sort (dict (pairs (members_of members.now)))) }
-{
-    let comment = comment(alloc, members)?;
-    let input_path = path_field(alloc, find(members, "InputPath"))?;
-    let output_path = path_field(alloc, find(members, "OutputPath"))?;
-    Ok(Succeed {
-        comment,
-        input_path,
-        output_path,
-    })
-}
-
-fn state(alloc: Global, value: &Json) -> Result<State, AllocError>
-    requires { IsClean state_sort (data_of value.now) }
-    ensures { IfOk result (λ s. (t : List Named) → state_of t s ≡ canon state_sort (data_of value.now)) }
+/// The members of a value that is an object.
+pub(crate) fn object_in(value: &Json) -> &Members
+    requires { is_of Object (data_of value.now) ≡ true }
+    ensures { data_of value.now ≡ dict (pairs result.now) }
 {
     let Json::Dict(members) = value else {
         unreachable!();
     };
-    let pairs = members.members();
-    match kind_named(find(pairs, "Type")) {
-        Some(Kind::Pass) => Ok(State::Pass(pass(alloc, pairs)?)),
-        Some(Kind::Succeed) => Ok(State::Succeed(succeed(alloc, pairs)?)),
+    members
+}
+
+/// The items of a value that is a list.
+fn list_in(value: &Json) -> &Items
+    requires { is_of ListForm (data_of value.now) ≡ true }
+    ensures { data_of value.now ≡ list (chain result.now) }
+{
+    let Json::List(items) = value else {
+        unreachable!();
+    };
+    items
+}
+
+/// The type that the members of a state name.
+fn kind_of(members: &Members) -> Option<Kind>
+    ensures kind { result ≡ spec_kind_named (value_at (codes "Type") (pairs members.now)) }
+    // No name comes twice.
+    ensures distinct { AreDistinct [] members.now }
+{
+    let _members = members.members();
+    kind_named(members.find("Type"))
+}
+
+/// States go last, one after another.
+fn push_all(table: &mut Table, own: Vec<Own>) -> Result<(), AllocError>
+    requires { HasRoomFor table.old own.items }
+    ensures { OnOk result (table.new ≡ table.old ++ rows_in table.old own.items) }
+{
+    for row in own {
+        table.push(row.name, row.state)?;
+    }
+    Ok(())
+}
+
+#[cycle(build)]
+fn parallel(alloc: Global, table: &mut Table, members: &Members) -> Result<Parallel, AllocError>
+    requires kind { IsOfKind parallel_kind members.now }
+    requires room { HasRoom table.old state_sort (dict (pairs members.now)) }
+    ensures grows { OnOk result (Grows state_sort (dict (pairs members.now)) table.old table.new) }
+    ensures state { IfOk result (λ x. IsState table.new (dict (pairs members.now)) (State.Parallel x)) }
+{
+    let Some(branches) = members.find("Branches") else {
+        unreachable!();
+    };
+    let bodies = bodies(alloc, table, list_in(branches))?;
+    Parallel::read(alloc, members, Bodies { bodies })
+}
+
+#[cycle(build)]
+fn map(alloc: Global, table: &mut Table, members: &Members) -> Result<Map, AllocError>
+    requires kind { IsOfKind map_kind members.now }
+    requires room { HasRoom table.old state_sort (dict (pairs members.now)) }
+    ensures grows { OnOk result (Grows state_sort (dict (pairs members.now)) table.old table.new) }
+    ensures state { IfOk result (λ x. IsState table.new (dict (pairs members.now)) (State.Map x)) }
+{
+    let Some(iterator) = members.find("Iterator") else {
+        unreachable!();
+    };
+    let iterator = body(alloc, table, object_in(iterator))?;
+    Map::read(alloc, members, iterator)
+}
+
+#[cycle(build)]
+fn state(alloc: Global, table: &mut Table, value: &Json) -> Result<State, AllocError>
+    requires clean { IsClean state_sort (data_of value.now) }
+    requires room { HasRoom table.old state_sort (data_of value.now) }
+    ensures grows { OnOk result (Grows state_sort (data_of value.now) table.old table.new) }
+    ensures state { IfOk result (λ s. IsState table.new (data_of value.now) s) }
+{
+    let members = object_in(value);
+    match kind_of(members) {
+        Some(Kind::Task) => Ok(State::Task(Task::read(alloc, members)?)),
+        Some(Kind::Pass) => Ok(State::Pass(Pass::read(alloc, members)?)),
+        Some(Kind::Choice) => Ok(State::Choice(Choice::read(alloc, members)?)),
+        Some(Kind::Wait) => Ok(State::Wait(Wait::read(alloc, members)?)),
+        Some(Kind::Parallel) => Ok(State::Parallel(parallel(alloc, table, members)?)),
+        Some(Kind::Map) => Ok(State::Map(map(alloc, table, members)?)),
+        Some(Kind::Succeed) => Ok(State::Succeed(Succeed::read(alloc, members)?)),
+        Some(Kind::Fail) => Ok(State::Fail(Fail::read(alloc, members)?)),
         None => unreachable!(),
     }
 }
 
-/// The states of a machine, in the order of the definition.
-fn states(alloc: Global, states: &Members) -> Result<Table, AllocError>
-    requires { AreClean states.now }
-    ensures { IfOk result (λ t. t ≡ canon_rows states.now) }
+#[cycle(build)]
+fn bodies(alloc: Global, table: &mut Table, machines: &Items) -> Result<Vec<Body>, AllocError>
+    requires clean { IsClean machines_sort (list (chain machines.now)) }
+    requires room { HasRoom table.old machines_sort (list (chain machines.now)) }
+    ensures grows { OnOk result (Grows machines_sort (list (chain machines.now)) table.old table.new) }
+    ensures bodies { IfOk result (λ bs. AreBodies table.new machines.now bs.items) }
 {
-    let pairs = states.members();
-    let mut table = Table::new(alloc);
-    for member in pairs {
-        let state = state(alloc, &member.value)?;
-        let name = member.key.try_clone(alloc)?.into_string();
-        table.push(name, state)?;
+    let values = machines.values();
+    let mut bodies = Vec::new(alloc);
+    for value in values {
+        let body = body(alloc, table, object_in(value))?;
+        bodies.push(body)?;
     }
-    Ok(table)
+    Ok(bodies)
 }
 
-fn start(alloc: Global, members: &[Member]) -> Result<Target, AllocError>
-    requires { IsThere target_sort (value_at (codes "StartAt") (pairs (members_of members.now))) }
-    ensures { IfOk result (λ t. Some (text t.name) ≡ kept_at (codes "StartAt") target_sort (pairs (members_of members.now))) }
+#[cycle(build)]
+fn body(alloc: Global, table: &mut Table, members: &Members) -> Result<Body, AllocError>
+    requires clean { IsClean machine_sort (dict (pairs members.now)) }
+    requires room { HasRoom table.old machine_sort (dict (pairs members.now)) }
+    ensures grows { OnOk result (Grows machine_sort (dict (pairs members.now)) table.old table.new) }
+    ensures body { IfOk result (λ b. IsBody table.new (dict (pairs members.now)) b) }
 {
-    let Some(Json::Text(name)) = find(members, "StartAt") else {
+    let comment = read_optional(alloc, members.find("Comment"))?;
+    let start = Target::read(alloc, members.find("StartAt"))?;
+    let Some(own) = members.find("States") else {
         unreachable!();
     };
-    Ok(Target {
-        name: name.try_clone(alloc)?,
+    let span = states(alloc, table, object_in(own))?;
+    Ok(Body {
+        comment,
+        start,
+        first: span.first,
+        count: span.count,
     })
 }
 
-fn table_in(alloc: Global, members: &[Member]) -> Result<Table, AllocError>
-    requires there { IsThere states_sort (value_at (codes "States") (pairs (members_of members.now))) }
-    requires clean { (own : List Named) → value_at (codes "States") (pairs (members_of members.now)) ≡ Some (dict (pairs own)) → AreClean own }
-    ensures { IfOk result (λ t. Some (dict (pairs t)) ≡ kept_at (codes "States") states_sort (pairs (members_of members.now))) }
+/// The states of a machine: first those of the machines inside them, then its own.
+#[cycle(build)]
+pub(crate) fn states(alloc: Global, table: &mut Table, states: &Members) -> Result<Span, AllocError>
+    requires clean { IsClean states_sort (dict (pairs states.now)) }
+    requires room { HasRoom table.old states_sort (dict (pairs states.now)) }
+    ensures grows { OnOk result (Grows states_sort (dict (pairs states.now)) table.old table.new) }
+    ensures span { IfOk result (λ s. IsSpan table.new states.now s) }
 {
-    let Some(Json::Dict(own)) = find(members, "States") else {
-        unreachable!();
-    };
-    states(alloc, own)
-}
-
-/// The table of a definition's states, and the machine on the outside.
-pub(crate) fn build(alloc: Global, definition: &Json) -> Result<(Table, Body), AllocError>
-    requires { IsFaultless (data_of definition.now) }
-    ensures { IfOk result (λ x. IsBody x.0 (data_of definition.now) x.1) }
-{
-    let Json::Dict(members) = definition else {
-        unreachable!();
-    };
-    let pairs = members.members();
-    let comment = comment(alloc, pairs)?;
-    let start = start(alloc, pairs)?;
-    let table = table_in(alloc, pairs)?;
-    let count = table.len();
-    Ok((
-        table,
-        Body {
-            comment,
-            start,
-            first: 0,
-            count,
-        },
-    ))
+    let members = states.members();
+    let mut own = Vec::new(alloc);
+    for member in members {
+        let name = member.key.try_clone(alloc)?.into_string();
+        let state = state(alloc, table, &member.value)?;
+        own.push(Own { name, state })?;
+    }
+    let first = table.len();
+    let count = own.len();
+    push_all(table, own)?;
+    Ok(Span { first, count })
 }

@@ -1,20 +1,28 @@
 // A definition, compiled.
-ghost use Rattle.std.specs.Prelude.{◌≡◌, ◌<◌, Some, codes, option_map, IfOk, IfErr, IfSome};
+ghost use Rattle.std.specs.Prelude.{◌≡◌, ◌<◌, List, Some, codes, length, option_map, slice_get, string_bytes, IfOk, IfErr, IfSome};
 ghost use Rattle.asl_json.specs.View.{data_of};
 ghost use Rattle.asl_json.specs.Data.{text};
+ghost use Rattle.asl_json.specs.Compact.{compact};
 ghost use Rattle.asl_json.specs.Meaning.{value_in};
-ghost use Rattle.asl_def.specs.Show.{object_of};
-ghost use Rattle.asl_def.specs.Canon.{canonical};
-ghost use Rattle.asl_def.specs.Sentences.{Accepted};
-ghost use Rattle.asl_def.specs.Answer.{IsAnswer};
+ghost use Rattle.asl_schema.specs.Canon.{Named, canonical};
+ghost use Rattle.asl_schema.specs.Faults.{Accepted};
+ghost use Rattle.asl_def.specs.Show.{state_of};
 ghost use Rattle.asl_def.specs.Machines.{state_object, state_number, state_count};
+ghost use Rattle.asl_def.specs.Own.{own_states_in};
+ghost use Rattle.asl_def.specs.Answer.{IsAnswer};
 
-use crate::build::build;
-use crate::check::first_fault;
-use crate::pointer::{DefFault, answer};
-use crate::state::{Body, State};
+use crate::body::Body;
+use crate::build::{object_in, states};
+use crate::entry::entry;
+use crate::fault::{DefFault, answer};
+use crate::heading::Heading;
+use crate::json::states_json;
+use crate::state::State;
 use crate::table::Table;
-use asl_json::Json;
+use crate::target::Target;
+use asl_json::{Json, write};
+use asl_members::{json_optional, object, read_optional};
+use asl_schema::first_fault;
 use std::alloc::{AllocError, Global};
 use std::marker::Model;
 
@@ -23,6 +31,7 @@ use std::marker::Model;
 #[derive(Drop)]
 pub struct Machine {
     table: Table,
+    heading: Heading,
     root: Body,
 }
 
@@ -34,12 +43,12 @@ impl Model for Machine {
 
     ghost coded = { coded_data };
 
-    ghost use Rattle.asl_def.specs.Show.{body_of};
-    ghost use Rattle.asl_def.specs.Machines.{IsWhole};
+    ghost use Rattle.asl_def.specs.Show.{machine_of};
+    ghost use Rattle.asl_def.specs.Whole.{IsWhole};
 
-    ghost view = { λ a. body_of a.table a.root };
+    ghost view = { λ a. machine_of a.table a.heading a.root };
 
-    ghost invariant = { λ a. IsWhole a.table a.root };
+    ghost invariant = { λ a. IsWhole a.table a.heading a.root };
 }
 
 impl Machine {
@@ -50,28 +59,71 @@ impl Machine {
         self.root.start.name.as_str()
     }
 
-    /// The state of this name, by a hash.
+    /// The state of this name, in whatever machine it stands, by a hash. Contracts see its object over the states of the
+    /// machines inside it.
     pub fn state(&self, name: &str) -> Option<&State>
-        ensures { option_map (λ s. object_of s.now) result ≡ state_object name.now self.now }
+        ensures { (t : List Named) × (option_map (λ s. state_of t s.now) result ≡ state_object name.now self.now) }
     {
         self.table.state(name)
     }
 
-    /// How many states it has.
+    /// How many states it has, those of the machines inside states among them.
     pub fn len(&self) -> usize
         ensures { result ≡ state_count self.now }
     {
         self.table.len()
     }
 
-    /// The state of this name, and its number among the states in the order of the definition, counted from 0. One hash
-    /// finds both.
+    /// The state of this name, in whatever machine it stands, and its number among all states, counted from 0. One hash finds
+    /// both.
     pub fn find(&self, name: &str) -> Option<(usize, &State)>
         ensures number { option_map (λ f. f.0) result ≡ state_number name.now self.now }
         ensures within { IfSome result (λ f. f.0 < state_count self.now) }
-        ensures object { option_map (λ f. object_of f.1.now) result ≡ state_object name.now self.now }
+        ensures object { (t : List Named) × (option_map (λ f. state_of t f.1.now) result ≡ state_object name.now self.now) }
     {
         self.table.find(name)
+    }
+
+    /// How many states the outermost machine has: those that stand in its own `States`.
+    pub fn own_len(&self) -> usize
+        ensures { result ≡ length (own_states_in self.now) }
+    {
+        self.root.count
+    }
+
+    /// The state with this number among those of the outermost machine, counted from 0 in document order, and its name. Contracts
+    /// see its object over the states of the machines inside it.
+    pub fn own_state(&self, number: usize) -> Option<(&str, &State)>
+        ensures { (t : List Named) × (option_map (λ x. (x.0.now, state_of t x.1.now)) result ≡ slice_get (own_states_in self.now) number) }
+    {
+        if number >= self.root.count {
+            return None;
+        }
+        let table = &self.table;
+        let _states = table.len();
+        let (name, state) = table.at(self.root.first + number)?;
+        Some((name.as_str(), state))
+    }
+
+    /// Its canonical definition as JSON. Its cost is that definition's length. The error is that memory ran out.
+    pub fn json(&self, alloc: Global) -> Result<Json, AllocError>
+        ensures { IfOk result (λ j. data_of j ≡ self.now) }
+    {
+        let comment = json_optional(alloc, &self.root.comment)?;
+        let query_language = json_optional(alloc, &self.heading.query_language)?;
+        let version = json_optional(alloc, &self.heading.version)?;
+        let start = self.root.start.json(alloc)?;
+        let timeout = json_optional(alloc, &self.heading.timeout)?;
+        let states = states_json(alloc, &self.table, self.root.first, self.root.count)?;
+        let entries = vec![in alloc;
+            entry("Comment", comment),
+            entry("QueryLanguage", query_language),
+            entry("Version", version),
+            entry("StartAt", Some(start)),
+            entry("TimeoutSeconds", timeout),
+            entry("States", Some(Json::Dict(states))),
+        ]?;
+        object(alloc, entries)
     }
 
     /// A machine of its own, equal to this one. The error is that memory ran out.
@@ -80,9 +132,37 @@ impl Machine {
     {
         Ok(Machine {
             table: self.table.try_clone(alloc)?,
+            heading: self.heading.try_clone(alloc)?,
             root: self.root.try_clone(alloc)?,
         })
     }
+}
+
+/// The machine of a definition without faults.
+fn build(alloc: Global, definition: &Json) -> Result<Machine, AllocError>
+    requires { Accepted (data_of definition.now) }
+    ensures { IfOk result (λ m. m ≡ canonical (data_of definition.now)) }
+{
+    let members = object_in(definition);
+    let heading = Heading::read(alloc, members)?;
+    let comment = read_optional(alloc, members.find("Comment"))?;
+    let start = Target::read(alloc, members.find("StartAt"))?;
+    let Some(own) = members.find("States") else {
+        unreachable!();
+    };
+    let mut table = Table::new(alloc);
+    let span = states(alloc, &mut table, object_in(own))?;
+    let root = Body {
+        comment,
+        start,
+        first: span.first,
+        count: span.count,
+    };
+    Ok(Machine {
+        table,
+        heading,
+        root,
+    })
 }
 
 /// The machine of a definition.
@@ -103,9 +183,14 @@ pub fn parse(alloc: Global, definition: &Json) -> Result<Machine, DefFault>
 {
     match first_fault(alloc, definition)? {
         Some(fault) => Err(answer(alloc, &fault)),
-        None => {
-            let (table, root) = build(alloc, definition)?;
-            Ok(Machine { table, root })
-        }
+        None => Ok(build(alloc, definition)?),
     }
+}
+
+/// The compact text of a machine's canonical definition: no spaces, members in the order of the table, states in document
+/// order. Its cost is the length of that text. The error is that memory ran out.
+pub fn print(alloc: Global, machine: &Machine) -> Result<String, AllocError>
+    ensures { IfOk result (λ t. string_bytes t ≡ compact machine.now) }
+{
+    write(alloc, &machine.json(alloc)?)
 }

@@ -1,7 +1,7 @@
 // The states of a whole definition in one table.
 ghost use Rattle.std.specs.Prelude.{◌≡◌, ◌∷◌, ◌++◌, [], Some, false, length, slice_get, string_bytes, IfSome, IfNone, OnOk, OnErr, ◌≤◌, option_map, IfOk};
 ghost use Rattle.asl_json.specs.Data.{pairs};
-ghost use Rattle.asl_json.specs.Distinct.{has_key};
+ghost use Rattle.asl_json.specs.Distinct.{AreDistinct, has_key};
 ghost use Rattle.asl_json.specs.Meaning.{value_at};
 ghost use Rattle.asl_def.specs.Machines.{number_at};
 ghost use Rattle.asl_def.specs.Show.{state_of, StateIsWithin};
@@ -63,6 +63,22 @@ impl Table {
     {
         let (number, _, state) = self.states.get_full(name)?;
         Some((number, state))
+    }
+
+    /// The state with this number, and its name. Machines inside it have smaller numbers.
+    pub(crate) fn at(&self, number: usize) -> Option<(&String, &State)>
+        ensures some { IfSome result (λ x. slice_get self.now number ≡ Some (string_bytes x.0.now, state_of self.now x.1.now)) }
+        ensures none { IfNone result (length self.now ≤ number) }
+        ensures within { IfSome result (λ x. StateIsWithin number x.1.now) }
+    {
+        self.states.get_index(number)
+    }
+
+    /// No name comes twice.
+    pub(crate) fn names_differ(&self)
+        ensures { AreDistinct [] self.now }
+    {
+        let _states = (&self.states).into_iter();
     }
 
     /// A state goes last. Inner machines stand before it.

@@ -20,4 +20,5 @@ pub use definition::first_fault;
 pub use fault::{Fault, FaultKind, Step};
 pub use keys::keys_differ;
 pub use laws::the_canonical_form_is_accepted;
+pub use rows::kind_named;
 pub use sort::Kind;

@@ -636,7 +636,7 @@ pub(crate) fn find<'a>(members: &'a [Member], name: &str) -> Option<&'a Json>
 }
 
 /// The type that an object names, where it is one.
-fn kind_named(value: Option<&Json>) -> Option<Kind>
+pub fn kind_named(value: Option<&Json>) -> Option<Kind>
     ensures { result ≡ spec_kind_named (option_map (λ v. data_of v.now) value.entry) }
 {
     match value {

@@ -1,0 +1,99 @@
+// Machines as JSON.
+ghost use Rattle.std.specs.Prelude.{◌≡◌, ◌≤◌, ◌+◌, IfOk, length, take, drop};
+ghost use Rattle.asl_json.specs.View.{data_of};
+ghost use Rattle.asl_def.specs.Show.{IsWithin, AreWithin, StateIsWithin, body_of, bodies_of, state_of};
+
+use crate::body::Body;
+use crate::entry::entry;
+use crate::state::State;
+use crate::table::Table;
+use asl_json::{Items, Json, Members, Txt};
+use asl_members::{json_optional, object};
+use std::alloc::{AllocError, Global};
+
+/// The canonical object of a machine inside a definition. The error is that memory ran out.
+#[cycle(json)]
+pub(crate) fn body_json(alloc: Global, table: &Table, body: &Body) -> Result<Json, AllocError>
+    requires { IsWithin (length table.now) body.now }
+    ensures { IfOk result (λ j. data_of j ≡ body_of table.now body.now) }
+{
+    let comment = json_optional(alloc, &body.comment)?;
+    let start = body.start.json(alloc)?;
+    let states = states_json(alloc, table, body.first, body.count)?;
+    let entries = vec![in alloc;
+        entry("Comment", comment),
+        entry("StartAt", Some(start)),
+        entry("States", Some(Json::Dict(states))),
+    ]?;
+    object(alloc, entries)
+}
+
+/// So many states with the numbers from `first` on, by name. The error is that memory ran out.
+#[cycle(json)]
+pub(crate) fn states_json(
+    alloc: Global,
+    table: &Table,
+    first: usize,
+    count: usize,
+) -> Result<Members, AllocError>
+    requires { first + count ≤ length table.now }
+    ensures { IfOk result (λ ms. ms ≡ take count (drop first table.now)) }
+{
+    let _len = table.len();
+    table.names_differ();
+    let end = first + count;
+    let mut members = Members::new(alloc);
+    for number in first..end {
+        let Some((name, state)) = table.at(number) else {
+            unreachable!();
+        };
+        let name = Txt::new(String::from_str(alloc, name.as_str())?);
+        let state = state_json(alloc, table, number, state)?;
+        members.push(name, state)?;
+    }
+    Ok(members)
+}
+
+#[cycle(json)]
+fn state_json(
+    alloc: Global,
+    table: &Table,
+    number: usize,
+    state: &State,
+) -> Result<Json, AllocError>
+    requires within { StateIsWithin number state.now }
+    requires inside { number ≤ length table.now }
+    ensures { IfOk result (λ j. data_of j ≡ state_of table.now state.now) }
+{
+    match state {
+        State::Task(task) => task.json(alloc),
+        State::Pass(pass) => pass.json(alloc),
+        State::Choice(choice) => choice.json(alloc),
+        State::Wait(wait) => wait.json(alloc),
+        State::Parallel(parallel) => {
+            let branches = bodies_json(alloc, table, number, parallel.branches.as_slice())?;
+            parallel.json(alloc, branches)
+        }
+        State::Map(map) => map.json(alloc, body_json(alloc, table, &map.iterator)?),
+        State::Succeed(succeed) => succeed.json(alloc),
+        State::Fail(fail) => fail.json(alloc),
+    }
+}
+
+#[cycle(json)]
+fn bodies_json(
+    alloc: Global,
+    table: &Table,
+    number: usize,
+    bodies: &[Body],
+) -> Result<Items, AllocError>
+    requires within { AreWithin number bodies.now }
+    requires inside { number ≤ length table.now }
+    ensures { IfOk result (λ js. js ≡ bodies_of table.now bodies.now) }
+{
+    let mut machines = Vec::new(alloc);
+    for body in bodies {
+        machines.push(body_json(alloc, table, body)?)?;
+    }
+    Ok(Items::of_values(machines))
+}
