@@ -7,6 +7,7 @@ use Rattle.asl_json.specs.declared.fault.JsonFault.TheVariants as json
 use Rattle.asl_schema.specs.declared.fault.FaultKind.{FaultKind}
 use Rattle.asl_schema.specs.declared.fault.Step.{Step}
 use Rattle.asl_schema.specs.Faults.{Accepted, claims_of}
+use Rattle.asl_schema.specs.Canon.{canonical}
 use Rattle.asl_schema.specs.First.{IsFirst}
 use Rattle.asl_schema.specs.Pointers.{pointer_text}
 use Rattle.asl_check.specs.declared.fault.Fault.{Fault}
@@ -17,6 +18,13 @@ pub record IsDefinition (b : List ℕ) : Type 0 where
   pub value : Data
   pub reads : ReadsAs b value
   pub accepted : Accepted value
+
+-- the text spells a definition, of which this is the canonical form
+pub record IsMachineOf (b : List ℕ) (m : Data) : Type 0 where
+  pub definition : Data
+  pub reads : ReadsAs b definition
+  pub accepted : Accepted definition
+  pub compiled : m ≡ canonical definition
 
 -- the first fault of a JSON text
 pub record IsTextFault (b : List ℕ) (f : JsonFault) : Type 0 where
@@ -37,9 +45,3 @@ abbrev pub IsFaultOf : List ℕ → Fault → Type 0
 IsFaultOf b (Json f) = IsTextFault b f
 IsFaultOf b (Definition k p) = IsValueFault b k p
 IsFaultOf b OutOfMemory = Unit {0}
-
--- the answer tells of this fault, or memory ran out
-abbrev pub Tells : FaultKind → List Step → Fault → Type 0
-Tells k at (Json f) = ⊥
-Tells k at (Definition l p) = (l ≡ k) × (p ≡ pointer_text at)
-Tells k at OutOfMemory = Unit {0}

@@ -1,2 +1,4 @@
 pub mod Judged
 pub mod Lines
+pub mod Sound
+pub mod Laws

@@ -1,11 +1,14 @@
-//! Judging the texts of definitions (Amazon States Language, <https://states-language.net/spec.html>).
+//! Accepting the texts of definitions (Amazon States Language, <https://states-language.net/spec.html>).
 //!
-//! `specs/Judged.antt` says which texts are definitions and which fault is answered for any other; the demands on a definition
-//! are `asl_schema`'s. `fault` is a fault and its line, `judging` the judge.
+//! `specs/Judged.antt` says which texts are definitions, of which machine, and which fault is answered for any other; the demands
+//! on a definition are `asl_schema`'s, and the machine is `asl_def`'s. `fault` is a fault and its line, `judging` the judge, and
+//! `laws` says what accepting and printing have in common.
 #![tactic(auto)]
 
 mod fault;
 mod judging;
+mod laws;
 
 pub use fault::Fault;
-pub use judging::check;
+pub use judging::accept;
+pub use laws::what_is_printed_is_accepted;

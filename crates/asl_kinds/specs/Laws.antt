@@ -7,6 +7,9 @@ use Rattle.asl_history.specs.declared.kind.EventKind.TheVariants.{PassStateEnter
 use Rattle.std.specs.Str.{bytes_eq}
 use Rattle.asl_json.specs.Data.{Data}
 use Rattle.asl_json.specs.Meaning.{value_in}
+use Rattle.asl_def.specs.declared.state.State.{State}
+use Rattle.asl_def.specs.declared.state.State.TheVariants as state
+use Rattle.asl_def.specs.Show.{state_of}
 use Rattle.asl_kinds.specs.declared.effect.Effect.{Effect}
 use Rattle.asl_kinds.specs.declared.effect.Draft.{Draft}
 use Rattle.asl_kinds.specs.declared.record.Record.{Record}
@@ -106,3 +109,14 @@ by_type-bounded (Some t) d v = chosen-bounded (bytes_eq t (codes "Pass")) v _ _ 
 
 pub state-bounded : (d : Data) (v : Seen) → IsBounded v false (state_effect d v)
 state-bounded d v = by_type-bounded (text_in (value_in (codes "Type") d)) d v
+
+-- what a state does doesn't depend on the states of the machines inside it, nor on their table
+pub any_table : (t u : List (List ℕ × Data)) (s : State) (v : Seen) → state_effect (state_of t s) v ≡ state_effect (state_of u s) v
+any_table t u (state.Task x) v = refl
+any_table t u (state.Pass x) v = refl
+any_table t u (state.Choice x) v = refl
+any_table t u (state.Wait x) v = refl
+any_table t u (state.Parallel x) v = refl
+any_table t u (state.Map x) v = refl
+any_table t u (state.Succeed x) v = refl
+any_table t u (state.Fail x) v = refl

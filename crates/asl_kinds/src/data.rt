@@ -1,14 +1,14 @@
 // Data by a state's paths.
 ghost use Rattle.std.specs.Prelude.{◌≡◌, Some, codes};
 ghost use Rattle.asl_json.specs.View.{data_of};
-ghost use Rattle.asl_def.specs.Show.{path_shown};
+ghost use Rattle.asl_members.specs.Shown.{path_shown};
 ghost use Rattle.asl_path.specs.Paths.{part_at, with_part};
 ghost use Rattle.asl_kinds.specs.Paths.{taken as spec_taken, put_into as spec_put_into, given_or, no_value, no_place};
 ghost use Rattle.asl_kinds.specs.Gives.{Gives};
 
 use crate::fault::{Fault, missing, placeless};
-use asl_def::PathField;
 use asl_json::{Json, Members};
+use asl_members::PathField;
 use asl_path::{PutFault, RefPath};
 use std::alloc::Global;
 

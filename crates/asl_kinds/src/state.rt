@@ -1,26 +1,30 @@
-// A state of any kind.
+// A state of any type.
 use crate::effect::Effect;
 use crate::kind::StateKind;
+use crate::steps::idle;
 use crate::visit::Visit;
 use asl_def::State;
 use std::alloc::{AllocError, Global};
 
+/// A Pass and a Succeed do what their kinds say; a state of any other type does nothing yet. What a state does doesn't depend on
+/// the machines inside it: the law `any_table` of `Laws`.
 impl StateKind for State {
-    ghost use Rattle.std.specs.Prelude.{false};
-    ghost use Rattle.asl_def.specs.Show.{object_of};
+    ghost use Rattle.std.specs.Prelude.{[], false};
+    ghost use Rattle.asl_def.specs.Show.{state_of};
     ghost use Rattle.asl_kinds.specs.Table.{state_effect};
     ghost use Rattle.asl_kinds.specs.Laws.{state-bounded};
 
-    ghost effect = { λ k. state_effect (object_of k) };
+    ghost effect = { λ k. state_effect (state_of [] k) };
 
     ghost is_invoking = { λ k. false };
 
-    ghost bounded = { λ k. state-bounded (object_of k) };
+    ghost bounded = { λ k. state-bounded (state_of [] k) };
 
     fn visit(&self, alloc: Global, visit: &Visit) -> Result<Effect, AllocError> {
         match self {
             State::Pass(state) => state.visit(alloc, visit),
             State::Succeed(state) => state.visit(alloc, visit),
+            _ => idle(alloc, visit.current),
         }
     }
 
@@ -28,6 +32,7 @@ impl StateKind for State {
         match self {
             State::Pass(state) => state.invokes(),
             State::Succeed(state) => state.invokes(),
+            _ => false,
         }
     }
 }
