@@ -1,4 +1,4 @@
-//! The program `asl`: judges and emulates state machines of the Amazon States Language. What it does stands in `asl_cli`; here it gets its
+//! The program `asl`: judges, prints and emulates state machines of the Amazon States Language. What it does stands in `asl_cli`; here it gets its
 //! words, files and streams from the system, and a stack.
 #![tactic(auto)]
 

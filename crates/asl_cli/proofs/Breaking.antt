@@ -1,5 +1,5 @@
 -- Texts of which a sink took a beginning.
-use Rattle.std.proofs.Common.{ℕ, ◌≡◌, ◌<◌, ◌+◌, List, ◌++◌, length, length-append, take, sym, ap, ◌∙◌, refl, append_assoc, Result, Ok, Err, OnErr, arith}
+use Rattle.std.proofs.Common.{ℕ, ◌≡◌, ◌+◌, List, ◌++◌, length, length-append, sym, ap, ◌∙◌, refl, append_assoc, Result, Ok, Err, OnErr, arith}
 use Rattle.std.proofs.Math.Seq.{take-append-add}
 use Rattle.std.proofs.lemmas.List.{take-append-le}
 use Rattle.asl_history.specs.Sinks.{counted}

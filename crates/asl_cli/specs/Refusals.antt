@@ -1,14 +1,17 @@
 -- What is read for a command, what is judged or emulated then, and why nothing is.
-use Rattle.std.specs.Prelude.{ℕ, Bool, List, ◌≡◌, ◌++◌, ◌⊎◌, ⊤, codes}
-use Rattle.asl_check.specs.Judged.{IsDefinition, IsFaultOf}
+use Rattle.std.specs.Prelude.{ℕ, Bool, List, [], ◌∷◌, ◌≡◌, ◌++◌, ◌⊎◌, ⊤, codes}
+use Rattle.asl_json.specs.Data.{Data}
+use Rattle.asl_json.specs.Compact.{compact}
+use Rattle.asl_check.specs.Judged.{IsDefinition, IsMachineOf, IsFaultOf}
 use Rattle.asl_check.specs.Lines.{fault_line as definition_fault_line}
 use Rattle.asl_check.specs.declared.fault.Fault.{Fault}
+use Rattle.asl_check.specs.declared.fault.Fault.TheVariants as fault
 use Rattle.asl_exec.specs.declared.fault.EmulateFault.{EmulateFault}
 use Rattle.asl_exec.specs.Emulations.{IsRunOf, IsRefused}
 use Rattle.asl_exec.specs.Texts.{Unless, refusal_line}
 use Rattle.asl_cli.specs.declared.refusal.Refusal.{Refusal}
 use Rattle.asl_cli.specs.declared.refusal.Refusal.TheVariants.{File, Definition, Emulation, OutOfMemory}
-use Rattle.asl_cli.specs.declared.words.CheckWords.{CheckWords}
+use Rattle.asl_cli.specs.declared.words.DefinitionWords.{DefinitionWords}
 use Rattle.asl_cli.specs.declared.words.RunWords.{RunWords}
 
 -- the files that the words name may give these bytes: a definition, mocks, an input and steps
@@ -53,23 +56,36 @@ IsReason gives lacks w (Emulation fault) = IsRefusedFor gives w fault
 IsReason gives lacks w OutOfMemory = ⊤
 
 -- the file that the word names may give a definition without faults
-pub record IsJudged (gives : List ℕ → List ℕ → Type 0) (w : CheckWords) : Type 0 where
+pub record IsJudged (gives : List ℕ → List ℕ → Type 0) (w : DefinitionWords) : Type 0 where
   pub text : List ℕ
   pub given : gives w.definition.now text
   pub is_definition : IsDefinition text
 
--- it may give a text with this fault
-pub record IsFaulty (gives : List ℕ → List ℕ → Type 0) (w : CheckWords) (fault : Fault) : Type 0 where
+-- it may give a definition of this machine
+pub record IsAccepted (gives : List ℕ → List ℕ → Type 0) (w : DefinitionWords) (machine : Data) : Type 0 where
   pub text : List ℕ
   pub given : gives w.definition.now text
-  pub is_fault : IsFaultOf text fault
+  pub is_machine : IsMachineOf text machine
 
--- why nothing is passed: the file may be lacking, what was read is no definition, or memory ran out
-abbrev pub IsCheckReason : (List ℕ → List ℕ → Type 0) → (List ℕ → Type 0) → CheckWords → Refusal → Type 0
-IsCheckReason gives lacks w (File name) = (name.now ≡ w.definition.now) × lacks name.now
-IsCheckReason gives lacks w (Definition fault) = IsFaulty gives w fault
-IsCheckReason gives lacks w (Emulation fault) = ⊥
-IsCheckReason gives lacks w OutOfMemory = ⊤
+-- it may give a definition of which this is the canonical form, compact and with a line feed
+pub record IsForm (gives : List ℕ → List ℕ → Type 0) (w : DefinitionWords) (form : List ℕ) : Type 0 where
+  pub machine : Data
+  pub accepted : IsAccepted gives w machine
+  pub printed : form ≡ compact machine ++ 10 ∷ []
+
+-- it may give a text with this fault; want of memory is no fault of a text
+pub record IsFaulty (gives : List ℕ → List ℕ → Type 0) (w : DefinitionWords) (f : Fault) : Type 0 where
+  pub text : List ℕ
+  pub given : gives w.definition.now text
+  pub is_fault : IsFaultOf text f
+  pub told : f ≡ fault.OutOfMemory → ⊥
+
+-- why no definition is accepted: the file may be lacking, what was read is no definition, or memory ran out
+abbrev pub IsDefinitionReason : (List ℕ → List ℕ → Type 0) → (List ℕ → Type 0) → DefinitionWords → Refusal → Type 0
+IsDefinitionReason gives lacks w (File name) = (name.now ≡ w.definition.now) × lacks name.now
+IsDefinitionReason gives lacks w (Definition f) = IsFaulty gives w f
+IsDefinitionReason gives lacks w (Emulation f) = ⊥
+IsDefinitionReason gives lacks w OutOfMemory = ⊤
 
 -- the text of a refusal
 abbrev pub reason_text : Refusal → List ℕ

@@ -1,13 +1,14 @@
 // The program behind its words, files and streams.
 ghost use Rattle.std.specs.Prelude.{◌≡◌, ◌⊎◌, List, ℕ, string_bytes, IfOk, IfErr};
-ghost use Rattle.asl_cli.specs.Answers.{IsRan, IsChecked, IsAnswered};
+ghost use Rattle.asl_cli.specs.Answers.{IsRan, IsChecked, IsFormPrinted, IsAnswered};
 ghost use Rattle.asl_cli.specs.Outcomes.{status_of, IsPrinted, IsTold};
 ghost use Rattle.asl_cli.specs.Refusals.{IsEmulated, IsReason, IsUnread};
 
 use crate::checking::check;
 use crate::files::{Files, ReadFault};
+use crate::printing::print;
 use crate::refusal::{Refusal, tell_fault, write_piece};
-use crate::words::{CheckWords, GivenFault, RunWords, Words, malformed_word, read_words};
+use crate::words::{DefinitionWords, GivenFault, RunWords, Words, malformed_word, read_words};
 use asl_exec::{EmulateFault, Emulated, emulate};
 use asl_history::Sink;
 use clap::Error;
@@ -30,13 +31,15 @@ pub fn run_words<S: AsStr, F: Files, O: Sink, E: Sink>(
     out: &mut O,
     err: &mut E,
 ) -> u8
-    // What words of a run or of a check ask for was done; or other words were answered, and no file was read.
+    // What words of a run, of a check or of a print ask for was done; or other words were answered, and no file was read.
     ensures { ((w : RunWords) × IsRan O.taken O.failures E.taken E.failures (F.gives files.old) (F.lacks files.old) w out.old out.new err.old err.new result)
-        ⊎ ((w : CheckWords) × IsChecked O.taken O.failures E.taken E.failures (F.gives files.old) (F.lacks files.old) w out.old out.new err.old err.new result)
+        ⊎ ((w : DefinitionWords) × IsChecked O.taken O.failures E.taken E.failures (F.gives files.old) (F.lacks files.old) w out.old out.new err.old err.new result)
+        ⊎ ((w : DefinitionWords) × IsFormPrinted O.taken O.failures E.taken E.failures (F.gives files.old) (F.lacks files.old) w out.old out.new err.old err.new result)
         ⊎ ((files.new ≡ files.old) × IsAnswered O.taken O.failures E.taken E.failures out.old out.new err.old err.new result) }
 {
     match read_words(alloc, words) {
         Ok(Words::Check(words)) => check(alloc, &words, files, out, err),
+        Ok(Words::Print(words)) => print(alloc, &words, files, out, err),
         Ok(Words::Run(words)) => run(alloc, &words, files, out, err),
         Err(error) => answer_words(alloc, &error, out, err),
     }

@@ -10,14 +10,16 @@ use std::{env, io};
 #[derive(Clone, Copy)]
 pub enum Words<'a> {
     /// A definition is to be judged.
-    Check(CheckWords<'a>),
+    Check(DefinitionWords<'a>),
+    /// A definition is to be printed in its canonical form.
+    Print(DefinitionWords<'a>),
     /// An execution is to be emulated.
     Run(RunWords<'a>),
 }
 
-/// The word of `check`: the name of a file.
+/// The word of `check` and of `print`: the name of a file.
 #[derive(Clone, Copy)]
-pub struct CheckWords<'a> {
+pub struct DefinitionWords<'a> {
     pub definition: &'a str,
 }
 
@@ -73,14 +75,17 @@ pub fn malformed_word(alloc: Global) -> Result<Error, Error> {
 
 fn words_of<'a>(matches: &ArgMatches<'a>) -> Option<Words<'a>> {
     if let Some(matches) = matches.subcommand_matches("check") {
-        return Some(Words::Check(check_words_of(matches)?));
+        return Some(Words::Check(definition_words_of(matches)?));
+    }
+    if let Some(matches) = matches.subcommand_matches("print") {
+        return Some(Words::Print(definition_words_of(matches)?));
     }
     let matches = matches.subcommand_matches("run")?;
     Some(Words::Run(run_words_of(matches)?))
 }
 
-fn check_words_of<'a>(matches: &ArgMatches<'a>) -> Option<CheckWords<'a>> {
-    Some(CheckWords {
+fn definition_words_of<'a>(matches: &ArgMatches<'a>) -> Option<DefinitionWords<'a>> {
+    Some(DefinitionWords {
         definition: matches.get_str("DEF")?,
     })
 }
@@ -103,13 +108,20 @@ fn asl_command<'a>(alloc: Global) -> Result<Command<'a>, AllocError> {
         .version("0.1.0")
         .subcommand_required(true);
     asl.subcommand(check_command(alloc)?)?
+        .subcommand(print_command(alloc)?)?
         .subcommand(run_command(alloc)?)
 }
 
 fn check_command<'a>(alloc: Global) -> Result<Command<'a>, AllocError> {
     Command::new(alloc, "check")
         .about("Judges a state machine's definition: prints ok, or tells its first fault")
-        .arg(word(alloc, "DEF", "The file of the state machine's definition"))
+        .arg(definition_word(alloc))
+}
+
+fn print_command<'a>(alloc: Global) -> Result<Command<'a>, AllocError> {
+    Command::new(alloc, "print")
+        .about("Prints a definition's canonical form as compact JSON, or tells its first fault")
+        .arg(definition_word(alloc))
 }
 
 fn run_command<'a>(alloc: Global) -> Result<Command<'a>, AllocError> {
@@ -120,7 +132,7 @@ fn run_command<'a>(alloc: Global) -> Result<Command<'a>, AllocError> {
         .help("The file of the steps to take");
     Command::new(alloc, "run")
         .about("Runs an execution and prints its replies, its history and its status")
-        .arg(word(alloc, "DEF", "The file of the state machine's definition"))?
+        .arg(definition_word(alloc))?
         .arg(word(alloc, "MOCKS", "The file of the mocked tasks"))?
         .arg(word(
             alloc,
@@ -129,6 +141,11 @@ fn run_command<'a>(alloc: Global) -> Result<Command<'a>, AllocError> {
         ))?
         .arg(word(alloc, "INPUT", "The file of the execution's input"))?
         .arg(steps)
+}
+
+/// The name of a definition's file.
+fn definition_word<'a>(alloc: Global) -> Arg<'a> {
+    word(alloc, "DEF", "The file of the state machine's definition")
 }
 
 /// An argument that is required.

@@ -9,3 +9,5 @@ mod StepsRead
 mod OneReading
 pub mod Accepting
 pub mod EmptyObjects
+pub mod Unready
+pub mod Refusing

@@ -5,5 +5,6 @@ pub mod Rebuilds
 pub mod Views
 pub mod RunText
 pub mod StepsFile
+pub mod Ready
 pub mod Texts
 pub mod Emulations

@@ -1,38 +1,33 @@
 -- What the texts of a run spell, and which fault of them is answered.
-use Rattle.std.specs.Prelude.{◌≡◌, ℕ, ◌==◌, List, [], ◌∷◌, ◌++◌, codes}
+use Rattle.std.specs.Prelude.{◌≡◌, ◌⊎◌, ℕ, ◌==◌, List, [], ◌∷◌, ◌++◌, true, Some, codes}
 use Rattle.std.specs.Fmt.{decimal}
 use Rattle.std.specs.List.{before_first, after_first}
 use Rattle.asl_json.specs.Data.{Data, dict, no_members}
 use Rattle.asl_json.specs.View.{data_of}
-use Rattle.asl_json.specs.Wrong.{ReadsAs, IsFaultOf, IsFirstOf}
+use Rattle.asl_json.specs.Pointers.{name_part}
+use Rattle.asl_json.specs.Wrong.{ReadsAs}
 use Rattle.asl_json.specs.FaultText.{fault_text}
-use Rattle.asl_json.specs.declared.fault.JsonFault.{JsonFault}
-use Rattle.asl_json.specs.declared.fault.JsonFault.TheVariants as json
 use Rattle.asl_json.specs.declared.value.Json.{Json}
-use Rattle.asl_def.specs.Answer.{IsAnswer, fault_text as def_fault_text}
-use Rattle.asl_def.specs.Canon.{canonical}
-use Rattle.asl_def.specs.Sentences.{Accepted}
-use Rattle.asl_def.specs.declared.pointer.DefFault.{DefFault}
-use Rattle.asl_def.specs.declared.pointer.DefFault.TheVariants as def
+use Rattle.asl_schema.specs.declared.fault.FaultKind.TheVariants.{Unsupported}
+use Rattle.asl_def.specs.Own.{own_states_in}
+use Rattle.asl_check.specs.Judged.{IsMachineOf, IsTextFault, IsFaultOf}
+use Rattle.asl_check.specs.Lines.{fault_line}
+use Rattle.asl_check.specs.declared.fault.Fault.{Fault}
+use Rattle.asl_check.specs.declared.fault.Fault.TheVariants as check
 use Rattle.asl_exec.specs.declared.fault.EmulateFault.{EmulateFault}
-use Rattle.asl_exec.specs.declared.fault.EmulateFault.TheVariants.{DefinitionText, Definition, MockText, MockShape, Case, Input, StepLine, OutOfMemory}
+use Rattle.asl_exec.specs.declared.fault.EmulateFault.TheVariants.{Definition, MockText, MockShape, Case, Input, StepLine, OutOfMemory}
 use Rattle.asl_exec.specs.declared.setup.Setup.{Setup}
 use Rattle.asl_exec.specs.declared.step_at.StepAt.{StepAt}
+use Rattle.asl_exec.specs.Ready.{is_ready, first_unready}
 use Rattle.asl_exec.specs.StepsFile.{IsFirstBadLine}
 
 -- ---- what they spell
 
--- the text is a definition of this machine
-pub record IsMachineOf (b : List ℕ) (m : Data) : Type 0 where
-  pub definition : Data
-  pub reads : ReadsAs b definition
-  pub accepted : Accepted definition
-  pub compiled : m ≡ canonical definition
-
--- the text is a definition
-pub record IsDefinition (b : List ℕ) : Type 0 where
+-- the text is a definition, and each state of its machine can be run yet
+pub record IsReadyDefinition (b : List ℕ) : Type 0 where
   pub machine : Data
   pub is_of : IsMachineOf b machine
+  pub ready : is_ready machine ≡ true
 
 -- the mock file has nothing in it
 abbrev pub AreNoMocks : List ℕ → Type 0
@@ -65,22 +60,25 @@ setup_for m chosen x ss = record { machine = m; name_of_machine = machine_name c
 
 -- ---- why they are refused
 
--- the first fault of a JSON text
-pub record IsTextFault (b : List ℕ) (f : JsonFault) : Type 0 where
-  pub is_fault : IsFaultOf b f
-  pub is_first : IsFirstOf b f
-  pub told : f ≡ json.OutOfMemory → ⊥
+-- the first fault of a definition's text
+pub record IsDefinitionFault (b : List ℕ) (e : Fault) : Type 0 where
+  pub is_fault : IsFaultOf b e
+  pub told : e ≡ check.OutOfMemory → ⊥
 
--- the first fault of a definition
-pub record IsDefinitionFault (b : List ℕ) (e : DefFault) : Type 0 where
-  pub definition : Data
-  pub reads : ReadsAs b definition
-  pub answer : IsAnswer definition e
-  pub told : e ≡ def.OutOfMemory → ⊥
+-- the type of the state of this name isn't supported yet
+abbrev pub unsupported_type : List ℕ → Fault
+unsupported_type name = check.Definition Unsupported ((name_part (codes "States") ++ name_part name) ++ name_part (codes "Type"))
+
+-- the text is a definition, and this is told of the first state of its machine that can't be run yet
+pub record IsNotReady (b : List ℕ) (e : Fault) : Type 0 where
+  pub machine : Data
+  pub is_of : IsMachineOf b machine
+  pub name : List ℕ
+  pub first : first_unready (own_states_in machine) ≡ Some name
+  pub fault : e ≡ unsupported_type name
 
 abbrev pub IsBadDefinition : List ℕ → EmulateFault → Type 0
-IsBadDefinition b (DefinitionText f) = IsTextFault b f
-IsBadDefinition b (Definition e) = IsDefinitionFault b e
+IsBadDefinition b (Definition e) = IsDefinitionFault b e ⊎ IsNotReady b e
 IsBadDefinition b _ = ⊥
 
 -- a JSON value that is no object without members
@@ -114,8 +112,7 @@ Unless P f = P f
 -- ---- the text of a fault
 
 abbrev pub refusal_line : EmulateFault → List ℕ
-refusal_line (DefinitionText f) = codes "definition: F1 Json " ++ fault_text f
-refusal_line (Definition e) = codes "definition: " ++ def_fault_text e
+refusal_line (Definition e) = codes "definition: " ++ fault_line e
 refusal_line (MockText f) = codes "mocks: M1 Json " ++ fault_text f
 refusal_line MockShape = codes "mocks: M2 Shape"
 refusal_line Case = codes "case: M7 NoMachine"

@@ -21,6 +21,9 @@ pub struct Emulated {
 /// `chosen` the name of the machine, behind which `#` and the name of a test case may stand, `input` the execution's
 /// input, and `steps` a file of steps. The execution starts at the moment of its first step, or at the epoch.
 ///
+/// A definition is judged as `asl_check::accept` does. One without faults of which some state can't be run yet (`ready`) has the
+/// fault F5 at the `Type` of the first such state in document order.
+///
 /// The text has a line for each step with its reply, then the lines of the history, then the status. The fault is the first
 /// of the first text that has one, in the order of the parameters.
 pub fn emulate(

@@ -1,7 +1,9 @@
 // Executions.
-ghost use Rattle.std.specs.Prelude.{◌≡◌, ◌++◌, ◌⊎◌, ◌≤◌, length, Some, None, option_map, IfOk, IfErr, OnOk, OnErr};
+ghost use Rattle.std.specs.Prelude.{◌≡◌, ◌++◌, ◌⊎◌, ◌≤◌, List, length, true, Some, None, option_map, IfOk, IfErr, OnOk, OnErr};
 ghost use Rattle.std.specs.Option.{option_copied};
-ghost use Rattle.asl_def.specs.Show.{object_of};
+ghost use Rattle.asl_schema.specs.Canon.{Named};
+ghost use Rattle.asl_def.specs.Show.{state_of as state_shown};
+ghost use Rattle.asl_exec.specs.Ready.{is_ready};
 ghost use Rattle.asl_exec.specs.World.{record_at};
 ghost use Rattle.asl_exec.specs.Steps.{opening, refusal_of, step, effect_in, number_in, object_in, seen_at, start_in};
 ghost use Rattle.asl_exec.specs.Views.{setup_of, world_of};
@@ -38,8 +40,10 @@ fn start_of(alloc: Global, machine: &Machine) -> Result<Txt, AllocError>
 }
 
 impl Execution {
-    /// The world before the first step: the branch at the root is about to enter the state that the machine starts at.
+    /// The world before the first step: the branch at the root is about to enter the state that the machine starts at. Each state
+    /// of the machine can be run yet: ask `ready`.
     pub fn open(alloc: Global, setup: Setup) -> Result<Execution, AllocError>
+        requires { is_ready setup.machine ≡ true }
         ensures setup { IfOk result (λ x. setup_of x ≡ setup) }
         ensures world { IfOk result (λ x. world_of x ≡ opening setup) }
     {
@@ -144,7 +148,7 @@ impl Execution {
 /// The state that a branch is in, and its number; neither where the branch has ended.
 fn state_of<'a>(machine: &'a Machine, current: &Record) -> (Option<usize>, Option<&'a State>)
     ensures number { result.0 ≡ number_in machine.now current.now }
-    ensures object { option_map (λ s. object_of s.now) result.1 ≡ object_in machine.now current.now }
+    ensures object { (t : List Named) × (option_map (λ s. state_shown t s.now) result.1 ≡ object_in machine.now current.now) }
 {
     let Some(name) = branches::state_in(current) else {
         return (None, None);

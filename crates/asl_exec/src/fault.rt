@@ -2,17 +2,16 @@
 ghost use Rattle.std.specs.Prelude.{◌≡◌, ◌++◌, IfOk, string_bytes};
 ghost use Rattle.asl_exec.specs.Texts.{refusal_line};
 
-use asl_def::DefFault;
+use asl_check::Fault;
 use asl_json::JsonFault;
 use std::alloc::{AllocError, Global};
 
 /// Why the texts of a run are refused: the first fault of the first text that has one, in this order.
 #[derive(Drop)]
 pub enum EmulateFault {
-    /// F1: the definition isn't a JSON text.
-    DefinitionText(JsonFault),
-    /// F2 to F13: the definition has a fault.
-    Definition(DefFault),
+    /// F1 to F15: the first fault of the definition; or, where it has none, F5 at the `Type` of the first of its states that can't
+    /// be run yet.
+    Definition(Fault),
     /// M1: the mock file isn't a JSON text.
     MockText(JsonFault),
     /// M2: the mock file isn't an object without members, which alone is supported yet.
@@ -63,9 +62,6 @@ impl EmulateFault {
         ensures { IfOk result (λ t. string_bytes t ≡ refusal_line self.now) }
     {
         match self {
-            EmulateFault::DefinitionText(fault) => {
-                joined(alloc, "definition: F1 Json ", fault.text(alloc)?)
-            }
             EmulateFault::Definition(fault) => joined(alloc, "definition: ", fault.text(alloc)?),
             EmulateFault::MockText(fault) => {
                 joined(alloc, "mocks: M1 Json ", fault.text(alloc)?)

@@ -1,9 +1,10 @@
 // The text of a run.
-ghost use Rattle.std.specs.Prelude.{◌≡◌, ◌∷◌, ◌++◌, [], OnOk, IfOk, string_bytes};
+ghost use Rattle.std.specs.Prelude.{◌≡◌, ◌∷◌, ◌++◌, [], true, OnOk, IfOk, string_bytes};
 ghost use Rattle.asl_json.specs.View.{data_of};
 ghost use Rattle.asl_json.specs.Compact.{compact};
 ghost use Rattle.asl_time.specs.StampText.{stamp_of};
 ghost use Rattle.asl_history.specs.Lines.{history_text};
+ghost use Rattle.asl_exec.specs.Ready.{is_ready};
 ghost use Rattle.asl_exec.specs.RunText.{refusal_words, awaited, with_stamp, reply_text, step_line, step_lines, status_text, status_line, end_text, run_text, is_success};
 ghost use Rattle.asl_exec.specs.Steps.{opening, refusal_of, step, world_after};
 ghost use Rattle.asl_exec.specs.Views.{setup_of, world_of};
@@ -194,6 +195,7 @@ pub(crate) fn run(
     setup: Setup,
     steps: &[StepAt],
 ) -> Result<(String, bool), AllocError>
+    requires { is_ready setup.machine ≡ true }
     ensures text { IfOk result (λ r. string_bytes r.0 ≡ run_text setup steps.now) }
     ensures good { IfOk result (λ r. r.1 ≡ is_success (world_after setup.machine (opening setup) steps.now).outcome) }
 {

@@ -1,34 +1,56 @@
 // What the texts of a run spell.
-ghost use Rattle.std.specs.Prelude.{◌≡◌, ◌↔◌, [], IfOk, IfErr, IsTrue, OnOk};
+ghost use Rattle.std.specs.Prelude.{◌≡◌, ◌↔◌, [], true, IfOk, IfErr, IsTrue, OnOk};
 ghost use Rattle.asl_json.specs.Data.{dict, no_members};
 ghost use Rattle.asl_json.specs.View.{data_of};
-ghost use Rattle.asl_exec.specs.Texts.{IsMachineOf, AreNoMocks, case_name, machine_name, IsInputOf, start_at, setup_for, IsBadDefinition, AreBadMocks, IsBadCase, IsBadInput, AreBadSteps, Unless};
+ghost use Rattle.asl_check.specs.Judged.{IsMachineOf};
+ghost use Rattle.asl_exec.specs.Ready.{is_ready};
+ghost use Rattle.asl_exec.specs.Texts.{AreNoMocks, case_name, machine_name, IsInputOf, start_at, setup_for, IsBadDefinition, AreBadMocks, IsBadCase, IsBadInput, AreBadSteps, Unless, unsupported_type};
 ghost use Rattle.asl_exec.specs.StepsFile.{IsStepsFile};
 
 use crate::fault::EmulateFault;
+use crate::readiness::first_unready;
 use crate::setup::Setup;
 use crate::step_at::StepAt;
 use crate::steps_file::{StepsFault, read_steps};
-use asl_def::{DefFault, Machine, parse};
-use asl_json::{Json, JsonFault, Txt, read};
+use asl_check::{Fault, accept};
+use asl_def::Machine;
+use asl_json::{Json, JsonFault, Pointer, Txt, read};
+use asl_schema::FaultKind;
 use asl_time::Moment;
 use std::alloc::{AllocError, Global};
 
 /// The machine of a definition.
-pub(crate) fn machine_of(alloc: Global, definition: &[u8]) -> Result<Machine, EmulateFault>
+fn accepted(alloc: Global, definition: &[u8]) -> Result<Machine, EmulateFault>
     ensures found { IfOk result (IsMachineOf definition.now) }
     ensures fault { IfErr result (Unless (IsBadDefinition definition.now)) }
 {
-    let value = match read(alloc, definition) {
-        Ok(value) => value,
-        Err(JsonFault::OutOfMemory) => return Err(EmulateFault::OutOfMemory),
-        Err(fault) => return Err(EmulateFault::DefinitionText(fault)),
-    };
-    match parse(alloc, &value) {
+    match accept(alloc, definition) {
         Ok(machine) => Ok(machine),
-        Err(DefFault::OutOfMemory) => Err(EmulateFault::OutOfMemory),
+        Err(Fault::OutOfMemory) => Err(EmulateFault::OutOfMemory),
         Err(fault) => Err(EmulateFault::Definition(fault)),
     }
+}
+
+/// The fault of a state of this name, whose type isn't supported yet.
+fn unsupported(alloc: Global, name: &str) -> Result<Fault, AllocError>
+    ensures { IfOk result (λ f. f ≡ unsupported_type name.now) }
+{
+    let states = Pointer::whole(alloc).at_name("States")?;
+    let place = states.at_name(name)?.at_name("Type")?;
+    Ok(Fault::Definition(FaultKind::Unsupported, place))
+}
+
+/// The machine of a definition, where each of its states can be run yet.
+pub(crate) fn machine_of(alloc: Global, definition: &[u8]) -> Result<Machine, EmulateFault>
+    ensures found { IfOk result (IsMachineOf definition.now) }
+    ensures ready { IfOk result (λ m. is_ready m ≡ true) }
+    ensures fault { IfErr result (Unless (IsBadDefinition definition.now)) }
+{
+    let machine = accepted(alloc, definition)?;
+    if let Some(name) = first_unready(&machine) {
+        return Err(EmulateFault::Definition(unsupported(alloc, name)?));
+    }
+    Ok(machine)
 }
 
 /// Whether a value is an object without members.

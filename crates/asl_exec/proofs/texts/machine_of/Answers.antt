@@ -1,9 +1,5 @@
+use Rattle.asl_exec.proofs.Unready.{all_are}
 use Rattle.asl_exec.proofs.texts.machine_of.Goals as goal
 
-pub returns-in-Ok-parse-clause-found : goal.returns-in-Ok-parse-clause-found
-returns-in-Ok-parse-clause-found c = record {
-  definition = _;
-  reads = c.in-Ok.ensures.found;
-  accepted = c.in-Ok-parse.ensures.accepted;
-  compiled = c.in-Ok-parse.ensures.found;
-}
+pub returns-clause-ready : goal.returns-clause-ready
+returns-clause-ready c = all_are (λ n. n.now) c.first_unready.result c.in_ok-machine.machine c.in_default.is c.first_unready.ensures

@@ -1,4 +1,4 @@
-use Rattle.std.proofs.Common.{◌≡◌, ℕ, ◌<◌, ◌≤◌, List, [], ◌∷◌, length, get_or, refl, ap, arith}
+use Rattle.std.proofs.Common.{◌≡◌, ◌<◌, ◌≤◌, List, [], ◌∷◌, length, get_or, refl, ap, arith}
 use Rattle.asl_exec.specs.declared.step_at.StepAt.{StepAt}
 use Rattle.asl_exec.specs.Texts.{start_at}
 use Rattle.asl_exec.proofs.texts.start_of.Goals as goal
