@@ -1,12 +1,12 @@
 // What no clause says of judged definitions: texts with planted faults, each with the line that tells of it.
-use asl_check::check;
+use asl_check::accept;
 use std::alloc::Global;
 use std::test::Fail;
 
 /// The line of a text's fault, or `ok`.
 fn told(alloc: Global, text: &str) -> Option<String> {
-    match check(alloc, text.as_bytes()) {
-        Ok(()) => String::from_str(alloc, "ok").ok(),
+    match accept(alloc, text.as_bytes()) {
+        Ok(_) => String::from_str(alloc, "ok").ok(),
         Err(fault) => fault.text(alloc).ok(),
     }
 }
@@ -19,7 +19,7 @@ fn is_told(alloc: Global, text: &str, wanted: &str) -> bool {
 }
 
 /// A definition whose one state A has these members.
-fn with_state(alloc: Global, members: &str) -> Option<String> {
+pub(crate) fn with_state(alloc: Global, members: &str) -> Option<String> {
     format!(in alloc; "{{\"StartAt\":\"A\",\"States\":{{\"A\":{{{members}}}}}}}").ok()
 }
 
@@ -32,6 +32,12 @@ fn is_told_of_state(alloc: Global, members: &str, wanted: &str) -> bool {
 
 /// Definitions, and what is told of each.
 const WHOLE: &[(&str, &str)] = &[
+    ("1", "F2 NotObject"),
+    ("{}", "F3 Missing /StartAt"),
+    (
+        r#"{"StartAt":"","States":{"":{"Type":"Succeed"}}}"#,
+        "F7 Range /States/",
+    ),
     ("", "F1 Json J1 Syntax 0"),
     (r#"{"a":1.0e19}"#, "F1 Json J4 Number 5"),
     (r#"{"StartAt":"A","StartAt":5}"#, "F1 Json J2 Duplicate 15"),
@@ -99,6 +105,22 @@ const WHOLE: &[(&str, &str)] = &[
 
 /// The members of the state A, and what is told of the definition.
 const STATES: &[(&str, &str)] = &[
+    (r#""Next":"X""#, "F3 Missing /States/A/Type"),
+    (
+        r#""Type":"Succeed","a/b~c":1"#,
+        "F4 UnknownField /States/A/a~1b~0c",
+    ),
+    (r#""Type":"Foo","Bar":1"#, "F5 Unsupported /States/A/Type"),
+    (r#""Type":1,"Bar":1"#, "F6 WrongType /States/A/Type"),
+    (r#""Type":"Succeed","OutputPath":"$$""#, "ok"),
+    (
+        r#""Type":"Succeed","InputPath":"$.a","OutputPath":null"#,
+        "ok",
+    ),
+    (
+        r#""Type":"Pass","End":false,"Next":"A","Result":{"Type":1}"#,
+        "ok",
+    ),
     (
         r#""Type":"Pass","Next":"A","End":true"#,
         "F8 Both /States/A/End",
@@ -348,20 +370,75 @@ fn states(rt: HostRuntime) -> Result<(), Fail> {
     Ok(())
 }
 
-/// So many machines in one another.
-fn nested(alloc: Global, machines: usize) -> Option<String> {
+/// A definition whose state A has these members, in the innermost of its machines, so many of which are around it.
+fn with_state_inside(alloc: Global, members: &str, around: usize) -> Option<String> {
+    let mut text = String::new(alloc);
+    for level in 0..around {
+        write!(
+            text,
+            "{{\"StartAt\":\"M{level}\",\"States\":{{\"M{level}\":{{\"Type\":\"Map\",\"End\":true,\"Iterator\":"
+        )
+        .ok()?;
+    }
+    text.push_str(with_state(alloc, members)?.as_str()).ok()?;
+    for _ in 0..around {
+        text.push_str("}}}").ok()?;
+    }
+    Some(text)
+}
+
+/// What is told of a fault of the state A there, by what is told of it where no machine is around it.
+fn line_inside(alloc: Global, line: &str, around: usize) -> Option<String> {
+    let Some((fault, place)) = line.split_once('/') else {
+        return String::from_str(alloc, line).ok();
+    };
+    let mut told = String::from_str(alloc, fault).ok()?;
+    for level in 0..around {
+        write!(told, "/States/M{level}/Iterator").ok()?;
+    }
+    write!(told, "/{place}").ok()?;
+    Some(told)
+}
+
+fn is_told_of_state_inside(alloc: Global, members: &str, wanted: &str, around: usize) -> bool {
+    match line_inside(alloc, wanted, around) {
+        Some(line) => match with_state_inside(alloc, members, around) {
+            Some(text) => is_told(alloc, text.as_str(), line.as_str()),
+            None => false,
+        },
+        None => false,
+    }
+}
+
+#[test]
+fn states_of_inner_machines(rt: HostRuntime) -> Result<(), Fail> {
+    for (members, wanted) in STATES {
+        assert!(rt;
+            is_told_of_state_inside(rt.alloc(), members, wanted, 1),
+            "{members}"
+        );
+        assert!(rt;
+            is_told_of_state_inside(rt.alloc(), members, wanted, 4),
+            "{members}"
+        );
+    }
+    Ok(())
+}
+
+/// So many machines in one another, in canonical form.
+pub(crate) fn nested(alloc: Global, machines: usize) -> Option<String> {
     let mut text = String::new(alloc);
     for level in 1..machines {
         write!(
             text,
-            "{{\"StartAt\":\"A{level}\",\"States\":{{\"A{level}\":{{\"Type\":\"Map\",\"End\":true,\"Iterator\":"
+            "{{\"StartAt\":\"A{level}\",\"States\":{{\"A{level}\":{{\"Type\":\"Map\",\"Iterator\":"
         )
         .ok()?;
     }
     text.push_str(r#"{"StartAt":"Z","States":{"Z":{"Type":"Succeed"}}}"#)
         .ok()?;
     for _ in 1..machines {
-        text.push_str("}}}").ok()?;
+        text.push_str(r#","End":true}}}"#).ok()?;
     }
     Some(text)
 }

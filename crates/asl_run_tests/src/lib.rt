@@ -1,15 +1,8 @@
-//! What no clause says of executions and of what they stand on, tried from outside: worked examples, and that each call succeeds with
-//! ample memory.
+//! What no clause says of executions, tried from outside: worked examples, and that each call succeeds with ample memory.
 //!
-//! `history` tries places, events and lines; `definitions` fault lines, and what a machine lends; `runs` files of steps, whole runs
-//! and single steps; `commands` whole command lines. The tests of values stand in `asl_tests`, which waits for none of these crates.
+//! `runs` is files of steps, whole runs and single steps. What waits for fewer crates is tried in crates of its own: values and histories in `asl_tests`,
+//! definitions in `asl_definition_tests`; and so is what waits for more, command lines in `asl_command_tests`.
 #![tactic(auto)]
 
-#[cfg(test)]
-mod commands;
-#[cfg(test)]
-mod definitions;
-#[cfg(test)]
-mod history;
 #[cfg(test)]
 mod runs;

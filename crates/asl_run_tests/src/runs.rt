@@ -1,7 +1,9 @@
 // What no clause says: that calls succeed with ample memory, worked examples, and which texts are refused.
-use asl_def::{Machine, parse};
+use asl_check::accept;
+use asl_def::Machine;
 use asl_exec::{
     EmulateFault, Emulated, Execution, Refusal, Setup, StepAt, StepsFault, emulate, read_steps,
+    ready,
 };
 use asl_history::Place;
 use asl_json::{Json, Txt, read as read_json, write};
@@ -159,6 +161,16 @@ fn faults_of_data_end_an_execution(rt: HostRuntime) -> Result<(), Fail> {
     Ok(())
 }
 
+// Definitions without faults that can't be run yet.
+const PASS_WITH_PARAMETERS: &str =
+    r#"{"StartAt":"S","States":{"S":{"Type":"Succeed"},"P":{"Type":"Pass","Parameters":{"k":1},"End":true}}}"#;
+
+const PATHS_INTO_THE_CONTEXT: &str =
+    r#"{"StartAt":"a/b","States":{"a/b":{"Type":"Pass","InputPath":"$$.x","Next":"S"},"S":{"Type":"Succeed","OutputPath":"$$"}}}"#;
+
+const WAIT_BEHIND_A_PARALLEL: &str =
+    r#"{"StartAt":"L","States":{"L":{"Type":"Parallel","Branches":[{"StartAt":"F","States":{"F":{"Type":"Fail"}}}],"Next":"W"},"W":{"Type":"Wait","Seconds":1,"End":true}}}"#;
+
 /// The texts of a run (definition, mocks, what is chosen, input, steps), and the line of the first fault.
 const REFUSED: &[([&str; 5], &str)] = &[
     (
@@ -168,6 +180,18 @@ const REFUSED: &[([&str; 5], &str)] = &[
     (
         ["{}", "[]", "M#c", "{", "x"],
         "definition: F3 Missing /StartAt",
+    ),
+    (
+        [PASS_WITH_PARAMETERS, "[", "M#c", "{", "x"],
+        "definition: F5 Unsupported /States/P/Type",
+    ),
+    (
+        [PATHS_INTO_THE_CONTEXT, "{}", "M", "{}", ""],
+        "definition: F5 Unsupported /States/a~1b/Type",
+    ),
+    (
+        [WAIT_BEHIND_A_PARALLEL, "{}", "M", "{}", ""],
+        "definition: F5 Unsupported /States/L/Type",
     ),
     (
         [TWO_STATES, "[", "M#c", "{", "x"],
@@ -201,8 +225,7 @@ fn text(alloc: Global, text: &str) -> Option<Txt> {
 
 /// The machine of the two states.
 fn two_states(alloc: Global) -> Option<Machine> {
-    let definition = read_json(alloc, TWO_STATES.as_bytes()).ok()?;
-    parse(alloc, &definition).ok()
+    accept(alloc, TWO_STATES.as_bytes()).ok()
 }
 
 fn setup(alloc: Global) -> Option<Setup> {
@@ -221,7 +244,11 @@ fn setup(alloc: Global) -> Option<Setup> {
 
 /// An execution of the two states.
 fn opened(rt: &HostRuntime) -> Option<Execution> {
-    Execution::open(rt.alloc(), setup(rt.alloc())?).ok()
+    let setup = setup(rt.alloc())?;
+    if !ready(&setup.machine) {
+        return None;
+    }
+    Execution::open(rt.alloc(), setup).ok()
 }
 
 /// Whether the branch at the root is about to enter a state with this input.

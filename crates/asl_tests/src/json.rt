@@ -17,6 +17,14 @@ fn compact_of(alloc: Global, text: &str) -> Option<String> {
     write(alloc, &value_of(alloc, text)?).ok()
 }
 
+/// Whether a text is read as a value of this compact text.
+fn has_compact(alloc: Global, text: &str, wanted: &str) -> bool {
+    match compact_of(alloc, text) {
+        Some(compact) => compact.as_str() == wanted,
+        None => false,
+    }
+}
+
 /// The units of a number at a key.
 fn units_at(alloc: Global, text: &str, key: &str) -> Option<i128> {
     match value_of(alloc, text)?.get(key)? {
@@ -52,6 +60,18 @@ fn repeated(alloc: Global, piece: &[u8], count: usize) -> Option<Vec<u8>> {
     for _ in 0..count {
         text.extend_from_slice(piece).ok()?;
     }
+    Some(text)
+}
+
+/// The fault of a piece so many times over.
+fn fault_of_repeated(alloc: Global, piece: &[u8], count: usize) -> Option<JsonFault> {
+    fault_of(alloc, &repeated(alloc, piece, count)?)
+}
+
+/// So many lists in one another.
+fn nested_lists(alloc: Global, count: usize) -> Option<Vec<u8>> {
+    let mut text = repeated(alloc, b"[", count)?;
+    text.extend_from_slice(&repeated(alloc, b"]", count)?).ok()?;
     Some(text)
 }
 
@@ -108,6 +128,7 @@ fn faults_of_syntax(rt: HostRuntime) -> Result<(), Fail> {
 const LIMITS_AND_UTF8: &[(&[u8], JsonFault)] = &[
     (b"{\"a\":1,\"a\":2}", JsonFault::Duplicate(7)),
     (b"{\"a\":1,\"a\"", JsonFault::Duplicate(7)),
+    (b"{\"a\":1,\"\\u0061\":2}", JsonFault::Duplicate(7)),
     (b"1000000000000000000", JsonFault::Number(0)),
     (b"-1000000000000000000", JsonFault::Number(0)),
     (b"{\"a\":1000000000000000000x", JsonFault::Number(5)),
@@ -129,12 +150,18 @@ fn faults_of_limits_and_utf8(rt: HostRuntime) -> Result<(), Fail> {
 #[test]
 fn the_sixty_fifth_level_and_a_text_too_long(rt: HostRuntime) -> Result<(), Fail> {
     let alloc = rt.alloc();
-    let deep = repeated(alloc, b"{\"k\":", 64).ok_or("memory")?;
-    assert_eq!(rt; fault_of(alloc, &deep), Some(JsonFault::Syntax(320)));
-    let deep = repeated(alloc, b"[", 65).ok_or("memory")?;
-    assert_eq!(rt; fault_of(alloc, &deep), Some(JsonFault::Depth(64)));
-    let long = repeated(alloc, b" ", 1_048_577).ok_or("memory")?;
-    assert_eq!(rt; fault_of(alloc, &long), Some(JsonFault::Size));
+    assert_eq!(rt;
+        fault_of_repeated(alloc, b"{\"k\":", 64),
+        Some(JsonFault::Syntax(320))
+    );
+    assert_eq!(rt;
+        fault_of_repeated(alloc, b"[", 65),
+        Some(JsonFault::Depth(64))
+    );
+    assert_eq!(rt;
+        fault_of_repeated(alloc, b" ", 1_048_577),
+        Some(JsonFault::Size)
+    );
     Ok(())
 }
 
@@ -198,21 +225,16 @@ fn numbers_keep_their_value_and_spelling(rt: HostRuntime) -> Result<(), Fail> {
     let alloc = rt.alloc();
     for (text, units) in UNITS {
         assert_eq!(rt; units_at(alloc, text, "n"), Some(*units));
-        assert_eq!(rt; compact_of(alloc, text).ok_or("not read")?.as_str(), *text);
+        assert!(rt; has_compact(alloc, text, text));
     }
     Ok(())
 }
 
 #[test]
 fn the_compact_text_has_no_spaces(rt: HostRuntime) -> Result<(), Fail> {
-    let text = compact_of(
-        rt.alloc(),
-        " { \"a\" : { \"b\":\"x y\" } ,\n\"c\":true,\t\"d\": -5 } ",
-    );
-    assert_eq!(rt;
-        text.ok_or("not read")?.as_str(),
-        "{\"a\":{\"b\":\"x y\"},\"c\":true,\"d\":-5}"
-    );
+    let text = " { \"a\" : { \"b\":\"x y\" } ,\n\"c\":true,\t\"d\": -5 } ";
+    let compact = "{\"a\":{\"b\":\"x y\"},\"c\":true,\"d\":-5}";
+    assert!(rt; has_compact(rt.alloc(), text, compact));
     Ok(())
 }
 
@@ -230,31 +252,17 @@ const ESCAPES: &[(&str, &str)] = &[
 fn escapes_are_read_and_written_where_they_are_needed(rt: HostRuntime) -> Result<(), Fail> {
     let alloc = rt.alloc();
     for (text, compact) in ESCAPES {
-        assert_eq!(rt;
-            compact_of(alloc, text).ok_or("not read")?.as_str(),
-            *compact
-        );
+        assert!(rt; has_compact(alloc, text, compact));
     }
-    assert_eq!(rt;
-        fault_of(alloc, b"{\"a\":1,\"\\u0061\":2}"),
-        Some(JsonFault::Duplicate(7))
-    );
     Ok(())
 }
 
 #[test]
 fn lists_are_read_and_written(rt: HostRuntime) -> Result<(), Fail> {
     let alloc = rt.alloc();
-    let text = compact_of(
-        alloc,
-        " [ 1 , [ ] ,\t{ \"a\" : [ null , true ] } , \"x\" ] ",
-    );
-    assert_eq!(rt;
-        text.ok_or("not read")?.as_str(),
-        "[1,[],{\"a\":[null,true]},\"x\"]"
-    );
-    let mut deep = repeated(alloc, b"[", 64).ok_or("memory")?;
-    deep.extend_from_slice(&repeated(alloc, b"]", 64).ok_or("memory")?)?;
+    let text = " [ 1 , [ ] ,\t{ \"a\" : [ null , true ] } , \"x\" ] ";
+    assert!(rt; has_compact(alloc, text, "[1,[],{\"a\":[null,true]},\"x\"]"));
+    let deep = nested_lists(alloc, 64).ok_or("memory")?;
     assert_eq!(rt; fault_of(alloc, &deep), None);
     Ok(())
 }
@@ -391,16 +399,20 @@ fn the_length_of_the_compact_text_is_found_without_it(rt: HostRuntime) -> Result
     Ok(())
 }
 
-/// How the whole number of this amount, which is below 10^18, is spelled, and the whole value of another number.
-fn whole_again(alloc: Global, amount: i128, other: &str) -> Option<(String, Option<i128>)> {
+/// How the whole number of this amount is spelled; none from 10^18 on.
+fn whole_spelled(alloc: Global, amount: i128) -> Option<String> {
     if amount.unsigned_abs() >= 1_000_000_000_000_000_000 {
         return None;
     }
     let number = Dec::of_whole(alloc, amount).ok()?;
-    let spelled = String::from_str(alloc, number.spelling()).ok()?;
-    match value_of(alloc, other)? {
-        Json::Num(other) => Some((spelled, other.whole())),
-        _ => None,
+    String::from_str(alloc, number.spelling()).ok()
+}
+
+/// Whether a text is read as a number with this whole value.
+fn has_whole(alloc: Global, text: &str, wanted: Option<i128>) -> bool {
+    match value_of(alloc, text) {
+        Some(Json::Num(number)) => number.whole() == wanted,
+        _ => false,
     }
 }
 
@@ -428,11 +440,9 @@ const WHOLE: &[(i128, &str, &str, Option<i128>)] = &[
 fn whole_numbers(rt: HostRuntime) -> Result<(), Fail> {
     let alloc = rt.alloc();
     for (amount, spelled, other, whole) in WHOLE {
-        let Some((text, value)) = whole_again(alloc, *amount, other) else {
-            return Err(Fail::from("no number"));
-        };
+        let text = whole_spelled(alloc, *amount).ok_or("no number")?;
         assert!(rt; text.as_str() == *spelled);
-        assert_eq!(rt; value, *whole);
+        assert!(rt; has_whole(alloc, other, *whole));
     }
     Ok(())
 }

@@ -2,8 +2,8 @@
 //! ample memory, and what libraries that aren't ours read.
 //!
 //! `json`, `cases`, `second_reader` and `deep` try values; `calls` and `functions` the calls of intrinsic functions, `templates` what
-//! stands on them; `paths` and `time` the crate of that subject. They stand here since the tests of a crate have it proved once
-//! more: here only they are. The tests of executions stand in `asl_run_tests`.
+//! stands on them; `paths`, `time` and `history` the crate of that subject. They stand here since the tests of a crate have it proved
+//! once more: here only they are. The tests of definitions, executions and command lines stand in crates of their own.
 #![tactic(auto)]
 
 #[cfg(test)]
@@ -14,6 +14,8 @@ mod cases;
 mod deep;
 #[cfg(test)]
 mod functions;
+#[cfg(test)]
+mod history;
 #[cfg(test)]
 mod json;
 #[cfg(test)]

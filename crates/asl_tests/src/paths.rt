@@ -70,26 +70,19 @@ fn both(alloc: Global, one: &Json, other: &Json) -> Option<String> {
     Some(text)
 }
 
-/// The text of what a put gives: the whole, or both values where there is no such place.
-fn put_shown(alloc: Global, put: &Result<Json, PutFault>) -> Option<String> {
-    match put {
-        Ok(whole) => write(alloc, whole).ok(),
-        Err(PutFault::NoMatch(base, part)) => both(alloc, base, part),
+/// The text of what is given where a value is put at a path: the whole, or both values where there is no such place.
+fn put_at(alloc: Global, path: &RefPath, base: Json, part: Json) -> Option<String> {
+    match path.put(alloc, base, part) {
+        Ok(whole) => write(alloc, &whole).ok(),
+        Err(PutFault::NoMatch(base, part)) => both(alloc, &base, &part),
         Err(PutFault::OutOfMemory(_, _)) => None,
     }
-}
-
-/// What is given where the value of a text is put at a path.
-fn put_at(alloc: Global, path: &RefPath, base: Json, part: &str) -> Option<Result<Json, PutFault>> {
-    let part = value(alloc, part)?;
-    Some(path.put(alloc, base, part))
 }
 
 /// The text of a value with another at a path, or of both where there is no such place.
 fn put_text(alloc: Global, text: &str, base: &str, part: &str) -> Option<String> {
     let path = RefPath::read(alloc, text).ok()?;
-    let base = value(alloc, base)?;
-    put_shown(alloc, &put_at(alloc, &path, base, part)?)
+    put_at(alloc, &path, value(alloc, base)?, value(alloc, part)?)
 }
 
 fn names(alloc: Global, text: &str, base: &str, expected: &str) -> bool {

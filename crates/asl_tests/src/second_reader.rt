@@ -44,28 +44,34 @@ fn agrees_at(ours: &Json, theirs: &Value) -> bool {
     }
 }
 
-/// Whether both readers read the text, and have equal values at these keys.
-fn agree(alloc: Global, text: &str, keys: &[&str]) -> Option<bool> {
-    let ours = read(alloc, text.as_bytes()).ok()?;
-    let theirs = Value::from_str(alloc, text).ok()?;
+/// Whether both objects have equal values at these keys.
+fn agree_at_keys(ours: &Json, theirs: &Value, keys: &[&str]) -> bool {
     for key in keys {
-        if !agrees_at(ours.get(*key)?, theirs.get(*key)?) {
-            return Some(false);
+        let (Some(one), Some(other)) = (ours.get(*key), theirs.get(*key)) else {
+            return false;
+        };
+        if !agrees_at(one, other) {
+            return false;
         }
     }
-    Some(true)
+    true
+}
+
+/// Whether both readers read the text, and have equal values at these keys.
+fn agree(alloc: Global, text: &str, keys: &[&str]) -> bool {
+    match (read(alloc, text.as_bytes()), Value::from_str(alloc, text)) {
+        (Ok(ours), Ok(theirs)) => agree_at_keys(&ours, &theirs, keys),
+        _ => false,
+    }
 }
 
 #[test]
 fn both_readers_read_one_value(rt: HostRuntime) -> Result<(), Fail> {
     let alloc = rt.alloc();
-    assert_eq!(rt;
-        agree(alloc, "{\"a\":1,\"b\":\"x\"}", &["a", "b"]),
-        Some(true)
-    );
+    assert!(rt; agree(alloc, "{\"a\":1,\"b\":\"x\"}", &["a", "b"]));
     let text = " { \"n\" : -12, \"t\":true,\n\"z\":null, \"u\":\"\u{e9}\" } ";
-    assert_eq!(rt; agree(alloc, text, &["n", "t", "z", "u"]), Some(true));
+    assert!(rt; agree(alloc, text, &["n", "t", "z", "u"]));
     let text = "{\"l\":[1,\"\\u00e9\\ud83d\\ude00\",null,-20],\"e\":[],\"s\":\"\\b\\/\\\\\"}";
-    assert_eq!(rt; agree(alloc, text, &["l", "e", "s"]), Some(true));
+    assert!(rt; agree(alloc, text, &["l", "e", "s"]));
     Ok(())
 }

@@ -59,18 +59,27 @@ fn value(alloc: Global, text: &str) -> Option<Json> {
     read(alloc, text.as_bytes()).ok()
 }
 
-/// The compact text of what a template gives on an input and the context `{"n":"c"}`, or its fault.
-fn outcome(alloc: Global, template: &str, input: &str) -> Option<String> {
-    let context = value(alloc, r#"{"n":"c"}"#)?;
-    let input = value(alloc, input)?;
-    let template = match Template::read(alloc, &value(alloc, template)?) {
-        Ok(template) => template,
-        Err(fault) => return refused(alloc, &fault),
-    };
-    match template.fill(alloc, &input, &context) {
+/// The compact text of what a template gives on an input and a context, or the text of its fault.
+fn filled(alloc: Global, template: &Template, input: &Json, context: &Json) -> Option<String> {
+    match template.fill(alloc, input, context) {
         Ok(value) => write(alloc, &value).ok(),
         Err(fault) => unfilled(alloc, &fault),
     }
+}
+
+/// The same of the value of a template.
+fn filled_by(alloc: Global, template: &Json, input: &Json, context: &Json) -> Option<String> {
+    match Template::read(alloc, template) {
+        Ok(template) => filled(alloc, &template, input, context),
+        Err(fault) => refused(alloc, &fault),
+    }
+}
+
+/// The same of texts, on the context `{"n":"c"}`.
+fn outcome(alloc: Global, template: &str, input: &str) -> Option<String> {
+    let context = value(alloc, r#"{"n":"c"}"#)?;
+    let input = value(alloc, input)?;
+    filled_by(alloc, &value(alloc, template)?, &input, &context)
 }
 
 fn gives(alloc: Global, template: &str, input: &str, wanted: &str) -> bool {
@@ -181,18 +190,29 @@ fn faults_of_templates(rt: HostRuntime) -> Result<(), Fail> {
     Ok(())
 }
 
-/// The text of a copy of the template of this text, which has to equal it.
-fn rebuilt(alloc: Global, text: &str) -> Option<String> {
-    let template = Template::read(alloc, &value(alloc, text)?).ok()?;
-    let copy = template.try_clone(alloc).ok()?;
-    if copy != template {
-        return None;
+/// The text that a template was read from.
+fn rebuilt(alloc: Global, template: &Template) -> Option<String> {
+    write(alloc, &template.rebuild(alloc).ok()?).ok()
+}
+
+/// The text of a copy of the template, which has to equal it.
+fn rebuilt_from_a_copy(alloc: Global, template: &Template) -> Option<String> {
+    match template.try_clone(alloc) {
+        Ok(copy) if copy == *template => rebuilt(alloc, &copy),
+        _ => None,
     }
-    write(alloc, &copy.rebuild(alloc).ok()?).ok()
+}
+
+/// The same of the template of this text.
+fn rebuilt_by(alloc: Global, text: &str) -> Option<String> {
+    match Template::read(alloc, &value(alloc, text)?) {
+        Ok(template) => rebuilt_from_a_copy(alloc, &template),
+        Err(_) => None,
+    }
 }
 
 fn is_given_back(alloc: Global, text: &str) -> bool {
-    match rebuilt(alloc, text) {
+    match rebuilt_by(alloc, text) {
         Some(back) => back.as_str() == text,
         None => false,
     }

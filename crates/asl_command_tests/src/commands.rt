@@ -187,6 +187,38 @@ fn definitions_are_judged(rt: HostRuntime) {
     assert!(rt; status == 2 && out.bytes().is_empty());
 }
 
+/// Definitions, and what `print` prints and tells of each.
+const FORMS: [(&str, &str, &str, u8); 3] = [
+    (
+        " {\"States\":{\"A\":{\"End\":true,\"Type\":\"Pass\"}},\"StartAt\":\"A\"}\n",
+        "{\"StartAt\":\"A\",\"States\":{\"A\":{\"Type\":\"Pass\",\"End\":true}}}\n",
+        "",
+        0,
+    ),
+    (
+        r#"{"StartAt":"A"}"#,
+        "",
+        "fault: definition: F3 Missing /States\n",
+        2,
+    ),
+    ("", "", "fault: definition: F1 Json J1 Syntax 0\n", 2),
+];
+
+#[test]
+fn definitions_are_printed(rt: HostRuntime) {
+    let alloc = rt.alloc();
+    for (definition, printed, told, want) in FORMS {
+        let mut files = make_shelf(alloc, definition, "");
+        let (mut out, mut err) = (Memory::new(alloc), Memory::new(alloc));
+        let words = ["asl", "print", "machine"];
+        let status = run_words(alloc, words.as_slice(), &mut files, &mut out, &mut err);
+        assert_eq!(rt; text(&out), printed);
+        assert_eq!(rt; text(&err), told);
+        assert_eq!(rt; status, want);
+        assert_eq!(rt; files.asked.as_str(), "machine ");
+    }
+}
+
 #[test]
 fn execution_that_goes_on_is_1(rt: HostRuntime) {
     let alloc = rt.alloc();
@@ -224,9 +256,10 @@ fn refusals_are_one_line(rt: HostRuntime) {
 #[test]
 fn help_goes_to_standard_output(rt: HostRuntime) {
     let alloc = rt.alloc();
-    let cases: [(&[&str], &str); 5] = [
+    let cases: [(&[&str], &str); 6] = [
         (&["asl", "--help"], "Usage: asl <COMMAND>"),
         (&["asl", "check", "--help"], "Usage: asl check <DEF>"),
+        (&["asl", "print", "--help"], "Usage: asl print <DEF>"),
         (&["asl", "help"], "Usage: asl <COMMAND>"),
         (
             &["asl", "run", "--help"],
@@ -246,9 +279,10 @@ fn help_goes_to_standard_output(rt: HostRuntime) {
 #[test]
 fn wrong_command_lines_are_told_on_standard_error(rt: HostRuntime) {
     let alloc = rt.alloc();
-    let cases: [(&[&str], &str); 6] = [
+    let cases: [(&[&str], &str); 7] = [
         (&[], "requires a subcommand"),
         (&["asl", "check"], "<DEF>"),
+        (&["asl", "print"], "<DEF>"),
         (&["asl"], "requires a subcommand"),
         (&["asl", "walk"], "unrecognized subcommand 'walk'"),
         (

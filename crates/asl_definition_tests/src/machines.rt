@@ -1,0 +1,106 @@
+// What a machine lends, and that its copies lend the same.
+use asl_check::accept;
+use asl_def::{Machine, Next, State};
+use asl_members::PathField;
+use std::test::Fail;
+
+fn machine(rt: &HostRuntime, text: &str) -> Option<Machine> {
+    accept(rt.alloc(), text.as_bytes()).ok()
+}
+
+const TWO_STATES: &str =
+    r#"{"StartAt":"P","States":{"P":{"Type":"Pass","Next":"S","InputPath":null},"S":{"Type":"Succeed"}}}"#;
+
+fn goes_to(machine: &Machine, name: &str, next: &str) -> bool {
+    match machine.state(name) {
+        Some(State::Pass(pass)) => match pass.next() {
+            Next::To(target) => target.name.as_str() == next,
+            Next::End => false,
+        },
+        _ => false,
+    }
+}
+
+fn reads_whole_input(machine: &Machine, name: &str) -> bool {
+    match machine.state(name) {
+        Some(State::Pass(pass)) => matches!(pass.input_path(), PathField::Whole),
+        Some(State::Succeed(succeed)) => matches!(succeed.input_path(), PathField::Whole),
+        _ => false,
+    }
+}
+
+/// The number of the state of this name, where it is found with a Succeed state.
+fn number_of_succeed(machine: &Machine, name: &str) -> Option<usize> {
+    match machine.find(name) {
+        Some((number, State::Succeed(_))) => Some(number),
+        _ => None,
+    }
+}
+
+fn numbers_its_states(machine: &Machine) -> bool {
+    machine.len() == 2
+        && number_of_succeed(machine, "S") == Some(1)
+        && matches!(machine.find("P"), Some((0, State::Pass(_))))
+        && machine.find("Q").is_none()
+}
+
+fn lends_its_states(machine: &Machine) -> bool {
+    machine.start() == "P"
+        && numbers_its_states(machine)
+        && goes_to(machine, "P", "S")
+        && !reads_whole_input(machine, "P")
+        && reads_whole_input(machine, "S")
+        && machine.state("Q").is_none()
+}
+
+fn copy_lends_its_states(rt: &HostRuntime, machine: &Machine) -> bool {
+    match machine.try_clone(rt.alloc()) {
+        Ok(copy) => lends_its_states(&copy),
+        Err(_) => false,
+    }
+}
+
+#[test]
+fn states_by_name(rt: HostRuntime) -> Result<(), Fail> {
+    let machine = machine(&rt, TWO_STATES).ok_or("refused")?;
+    assert!(rt; lends_its_states(&machine));
+    assert!(rt; copy_lends_its_states(&rt, &machine));
+    Ok(())
+}
+
+/// A Parallel of two machines, in whose second a Map holds a third.
+const INNER_MACHINES: &str =
+    r#"{"StartAt":"L","States":{"L":{"Type":"Parallel","Next":"Z","Branches":[
+    {"StartAt":"A","States":{"A":{"Type":"Wait","Seconds":1,"End":true}}},
+    {"StartAt":"M","States":{"M":{"Type":"Map","End":true,"Iterator":{"StartAt":"F","States":{"F":{"Type":"Fail"}}}}}}]},
+    "Z":{"Type":"Succeed"}}}"#;
+
+/// The number of a state that is there, else the number of all states.
+fn number(machine: &Machine, name: &str) -> usize {
+    match machine.find(name) {
+        Some((number, _)) => number,
+        None => machine.len(),
+    }
+}
+
+/// Whether the states of inner machines are found too, and stand before the state that holds them.
+fn holds_inner_states(machine: &Machine) -> bool {
+    machine.start() == "L"
+        && machine.len() == 5
+        && matches!(machine.state("A"), Some(State::Wait(_)))
+        && matches!(machine.state("M"), Some(State::Map(_)))
+        && matches!(machine.state("F"), Some(State::Fail(_)))
+        && matches!(machine.state("L"), Some(State::Parallel(_)))
+        && number(machine, "F") < number(machine, "M")
+        && number(machine, "M") < number(machine, "L")
+        && number(machine, "Z") == 4
+}
+
+#[test]
+fn states_of_inner_machines(rt: HostRuntime) -> Result<(), Fail> {
+    let machine = machine(&rt, INNER_MACHINES).ok_or("refused")?;
+    assert!(rt; holds_inner_states(&machine));
+    let copy = machine.try_clone(rt.alloc()).map_err(|_| "memory")?;
+    assert!(rt; holds_inner_states(&copy));
+    Ok(())
+}
