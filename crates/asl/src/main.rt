@@ -2,7 +2,8 @@
 //! words, files and streams from the system, and a stack.
 #![tactic(auto)]
 
-use asl_cli::{Machine, Stream, given, refuse_words, run_words};
+use asl_cli::{refuse_words, run_words};
+use asl_host::{Machine, Stream, given};
 use std::process::ExitCode;
 use std::thread::Builder;
 

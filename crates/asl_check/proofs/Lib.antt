@@ -1,3 +1,4 @@
+pub mod Halves
 pub mod Cutting
 pub mod Meaning
 pub mod Spelling

@@ -32,16 +32,34 @@ pub record IsTextFault (b : List ℕ) (f : JsonFault) : Type 0 where
   pub is_first : IsFirstOf b f
   pub told : f ≡ json.OutOfMemory → ⊥
 
+-- the first fault of a value
+pub record IsFirstFault (d : Data) (k : FaultKind) (p : List ℕ) : Type 0 where
+  pub place : List Step
+  pub is_first : IsFirst (claims_of d) (k, place)
+  pub pointer : p ≡ pointer_text place
+
 -- the first fault of the value that a text spells
 pub record IsValueFault (b : List ℕ) (k : FaultKind) (p : List ℕ) : Type 0 where
   pub value : Data
   pub reads : ReadsAs b value
-  pub place : List Step
-  pub is_first : IsFirst (claims_of value) (k, place)
-  pub pointer : p ≡ pointer_text place
+  pub fault : IsFirstFault value k p
 
 -- why a text is no definition, unless memory ran out
 abbrev pub IsFaultOf : List ℕ → Fault → Type 0
 IsFaultOf b (Json f) = IsTextFault b f
 IsFaultOf b (Definition k p) = IsValueFault b k p
 IsFaultOf b OutOfMemory = Unit {0}
+
+-- ---- each half of it
+
+-- why a text spells no value
+abbrev pub IsUnread : List ℕ → Fault → Type 0
+IsUnread b (Json f) = IsTextFault b f
+IsUnread b (Definition k p) = ⊥
+IsUnread b OutOfMemory = Unit {0}
+
+-- why a value is no definition
+abbrev pub IsFaulty : Data → Fault → Type 0
+IsFaulty d (Json f) = ⊥
+IsFaulty d (Definition k p) = IsFirstFault d k p
+IsFaulty d OutOfMemory = Unit {0}

@@ -1,11 +1,44 @@
 // The judge of a definition's text.
 ghost use Rattle.std.specs.Prelude.{◌≡◌, IfOk, IfErr};
-ghost use Rattle.asl_check.specs.Judged.{IsDefinition, IsMachineOf, IsFaultOf};
+ghost use Rattle.asl_json.specs.Data.{Data};
+ghost use Rattle.asl_json.specs.View.{data_of};
+ghost use Rattle.asl_json.specs.Wrong.{ReadsAs};
+ghost use Rattle.asl_schema.specs.Faults.{Accepted};
+ghost use Rattle.asl_schema.specs.Canon.{canonical};
+ghost use Rattle.asl_check.specs.Judged.{IsDefinition, IsMachineOf, IsFaultOf, IsUnread, IsFaulty};
 
 use crate::fault::Fault;
 use asl_def::{DefFault, Machine, parse};
-use asl_json::{JsonFault, read};
+use asl_json::{Json, JsonFault, read};
 use std::alloc::Global;
+
+/// The value that a text spells.
+fn value_of(alloc: Global, text: &[u8]) -> Result<Json, Fault>
+    ensures found { IfOk result (λ v. ReadsAs text.now (data_of v)) }
+    ensures one { IfOk result (λ v. (d : Data) → ReadsAs text.now d → data_of v ≡ d) }
+    ensures only { (d : Data) → ReadsAs text.now d → IfErr result (λ e. e ≡ Fault.OutOfMemory) }
+    ensures fault { IfErr result (IsUnread text.now) }
+{
+    match read(alloc, text) {
+        Ok(value) => Ok(value),
+        Err(JsonFault::OutOfMemory) => Err(Fault::OutOfMemory),
+        Err(fault) => Err(Fault::Json(fault)),
+    }
+}
+
+/// The machine of a definition.
+fn machine_of(alloc: Global, definition: &Json) -> Result<Machine, Fault>
+    ensures found { IfOk result (λ m. m ≡ canonical (data_of definition.now)) }
+    ensures accepted { IfOk result (λ _. Accepted (data_of definition.now)) }
+    ensures only { Accepted (data_of definition.now) → IfErr result (λ e. e ≡ Fault.OutOfMemory) }
+    ensures fault { IfErr result (IsFaulty (data_of definition.now)) }
+{
+    match parse(alloc, definition) {
+        Ok(machine) => Ok(machine),
+        Err(DefFault::OutOfMemory) => Err(Fault::OutOfMemory),
+        Err(DefFault::Refused(kind, place)) => Err(Fault::Definition(kind, place)),
+    }
+}
 
 /// The machine of a definition's text.
 ///
@@ -21,14 +54,6 @@ pub fn accept(alloc: Global, text: &[u8]) -> Result<Machine, Fault>
     // The fault is the first of the text, or of its value.
     ensures fault { IfErr result (IsFaultOf text.now) }
 {
-    let definition = match read(alloc, text) {
-        Ok(definition) => definition,
-        Err(JsonFault::OutOfMemory) => return Err(Fault::OutOfMemory),
-        Err(fault) => return Err(Fault::Json(fault)),
-    };
-    match parse(alloc, &definition) {
-        Ok(machine) => Ok(machine),
-        Err(DefFault::OutOfMemory) => Err(Fault::OutOfMemory),
-        Err(DefFault::Refused(kind, place)) => Err(Fault::Definition(kind, place)),
-    }
+    let definition = value_of(alloc, text)?;
+    machine_of(alloc, &definition)
 }

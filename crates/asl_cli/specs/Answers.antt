@@ -2,9 +2,9 @@
 -- how often it has failed, before and after.
 use Rattle.std.specs.Prelude.{ℕ, Bool, List, [], ◌∷◌, ◌++◌, ◌≡◌, ◌⊎◌, codes}
 use Rattle.asl_cli.specs.declared.refusal.Refusal.{Refusal}
-use Rattle.asl_cli.specs.declared.words.DefinitionWords.{DefinitionWords}
-use Rattle.asl_cli.specs.declared.words.RunWords.{RunWords}
-use Rattle.asl_cli.specs.Outcomes.{status_of, fault_line, IsPrinted, IsTold}
+use Rattle.asl_host.specs.declared.words.DefinitionWords.{DefinitionWords}
+use Rattle.asl_host.specs.declared.words.RunWords.{RunWords}
+use Rattle.asl_host.specs.Outcomes.{status_of, fault_line, IsPrinted, IsTold}
 use Rattle.asl_cli.specs.Refusals.{IsEmulated, IsReason, IsJudged, IsForm, IsDefinitionReason, Tells}
 
 -- the run of these words: what was emulated was printed and gave its status, or a fault was told and the status is 2

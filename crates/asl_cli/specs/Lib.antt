@@ -1,4 +1,2 @@
-pub mod Limits
-pub mod Outcomes
 pub mod Refusals
 pub mod Answers

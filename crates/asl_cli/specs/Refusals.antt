@@ -6,13 +6,14 @@ use Rattle.asl_check.specs.Judged.{IsDefinition, IsMachineOf, IsFaultOf}
 use Rattle.asl_check.specs.Lines.{fault_line as definition_fault_line}
 use Rattle.asl_check.specs.declared.fault.Fault.{Fault}
 use Rattle.asl_check.specs.declared.fault.Fault.TheVariants as fault
-use Rattle.asl_exec.specs.declared.fault.EmulateFault.{EmulateFault}
-use Rattle.asl_exec.specs.Emulations.{IsRunOf, IsRefused}
-use Rattle.asl_exec.specs.Texts.{Unless, refusal_line}
+use Rattle.asl_setup.specs.declared.fault.EmulateFault.{EmulateFault}
+use Rattle.asl_exec.specs.Emulations.{IsRunOf}
+use Rattle.asl_setup.specs.Emulations.{IsRefused}
+use Rattle.asl_setup.specs.Texts.{Unless, refusal_line}
 use Rattle.asl_cli.specs.declared.refusal.Refusal.{Refusal}
 use Rattle.asl_cli.specs.declared.refusal.Refusal.TheVariants.{File, Definition, Emulation, OutOfMemory}
-use Rattle.asl_cli.specs.declared.words.DefinitionWords.{DefinitionWords}
-use Rattle.asl_cli.specs.declared.words.RunWords.{RunWords}
+use Rattle.asl_host.specs.declared.words.DefinitionWords.{DefinitionWords}
+use Rattle.asl_host.specs.declared.words.RunWords.{RunWords}
 
 -- the files that the words name may give these bytes: a definition, mocks, an input and steps
 abbrev pub IsGiven : (List ℕ → List ℕ → Type 0) → RunWords → List ℕ → List ℕ → List ℕ → List ℕ → Type 0

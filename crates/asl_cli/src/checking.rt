@@ -4,12 +4,11 @@ ghost use Rattle.asl_cli.specs.Answers.{IsChecked};
 ghost use Rattle.asl_cli.specs.Refusals.{IsAccepted, IsDefinitionReason};
 
 use crate::command::{REFUSED, print_good, read_file};
-use crate::files::Files;
 use crate::refusal::Refusal;
-use crate::words::DefinitionWords;
 use asl_check::{Fault, accept};
 use asl_def::Machine;
 use asl_history::Sink;
+use asl_host::{DefinitionWords, Files};
 use std::alloc::Global;
 
 /// The command `check`: prints `ok` where a file is a definition without faults, else tells the first fault.

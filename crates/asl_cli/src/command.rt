@@ -1,16 +1,19 @@
 // The program behind its words, files and streams.
 ghost use Rattle.std.specs.Prelude.{◌≡◌, ◌⊎◌, List, ℕ, string_bytes, IfOk, IfErr};
 ghost use Rattle.asl_cli.specs.Answers.{IsRan, IsChecked, IsFormPrinted, IsAnswered};
-ghost use Rattle.asl_cli.specs.Outcomes.{status_of, IsPrinted, IsTold};
+ghost use Rattle.asl_host.specs.Outcomes.{status_of, IsPrinted, IsTold};
 ghost use Rattle.asl_cli.specs.Refusals.{IsEmulated, IsReason, IsUnread};
 
 use crate::checking::check;
-use crate::files::{Files, ReadFault};
 use crate::printing::print;
-use crate::refusal::{Refusal, tell_fault, write_piece};
-use crate::words::{DefinitionWords, GivenFault, RunWords, Words, malformed_word, read_words};
-use asl_exec::{EmulateFault, Emulated, emulate};
+use crate::refusal::Refusal;
+use asl_exec::{Emulated, emulate};
 use asl_history::Sink;
+use asl_host::{
+    DefinitionWords, Files, GivenFault, ReadFault, RunWords, Words, malformed_word, read_words,
+    tell_fault, write_piece,
+};
+use asl_setup::EmulateFault;
 use clap::Error;
 use clap::error::ErrorKind;
 use std::alloc::Global;

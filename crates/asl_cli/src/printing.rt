@@ -6,11 +6,10 @@ ghost use Rattle.asl_cli.specs.Refusals.{IsForm, IsDefinitionReason};
 
 use crate::checking::machine_in;
 use crate::command::{REFUSED, print_good};
-use crate::files::Files;
 use crate::refusal::Refusal;
-use crate::words::DefinitionWords;
 use asl_def::Machine;
 use asl_history::Sink;
+use asl_host::{DefinitionWords, Files};
 use std::alloc::{AllocError, Global};
 
 /// The command `print`: prints the canonical form of a definition without faults as compact JSON and a line feed, else tells the

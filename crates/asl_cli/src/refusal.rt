@@ -1,12 +1,13 @@
 // Why a command isn't done, and the line that tells it.
-ghost use Rattle.std.specs.Prelude.{◌≡◌, ◌++◌, List, ℕ, codes, IfOk, OnOk, OnErr, string_bytes};
+ghost use Rattle.std.specs.Prelude.{◌≡◌, ◌++◌, List, ℕ, codes, IfOk, string_bytes};
 ghost use Rattle.asl_check.specs.Lines.{fault_line as definition_fault_line};
-ghost use Rattle.asl_cli.specs.Outcomes.{fault_line, IsWhole, IsBroken, IsTold};
+ghost use Rattle.asl_host.specs.Outcomes.{fault_line, IsTold};
 ghost use Rattle.asl_cli.specs.Refusals.{reason_text, Tells};
 
 use asl_check::Fault;
-use asl_exec::EmulateFault;
-use asl_history::{Sink, SinkFault, write_all};
+use asl_history::Sink;
+use asl_host::tell_fault;
+use asl_setup::EmulateFault;
 use std::alloc::{AllocError, Global};
 
 /// Why a command isn't done.
@@ -60,32 +61,4 @@ fn file_text(alloc: Global, name: &str) -> Result<String, AllocError>
     let mut text = String::from_str(alloc, "file ")?;
     text.push_str(name)?;
     Ok(text)
-}
-
-/// Writes the line of a fault, as far as the sink takes it: `fault: `, its text and a line feed.
-pub fn tell_fault<E: Sink>(err: &mut E, text: &str)
-    ensures { IsTold E.taken E.failures err.old err.new (fault_line text.now) }
-{
-    // A sink that fails has no other way to tell it: the status is the same.
-    let _ = write_fault(err, text);
-}
-
-fn write_fault<E: Sink>(err: &mut E, text: &str) -> Result<(), SinkFault>
-    ensures ok { OnOk result (IsWhole E.taken E.failures err.old err.new (fault_line text.now)) }
-    ensures err { OnErr result (IsBroken E.taken E.failures err.old err.new (fault_line text.now)) }
-{
-    write_piece(err, "fault: ")?;
-    write_piece(err, text)?;
-    write_piece(err, "\n")
-}
-
-/// Writes a text.
-pub fn write_piece<W: Sink>(sink: &mut W, text: &str) -> Result<(), SinkFault>
-    ensures ok { OnOk result (IsWhole W.taken W.failures sink.old sink.new text.now) }
-    ensures err { OnErr result (IsBroken W.taken W.failures sink.old sink.new text.now) }
-{
-    match write_all(sink, text.as_bytes()) {
-        Ok(()) => Ok(()),
-        Err(_) => Err(SinkFault),
-    }
 }

@@ -1,8 +1,9 @@
 // What no clause says: the texts that are printed, statuses of whole command lines, and that calls succeed with ample memory.
 ghost use Rattle.std.specs.Prelude.{⊤};
 
-use asl_cli::{Files, GivenFault, MOST_BYTES, ReadFault, read_whole, refuse_words, run_words};
+use asl_cli::{refuse_words, run_words};
 use asl_history::{Memory, Sink, SinkFault};
+use asl_host::{Files, GivenFault, MOST_BYTES, ReadFault, read_whole};
 use std::alloc::Global;
 use std::io::{Error, ErrorKind, Read};
 use std::{io, str};

@@ -13,7 +13,7 @@ use Rattle.asl_schema.specs.Members.{Row, Shape, kind_rows, state_shape, shape_o
 use Rattle.asl_schema.specs.Canon.{Named, opt, kept_at, canon, canon_members, picked_at, kind_text}
 use Rattle.asl_def.specs.Machines.{holds_states, all_states, states_of_members}
 use Rattle.asl_def.specs.Built.{canon_rows}
-use Rattle.asl_def.proofs.Canonical.{kind_is, typed, machine_is, definition_is}
+use Rattle.asl_states.proofs.Canonical.{kind_is, typed, machine_is, definition_is}
 
 leaf : (s : Sort) (d : Data) → holds_states s ≡ false → all_states s d ≡ []
 leaf s null e = refl

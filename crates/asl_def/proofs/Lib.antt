@@ -1,17 +1,9 @@
 pub mod Tables
 pub mod Copies
-pub mod Canonical
-pub mod Fits
 pub mod Tally
 pub mod Gathers
-pub mod Catching
 pub mod Builds
 pub mod Walks
 pub mod Wholes
-pub mod Ruling
 pub mod Refusing
-pub mod Names
-pub mod Slots
-pub mod Begins
-pub mod Owning
 pub mod Outermost

@@ -1,14 +1,14 @@
 -- The states of the outermost machine, by number.
 use Rattle.std.proofs.Common.{◌≡◌, ℕ, zero, suc, ◌+◌, ◌<◌, ◌≤◌, List, [], ◌∷◌, length, take, drop, refl, sym, ◌∙◌, ap, arith}
-use Rattle.std.specs.Prelude.{Option, Some, None, slice_get, codes}
+use Rattle.std.specs.Prelude.{Some, None, slice_get, codes}
 use Rattle.asl_json.specs.Data.{dict, pairs}
 use Rattle.asl_json.specs.View.{unpaired}
 use Rattle.asl_schema.specs.Canon.{Named}
-use Rattle.asl_def.specs.declared.body.Body.{Body}
-use Rattle.asl_def.specs.declared.heading.Heading.{Heading}
+use Rattle.asl_states.specs.declared.body.Body.{Body}
+use Rattle.asl_states.specs.declared.heading.Heading.{Heading}
 use Rattle.asl_def.specs.Own.{members_in, own_states_in}
-use Rattle.asl_def.specs.Show.{machine_members, machine_of, IsWithin}
-use Rattle.asl_def.proofs.Names.{named}
+use Rattle.asl_states.specs.Show.{machine_members, machine_of, IsWithin}
+use Rattle.asl_states.proofs.Names.{named}
 
 unpaired_pairs : (xs : List Named) → unpaired (pairs xs) ≡ xs
 unpaired_pairs [] = refl

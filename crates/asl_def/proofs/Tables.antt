@@ -8,12 +8,12 @@ use Rattle.std.proofs.lemmas.List.{append-nil, map-append, take-append-le, drop-
 use Rattle.asl_json.specs.Data.{Data, pairs}
 use Rattle.asl_json.specs.Meaning.{value_at}
 use Rattle.asl_json.specs.Distinct.{has_key}
-use Rattle.asl_def.specs.declared.state.State.{State}
-use Rattle.asl_def.specs.declared.state.State.TheVariants.{Task, Pass, Choice, Wait, Parallel, Map, Succeed, Fail}
-use Rattle.asl_def.specs.declared.body.Body.{Body}
+use Rattle.asl_states.specs.declared.state.State.{State}
+use Rattle.asl_states.specs.declared.state.State.TheVariants.{Task, Pass, Choice, Wait, Parallel, Map, Succeed, Fail}
+use Rattle.asl_states.specs.declared.body.Body.{Body}
 use Rattle.asl_def.specs.Machines.{number_at}
 use Rattle.asl_schema.specs.Canon.{Named}
-use Rattle.asl_def.specs.Show.{body_of, bodies_of, state_of, shown, IsWithin, AreWithin, StateIsWithin, AreInOrder}
+use Rattle.asl_states.specs.Show.{body_of, bodies_of, state_of, shown, IsWithin, AreWithin, StateIsWithin, AreInOrder}
 
 -- what goes on behind does not change what is shown
 pub body_of-append : (t r : List Named) (b : Body) → IsWithin (length t) b → body_of (t ++ r) b ≡ body_of t b

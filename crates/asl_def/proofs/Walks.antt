@@ -1,5 +1,5 @@
 -- A walk through a table by numbers.
-use Rattle.std.proofs.Common.{◌≡◌, ℕ, zero, suc, ◌+◌, ◌<◌, ◌≤◌, Bool, true, false, ◌||◌, List, [], ◌∷◌, ◌++◌, length, take, drop, get_or, refl, sym, ◌∙◌, ap, subst, add-zero, zero-add, add-one, arith, append_assoc, length-append}
+use Rattle.std.proofs.Common.{◌≡◌, ℕ, zero, suc, ◌+◌, ◌<◌, ◌≤◌, Bool, true, false, ◌||◌, List, [], ◌∷◌, ◌++◌, length, take, drop, get_or, refl, sym, ◌∙◌, ap, subst, add-zero, zero-add, arith, append_assoc, length-append}
 use Rattle.std.specs.Prelude.{Option, Some, None, IfSome, IfNone, slice_get, string_bytes, String, option_map}
 use Rattle.std.specs.List.{IsDistinct}
 use Rattle.std.specs.String.{string_eq}
@@ -8,9 +8,9 @@ use Rattle.std.proofs.lemmas.List.{append-nil}
 use Rattle.asl_json.specs.Data.{Data}
 use Rattle.asl_json.specs.Distinct.{has_key, AreDistinct, distinct_push}
 use Rattle.asl_schema.specs.Canon.{Named}
-use Rattle.asl_def.specs.declared.body.Body.{Body}
-use Rattle.asl_def.specs.declared.state.State.{State}
-use Rattle.asl_def.specs.Show.{state_of, shown, IsWithin, AreWithin, StateIsWithin, AreInOrder}
+use Rattle.asl_states.specs.declared.body.Body.{Body}
+use Rattle.asl_states.specs.declared.state.State.{State}
+use Rattle.asl_states.specs.Show.{state_of, shown, IsWithin, AreWithin, StateIsWithin, AreInOrder}
 use Rattle.asl_def.proofs.Tables.{state_of-append, has_key-append, length-shown, shown_front}
 use Rattle.asl_def.proofs.Copies.{AreNew, copy_begins}
 

@@ -5,53 +5,34 @@ use Rattle.asl_json.specs.Data.{Data, Pairs, text, number, dict, pairs}
 use Rattle.asl_json.specs.Same.{bytes_eq}
 use Rattle.asl_json.specs.Meaning.{value_at}
 use Rattle.asl_schema.specs.declared.sort.Sort.TheVariants as sort
-use Rattle.asl_schema.specs.Members.{shape_in, sort_at, kind_named, definition_rows}
+use Rattle.asl_schema.specs.Members.{kind_named, definition_rows}
 use Rattle.asl_schema.specs.States.{states_in}
 use Rattle.asl_schema.specs.Canon.{Named, opt, kept_at, canon, canonical}
-use Rattle.asl_schema.specs.Clean.{IsClean, Fits, IsThere}
+use Rattle.asl_schema.specs.Clean.{IsClean, IsThere}
 use Rattle.asl_schema.specs.Faults.{Accepted}
 use Rattle.asl_schema.proofs.Canons.{plain_kept}
-use Rattle.asl_schema.proofs.Inside.{clean, fits_at, object_inside}
+use Rattle.asl_schema.proofs.Inside.{clean, object_inside}
 use Rattle.asl_schema.proofs.Required.{definition_start, definition_states as states_there}
 use Rattle.asl_schema.proofs.Accepting.{accepted_clean, accepted_unique}
-use Rattle.asl_def.specs.declared.body.Body.{Body}
+use Rattle.asl_states.specs.declared.body.Body.{Body}
 use Rattle.asl_def.specs.declared.build.Span.{Span}
-use Rattle.asl_def.specs.declared.heading.Heading.{Heading}
-use Rattle.asl_def.specs.declared.state.State.{State}
-use Rattle.asl_def.specs.Show.{machine_of, machine_members, state_of, IsWithin}
+use Rattle.asl_states.specs.declared.heading.Heading.{Heading}
+use Rattle.asl_states.specs.declared.state.State.{State}
+use Rattle.asl_states.specs.Show.{machine_of, state_of, IsWithin}
 use Rattle.asl_def.specs.Machines.{all_states, states_of, state_object, state_number, state_count, number_at}
 use Rattle.asl_def.specs.Whole.{IsWhole}
 use Rattle.asl_def.specs.Built.{HasRoom, Grows, IsSpan, canon_rows}
 use Rattle.asl_def.proofs.Tally.{unique_once}
 use Rattle.asl_def.proofs.Gathers.{definition_states, canon_states}
-use Rattle.asl_def.proofs.Canonical.{definition_is, kept_so}
+use Rattle.asl_states.proofs.Canonical.{definition_is, kept_so}
 use Rattle.asl_def.proofs.Builds.{member_room}
-use Rattle.asl_def.proofs.Fits.{is_there}
+use Rattle.asl_states.proofs.Fits.{is_there}
 
 pub definition_clean : (d : Data) → Accepted d → IsClean sort.Definition d
 definition_clean d a = clean (accepted_clean d a)
 
 pub members_clean : (v : Data) (ms : List Named) → Accepted v → v ≡ dict (pairs ms) → IsClean sort.Definition (dict (pairs ms))
 members_clean v ms a is = subst (IsClean sort.Definition) is (definition_clean v a)
-
-fits_in : (ms : Pairs) (k : List ℕ) → IsClean sort.Definition (dict ms) → Fits (sort_at (shape_in sort.Definition ms) k) (value_at k ms)
-fits_in ms k c = fits_at _ (shape_in sort.Definition ms) ms k (object_inside c.names sort.Definition ms refl c.is)
-
-pub comment_fits : (ms : Pairs) → IsClean sort.Definition (dict ms) → Fits sort.Text (value_at (codes "Comment") ms)
-unfolding definition_rows
-comment_fits ms c = fits_in ms (codes "Comment") c
-
-pub language_fits : (ms : Pairs) → IsClean sort.Definition (dict ms) → Fits sort.QueryLanguage (value_at (codes "QueryLanguage") ms)
-unfolding definition_rows
-language_fits ms c = fits_in ms (codes "QueryLanguage") c
-
-pub version_fits : (ms : Pairs) → IsClean sort.Definition (dict ms) → Fits sort.Version (value_at (codes "Version") ms)
-unfolding definition_rows
-version_fits ms c = fits_in ms (codes "Version") c
-
-pub timeout_fits : (ms : Pairs) → IsClean sort.Definition (dict ms) → Fits sort.FromOne (value_at (codes "TimeoutSeconds") ms)
-unfolding definition_rows
-timeout_fits ms c = fits_in ms (codes "TimeoutSeconds") c
 
 pub start_is_there : (ms : Pairs) → IsClean sort.Definition (dict ms) → IsThere sort.Target (value_at (codes "StartAt") ms)
 start_is_there ms c = is_there _ sort.Target (value_at (codes "StartAt") ms) (definition_start _ (kind_named (value_at (codes "Type") ms)) ms (object_inside c.names sort.Definition ms refl c.is))

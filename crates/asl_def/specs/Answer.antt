@@ -1,9 +1,8 @@
 -- What a definition is refused for.
-use Rattle.std.specs.Prelude.{◌≡◌, ℕ, List, [], ◌∷◌, ◌++◌, codes}
+use Rattle.std.specs.Prelude.{◌≡◌}
 use Rattle.asl_json.specs.Data.{Data}
 use Rattle.asl_schema.specs.First.{Found, IsFirst}
 use Rattle.asl_schema.specs.Faults.{claims_of}
-use Rattle.asl_schema.specs.Demands.{words_of}
 use Rattle.asl_schema.specs.Pointers.{pointer_text}
 use Rattle.asl_def.specs.declared.fault.DefFault.{DefFault}
 use Rattle.asl_def.specs.declared.fault.DefFault.TheVariants.{Refused, OutOfMemory}
@@ -22,12 +21,3 @@ pub record IsFirstFault (d : Data) (e : DefFault) : Type 0 where
 abbrev pub IsAnswer : Data → DefFault → Type 0
 IsAnswer d (Refused k p) = IsFirstFault d (Refused k p)
 IsAnswer d OutOfMemory = Unit {0}
-
--- behind a space, where there is one
-abbrev pub place_part : List ℕ → List ℕ
-place_part [] = []
-place_part (c ∷ cs) = codes " " ++ (c ∷ cs)
-
-abbrev pub fault_text : DefFault → List ℕ
-fault_text (Refused k p) = words_of k ++ place_part p
-fault_text OutOfMemory = codes "F16 OutOfMemory"

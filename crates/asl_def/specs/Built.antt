@@ -1,55 +1,17 @@
 -- What is built of a definition without faults.
-use Rattle.std.specs.Prelude.{◌≡◌, ◌+◌, ◌≤◌, ℕ, List, [], ◌∷◌, ◌++◌, Bool, true, false, Some, length, map, if◌then◌else◌, codes, option_map, take, drop, string_bytes}
-use Rattle.asl_json.specs.Data.{Data, Pairs, pairs}
+use Rattle.std.specs.Prelude.{◌≡◌, ◌+◌, ◌≤◌, ℕ, List, [], ◌∷◌, ◌++◌, length, map, if◌then◌else◌, take, drop, string_bytes}
+use Rattle.asl_json.specs.Data.{Data}
 use Rattle.asl_json.specs.Same.{bytes_eq}
-use Rattle.asl_json.specs.Meaning.{value_at}
-use Rattle.asl_json.specs.Distinct.{AreDistinct}
 use Rattle.asl_schema.specs.declared.sort.Sort.{Sort}
-use Rattle.asl_schema.specs.declared.sort.Sort.TheVariants.{State as state_sort, Machine, Retriers, Catchers, Target, Truth}
-use Rattle.asl_schema.specs.declared.sort.Kind.{Kind}
-use Rattle.asl_schema.specs.declared.sort.Kind.TheVariants as kind
-use Rattle.asl_schema.specs.Members.{Row, Shape, state_shape, kind_named, sort_at}
+use Rattle.asl_schema.specs.declared.sort.Sort.TheVariants.{State as state_sort, Machine}
 use Rattle.asl_schema.specs.States.{states_in}
-use Rattle.asl_schema.specs.Canon.{Named, canon, kept_at}
-use Rattle.asl_schema.specs.Clean.{IsCleanInside}
-use Rattle.asl_members.specs.Shown.{path_shown}
-use Rattle.asl_def.specs.declared.outcome.Outcome.{Outcome}
-use Rattle.asl_def.specs.declared.body.Body.{Body}
-use Rattle.asl_def.specs.declared.state.State.{State}
+use Rattle.asl_schema.specs.Canon.{Named, canon}
+use Rattle.asl_states.specs.declared.body.Body.{Body}
+use Rattle.asl_states.specs.declared.state.State.{State}
+use Rattle.asl_states.specs.Show.{body_of, bodies_of, state_of, IsWithin, AreWithin, StateIsWithin}
 use Rattle.asl_def.specs.declared.build.Own.{Own}
 use Rattle.asl_def.specs.declared.build.Span.{Span}
-use Rattle.asl_def.specs.Parts.{Slots, next_shown, end_shown}
-use Rattle.asl_def.specs.Show.{listed, body_of, bodies_of, state_of, IsWithin, AreWithin, StateIsWithin}
 use Rattle.asl_def.specs.Machines.{all_states}
-
--- nothing is wrong with the members of a state of this type
-pub record IsOfKind (k : Kind) (ms : List Named) : Type 0 where
-  pub names : List ℕ → Bool
-  pub is : kind_named (value_at (codes "Type") (pairs ms)) ≡ Some k
-  pub inside : IsCleanInside names (state_shape (Some k)) (pairs ms)
-  pub distinct : AreDistinct [] ms
-
--- the types of states that have a result or an error
-abbrev pub has_outcome : Kind → Bool
-has_outcome kind.Task = true
-has_outcome kind.Parallel = true
-has_outcome kind.Map = true
-has_outcome k = false
-
-abbrev pub of_any_type : Kind → Bool
-of_any_type k = true
-
--- nothing is wrong with the members of a state of one of these types
-pub record IsOfAny (p : Kind → Bool) (ms : List Named) : Type 0 where
-  pub kind : Kind
-  pub chosen : p kind ≡ true
-  pub is : IsOfKind kind ms
-
--- members are those of the canonical form, row by row
-abbrev pub Shows : Shape → Pairs → List Row → Slots → Type 0
-Shows sh ms [] [] = Unit {0}
-Shows sh ms (r ∷ rs) (m ∷ os) = (m.0 ≡ r.name) × (m.1 ≡ kept_at r.name (sort_at sh r.name) ms) × Shows sh ms rs os
-Shows sh ms rs os = ⊥
 
 -- how often a name comes
 abbrev pub tally : {A : Type 0} → List ℕ → List (List ℕ × A) → ℕ
@@ -83,16 +45,6 @@ canon_row m = (m.0, canon state_sort m.1)
 
 abbrev pub canon_rows : List Named → List Named
 canon_rows ms = map canon_row ms
-
--- what becomes of a result is as the members say
-pub record IsOutcome (ms : Pairs) (o : Outcome) : Type 0 where
-  pub result_selector : o.result_selector ≡ value_at (codes "ResultSelector") ms
-  pub result_path : path_shown o.result_path ≡ value_at (codes "ResultPath") ms
-  pub output_path : path_shown o.output_path ≡ value_at (codes "OutputPath") ms
-  pub retry : listed o.retry ≡ option_map (canon Retriers) (value_at (codes "Retry") ms)
-  pub catch : listed o.catch ≡ option_map (canon Catchers) (value_at (codes "Catch") ms)
-  pub next : next_shown o.next ≡ kept_at (codes "Next") Target ms
-  pub ends : end_shown o.next ≡ kept_at (codes "End") Truth ms
 
 -- states that are to go last, over the table so far
 

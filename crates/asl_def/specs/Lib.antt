@@ -1,6 +1,3 @@
-pub mod Parts
-pub mod Show
-pub mod Member
 pub mod Machines
 pub mod Table
 pub mod Built

@@ -1,7 +1,7 @@
 -- A table of states as a clause sees it: names and canonical objects.
 use Rattle.std.specs.Prelude.{List, []}
 use Rattle.asl_schema.specs.Canon.{Named}
-use Rattle.asl_def.specs.Show.{shown, AreInOrder}
+use Rattle.asl_states.specs.Show.{shown, AreInOrder}
 use Rattle.asl_def.specs.declared.table.Table.TheInside.{Inside}
 
 abbrev pub named : Inside → List Named

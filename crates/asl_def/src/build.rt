@@ -11,23 +11,16 @@ ghost use Rattle.asl_schema.specs.declared.sort.Kind.TheVariants.{Parallel as pa
 ghost use Rattle.asl_schema.specs.Members.{kind_named as spec_kind_named};
 ghost use Rattle.asl_schema.specs.Canon.{Named, canon};
 ghost use Rattle.asl_schema.specs.Clean.{IsClean};
-ghost use Rattle.asl_def.specs.Built.{Grows, HasRoom, HasRoomFor, IsBody, AreBodies, IsState, IsOfKind, IsSpan, AreOwn, rows_in};
+ghost use Rattle.asl_states.specs.Built.{IsOfKind};
+ghost use Rattle.asl_def.specs.Built.{Grows, HasRoom, HasRoomFor, IsBody, AreBodies, IsState, IsSpan, AreOwn, rows_in};
 
-use crate::body::{Bodies, Body};
-use crate::choice::Choice;
-use crate::fail::Fail;
-use crate::map::Map;
-use crate::parallel::Parallel;
-use crate::pass::Pass;
-use crate::state::State;
-use crate::succeed::Succeed;
 use crate::table::Table;
-use crate::target::Target;
-use crate::task::Task;
-use crate::wait::Wait;
 use asl_json::{Items, Json, Members};
 use asl_members::read_optional;
 use asl_schema::{Kind, kind_named};
+use asl_states::{
+    Bodies, Body, Choice, Fail, Map, Parallel, Pass, State, Succeed, Target, Task, Wait,
+};
 use std::alloc::{AllocError, Global};
 
 /// A state that does not stand in the table yet.

@@ -1,6 +1,5 @@
 // Why a definition is refused.
-ghost use Rattle.std.specs.Prelude.{◌≡◌, IfOk, string_bytes};
-ghost use Rattle.asl_def.specs.Answer.{Tells, fault_text};
+ghost use Rattle.asl_def.specs.Answer.{Tells};
 
 use asl_json::Pointer;
 use asl_schema::{Fault, FaultKind};
@@ -24,26 +23,6 @@ impl From<AllocError> for DefFault {
 
     fn from(_: AllocError) -> DefFault {
         DefFault::OutOfMemory
-    }
-}
-
-impl DefFault {
-    /// The text of a fault line, as `F10 NoTarget /States/A/Next`. The error is that memory ran out.
-    pub fn text(&self, alloc: Global) -> Result<String, AllocError>
-        ensures { IfOk result (λ t. string_bytes t ≡ fault_text self.now) }
-    {
-        match self {
-            DefFault::OutOfMemory => Ok(String::from_str(alloc, "F16 OutOfMemory")?),
-            DefFault::Refused(kind, place) => {
-                let mut text = String::from_str(alloc, kind.words())?;
-                let place = place.as_str();
-                if !place.is_empty() {
-                    text.push(' ')?;
-                    text.push_str(place)?;
-                }
-                Ok(text)
-            }
-        }
     }
 }
 

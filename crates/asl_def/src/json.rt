@@ -1,14 +1,12 @@
 // Machines as JSON.
 ghost use Rattle.std.specs.Prelude.{◌≡◌, ◌≤◌, ◌+◌, IfOk, length, take, drop};
 ghost use Rattle.asl_json.specs.View.{data_of};
-ghost use Rattle.asl_def.specs.Show.{IsWithin, AreWithin, StateIsWithin, body_of, bodies_of, state_of};
+ghost use Rattle.asl_states.specs.Show.{IsWithin, AreWithin, StateIsWithin, body_of, bodies_of, state_of};
 
-use crate::body::Body;
-use crate::entry::entry;
-use crate::state::State;
 use crate::table::Table;
 use asl_json::{Items, Json, Members, Txt};
 use asl_members::{json_optional, object};
+use asl_states::{Body, State, entry};
 use std::alloc::{AllocError, Global};
 
 /// The canonical object of a machine inside a definition. The error is that memory ran out.

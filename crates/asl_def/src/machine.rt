@@ -6,23 +6,19 @@ ghost use Rattle.asl_json.specs.Compact.{compact};
 ghost use Rattle.asl_json.specs.Meaning.{value_in};
 ghost use Rattle.asl_schema.specs.Canon.{Named, canonical};
 ghost use Rattle.asl_schema.specs.Faults.{Accepted};
-ghost use Rattle.asl_def.specs.Show.{state_of};
+ghost use Rattle.asl_states.specs.Show.{state_of};
 ghost use Rattle.asl_def.specs.Machines.{state_object, state_number, state_count};
 ghost use Rattle.asl_def.specs.Own.{own_states_in};
 ghost use Rattle.asl_def.specs.Answer.{IsAnswer};
 
-use crate::body::Body;
 use crate::build::{object_in, states};
-use crate::entry::entry;
 use crate::fault::{DefFault, answer};
-use crate::heading::Heading;
 use crate::json::states_json;
-use crate::state::State;
 use crate::table::Table;
-use crate::target::Target;
 use asl_json::{Json, write};
 use asl_members::{json_optional, object, read_optional};
 use asl_schema::first_fault;
+use asl_states::{Body, Heading, State, Target, entry};
 use std::alloc::{AllocError, Global};
 use std::marker::Model;
 
@@ -43,7 +39,7 @@ impl Model for Machine {
 
     ghost coded = { coded_data };
 
-    ghost use Rattle.asl_def.specs.Show.{machine_of};
+    ghost use Rattle.asl_states.specs.Show.{machine_of};
     ghost use Rattle.asl_def.specs.Whole.{IsWhole};
 
     ghost view = { λ a. machine_of a.table a.heading a.root };

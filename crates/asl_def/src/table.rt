@@ -4,9 +4,9 @@ ghost use Rattle.asl_json.specs.Data.{pairs};
 ghost use Rattle.asl_json.specs.Distinct.{AreDistinct, has_key};
 ghost use Rattle.asl_json.specs.Meaning.{value_at};
 ghost use Rattle.asl_def.specs.Machines.{number_at};
-ghost use Rattle.asl_def.specs.Show.{state_of, StateIsWithin};
+ghost use Rattle.asl_states.specs.Show.{state_of, StateIsWithin};
 
-use crate::state::State;
+use asl_states::State;
 use indexmap::IndexMap;
 use std::alloc::{AllocError, Global};
 use std::marker::Model;
@@ -88,8 +88,7 @@ impl Table {
         ensures ok { OnOk result (self.new ≡ self.old ++ (string_bytes name, state_of self.old state) ∷ []) }
         ensures err { OnErr result (self.new ≡ self.old) }
     {
-        let old = self.states.insert(name, state)?;
-        let_go(old);
+        drop(self.states.insert(name, state)?);
         Ok(())
     }
 
@@ -105,5 +104,3 @@ impl Table {
         Ok(copy)
     }
 }
-
-fn let_go(_old: Option<State>) {}

@@ -1,7 +1,8 @@
 // What a machine lends, and that its copies lend the same.
 use asl_check::accept;
-use asl_def::{Machine, Next, State};
+use asl_def::Machine;
 use asl_members::PathField;
+use asl_states::{Next, State};
 use std::test::Fail;
 
 fn machine(rt: &HostRuntime, text: &str) -> Option<Machine> {

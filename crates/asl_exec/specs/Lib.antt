@@ -4,7 +4,4 @@ pub mod Order
 pub mod Rebuilds
 pub mod Views
 pub mod RunText
-pub mod StepsFile
-pub mod Ready
-pub mod Texts
 pub mod Emulations

@@ -11,8 +11,8 @@ use Rattle.asl_exec.specs.declared.outcome.Outcome.{Outcome}
 use Rattle.asl_exec.specs.declared.outcome.Outcome.TheVariants.{Running, Succeeded, Failed}
 use Rattle.asl_exec.specs.declared.refusal.Refusal.{Refusal}
 use Rattle.asl_exec.specs.declared.refusal.Refusal.TheVariants.{Over, NoSuchPlace, Stopped, Finished, Busy, Slots, NotYet, HistoryFull, OutOfMemory}
-use Rattle.asl_exec.specs.declared.setup.Setup.{Setup}
-use Rattle.asl_exec.specs.declared.step_at.StepAt.{StepAt}
+use Rattle.asl_setup.specs.declared.setup.Setup.{Setup}
+use Rattle.asl_setup.specs.declared.step_at.StepAt.{StepAt}
 use Rattle.asl_exec.specs.World.{World}
 use Rattle.asl_exec.specs.Steps.{refusal_of, step, opening, world_after}
 

@@ -13,15 +13,15 @@ use Rattle.asl_kinds.specs.declared.effect.Effect.{Effect}
 use Rattle.asl_kinds.specs.declared.record.Record.{Record}
 use Rattle.asl_kinds.specs.declared.record.Record.TheVariants.{New, Ready, Pausing, Again, Forked, Done, Failed}
 use Rattle.asl_kinds.specs.Kinds.{idle}
-use Rattle.asl_kinds.specs.Members.{text_in}
+use Rattle.asl_states.specs.Texts.{text_in}
 use Rattle.asl_kinds.specs.Seen.{Seen}
 use Rattle.asl_kinds.specs.Table.{state_effect}
 use Rattle.asl_exec.specs.declared.branch.Branch.{Branch}
 use Rattle.asl_exec.specs.declared.outcome.Outcome.TheVariants.{Running}
 use Rattle.asl_exec.specs.declared.refusal.Refusal.{Refusal}
 use Rattle.asl_exec.specs.declared.refusal.Refusal.TheVariants.{Over, NoSuchPlace, Stopped, Finished, Busy, NotYet, HistoryFull}
-use Rattle.asl_exec.specs.declared.setup.Setup.{Setup}
-use Rattle.asl_exec.specs.declared.step_at.StepAt.{StepAt}
+use Rattle.asl_setup.specs.declared.setup.Setup.{Setup}
+use Rattle.asl_setup.specs.declared.step_at.StepAt.{StepAt}
 use Rattle.asl_exec.specs.World.{World, record_at, children_at, is_failed, is_done, state_in, is_over, count_of, world_with}
 
 -- ---- when a step is refused

@@ -1,6 +1,6 @@
 -- What callers see of an execution.
 use Rattle.asl_exec.specs.declared.execution.Execution.{Execution}
-use Rattle.asl_exec.specs.declared.setup.Setup.{Setup}
+use Rattle.asl_setup.specs.declared.setup.Setup.{Setup}
 use Rattle.asl_exec.specs.World.{World}
 
 -- what it began with

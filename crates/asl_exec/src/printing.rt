@@ -4,7 +4,7 @@ ghost use Rattle.asl_json.specs.View.{data_of};
 ghost use Rattle.asl_json.specs.Compact.{compact};
 ghost use Rattle.asl_time.specs.StampText.{stamp_of};
 ghost use Rattle.asl_history.specs.Lines.{history_text};
-ghost use Rattle.asl_exec.specs.Ready.{is_ready};
+ghost use Rattle.asl_setup.specs.Ready.{is_ready};
 ghost use Rattle.asl_exec.specs.RunText.{refusal_words, awaited, with_stamp, reply_text, step_line, step_lines, status_text, status_line, end_text, run_text, is_success};
 ghost use Rattle.asl_exec.specs.Steps.{opening, refusal_of, step, world_after};
 ghost use Rattle.asl_exec.specs.Views.{setup_of, world_of};
@@ -12,12 +12,11 @@ ghost use Rattle.asl_exec.specs.Views.{setup_of, world_of};
 use crate::execution::Execution;
 use crate::outcome::Outcome;
 use crate::refusal::Refusal;
-use crate::setup::Setup;
-use crate::step_at::StepAt;
 use asl_history::{History, Place, put_line};
 use asl_json::{Json, write};
 use asl_kinds::record::ErrorOut;
 use asl_kinds::steps::error_output;
+use asl_setup::{Setup, StepAt};
 use asl_time::{Moment, print_stamp};
 use std::alloc::{AllocError, Global};
 
@@ -187,6 +186,18 @@ impl Execution {
         put_history(alloc, out, self.history())?;
         put_status(alloc, out, self.outcome())
     }
+
+    /// Takes steps in order: the text of them, of the history and of the status. The error is that memory ran out.
+    fn print(&mut self, steps: &[StepAt]) -> Result<String, AllocError>
+        ensures text { IfOk result (λ t. string_bytes t
+            ≡ step_lines (setup_of self.old).machine (world_of self.old) steps.now ++ end_text (world_after (setup_of self.old).machine (world_of self.old) steps.now)) }
+        ensures world { OnOk result (world_of self.new ≡ world_after (setup_of self.old).machine (world_of self.old) steps.now) }
+    {
+        let mut text = String::new(self.alloc());
+        self.put_steps(&mut text, steps)?;
+        self.put_end(&mut text)?;
+        Ok(text)
+    }
 }
 
 /// The text of the run of these steps, and whether the execution has succeeded then. The error is that memory ran out.
@@ -200,8 +211,6 @@ pub(crate) fn run(
     ensures good { IfOk result (λ r. r.1 ≡ is_success (world_after setup.machine (opening setup) steps.now).outcome) }
 {
     let mut execution = Execution::open(alloc, setup)?;
-    let mut text = String::new(alloc);
-    execution.put_steps(&mut text, steps)?;
-    execution.put_end(&mut text)?;
+    let text = execution.print(steps)?;
     Ok((text, is_success(execution.outcome())))
 }

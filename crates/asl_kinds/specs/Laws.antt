@@ -7,9 +7,10 @@ use Rattle.asl_history.specs.declared.kind.EventKind.TheVariants.{PassStateEnter
 use Rattle.std.specs.Str.{bytes_eq}
 use Rattle.asl_json.specs.Data.{Data}
 use Rattle.asl_json.specs.Meaning.{value_in}
-use Rattle.asl_def.specs.declared.state.State.{State}
-use Rattle.asl_def.specs.declared.state.State.TheVariants as state
-use Rattle.asl_def.specs.Show.{state_of}
+use Rattle.asl_states.specs.declared.state.State.{State}
+use Rattle.asl_states.specs.declared.state.State.TheVariants as state
+use Rattle.asl_states.specs.Show.{state_of}
+use Rattle.asl_states.specs.Texts.{text_in}
 use Rattle.asl_kinds.specs.declared.effect.Effect.{Effect}
 use Rattle.asl_kinds.specs.declared.effect.Draft.{Draft}
 use Rattle.asl_kinds.specs.declared.record.Record.{Record}
@@ -19,7 +20,7 @@ use Rattle.asl_kinds.specs.Outputs.{is_finished}
 use Rattle.asl_kinds.specs.Seen.{Seen}
 use Rattle.asl_kinds.specs.Bounds.{IsBounded}
 use Rattle.asl_kinds.specs.Paths.{Given}
-use Rattle.asl_kinds.specs.Members.{pass_output, succeed_output, text_in, next_in}
+use Rattle.asl_kinds.specs.Members.{pass_output, succeed_output, next_in}
 use Rattle.asl_kinds.specs.Kinds.{idle, moved, ended, told_success, leaving, failed, told_failure, failing, entering}
 use Rattle.asl_kinds.specs.Table.{passed, in_one, pass_effect, succeed_effect, effect_by_type, state_effect}
 

@@ -1,9 +1,10 @@
 -- What a state gives and where it goes on, by the members of its object.
 use Rattle.std.specs.Prelude.{ℕ, List, Option, Some, None, codes}
-use Rattle.asl_json.specs.Data.{Data, null, boolean, number, text, list, dict}
+use Rattle.asl_json.specs.Data.{Data}
 use Rattle.asl_json.specs.View.{json_of}
 use Rattle.asl_json.specs.Meaning.{value_in}
 use Rattle.asl_json.specs.declared.value.Json.{Json}
+use Rattle.asl_states.specs.Texts.{text_in}
 use Rattle.asl_kinds.specs.Paths.{Given, taken, put_into, and_then}
 
 -- Result, or the effective input where there is none
@@ -23,15 +24,6 @@ abbrev pub succeed_output : Data → Json → Given
 succeed_output d x =
     and_then (taken (codes "InputPath") (value_in (codes "InputPath") d) x) (λ y.
     taken (codes "OutputPath") (value_in (codes "OutputPath") d) y)
-
-abbrev pub text_in : Option Data → Option (List ℕ)
-text_in (Some (text t)) = Some t
-text_in (Some null) = None
-text_in (Some (boolean b)) = None
-text_in (Some (number n)) = None
-text_in (Some (list ds)) = None
-text_in (Some (dict ms)) = None
-text_in None = None
 
 -- the state that comes next, none where the state ends its branch
 abbrev pub next_in : Data → Option (List ℕ)

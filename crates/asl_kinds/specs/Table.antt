@@ -6,13 +6,14 @@ use Rattle.asl_history.specs.declared.kind.EventKind.{EventKind}
 use Rattle.asl_history.specs.declared.kind.EventKind.TheVariants.{PassStateEntered, PassStateExited, SucceedStateEntered, SucceedStateExited}
 use Rattle.asl_json.specs.Data.{Data}
 use Rattle.asl_json.specs.Meaning.{value_in}
+use Rattle.asl_states.specs.Texts.{text_in}
 use Rattle.asl_kinds.specs.declared.effect.Effect.{Effect}
 use Rattle.asl_kinds.specs.declared.effect.Draft.{Draft}
 use Rattle.asl_kinds.specs.declared.record.Record.{Record}
 use Rattle.asl_kinds.specs.declared.record.Record.TheVariants.{New, Ready, Pausing, Again, Forked, Done, Failed}
 use Rattle.asl_kinds.specs.Seen.{Seen}
 use Rattle.asl_kinds.specs.Paths.{Given}
-use Rattle.asl_kinds.specs.Members.{pass_output, succeed_output, text_in, next_in}
+use Rattle.asl_kinds.specs.Members.{pass_output, succeed_output, next_in}
 use Rattle.asl_kinds.specs.Kinds.{idle, leaving, failing, entering}
 
 -- a state that is left with what it gives, or fails with the error that it raises: nothing catches yet

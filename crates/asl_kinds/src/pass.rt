@@ -1,5 +1,5 @@
 // Pass (ASL, "Pass State").
-ghost use Rattle.asl_def.specs.Show.{pass_object};
+ghost use Rattle.asl_states.specs.Show.{pass_object};
 ghost use Rattle.std.specs.Prelude.{◌≡◌, IfOk, option_map};
 ghost use Rattle.asl_json.specs.View.{data_of};
 ghost use Rattle.asl_kinds.specs.Members.{pass_output, result_or as spec_result_or};
@@ -12,9 +12,9 @@ use crate::kind::StateKind;
 use crate::record::Record;
 use crate::steps::{entering, idle, passed};
 use crate::visit::Visit;
-use asl_def::Pass;
 use asl_history::EventKind;
 use asl_json::Json;
+use asl_states::Pass;
 use std::alloc::{AllocError, Global};
 
 /// The result of a Pass that has one, else its effective input.
@@ -39,7 +39,7 @@ fn output(alloc: Global, pass: &Pass, input: &Json) -> Result<Json, Fault>
 
 impl StateKind for Pass {
     ghost use Rattle.std.specs.Prelude.{false};
-    ghost use Rattle.asl_def.specs.Show.{pass_object};
+    ghost use Rattle.asl_states.specs.Show.{pass_object};
     ghost use Rattle.asl_kinds.specs.Table.{pass_effect};
     ghost use Rattle.asl_kinds.specs.Laws.{pass-bounded};
 

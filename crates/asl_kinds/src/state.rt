@@ -3,14 +3,14 @@ use crate::effect::Effect;
 use crate::kind::StateKind;
 use crate::steps::idle;
 use crate::visit::Visit;
-use asl_def::State;
+use asl_states::State;
 use std::alloc::{AllocError, Global};
 
 /// A Pass and a Succeed do what their kinds say; a state of any other type does nothing yet. What a state does doesn't depend on
 /// the machines inside it: the law `any_table` of `Laws`.
 impl StateKind for State {
     ghost use Rattle.std.specs.Prelude.{[], false};
-    ghost use Rattle.asl_def.specs.Show.{state_of};
+    ghost use Rattle.asl_states.specs.Show.{state_of};
     ghost use Rattle.asl_kinds.specs.Table.{state_effect};
     ghost use Rattle.asl_kinds.specs.Laws.{state-bounded};
 

@@ -2,17 +2,17 @@
 ghost use Rattle.std.specs.Prelude.{◌≡◌, ◌↔◌, [], IfOk, IsTrue};
 ghost use Rattle.asl_kinds.specs.Kinds.{idle as spec_idle, leaving as spec_leaving, failing as spec_failing, error_output as spec_error_output, entering as spec_entering, moved as spec_moved};
 ghost use Rattle.asl_kinds.specs.Table.{passed as spec_passed};
-ghost use Rattle.asl_def.specs.Parts.{next_shown};
-ghost use Rattle.asl_kinds.specs.Members.{text_in};
+ghost use Rattle.asl_states.specs.Parts.{next_shown};
+ghost use Rattle.asl_states.specs.Texts.{text_in};
 ghost use Rattle.asl_kinds.specs.Paths.{Given};
 ghost use Rattle.asl_kinds.specs.Gives.{Gives};
 
 use crate::effect::{Children, Drafts, Effect, Ended};
 use crate::fault::Fault;
 use crate::record::{ErrorOut, Record};
-use asl_def::Next;
 use asl_history::{EventKind, Place};
 use asl_json::{Json, Members, Txt};
+use asl_states::Next;
 use std::alloc::{AllocError, Global};
 
 /// Nothing happens.

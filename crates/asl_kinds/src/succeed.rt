@@ -1,5 +1,5 @@
 // Succeed (ASL, "Succeed State").
-ghost use Rattle.asl_def.specs.Show.{succeed_object};
+ghost use Rattle.asl_states.specs.Show.{succeed_object};
 ghost use Rattle.asl_kinds.specs.Members.{succeed_output};
 ghost use Rattle.asl_kinds.specs.Gives.{Gives};
 
@@ -10,9 +10,9 @@ use crate::kind::StateKind;
 use crate::record::Record;
 use crate::steps::{entering, idle, passed};
 use crate::visit::Visit;
-use asl_def::{Next, Succeed};
 use asl_history::EventKind;
 use asl_json::Json;
+use asl_states::{Next, Succeed};
 use std::alloc::{AllocError, Global};
 
 /// What a Succeed gives for a raw input.
@@ -25,7 +25,7 @@ fn output(alloc: Global, succeed: &Succeed, input: &Json) -> Result<Json, Fault>
 
 impl StateKind for Succeed {
     ghost use Rattle.std.specs.Prelude.{false};
-    ghost use Rattle.asl_def.specs.Show.{succeed_object};
+    ghost use Rattle.asl_states.specs.Show.{succeed_object};
     ghost use Rattle.asl_kinds.specs.Table.{succeed_effect};
     ghost use Rattle.asl_kinds.specs.Laws.{succeed-bounded};
 

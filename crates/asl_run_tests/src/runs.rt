@@ -1,13 +1,11 @@
 // What no clause says: that calls succeed with ample memory, worked examples, and which texts are refused.
 use asl_check::accept;
 use asl_def::Machine;
-use asl_exec::{
-    EmulateFault, Emulated, Execution, Refusal, Setup, StepAt, StepsFault, emulate, read_steps,
-    ready,
-};
+use asl_exec::{Emulated, Execution, Refusal, emulate};
 use asl_history::Place;
 use asl_json::{Json, Txt, read as read_json, write};
 use asl_kinds::record::Record;
+use asl_setup::{EmulateFault, Setup, StepAt, StepsFault, read_steps, ready};
 use asl_time::Moment;
 use std::alloc::Global;
 use std::test::Fail;

@@ -1,6 +1,6 @@
 use Rattle.std.proofs.Common.{◌+◌, ℕ, List, [], refl, sym, ap, ◌∙◌}
 use Rattle.std.specs.Prelude.{Some}
-use Rattle.asl_def.specs.Show.{state_of}
+use Rattle.asl_states.specs.Show.{state_of}
 use Rattle.asl_def.proofs.Outermost.{own_at, own_past}
 use Rattle.asl_def.proofs.machine.Machine.own_state.Goals as goal
 

@@ -1,4 +1,4 @@
-use Rattle.asl_def.specs.Show.{pass_object}
+use Rattle.asl_states.specs.Show.{pass_object}
 use Rattle.asl_kinds.specs.Members.{pass_output}
 use Rattle.asl_kinds.proofs.pass.PassStateKind.visit.Goals as goal
 

@@ -1,4 +1,4 @@
-use Rattle.asl_def.specs.Show.{succeed_object}
+use Rattle.asl_states.specs.Show.{succeed_object}
 use Rattle.asl_kinds.specs.Members.{succeed_output}
 use Rattle.asl_kinds.proofs.succeed.SucceedStateKind.visit.Goals as goal
 

@@ -1,9 +1,0 @@
-use Rattle.std.proofs.lemmas.Result.{err_from_is_err_and}
-use Rattle.asl_exec.proofs.Refusing.{steps_refused}
-use Rattle.asl_exec.proofs.emulation.emulate.Goals as goal
-
-pub returns-in_err-steps-clause-fault : goal.returns-in_err-steps-clause-fault
-returns-in_err-steps-clause-fault c =
-    let refused = steps_refused c.args.definition.now c.args.mocks.now c.args.chosen.now c.args.input.now c.args.steps.now c.in_ok-machine.machine c.in_ok-input.input c.in_err-steps.field-0.0 c.in_ok-machine.ensures.found c.in_ok-machine.ensures.ready c.in_ok-check_mocks.ensures.none c.in_ok-check_case.ensures.none c.in_ok-input.ensures.found c.in_err-steps.ensures.fault in
-    let told = err_from_is_err_and c.from_residual-in_err-steps.result c.from_residual-in_err-steps.ensures.1 in
-    rw (told.1, told.2) refused

@@ -1,0 +1,15 @@
+//! What a command-line program has of its host: its words, the files that these name, and the streams that it writes.
+//!
+//! Modules in reading order: `words` reads the command line; `files` what files give; `streams` the streams that are written;
+//! `telling` writes texts to them, and the line that tells a fault.
+#![tactic(auto)]
+
+mod files;
+mod streams;
+mod telling;
+mod words;
+
+pub use files::{Files, MOST_BYTES, Machine, ReadFault, read_whole};
+pub use streams::Stream;
+pub use telling::{tell_fault, write_piece};
+pub use words::{DefinitionWords, GivenFault, RunWords, Words, given, malformed_word, read_words};

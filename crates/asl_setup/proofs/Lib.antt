@@ -1,0 +1,7 @@
+mod FileLines
+mod StepLines
+mod StepsRead
+mod OneReading
+pub mod EmptyObjects
+pub mod Unready
+pub mod Refusing

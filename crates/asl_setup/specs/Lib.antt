@@ -1,0 +1,4 @@
+pub mod StepsFile
+pub mod Ready
+pub mod Texts
+pub mod Emulations

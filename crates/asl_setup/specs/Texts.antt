@@ -1,0 +1,121 @@
+-- What the texts of a run spell, and which fault of them is answered.
+use Rattle.std.specs.Prelude.{◌≡◌, ◌⊎◌, ℕ, ◌==◌, List, [], ◌∷◌, ◌++◌, true, Some, codes}
+use Rattle.std.specs.Fmt.{decimal}
+use Rattle.std.specs.List.{before_first, after_first}
+use Rattle.asl_json.specs.Data.{Data, dict, no_members}
+use Rattle.asl_json.specs.View.{data_of}
+use Rattle.asl_json.specs.Pointers.{name_part}
+use Rattle.asl_json.specs.Wrong.{ReadsAs}
+use Rattle.asl_json.specs.FaultText.{fault_text}
+use Rattle.asl_json.specs.declared.value.Json.{Json}
+use Rattle.asl_schema.specs.declared.fault.FaultKind.TheVariants.{Unsupported}
+use Rattle.asl_def.specs.Own.{own_states_in}
+use Rattle.asl_check.specs.Judged.{IsMachineOf, IsTextFault, IsFaultOf}
+use Rattle.asl_check.specs.Lines.{fault_line}
+use Rattle.asl_check.specs.declared.fault.Fault.{Fault}
+use Rattle.asl_check.specs.declared.fault.Fault.TheVariants as check
+use Rattle.asl_setup.specs.declared.fault.EmulateFault.{EmulateFault}
+use Rattle.asl_setup.specs.declared.fault.EmulateFault.TheVariants.{Definition, MockText, MockShape, Case, Input, StepLine, OutOfMemory}
+use Rattle.asl_setup.specs.declared.setup.Setup.{Setup}
+use Rattle.asl_setup.specs.declared.step_at.StepAt.{StepAt}
+use Rattle.asl_setup.specs.Ready.{is_ready, first_unready}
+use Rattle.asl_setup.specs.StepsFile.{IsFirstBadLine}
+
+-- ---- what they spell
+
+-- the text is a definition, and each state of its machine can be run yet
+pub record IsReadyDefinition (b : List ℕ) : Type 0 where
+  pub machine : Data
+  pub is_of : IsMachineOf b machine
+  pub ready : is_ready machine ≡ true
+
+-- the mock file has nothing in it
+abbrev pub AreNoMocks : List ℕ → Type 0
+AreNoMocks b = ReadsAs b (dict no_members)
+
+-- the machine's name: what stands before the first `#`
+abbrev pub machine_name : List ℕ → List ℕ
+machine_name chosen = before_first (λ b. b == 35) chosen
+
+-- the test case's name: what stands behind the first `#`
+abbrev pub case_name : List ℕ → List ℕ
+case_name chosen = after_first (λ b. b == 35) chosen
+
+abbrev pub IsInputOf : List ℕ → Json → Type 0
+IsInputOf b x = ReadsAs b (data_of x)
+
+-- the text is some input
+pub record IsInput (b : List ℕ) : Type 0 where
+  pub value : Json
+  pub is_of : IsInputOf b value
+
+-- an execution starts at the moment of its first step, and at the epoch where there is none
+abbrev pub start_at : List StepAt → ℕ
+start_at [] = 0
+start_at (s ∷ ss) = s.moment
+
+-- the setup of a run without a test case
+abbrev pub setup_for : Data → List ℕ → Json → List StepAt → Setup
+setup_for m chosen x ss = record { machine = m; name_of_machine = machine_name chosen; input = x; name = codes "run"; start = start_at ss }
+
+-- ---- why they are refused
+
+-- the first fault of a definition's text
+pub record IsDefinitionFault (b : List ℕ) (e : Fault) : Type 0 where
+  pub is_fault : IsFaultOf b e
+  pub told : e ≡ check.OutOfMemory → ⊥
+
+-- the type of the state of this name isn't supported yet
+abbrev pub unsupported_type : List ℕ → Fault
+unsupported_type name = check.Definition Unsupported ((name_part (codes "States") ++ name_part name) ++ name_part (codes "Type"))
+
+-- the text is a definition, and this is told of the first state of its machine that can't be run yet
+pub record IsNotReady (b : List ℕ) (e : Fault) : Type 0 where
+  pub machine : Data
+  pub is_of : IsMachineOf b machine
+  pub name : List ℕ
+  pub first : first_unready (own_states_in machine) ≡ Some name
+  pub fault : e ≡ unsupported_type name
+
+abbrev pub IsBadDefinition : List ℕ → EmulateFault → Type 0
+IsBadDefinition b (Definition e) = IsDefinitionFault b e ⊎ IsNotReady b e
+IsBadDefinition b _ = ⊥
+
+-- a JSON value that is no object without members
+pub record AreOtherMocks (b : List ℕ) : Type 0 where
+  pub value : Data
+  pub reads : ReadsAs b value
+  pub other : value ≡ dict no_members → ⊥
+
+abbrev pub AreBadMocks : List ℕ → EmulateFault → Type 0
+AreBadMocks b (MockText f) = IsTextFault b f
+AreBadMocks b MockShape = AreOtherMocks b
+AreBadMocks b _ = ⊥
+
+abbrev pub IsBadCase : List ℕ → EmulateFault → Type 0
+IsBadCase chosen Case = case_name chosen ≡ [] → ⊥
+IsBadCase chosen _ = ⊥
+
+abbrev pub IsBadInput : List ℕ → EmulateFault → Type 0
+IsBadInput b (Input f) = IsTextFault b f
+IsBadInput b _ = ⊥
+
+abbrev pub AreBadSteps : List ℕ → EmulateFault → Type 0
+AreBadSteps b (StepLine n) = IsFirstBadLine b n
+AreBadSteps b _ = ⊥
+
+-- this is why, unless memory ran out
+abbrev pub Unless : (EmulateFault → Type 0) → EmulateFault → Type 0
+Unless P OutOfMemory = Unit {0}
+Unless P f = P f
+
+-- ---- the text of a fault
+
+abbrev pub refusal_line : EmulateFault → List ℕ
+refusal_line (Definition e) = codes "definition: " ++ fault_line e
+refusal_line (MockText f) = codes "mocks: M1 Json " ++ fault_text f
+refusal_line MockShape = codes "mocks: M2 Shape"
+refusal_line Case = codes "case: M7 NoMachine"
+refusal_line (Input f) = codes "input: " ++ fault_text f
+refusal_line (StepLine n) = codes "steps: E1 StepLine " ++ decimal n
+refusal_line OutOfMemory = codes "OutOfMemory"

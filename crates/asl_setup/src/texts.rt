@@ -1,0 +1,155 @@
+// What the texts of a run spell.
+ghost use Rattle.std.specs.Prelude.{◌≡◌, ◌↔◌, [], true, IfOk, IfErr, IsTrue, OnOk};
+ghost use Rattle.asl_json.specs.Data.{dict, no_members};
+ghost use Rattle.asl_json.specs.View.{data_of};
+ghost use Rattle.asl_check.specs.Judged.{IsMachineOf};
+ghost use Rattle.asl_setup.specs.Ready.{is_ready};
+ghost use Rattle.asl_setup.specs.Texts.{AreNoMocks, case_name, machine_name, IsInputOf, start_at, setup_for, IsBadDefinition, AreBadMocks, IsBadCase, IsBadInput, AreBadSteps, Unless, unsupported_type};
+ghost use Rattle.asl_setup.specs.StepsFile.{IsStepsFile};
+
+use crate::fault::EmulateFault;
+use crate::readiness::first_unready;
+use crate::setup::Setup;
+use crate::step_at::StepAt;
+use crate::steps_file::{StepsFault, read_steps};
+use asl_check::{Fault, accept};
+use asl_def::Machine;
+use asl_json::{Json, JsonFault, Pointer, Txt, read};
+use asl_schema::FaultKind;
+use asl_time::Moment;
+use std::alloc::{AllocError, Global};
+
+/// The machine of a definition.
+fn accepted(alloc: Global, definition: &[u8]) -> Result<Machine, EmulateFault>
+    ensures found { IfOk result (IsMachineOf definition.now) }
+    ensures fault { IfErr result (Unless (IsBadDefinition definition.now)) }
+{
+    match accept(alloc, definition) {
+        Ok(machine) => Ok(machine),
+        Err(Fault::OutOfMemory) => Err(EmulateFault::OutOfMemory),
+        Err(fault) => Err(EmulateFault::Definition(fault)),
+    }
+}
+
+/// The fault of a state of this name, whose type isn't supported yet.
+fn unsupported(alloc: Global, name: &str) -> Result<Fault, AllocError>
+    ensures { IfOk result (λ f. f ≡ unsupported_type name.now) }
+{
+    let states = Pointer::whole(alloc).at_name("States")?;
+    let place = states.at_name(name)?.at_name("Type")?;
+    Ok(Fault::Definition(FaultKind::Unsupported, place))
+}
+
+/// The machine of a definition, where each of its states can be run yet.
+pub(crate) fn machine_of(alloc: Global, definition: &[u8]) -> Result<Machine, EmulateFault>
+    ensures found { IfOk result (IsMachineOf definition.now) }
+    ensures ready { IfOk result (λ m. is_ready m ≡ true) }
+    ensures fault { IfErr result (Unless (IsBadDefinition definition.now)) }
+{
+    let machine = accepted(alloc, definition)?;
+    if let Some(name) = first_unready(&machine) {
+        return Err(EmulateFault::Definition(unsupported(alloc, name)?));
+    }
+    Ok(machine)
+}
+
+/// Whether a value is an object without members.
+fn is_empty_object(value: &Json) -> bool
+    ensures { IsTrue result ↔ (data_of value.now ≡ dict no_members) }
+{
+    match value {
+        Json::Dict(members) => members.len() == 0,
+        _ => false,
+    }
+}
+
+/// Judges a mock file: it has nothing in it.
+pub(crate) fn check_mocks(alloc: Global, mocks: &[u8]) -> Result<(), EmulateFault>
+    ensures none { OnOk result (AreNoMocks mocks.now) }
+    ensures fault { IfErr result (Unless (AreBadMocks mocks.now)) }
+{
+    match read(alloc, mocks) {
+        Ok(value) if is_empty_object(&value) => Ok(()),
+        Ok(_) => Err(EmulateFault::MockShape),
+        Err(JsonFault::OutOfMemory) => Err(EmulateFault::OutOfMemory),
+        Err(fault) => Err(EmulateFault::MockText(fault)),
+    }
+}
+
+/// What was chosen, cut at the first `#`: the machine's name, and the test case's.
+fn names_in(chosen: &str) -> (&str, &str)
+    ensures machine { result.0.now ≡ machine_name chosen.now }
+    ensures case { result.1.now ≡ case_name chosen.now }
+{
+    match chosen.split_once('#') {
+        Some((machine, case)) => (machine, case),
+        None => (chosen, ""),
+    }
+}
+
+/// Judges what was chosen, by a mock file that has no machines: no test case.
+pub(crate) fn check_case(chosen: &str) -> Result<(), EmulateFault>
+    ensures none { OnOk result (case_name chosen.now ≡ []) }
+    ensures fault { IfErr result (IsBadCase chosen.now) }
+{
+    let (_, case) = names_in(chosen);
+    if case.is_empty() {
+        Ok(())
+    } else {
+        Err(EmulateFault::Case)
+    }
+}
+
+/// The input of an execution.
+pub(crate) fn input_of(alloc: Global, input: &[u8]) -> Result<Json, EmulateFault>
+    ensures found { IfOk result (IsInputOf input.now) }
+    ensures fault { IfErr result (Unless (IsBadInput input.now)) }
+{
+    match read(alloc, input) {
+        Ok(value) => Ok(value),
+        Err(JsonFault::OutOfMemory) => Err(EmulateFault::OutOfMemory),
+        Err(fault) => Err(EmulateFault::Input(fault)),
+    }
+}
+
+/// The steps of a run.
+pub(crate) fn steps_of(alloc: Global, steps: &[u8]) -> Result<Vec<StepAt>, EmulateFault>
+    ensures found { IfOk result (λ v. IsStepsFile steps.now v.items) }
+    ensures fault { IfErr result (Unless (AreBadSteps steps.now)) }
+{
+    match read_steps(alloc, steps) {
+        Ok(steps) => Ok(steps),
+        Err(StepsFault::OutOfMemory) => Err(EmulateFault::OutOfMemory),
+        Err(StepsFault::Line(number)) => Err(EmulateFault::StepLine(number)),
+    }
+}
+
+/// When an execution starts: at the moment of its first step, and at the epoch where there is none.
+fn start_of(steps: &[StepAt]) -> Moment
+    ensures { result ≡ start_at steps.now }
+{
+    match steps {
+        [] => Moment::FIRST,
+        [first, ..] => first.moment,
+    }
+}
+
+/// The setup of a run without a test case.
+pub(crate) fn setup_for(
+    alloc: Global,
+    machine: Machine,
+    chosen: &str,
+    input: Json,
+    steps: &[StepAt],
+) -> Result<Setup, AllocError>
+    ensures { IfOk result (λ s. s ≡ setup_for machine chosen.now input steps.now) }
+{
+    let (name_of_machine, _) = names_in(chosen);
+    Ok(Setup {
+        machine,
+        name_of_machine: Txt::new(String::from_str(alloc, name_of_machine)?),
+        input,
+        name: Txt::new(String::from_str(alloc, "run")?),
+        start: start_of(steps),
+    })
+}

@@ -1,0 +1,5 @@
+pub mod Parts
+pub mod Show
+pub mod Member
+pub mod Built
+pub mod Texts

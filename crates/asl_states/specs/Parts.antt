@@ -1,0 +1,53 @@
+-- What targets and catchers show.
+use Rattle.std.specs.Prelude.{ℕ, List, [], ◌∷◌, ◌++◌, true, Option, Some, None, codes, map, option_map}
+use Rattle.asl_json.specs.Data.{Data, boolean, number, text, dict, pairs}
+use Rattle.asl_schema.specs.Canon.{present}
+use Rattle.asl_members.specs.Shown.{path_shown, names_shown}
+use Rattle.asl_states.specs.declared.target.Target.{Target}
+use Rattle.asl_states.specs.declared.target.Next.{Next}
+use Rattle.asl_states.specs.declared.target.Next.TheVariants.{End, To}
+use Rattle.asl_states.specs.declared.limits.Limits.{Limits}
+use Rattle.asl_states.specs.declared.catcher.Catcher.{Catcher}
+use Rattle.asl_states.specs.declared.choice.ChoiceRule.{ChoiceRule}
+
+-- the members that an object may have, with their values where they are there
+abbrev pub Slots : Type 0
+Slots = List (List ℕ × Option Data)
+
+abbrev pub object : Slots → Data
+object ms = dict (pairs (present ms))
+
+abbrev pub target_shown : Target → Data
+target_shown x = text x.name
+
+abbrev pub next_shown : Next → Option Data
+next_shown End = None
+next_shown (To x) = Some (text x.name)
+
+abbrev pub end_shown : Next → Option Data
+end_shown End = Some (boolean true)
+end_shown (To x) = None
+
+abbrev pub next_members : Next → Slots
+next_members n = (codes "Next", next_shown n) ∷ (codes "End", end_shown n) ∷ []
+
+-- how long a task may take
+abbrev pub limits_members : Limits → Slots
+limits_members l = (codes "TimeoutSeconds", option_map number l.timeout) ∷ (codes "TimeoutSecondsPath", option_map text l.timeout_path) ∷ (codes "HeartbeatSeconds", option_map number l.heartbeat) ∷ (codes "HeartbeatSecondsPath", option_map text l.heartbeat_path) ∷ []
+
+-- the canonical members of a catcher
+abbrev pub catcher_members : Catcher → Slots
+catcher_members c = (codes "Comment", option_map text c.comment) ∷ (codes "ErrorEquals", Some (names_shown c.errors)) ∷ (codes "ResultPath", path_shown c.result_path) ∷ (codes "Next", Some (text c.next.name)) ∷ []
+
+abbrev pub catcher_object : Catcher → Data
+catcher_object c = object (catcher_members c)
+
+abbrev pub catcher_objects : List Catcher → List Data
+catcher_objects cs = map catcher_object cs
+
+-- a rule with what comes next
+abbrev pub choice_rule_object : ChoiceRule → Data
+choice_rule_object r = dict (pairs (r.rule ++ (codes "Next", text r.next.name) ∷ []))
+
+abbrev pub choice_rule_objects : List ChoiceRule → List Data
+choice_rule_objects rs = map choice_rule_object rs

@@ -1,0 +1,237 @@
+-- What states and machines show: their canonical objects, over the states that stand before them in the table.
+use Rattle.std.specs.Prelude.{ℕ, suc, ◌+◌, ◌≤◌, List, [], ◌∷◌, ◌++◌, Option, Some, None, codes, map, take, drop, string_bytes, String, option_map}
+use Rattle.asl_json.specs.Data.{Data, number, text, list, dict, chain, pairs}
+use Rattle.asl_json.specs.View.{data_of}
+use Rattle.asl_schema.specs.Canon.{Named}
+use Rattle.asl_members.specs.Shown.{path_shown, path_or_call_shown}
+use Rattle.asl_states.specs.declared.common.Common.{Common}
+use Rattle.asl_states.specs.declared.outcome.Outcome.{Outcome}
+use Rattle.asl_states.specs.declared.body.Body.{Body}
+use Rattle.asl_states.specs.declared.heading.Heading.{Heading}
+use Rattle.asl_states.specs.declared.task.Task.{Task as TaskState}
+use Rattle.asl_states.specs.declared.pass.Pass.{Pass as PassState}
+use Rattle.asl_states.specs.declared.choice.Choice.{Choice as ChoiceState}
+use Rattle.asl_states.specs.declared.wait.Wait.{Wait as WaitState}
+use Rattle.asl_states.specs.declared.wait.Delay.{Delay}
+use Rattle.asl_states.specs.declared.wait.Delay.TheVariants as delay
+use Rattle.asl_states.specs.declared.parallel.Parallel.{Parallel as ParallelState}
+use Rattle.asl_states.specs.declared.map.Map.{Map as MapState}
+use Rattle.asl_states.specs.declared.succeed.Succeed.{Succeed as SucceedState}
+use Rattle.asl_states.specs.declared.fail.Fail.{Fail as FailState}
+use Rattle.asl_states.specs.declared.fail.Reason.{Reason}
+use Rattle.asl_states.specs.declared.fail.Reason.TheVariants.{Told, At}
+use Rattle.asl_states.specs.declared.state.State.{State}
+use Rattle.asl_states.specs.declared.state.State.TheVariants.{Task, Pass, Choice, Wait, Parallel, Map, Succeed, Fail}
+use Rattle.asl_states.specs.Parts.{Slots, object, next_shown, end_shown, limits_members}
+
+-- ---- what several types of states have
+
+abbrev pub common_members : List ℕ → Common → Slots
+common_members kind c = (codes "Type", Some (text kind)) ∷ (codes "Comment", option_map text c.comment) ∷ (codes "QueryLanguage", option_map text c.query_language) ∷ []
+
+-- a list, where it is there
+abbrev pub listed : Option (List Data) → Option Data
+listed ds = option_map (λ (xs : List Data). list (chain xs)) ds
+
+abbrev pub outcome_members : Outcome → Slots
+outcome_members o = (codes "ResultSelector", o.result_selector) ∷ (codes "ResultPath", path_shown o.result_path) ∷ (codes "OutputPath", path_shown o.output_path) ∷ (codes "Retry", listed o.retry) ∷ (codes "Catch", listed o.catch) ∷ (codes "Next", next_shown o.next) ∷ (codes "End", end_shown o.next) ∷ []
+
+-- ---- states without machines
+
+abbrev pub task_members : TaskState → Slots
+task_members t =
+    common_members (codes "Task") t.common ++
+    ((codes "Resource", Some (text t.resource))
+    ∷ (codes "InputPath", path_shown t.input_path)
+    ∷ (codes "Parameters", t.parameters)
+    ∷ (codes "Credentials", option_map data_of t.credentials)
+    ∷ (limits_members t.limits ++ outcome_members t.outcome))
+
+abbrev pub pass_members : PassState → Slots
+pass_members p =
+    common_members (codes "Pass") p.common ++
+    ((codes "InputPath", path_shown p.input_path)
+    ∷ (codes "Parameters", p.parameters)
+    ∷ (codes "Result", option_map data_of p.result)
+    ∷ (codes "ResultPath", path_shown p.result_path)
+    ∷ (codes "OutputPath", path_shown p.output_path)
+    ∷ (codes "Next", next_shown p.next)
+    ∷ (codes "End", end_shown p.next)
+    ∷ [])
+
+abbrev pub choice_members : ChoiceState → Slots
+choice_members c =
+    common_members (codes "Choice") c.common ++
+    ((codes "InputPath", path_shown c.input_path)
+    ∷ (codes "Choices", Some (list (chain c.choices)))
+    ∷ (codes "Default", option_map (λ x. text x.name) c.default)
+    ∷ (codes "OutputPath", path_shown c.output_path)
+    ∷ [])
+
+-- exactly one of the four is there
+abbrev pub seconds_shown : Delay → Option Data
+seconds_shown (delay.Seconds n) = Some (number n)
+seconds_shown (delay.SecondsPath p) = None
+seconds_shown (delay.Timestamp t) = None
+seconds_shown (delay.TimestampPath p) = None
+
+abbrev pub seconds_path_shown : Delay → Option Data
+seconds_path_shown (delay.Seconds n) = None
+seconds_path_shown (delay.SecondsPath p) = Some (text p)
+seconds_path_shown (delay.Timestamp t) = None
+seconds_path_shown (delay.TimestampPath p) = None
+
+abbrev pub timestamp_shown : Delay → Option Data
+timestamp_shown (delay.Seconds n) = None
+timestamp_shown (delay.SecondsPath p) = None
+timestamp_shown (delay.Timestamp t) = Some (text t)
+timestamp_shown (delay.TimestampPath p) = None
+
+abbrev pub timestamp_path_shown : Delay → Option Data
+timestamp_path_shown (delay.Seconds n) = None
+timestamp_path_shown (delay.SecondsPath p) = None
+timestamp_path_shown (delay.Timestamp t) = None
+timestamp_path_shown (delay.TimestampPath p) = Some (text p)
+
+abbrev pub wait_members : WaitState → Slots
+wait_members w =
+    common_members (codes "Wait") w.common ++
+    ((codes "InputPath", path_shown w.input_path)
+    ∷ (codes "Seconds", seconds_shown w.delay)
+    ∷ (codes "SecondsPath", seconds_path_shown w.delay)
+    ∷ (codes "Timestamp", timestamp_shown w.delay)
+    ∷ (codes "TimestampPath", timestamp_path_shown w.delay)
+    ∷ (codes "OutputPath", path_shown w.output_path)
+    ∷ (codes "Next", next_shown w.next)
+    ∷ (codes "End", end_shown w.next)
+    ∷ [])
+
+abbrev pub succeed_members : SucceedState → Slots
+succeed_members s =
+    common_members (codes "Succeed") s.common ++
+    ((codes "InputPath", path_shown s.input_path)
+    ∷ (codes "OutputPath", path_shown s.output_path)
+    ∷ [])
+
+-- a text, or where it is found
+abbrev pub told : Option Reason → Option Data
+told None = None
+told (Some (Told t)) = Some (text t)
+told (Some (At p)) = None
+
+abbrev pub told_at : Option Reason → Option Data
+told_at None = None
+told_at (Some (Told t)) = None
+told_at (Some (At p)) = Some (path_or_call_shown p)
+
+abbrev pub fail_members : FailState → Slots
+fail_members f =
+    common_members (codes "Fail") f.common ++
+    ((codes "Error", told f.error)
+    ∷ (codes "ErrorPath", told_at f.error)
+    ∷ (codes "Cause", told f.cause)
+    ∷ (codes "CausePath", told_at f.cause)
+    ∷ [])
+
+-- ---- machines, and states that hold them
+
+-- the machine whose states have these numbers
+abbrev pub body_members : List Named → Body → Slots
+body_members t b = (codes "Comment", option_map text b.comment) ∷ (codes "StartAt", Some (text b.start.name)) ∷ (codes "States", Some (dict (pairs (take b.count (drop b.first t))))) ∷ []
+
+abbrev pub body_of : List Named → Body → Data
+body_of t b = object (body_members t b)
+
+-- the outermost machine
+abbrev pub machine_members : List Named → Heading → Body → Slots
+machine_members t h b = (codes "Comment", option_map text b.comment) ∷ (codes "QueryLanguage", option_map text h.query_language) ∷ (codes "Version", option_map text h.version) ∷ (codes "StartAt", Some (text b.start.name)) ∷ (codes "TimeoutSeconds", option_map number h.timeout) ∷ (codes "States", Some (dict (pairs (take b.count (drop b.first t))))) ∷ []
+
+abbrev pub machine_of : List Named → Heading → Body → Data
+machine_of t h b = object (machine_members t h b)
+
+abbrev pub bodies_of : List Named → List Body → List Data
+bodies_of t bs = map (body_of t) bs
+
+abbrev pub parallel_members : List Named → ParallelState → Slots
+parallel_members t p =
+    common_members (codes "Parallel") p.common ++
+    ((codes "InputPath", path_shown p.input_path)
+    ∷ (codes "Parameters", p.parameters)
+    ∷ (codes "Branches", Some (list (chain (bodies_of t p.branches))))
+    ∷ outcome_members p.outcome)
+
+abbrev pub map_members : List Named → MapState → Slots
+map_members t m =
+    common_members (codes "Map") m.common ++
+    ((codes "InputPath", path_shown m.input_path)
+    ∷ (codes "ItemsPath", option_map text m.items_path)
+    ∷ (codes "MaxConcurrency", option_map number m.max_concurrency)
+    ∷ (codes "Parameters", m.parameters)
+    ∷ (codes "Iterator", Some (body_of t m.iterator))
+    ∷ outcome_members m.outcome)
+
+-- the canonical members of a state, over the states that stand before it
+abbrev pub state_members : List Named → State → Slots
+state_members t (Task x) = task_members x
+state_members t (Pass x) = pass_members x
+state_members t (Choice x) = choice_members x
+state_members t (Wait x) = wait_members x
+state_members t (Parallel x) = parallel_members t x
+state_members t (Map x) = map_members t x
+state_members t (Succeed x) = succeed_members x
+state_members t (Fail x) = fail_members x
+
+abbrev pub state_of : List Named → State → Data
+state_of t s = object (state_members t s)
+
+-- ---- canonical objects of states of one type
+
+abbrev pub task_object : TaskState → Data
+task_object x = object (task_members x)
+
+abbrev pub pass_object : PassState → Data
+pass_object x = object (pass_members x)
+
+abbrev pub choice_object : ChoiceState → Data
+choice_object x = object (choice_members x)
+
+abbrev pub wait_object : WaitState → Data
+wait_object x = object (wait_members x)
+
+abbrev pub succeed_object : SucceedState → Data
+succeed_object x = object (succeed_members x)
+
+abbrev pub fail_object : FailState → Data
+fail_object x = object (fail_members x)
+
+abbrev pub parallel_object : List Named → ParallelState → Data
+parallel_object t x = object (parallel_members t x)
+
+abbrev pub map_object : List Named → MapState → Data
+map_object t x = object (map_members t x)
+
+-- ---- the table
+
+-- the states of a machine stand among the first n
+abbrev pub IsWithin : ℕ → Body → Type 0
+IsWithin n b = b.first + b.count ≤ n
+
+abbrev pub AreWithin : ℕ → List Body → Type 0
+AreWithin n [] = Unit {0}
+AreWithin n (b ∷ bs) = IsWithin n b × AreWithin n bs
+
+-- the machines inside a state stand among the first n states
+abbrev pub StateIsWithin : ℕ → State → Type 0
+StateIsWithin n (Parallel x) = AreWithin n x.branches
+StateIsWithin n (Map x) = IsWithin n x.iterator
+StateIsWithin n s = Unit {0}
+
+-- each state in turn, over those before it
+abbrev pub shown : {Z : Type 0} → List Named → List (String Z × State) → List Named
+shown t [] = t
+shown t (e ∷ es) = shown (t ++ (string_bytes e.0, state_of t e.1) ∷ []) es
+
+-- inner machines stand before the states that hold them
+abbrev pub AreInOrder : {Z : Type 0} → ℕ → List (String Z × State) → Type 0
+AreInOrder n [] = Unit {0}
+AreInOrder n (e ∷ es) = StateIsWithin n e.1 × AreInOrder (suc n) es

@@ -1,0 +1,210 @@
+// Choice states.
+ghost use Rattle.std.specs.Prelude.{◌≡◌, IfOk, Some, codes, option_map};
+ghost use Rattle.asl_json.specs.Data.{list, dict, chain, pairs, text};
+ghost use Rattle.asl_json.specs.View.{data_of};
+ghost use Rattle.asl_schema.specs.declared.sort.Sort.TheVariants.{State as state_sort, Rule as rule_sort, Rules as rules_sort};
+ghost use Rattle.asl_schema.specs.declared.sort.Kind.TheVariants.{Choice as choice_kind};
+ghost use Rattle.asl_schema.specs.Canon.{canon};
+ghost use Rattle.asl_schema.specs.Clean.{IsClean};
+ghost use Rattle.asl_states.specs.Built.{IsOfKind};
+ghost use Rattle.asl_states.specs.Parts.{choice_rule_object, choice_rule_objects};
+ghost use Rattle.asl_states.specs.Show.{choice_object};
+ghost use Rattle.asl_json.specs.Meaning.{value_in};
+ghost use Rattle.asl_members.specs.Shown.{path_shown};
+
+use crate::common::Common;
+use crate::entries::entry;
+use crate::target::Target;
+use asl_json::{Json, Members, Txt};
+use asl_members::{Compiled, PathField, Rule, clone_all, json_all};
+use std::alloc::{AllocError, Global};
+use std::marker::Model;
+
+/// A rule of a Choice state, with the state that comes next where it holds. Contracts speak of its canonical object,
+/// `choice_rule_object`.
+#[derive(Drop)]
+pub struct ChoiceRule {
+    /// The rule.
+    pub rule: Rule,
+    /// `Next`.
+    pub next: Target,
+}
+
+/// The rules of a Choice state, in the order in which they are tried. Contracts see them as the list of their canonical objects.
+#[derive(Drop)]
+pub struct ChoiceRules {
+    pub(crate) rules: Vec<ChoiceRule>,
+}
+
+impl Model for ChoiceRules {
+    ghost use Rattle.std.specs.Prelude.{List};
+    ghost use Rattle.asl_json.specs.Data.{Data};
+    ghost use Rattle.asl_json.specs.Code.{coded_items};
+
+    ghost Value = { List Data };
+
+    ghost coded = { coded_items };
+
+    ghost use Rattle.asl_states.specs.Parts.{choice_rule_objects};
+
+    ghost view = { λ a. choice_rule_objects a.rules.items };
+}
+
+/// A Choice state. (Amazon States Language, "Choice State".) Contracts speak of its canonical object, `choice_object`.
+#[derive(Drop)]
+pub struct Choice {
+    pub(crate) common: Common,
+    pub(crate) input_path: PathField,
+    pub(crate) choices: ChoiceRules,
+    pub(crate) default: Option<Target>,
+    pub(crate) output_path: PathField,
+}
+
+impl ChoiceRule {
+    fn read(alloc: Global, value: &Json) -> Result<ChoiceRule, AllocError>
+        requires { IsClean rule_sort (data_of value.now) }
+        ensures { IfOk result (λ r. choice_rule_object r ≡ canon rule_sort (data_of value.now)) }
+    {
+        let Json::Dict(members) = value else {
+            unreachable!();
+        };
+        Ok(ChoiceRule {
+            rule: Rule::read(alloc, members.members())?,
+            next: Target::read(alloc, members.find("Next"))?,
+        })
+    }
+}
+
+impl Compiled for ChoiceRule {
+    ghost use Rattle.asl_states.specs.Parts.{choice_rule_object};
+
+    ghost shown = { choice_rule_object };
+
+    fn try_clone(&self, alloc: Global) -> Result<ChoiceRule, AllocError> {
+        Ok(ChoiceRule {
+            rule: self.rule.try_clone(alloc)?,
+            next: self.next.try_clone(alloc)?,
+        })
+    }
+
+    fn json(&self, alloc: Global) -> Result<Json, AllocError> {
+        let mut members = self.rule.members(alloc)?;
+        let name = Txt::new(String::from_str(alloc, "Next")?);
+        members.push(name, self.next.json(alloc)?)?;
+        Ok(Json::Dict(members))
+    }
+}
+
+impl ChoiceRules {
+    /// The rules.
+    pub fn as_slice(&self) -> &[ChoiceRule]
+        ensures { choice_rule_objects result.now ≡ self.now }
+    {
+        &self.rules
+    }
+
+    fn read(alloc: Global, value: &Json) -> Result<ChoiceRules, AllocError>
+        requires { IsClean rules_sort (data_of value.now) }
+        ensures { IfOk result (λ rs. list (chain rs) ≡ canon rules_sort (data_of value.now)) }
+    {
+        let Json::List(values) = value else {
+            unreachable!();
+        };
+        let mut rules = Vec::new(alloc);
+        for value in values.values() {
+            rules.push(ChoiceRule::read(alloc, value)?)?;
+        }
+        Ok(ChoiceRules { rules })
+    }
+}
+
+impl Compiled for ChoiceRules {
+    ghost use Rattle.asl_json.specs.Data.{list, chain};
+
+    ghost shown = { λ rs. list (chain rs) };
+
+    fn try_clone(&self, alloc: Global) -> Result<ChoiceRules, AllocError> {
+        Ok(ChoiceRules {
+            rules: clone_all(alloc, &self.rules)?,
+        })
+    }
+
+    fn json(&self, alloc: Global) -> Result<Json, AllocError> {
+        Ok(Json::List(json_all(alloc, &self.rules)?))
+    }
+}
+
+impl Choice {
+    /// `InputPath`.
+    pub fn input_path(&self) -> &PathField
+        ensures { path_shown result.now ≡ value_in (codes "InputPath") (choice_object self.now) }
+    {
+        &self.input_path
+    }
+
+    /// `Choices`.
+    pub fn choices(&self) -> &ChoiceRules
+        ensures { Some (list (chain result.now)) ≡ value_in (codes "Choices") (choice_object self.now) }
+    {
+        &self.choices
+    }
+
+    /// `Default`.
+    pub fn default(&self) -> Option<&Target>
+        ensures { option_map (λ x. text x.now.name) result ≡ value_in (codes "Default") (choice_object self.now) }
+    {
+        self.default.as_ref()
+    }
+
+    /// `OutputPath`.
+    pub fn output_path(&self) -> &PathField
+        ensures { path_shown result.now ≡ value_in (codes "OutputPath") (choice_object self.now) }
+    {
+        &self.output_path
+    }
+
+    pub fn read(alloc: Global, members: &Members) -> Result<Choice, AllocError>
+        requires { IsOfKind choice_kind members.now }
+        ensures { IfOk result (λ c. choice_object c ≡ canon state_sort (dict (pairs members.now))) }
+    {
+        let Some(choices) = members.find("Choices") else {
+            unreachable!();
+        };
+        Ok(Choice {
+            common: Common::read(alloc, members)?,
+            input_path: PathField::read(alloc, members.find("InputPath"))?,
+            choices: ChoiceRules::read(alloc, choices)?,
+            default: Target::read_optional(alloc, members.find("Default"))?,
+            output_path: PathField::read(alloc, members.find("OutputPath"))?,
+        })
+    }
+
+    /// Its canonical object.
+    pub fn json(&self, alloc: Global) -> Result<Json, AllocError>
+        ensures { IfOk result (λ j. data_of j ≡ choice_object self.now) }
+    {
+        let input_path = self.input_path.json(alloc)?;
+        let choices = self.choices.json(alloc)?;
+        let default = Target::json_optional(alloc, &self.default)?;
+        let output_path = self.output_path.json(alloc)?;
+        let own = vec![in alloc;
+            entry("InputPath", input_path),
+            entry("Choices", Some(choices)),
+            entry("Default", default),
+            entry("OutputPath", output_path),
+        ]?;
+        self.common.object(alloc, "Choice", own)
+    }
+
+    pub fn try_clone(&self, alloc: Global) -> Result<Choice, AllocError>
+        ensures { IfOk result (λ c. c ≡ self.now) }
+    {
+        Ok(Choice {
+            common: self.common.try_clone(alloc)?,
+            input_path: self.input_path.try_clone(alloc)?,
+            choices: self.choices.try_clone(alloc)?,
+            default: Target::clone_optional(alloc, &self.default)?,
+            output_path: self.output_path.try_clone(alloc)?,
+        })
+    }
+}

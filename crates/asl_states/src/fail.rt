@@ -1,0 +1,144 @@
+// Fail states.
+ghost use Rattle.std.specs.Prelude.{◌≡◌, true, false, IfOk, is_some, option_map, codes};
+ghost use Rattle.asl_json.specs.Data.{dict, pairs};
+ghost use Rattle.asl_schema.specs.declared.sort.Sort.TheVariants.{State as state_sort};
+ghost use Rattle.asl_schema.specs.declared.sort.Kind.TheVariants.{Fail as fail_kind};
+ghost use Rattle.asl_schema.specs.Canon.{canon};
+ghost use Rattle.asl_states.specs.Built.{IsOfKind};
+ghost use Rattle.asl_json.specs.View.{data_of};
+ghost use Rattle.asl_schema.specs.declared.sort.Sort.TheVariants.{Text, PathOrCall as path_or_call};
+ghost use Rattle.asl_schema.specs.Clean.{Fits};
+ghost use Rattle.asl_states.specs.Show.{fail_object, told as spec_told, told_at};
+ghost use Rattle.asl_json.specs.Meaning.{value_in};
+
+use crate::common::Common;
+use crate::entries::entry;
+use asl_json::{Json, Members, Txt};
+use asl_members::{Compile, Compiled, PathOrCall};
+use std::alloc::{AllocError, Global};
+
+/// What a Fail state tells as its error or its cause.
+#[derive(Drop)]
+pub enum Reason {
+    /// `Error` or `Cause`.
+    Told(Txt),
+    /// `ErrorPath` or `CausePath`.
+    At(PathOrCall),
+}
+
+/// A Fail state. (Amazon States Language, "Fail State".) Contracts speak of its canonical object, `fail_object`.
+#[derive(Drop)]
+pub struct Fail {
+    pub(crate) common: Common,
+    pub(crate) error: Option<Reason>,
+    pub(crate) cause: Option<Reason>,
+}
+
+impl Reason {
+    /// Compiles the value of `Error` and `ErrorPath`, or of `Cause` and `CausePath`, of which one is there at most.
+    fn read(
+        alloc: Global,
+        told: Option<&Json>,
+        at: Option<&Json>,
+    ) -> Result<Option<Reason>, AllocError>
+        requires told { Fits Text (option_map (λ v. data_of v.now) told) }
+        requires at { Fits path_or_call (option_map (λ v. data_of v.now) at) }
+        requires one { is_some told ≡ true → is_some at ≡ false }
+        ensures told { IfOk result (λ r. spec_told r ≡ option_map (λ v. data_of v.now) told.entry) }
+        ensures at { IfOk result (λ r. told_at r ≡ option_map (λ v. data_of v.now) at.entry) }
+    {
+        if let Some(text) = told {
+            return Ok(Some(Reason::Told(Txt::read(alloc, text)?)));
+        }
+        match at {
+            Some(path) => Ok(Some(Reason::At(PathOrCall::read(alloc, path)?))),
+            None => Ok(None),
+        }
+    }
+}
+
+fn clone_reason(alloc: Global, reason: &Option<Reason>) -> Result<Option<Reason>, AllocError>
+    ensures { IfOk result (λ r. r ≡ reason.now) }
+{
+    match reason {
+        None => Ok(None),
+        Some(Reason::Told(text)) => Ok(Some(Reason::Told(text.try_clone(alloc)?))),
+        Some(Reason::At(path)) => Ok(Some(Reason::At(path.try_clone(alloc)?))),
+    }
+}
+
+/// The value of `Error` or `Cause` as JSON.
+fn told_json(alloc: Global, reason: &Option<Reason>) -> Result<Option<Json>, AllocError>
+    ensures { IfOk result (λ j. option_map data_of j ≡ spec_told reason.now) }
+{
+    match reason {
+        Some(Reason::Told(text)) => Ok(Some(text.json(alloc)?)),
+        _ => Ok(None),
+    }
+}
+
+/// The value of `ErrorPath` or `CausePath` as JSON.
+fn path_json(alloc: Global, reason: &Option<Reason>) -> Result<Option<Json>, AllocError>
+    ensures { IfOk result (λ j. option_map data_of j ≡ told_at reason.now) }
+{
+    match reason {
+        Some(Reason::At(path)) => Ok(Some(path.json(alloc)?)),
+        _ => Ok(None),
+    }
+}
+
+impl Fail {
+    /// `Error` or `ErrorPath`.
+    pub fn error(&self) -> Option<&Reason>
+        ensures told { spec_told (option_map (λ r. r.now) result) ≡ value_in (codes "Error") (fail_object self.now) }
+        ensures at { told_at (option_map (λ r. r.now) result) ≡ value_in (codes "ErrorPath") (fail_object self.now) }
+    {
+        self.error.as_ref()
+    }
+
+    /// `Cause` or `CausePath`.
+    pub fn cause(&self) -> Option<&Reason>
+        ensures told { spec_told (option_map (λ r. r.now) result) ≡ value_in (codes "Cause") (fail_object self.now) }
+        ensures at { told_at (option_map (λ r. r.now) result) ≡ value_in (codes "CausePath") (fail_object self.now) }
+    {
+        self.cause.as_ref()
+    }
+
+    pub fn read(alloc: Global, members: &Members) -> Result<Fail, AllocError>
+        requires { IsOfKind fail_kind members.now }
+        ensures { IfOk result (λ f. fail_object f ≡ canon state_sort (dict (pairs members.now))) }
+    {
+        Ok(Fail {
+            common: Common::read(alloc, members)?,
+            error: Reason::read(alloc, members.find("Error"), members.find("ErrorPath"))?,
+            cause: Reason::read(alloc, members.find("Cause"), members.find("CausePath"))?,
+        })
+    }
+
+    /// Its canonical object.
+    pub fn json(&self, alloc: Global) -> Result<Json, AllocError>
+        ensures { IfOk result (λ j. data_of j ≡ fail_object self.now) }
+    {
+        let error = told_json(alloc, &self.error)?;
+        let error_path = path_json(alloc, &self.error)?;
+        let cause = told_json(alloc, &self.cause)?;
+        let cause_path = path_json(alloc, &self.cause)?;
+        let own = vec![in alloc;
+            entry("Error", error),
+            entry("ErrorPath", error_path),
+            entry("Cause", cause),
+            entry("CausePath", cause_path),
+        ]?;
+        self.common.object(alloc, "Fail", own)
+    }
+
+    pub fn try_clone(&self, alloc: Global) -> Result<Fail, AllocError>
+        ensures { IfOk result (λ f. f ≡ self.now) }
+    {
+        Ok(Fail {
+            common: self.common.try_clone(alloc)?,
+            error: clone_reason(alloc, &self.error)?,
+            cause: clone_reason(alloc, &self.cause)?,
+        })
+    }
+}

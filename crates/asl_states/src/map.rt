@@ -1,0 +1,128 @@
+// Map states.
+ghost use Rattle.std.specs.Prelude.{◌≡◌, Some, List, IfOk, codes, option_map, true, ℕ};
+ghost use Rattle.asl_json.specs.View.{data_of};
+ghost use Rattle.asl_json.specs.Data.{dict, pairs, text, number};
+ghost use Rattle.asl_schema.specs.declared.sort.Sort.TheVariants.{State as state_sort, Machine as part_sort};
+ghost use Rattle.asl_schema.specs.declared.sort.Kind.TheVariants.{Map as map_kind};
+ghost use Rattle.asl_schema.specs.Canon.{Named, canon, kept_at};
+ghost use Rattle.asl_states.specs.Built.{IsOfKind};
+ghost use Rattle.asl_states.specs.Show.{map_object, body_of};
+ghost use Rattle.asl_json.specs.Meaning.{value_in};
+ghost use Rattle.asl_members.specs.Shown.{path_shown};
+ghost use Rattle.asl_schema.specs.Members.{is_among};
+ghost use Rattle.asl_states.specs.Member.{outcome_names, outcome_object};
+
+use crate::body::Body;
+use crate::common::Common;
+use crate::entries::{and, entry};
+use crate::outcome::Outcome;
+use asl_json::{Json, Members};
+use asl_members::{Count, PathField, clone_optional, json_optional, read_optional};
+use asl_path::RefPath;
+use asl_template::Template;
+use std::alloc::{AllocError, Global};
+
+/// A Map state. (Amazon States Language, "Map State".) Contracts speak of its canonical object over the table of states,
+/// `map_object`.
+#[derive(Drop)]
+pub struct Map {
+    pub(crate) common: Common,
+    pub(crate) input_path: PathField,
+    pub(crate) items_path: Option<RefPath>,
+    pub(crate) max_concurrency: Option<Count>,
+    pub(crate) parameters: Option<Template>,
+    pub iterator: Body,
+    pub(crate) outcome: Outcome,
+}
+
+impl Map {
+    /// `InputPath`.
+    pub fn input_path(&self) -> &PathField
+        ensures { (t : List Named) → path_shown result.now ≡ value_in (codes "InputPath") (map_object t self.now) }
+    {
+        &self.input_path
+    }
+
+    /// `ItemsPath`.
+    pub fn items_path(&self) -> Option<&RefPath>
+        ensures { (t : List Named) → option_map (λ x. text x.now) result ≡ value_in (codes "ItemsPath") (map_object t self.now) }
+    {
+        self.items_path.as_ref()
+    }
+
+    /// `MaxConcurrency`.
+    pub fn max_concurrency(&self) -> Option<&Count>
+        ensures { (t : List Named) → option_map (λ x. number x.now) result ≡ value_in (codes "MaxConcurrency") (map_object t self.now) }
+    {
+        self.max_concurrency.as_ref()
+    }
+
+    /// `Parameters`.
+    pub fn parameters(&self) -> Option<&Template>
+        ensures { (t : List Named) → option_map (λ x. x.now) result ≡ value_in (codes "Parameters") (map_object t self.now) }
+    {
+        self.parameters.as_ref()
+    }
+
+    /// `Iterator`.
+    pub fn iterator(&self) -> &Body
+        ensures { (t : List Named) → Some (body_of t result.now) ≡ value_in (codes "Iterator") (map_object t self.now) }
+    {
+        &self.iterator
+    }
+
+    /// What becomes of its result or its error.
+    pub fn outcome(&self) -> &Outcome
+        ensures { (t : List Named) → (k : List ℕ) → is_among k outcome_names ≡ true → value_in k (outcome_object result.now) ≡ value_in k (map_object t self.now) }
+    {
+        &self.outcome
+    }
+
+    /// Compiles a state with its machine, which stands in a table already.
+    pub fn read(alloc: Global, members: &Members, iterator: Body) -> Result<Map, AllocError>
+        requires { IsOfKind map_kind members.now }
+        ensures iterator { IfOk result (λ x. x.iterator ≡ iterator) }
+        ensures object { IfOk result (λ x. (t : List Named) → Some (body_of t iterator) ≡ kept_at (codes "Iterator") part_sort (pairs members.now) → map_object t x ≡ canon state_sort (dict (pairs members.now))) }
+    {
+        Ok(Map {
+            common: Common::read(alloc, members)?,
+            input_path: PathField::read(alloc, members.find("InputPath"))?,
+            items_path: read_optional(alloc, members.find("ItemsPath"))?,
+            max_concurrency: read_optional(alloc, members.find("MaxConcurrency"))?,
+            parameters: read_optional(alloc, members.find("Parameters"))?,
+            iterator,
+            outcome: Outcome::read(alloc, members)?,
+        })
+    }
+
+    /// Its canonical object over a table, given its machine.
+    pub fn json(&self, alloc: Global, iterator: Json) -> Result<Json, AllocError>
+        ensures { IfOk result (λ j. (t : List Named) → data_of iterator ≡ body_of t self.now.iterator → data_of j ≡ map_object t self.now) }
+    {
+        let input_path = self.input_path.json(alloc)?;
+        let own = vec![in alloc; entry("InputPath", input_path)]?;
+        let items_path = json_optional(alloc, &self.items_path)?;
+        let own = and(own, "ItemsPath", items_path)?;
+        let max_concurrency = json_optional(alloc, &self.max_concurrency)?;
+        let own = and(own, "MaxConcurrency", max_concurrency)?;
+        let parameters = json_optional(alloc, &self.parameters)?;
+        let own = and(own, "Parameters", parameters)?;
+        let own = and(own, "Iterator", Some(iterator))?;
+        let own = self.outcome.entries(alloc, own)?;
+        self.common.object(alloc, "Map", own)
+    }
+
+    pub fn try_clone(&self, alloc: Global) -> Result<Map, AllocError>
+        ensures { IfOk result (λ m. m ≡ self.now) }
+    {
+        Ok(Map {
+            common: self.common.try_clone(alloc)?,
+            input_path: self.input_path.try_clone(alloc)?,
+            items_path: clone_optional(alloc, &self.items_path)?,
+            max_concurrency: clone_optional(alloc, &self.max_concurrency)?,
+            parameters: clone_optional(alloc, &self.parameters)?,
+            iterator: self.iterator.try_clone(alloc)?,
+            outcome: self.outcome.try_clone(alloc)?,
+        })
+    }
+}

@@ -1,0 +1,105 @@
+// Parallel states.
+ghost use Rattle.std.specs.Prelude.{◌≡◌, Some, List, IfOk, codes, option_map, true, ℕ};
+ghost use Rattle.asl_json.specs.View.{data_of};
+ghost use Rattle.asl_json.specs.Data.{dict, list, chain, pairs};
+ghost use Rattle.asl_schema.specs.declared.sort.Sort.TheVariants.{State as state_sort, Machines as part_sort};
+ghost use Rattle.asl_schema.specs.declared.sort.Kind.TheVariants.{Parallel as parallel_kind};
+ghost use Rattle.asl_schema.specs.Canon.{Named, canon, kept_at};
+ghost use Rattle.asl_states.specs.Built.{IsOfKind};
+ghost use Rattle.asl_states.specs.Show.{parallel_object, bodies_of};
+ghost use Rattle.asl_json.specs.Meaning.{value_in};
+ghost use Rattle.asl_members.specs.Shown.{path_shown};
+ghost use Rattle.asl_schema.specs.Members.{is_among};
+ghost use Rattle.asl_states.specs.Member.{outcome_names, outcome_object};
+
+use crate::body::Bodies;
+use crate::common::Common;
+use crate::entries::entry;
+use crate::outcome::Outcome;
+use asl_json::{Items, Json, Members};
+use asl_members::{PathField, clone_optional, json_optional, read_optional};
+use asl_template::Template;
+use std::alloc::{AllocError, Global};
+
+/// A Parallel state. (Amazon States Language, "Parallel State".) Contracts speak of its canonical object over the table of
+/// states, `parallel_object`.
+#[derive(Drop)]
+pub struct Parallel {
+    pub(crate) common: Common,
+    pub(crate) input_path: PathField,
+    pub(crate) parameters: Option<Template>,
+    pub branches: Bodies,
+    pub(crate) outcome: Outcome,
+}
+
+impl Parallel {
+    /// `InputPath`.
+    pub fn input_path(&self) -> &PathField
+        ensures { (t : List Named) → path_shown result.now ≡ value_in (codes "InputPath") (parallel_object t self.now) }
+    {
+        &self.input_path
+    }
+
+    /// `Parameters`.
+    pub fn parameters(&self) -> Option<&Template>
+        ensures { (t : List Named) → option_map (λ x. x.now) result ≡ value_in (codes "Parameters") (parallel_object t self.now) }
+    {
+        self.parameters.as_ref()
+    }
+
+    /// `Branches`.
+    pub fn branches(&self) -> &Bodies
+        ensures { (t : List Named) → Some (list (chain (bodies_of t result.now))) ≡ value_in (codes "Branches") (parallel_object t self.now) }
+    {
+        &self.branches
+    }
+
+    /// What becomes of its result or its error.
+    pub fn outcome(&self) -> &Outcome
+        ensures { (t : List Named) → (k : List ℕ) → is_among k outcome_names ≡ true → value_in k (outcome_object result.now) ≡ value_in k (parallel_object t self.now) }
+    {
+        &self.outcome
+    }
+
+    /// Compiles a state with its machines, which stand in a table already.
+    pub fn read(alloc: Global, members: &Members, branches: Bodies) -> Result<Parallel, AllocError>
+        requires { IsOfKind parallel_kind members.now }
+        ensures branches { IfOk result (λ x. x.branches ≡ branches) }
+        ensures object { IfOk result (λ x. (t : List Named) → Some (list (chain (bodies_of t branches))) ≡ kept_at (codes "Branches") part_sort (pairs members.now) → parallel_object t x ≡ canon state_sort (dict (pairs members.now))) }
+    {
+        Ok(Parallel {
+            common: Common::read(alloc, members)?,
+            input_path: PathField::read(alloc, members.find("InputPath"))?,
+            parameters: read_optional(alloc, members.find("Parameters"))?,
+            branches,
+            outcome: Outcome::read(alloc, members)?,
+        })
+    }
+
+    /// Its canonical object over a table, given its machines.
+    pub fn json(&self, alloc: Global, branches: Items) -> Result<Json, AllocError>
+        ensures { IfOk result (λ j. (t : List Named) → branches ≡ bodies_of t self.now.branches → data_of j ≡ parallel_object t self.now) }
+    {
+        let input_path = self.input_path.json(alloc)?;
+        let parameters = json_optional(alloc, &self.parameters)?;
+        let own = vec![in alloc;
+            entry("InputPath", input_path),
+            entry("Parameters", parameters),
+            entry("Branches", Some(Json::List(branches))),
+        ]?;
+        let own = self.outcome.entries(alloc, own)?;
+        self.common.object(alloc, "Parallel", own)
+    }
+
+    pub fn try_clone(&self, alloc: Global) -> Result<Parallel, AllocError>
+        ensures { IfOk result (λ p. p ≡ self.now) }
+    {
+        Ok(Parallel {
+            common: self.common.try_clone(alloc)?,
+            input_path: self.input_path.try_clone(alloc)?,
+            parameters: clone_optional(alloc, &self.parameters)?,
+            branches: self.branches.try_clone(alloc)?,
+            outcome: self.outcome.try_clone(alloc)?,
+        })
+    }
+}

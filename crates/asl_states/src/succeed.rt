@@ -1,0 +1,82 @@
+// Succeed states.
+ghost use Rattle.std.specs.Prelude.{◌≡◌, IfOk, codes, option_map};
+ghost use Rattle.asl_json.specs.Data.{text, dict, pairs};
+ghost use Rattle.asl_json.specs.View.{data_of};
+ghost use Rattle.asl_schema.specs.declared.sort.Sort.TheVariants.{State as state_sort};
+ghost use Rattle.asl_schema.specs.declared.sort.Kind.TheVariants.{Succeed as succeed_kind};
+ghost use Rattle.asl_schema.specs.Canon.{canon};
+ghost use Rattle.asl_states.specs.Built.{IsOfKind};
+ghost use Rattle.asl_states.specs.Show.{succeed_object};
+ghost use Rattle.asl_json.specs.Meaning.{value_in};
+ghost use Rattle.asl_members.specs.Shown.{path_shown};
+
+use crate::common::Common;
+use crate::entries::entry;
+use asl_json::{Json, Members, Txt};
+use asl_members::PathField;
+use std::alloc::{AllocError, Global};
+
+/// A Succeed state. (Amazon States Language, "Succeed State".) Contracts speak of its canonical object, `succeed_object`.
+#[derive(Drop)]
+pub struct Succeed {
+    pub(crate) common: Common,
+    pub(crate) input_path: PathField,
+    pub(crate) output_path: PathField,
+}
+
+impl Succeed {
+    /// `Comment`.
+    pub fn comment(&self) -> Option<&Txt>
+        ensures { option_map (λ t. text t.now) result ≡ value_in (codes "Comment") (succeed_object self.now) }
+    {
+        self.common.comment.as_ref()
+    }
+
+    /// `InputPath`.
+    pub fn input_path(&self) -> &PathField
+        ensures { path_shown result.now ≡ value_in (codes "InputPath") (succeed_object self.now) }
+    {
+        &self.input_path
+    }
+
+    /// `OutputPath`.
+    pub fn output_path(&self) -> &PathField
+        ensures { path_shown result.now ≡ value_in (codes "OutputPath") (succeed_object self.now) }
+    {
+        &self.output_path
+    }
+
+    pub fn read(alloc: Global, members: &Members) -> Result<Succeed, AllocError>
+        requires { IsOfKind succeed_kind members.now }
+        ensures { IfOk result (λ s. succeed_object s ≡ canon state_sort (dict (pairs members.now))) }
+    {
+        Ok(Succeed {
+            common: Common::read(alloc, members)?,
+            input_path: PathField::read(alloc, members.find("InputPath"))?,
+            output_path: PathField::read(alloc, members.find("OutputPath"))?,
+        })
+    }
+
+    /// Its canonical object.
+    pub fn json(&self, alloc: Global) -> Result<Json, AllocError>
+        ensures { IfOk result (λ j. data_of j ≡ succeed_object self.now) }
+    {
+        let input_path = self.input_path.json(alloc)?;
+        let output_path = self.output_path.json(alloc)?;
+        let own = vec![in alloc;
+            entry("InputPath", input_path),
+            entry("OutputPath", output_path),
+        ]?;
+        self.common.object(alloc, "Succeed", own)
+    }
+
+    pub fn try_clone(&self, alloc: Global) -> Result<Succeed, AllocError>
+        ensures { IfOk result (λ s. s ≡ self.now) }
+    {
+        Ok(Succeed {
+            common: self.common.try_clone(alloc)?,
+            input_path: self.input_path.try_clone(alloc)?,
+            output_path: self.output_path.try_clone(alloc)?,
+        })
+    }
+}

@@ -1,0 +1,144 @@
+// Task states.
+ghost use Rattle.std.specs.Prelude.{◌≡◌, IfOk, Some, codes, option_map, true, List, ℕ};
+ghost use Rattle.asl_json.specs.View.{data_of};
+ghost use Rattle.asl_json.specs.Data.{dict, pairs, text, number};
+ghost use Rattle.asl_schema.specs.declared.sort.Sort.TheVariants.{State as state_sort};
+ghost use Rattle.asl_schema.specs.declared.sort.Kind.TheVariants.{Task as task_kind};
+ghost use Rattle.asl_schema.specs.Canon.{canon};
+ghost use Rattle.asl_states.specs.Built.{IsOfKind};
+ghost use Rattle.asl_states.specs.Show.{task_object};
+ghost use Rattle.asl_json.specs.Meaning.{value_in};
+ghost use Rattle.asl_members.specs.Shown.{path_shown};
+ghost use Rattle.asl_schema.specs.Members.{is_among};
+ghost use Rattle.asl_states.specs.Member.{outcome_names, outcome_object};
+
+use crate::common::Common;
+use crate::entries::{and, entry};
+use crate::limits::Limits;
+use crate::outcome::Outcome;
+use asl_json::{Json, Members, Txt};
+use asl_members::{
+    Compile, Compiled, Count, PathField, clone_optional, json_optional, read_optional,
+};
+use asl_path::RefPath;
+use asl_template::Template;
+use std::alloc::{AllocError, Global};
+
+/// A Task state. (Amazon States Language, "Task State".) Contracts speak of its canonical object, `task_object`.
+#[derive(Drop)]
+pub struct Task {
+    pub(crate) common: Common,
+    pub(crate) resource: Txt,
+    pub(crate) input_path: PathField,
+    pub(crate) parameters: Option<Template>,
+    pub(crate) credentials: Option<Json>,
+    pub(crate) limits: Limits,
+    pub(crate) outcome: Outcome,
+}
+
+impl Task {
+    /// `Resource`.
+    pub fn resource(&self) -> &Txt
+        ensures { Some (text result.now) ≡ value_in (codes "Resource") (task_object self.now) }
+    {
+        &self.resource
+    }
+
+    /// `InputPath`.
+    pub fn input_path(&self) -> &PathField
+        ensures { path_shown result.now ≡ value_in (codes "InputPath") (task_object self.now) }
+    {
+        &self.input_path
+    }
+
+    /// `Parameters`.
+    pub fn parameters(&self) -> Option<&Template>
+        ensures { option_map (λ x. x.now) result ≡ value_in (codes "Parameters") (task_object self.now) }
+    {
+        self.parameters.as_ref()
+    }
+
+    /// `TimeoutSeconds`.
+    pub fn timeout(&self) -> Option<&Count>
+        ensures { option_map (λ x. number x.now) result ≡ value_in (codes "TimeoutSeconds") (task_object self.now) }
+    {
+        self.limits.timeout.as_ref()
+    }
+
+    /// `TimeoutSecondsPath`.
+    pub fn timeout_path(&self) -> Option<&RefPath>
+        ensures { option_map (λ x. text x.now) result ≡ value_in (codes "TimeoutSecondsPath") (task_object self.now) }
+    {
+        self.limits.timeout_path.as_ref()
+    }
+
+    /// `HeartbeatSeconds`.
+    pub fn heartbeat(&self) -> Option<&Count>
+        ensures { option_map (λ x. number x.now) result ≡ value_in (codes "HeartbeatSeconds") (task_object self.now) }
+    {
+        self.limits.heartbeat.as_ref()
+    }
+
+    /// `HeartbeatSecondsPath`.
+    pub fn heartbeat_path(&self) -> Option<&RefPath>
+        ensures { option_map (λ x. text x.now) result ≡ value_in (codes "HeartbeatSecondsPath") (task_object self.now) }
+    {
+        self.limits.heartbeat_path.as_ref()
+    }
+
+    /// What becomes of its result or its error.
+    pub fn outcome(&self) -> &Outcome
+        ensures { (k : List ℕ) → is_among k outcome_names ≡ true → value_in k (outcome_object result.now) ≡ value_in k (task_object self.now) }
+    {
+        &self.outcome
+    }
+
+    pub fn read(alloc: Global, members: &Members) -> Result<Task, AllocError>
+        requires { IsOfKind task_kind members.now }
+        ensures { IfOk result (λ t. task_object t ≡ canon state_sort (dict (pairs members.now))) }
+    {
+        let Some(resource) = members.find("Resource") else {
+            unreachable!();
+        };
+        Ok(Task {
+            common: Common::read(alloc, members)?,
+            resource: Txt::read(alloc, resource)?,
+            input_path: PathField::read(alloc, members.find("InputPath"))?,
+            parameters: read_optional(alloc, members.find("Parameters"))?,
+            credentials: read_optional(alloc, members.find("Credentials"))?,
+            limits: Limits::read(alloc, members)?,
+            outcome: Outcome::read(alloc, members)?,
+        })
+    }
+
+    /// Its canonical object.
+    pub fn json(&self, alloc: Global) -> Result<Json, AllocError>
+        ensures { IfOk result (λ j. data_of j ≡ task_object self.now) }
+    {
+        let resource = self.resource.json(alloc)?;
+        let own = vec![in alloc; entry("Resource", Some(resource))]?;
+        let input_path = self.input_path.json(alloc)?;
+        let own = and(own, "InputPath", input_path)?;
+        let parameters = json_optional(alloc, &self.parameters)?;
+        let own = and(own, "Parameters", parameters)?;
+        let credentials = json_optional(alloc, &self.credentials)?;
+        let own = and(own, "Credentials", credentials)?;
+        let own = self.limits.entries(alloc, own)?;
+        let own = self.outcome.entries(alloc, own)?;
+        self.common.object(alloc, "Task", own)
+    }
+
+    pub fn try_clone(&self, alloc: Global) -> Result<Task, AllocError>
+        ensures { IfOk result (λ t. t ≡ self.now) }
+    {
+        Ok(Task {
+            common: self.common.try_clone(alloc)?,
+            resource: self.resource.try_clone(alloc)?,
+            input_path: self.input_path.try_clone(alloc)?,
+            parameters: clone_optional(alloc, &self.parameters)?,
+            credentials: clone_optional(alloc, &self.credentials)?,
+            limits: self.limits.try_clone(alloc)?,
+            outcome: self.outcome.try_clone(alloc)?,
+        })
+    }
+}
