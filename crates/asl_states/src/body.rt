@@ -16,6 +16,7 @@ pub struct Body {
 }
 
 impl Body {
+    /// A copy of its own, equal to it. The error is that memory ran out.
     pub fn try_clone(&self, alloc: Global) -> Result<Body, AllocError>
         ensures { IfOk result (λ b. b ≡ self.now) }
     {
@@ -61,6 +62,7 @@ impl Bodies {
         &self.bodies
     }
 
+    /// A copy of its own, equal to it. The error is that memory ran out.
     pub fn try_clone(&self, alloc: Global) -> Result<Bodies, AllocError>
         ensures { IfOk result (λ b. b ≡ self.now) }
     {

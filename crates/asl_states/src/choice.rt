@@ -163,6 +163,7 @@ impl Choice {
         &self.output_path
     }
 
+    /// Compiles the members of a Choice state without faults. The error is that memory ran out.
     pub fn read(alloc: Global, members: &Members) -> Result<Choice, AllocError>
         requires { IsOfKind choice_kind members.now }
         ensures { IfOk result (λ c. choice_object c ≡ canon state_sort (dict (pairs members.now))) }
@@ -196,6 +197,7 @@ impl Choice {
         self.common.object(alloc, "Choice", own)
     }
 
+    /// A copy of its own, equal to it. The error is that memory ran out.
     pub fn try_clone(&self, alloc: Global) -> Result<Choice, AllocError>
         ensures { IfOk result (λ c. c ≡ self.now) }
     {

@@ -104,6 +104,7 @@ impl Fail {
         self.cause.as_ref()
     }
 
+    /// Compiles the members of a Fail state without faults. The error is that memory ran out.
     pub fn read(alloc: Global, members: &Members) -> Result<Fail, AllocError>
         requires { IsOfKind fail_kind members.now }
         ensures { IfOk result (λ f. fail_object f ≡ canon state_sort (dict (pairs members.now))) }
@@ -132,6 +133,7 @@ impl Fail {
         self.common.object(alloc, "Fail", own)
     }
 
+    /// A copy of its own, equal to it. The error is that memory ran out.
     pub fn try_clone(&self, alloc: Global) -> Result<Fail, AllocError>
         ensures { IfOk result (λ f. f ≡ self.now) }
     {

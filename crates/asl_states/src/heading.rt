@@ -18,6 +18,7 @@ pub struct Heading {
 }
 
 impl Heading {
+    /// Compiles these members of a definition without faults. The error is that memory ran out.
     pub fn read(alloc: Global, members: &Members) -> Result<Heading, AllocError>
         requires { IsClean Definition (dict (pairs members.now)) }
         ensures language { IfOk result (λ h. option_map text h.query_language ≡ value_at (codes "QueryLanguage") (pairs members.now)) }
@@ -31,6 +32,7 @@ impl Heading {
         })
     }
 
+    /// A copy of its own, equal to it. The error is that memory ran out.
     pub fn try_clone(&self, alloc: Global) -> Result<Heading, AllocError>
         ensures { IfOk result (λ h. h ≡ self.now) }
     {

@@ -112,6 +112,7 @@ impl Map {
         self.common.object(alloc, "Map", own)
     }
 
+    /// A copy of its own, equal to it. The error is that memory ran out.
     pub fn try_clone(&self, alloc: Global) -> Result<Map, AllocError>
         ensures { IfOk result (λ m. m ≡ self.now) }
     {

@@ -91,6 +91,7 @@ impl Parallel {
         self.common.object(alloc, "Parallel", own)
     }
 
+    /// A copy of its own, equal to it. The error is that memory ran out.
     pub fn try_clone(&self, alloc: Global) -> Result<Parallel, AllocError>
         ensures { IfOk result (λ p. p ≡ self.now) }
     {

@@ -82,6 +82,7 @@ impl Pass {
         &self.next
     }
 
+    /// Compiles the members of a Pass state without faults. The error is that memory ran out.
     pub fn read(alloc: Global, members: &Members) -> Result<Pass, AllocError>
         requires { IsOfKind pass_kind members.now }
         ensures { IfOk result (λ p. pass_object p ≡ canon state_sort (dict (pairs members.now))) }
@@ -117,6 +118,7 @@ impl Pass {
         self.common.object(alloc, "Pass", own)
     }
 
+    /// A copy of its own, equal to it. The error is that memory ran out.
     pub fn try_clone(&self, alloc: Global) -> Result<Pass, AllocError>
         ensures { IfOk result (λ p. p ≡ self.now) }
     {

@@ -46,6 +46,7 @@ impl Succeed {
         &self.output_path
     }
 
+    /// Compiles the members of a Succeed state without faults. The error is that memory ran out.
     pub fn read(alloc: Global, members: &Members) -> Result<Succeed, AllocError>
         requires { IsOfKind succeed_kind members.now }
         ensures { IfOk result (λ s. succeed_object s ≡ canon state_sort (dict (pairs members.now))) }
@@ -70,6 +71,7 @@ impl Succeed {
         self.common.object(alloc, "Succeed", own)
     }
 
+    /// A copy of its own, equal to it. The error is that memory ran out.
     pub fn try_clone(&self, alloc: Global) -> Result<Succeed, AllocError>
         ensures { IfOk result (λ s. s ≡ self.now) }
     {

@@ -94,6 +94,7 @@ impl Target {
         }
     }
 
+    /// A copy of its own, equal to it. The error is that memory ran out.
     pub fn try_clone(&self, alloc: Global) -> Result<Target, AllocError>
         ensures { IfOk result (λ t. t ≡ self.now) }
     {

@@ -93,6 +93,7 @@ impl Task {
         &self.outcome
     }
 
+    /// Compiles the members of a Task state without faults. The error is that memory ran out.
     pub fn read(alloc: Global, members: &Members) -> Result<Task, AllocError>
         requires { IsOfKind task_kind members.now }
         ensures { IfOk result (λ t. task_object t ≡ canon state_sort (dict (pairs members.now))) }
@@ -128,6 +129,7 @@ impl Task {
         self.common.object(alloc, "Task", own)
     }
 
+    /// A copy of its own, equal to it. The error is that memory ran out.
     pub fn try_clone(&self, alloc: Global) -> Result<Task, AllocError>
         ensures { IfOk result (λ t. t ≡ self.now) }
     {

@@ -150,6 +150,7 @@ impl Wait {
         &self.next
     }
 
+    /// Compiles the members of a Wait state without faults. The error is that memory ran out.
     pub fn read(alloc: Global, members: &Members) -> Result<Wait, AllocError>
         requires { IsOfKind wait_kind members.now }
         ensures { IfOk result (λ w. wait_object w ≡ canon state_sort (dict (pairs members.now))) }
@@ -185,6 +186,7 @@ impl Wait {
         self.common.object(alloc, "Wait", own)
     }
 
+    /// A copy of its own, equal to it. The error is that memory ran out.
     pub fn try_clone(&self, alloc: Global) -> Result<Wait, AllocError>
         ensures { IfOk result (λ w. w ≡ self.now) }
     {
