@@ -5,7 +5,7 @@ use Rattle.asl_json.specs.Data.{Data, null, boolean, number, text, list, dict, C
 use Rattle.asl_json.specs.Distinct.{Members, AreDistinct}
 use Rattle.asl_json.specs.View.{unpaired}
 use Rattle.asl_json.specs.Limits.{max_depth, Allowed, AllowedItems, AllowedMembers}
-use Rattle.asl_schema.specs.Keys.{KeysDiffer, KeysDifferInItems, KeysDifferInMembers}
+use Rattle.asl_judge.specs.Keys.{KeysDiffer, KeysDifferInItems, KeysDifferInMembers}
 use Rattle.asl_check.specs.Sound.{IsSound, AreSoundItems, AreSoundMembers}
 
 level : (n : ℕ) → nat_le max_depth n ≡ false → suc n ≤ max_depth

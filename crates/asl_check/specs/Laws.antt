@@ -5,7 +5,7 @@ use Rattle.asl_json.specs.Compact.{compact}
 use Rattle.asl_json.specs.Limits.{max_len, max_depth}
 use Rattle.asl_schema.specs.Canon.{canonical}
 use Rattle.asl_schema.specs.Faults.{Accepted}
-use Rattle.asl_schema.specs.Keys.{KeysDiffer}
+use Rattle.asl_judge.specs.Keys.{KeysDiffer}
 use Rattle.asl_check.specs.Judged.{IsMachineOf}
 use Rattle.asl_check.specs.Sound.{IsSound}
 

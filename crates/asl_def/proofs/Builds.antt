@@ -21,22 +21,23 @@ use Rattle.asl_schema.proofs.Inside.{fits_at, object_inside}
 use Rattle.asl_schema.proofs.Canons.{plain_kept}
 use Rattle.asl_schema.proofs.Required.{machine_start, machine_states as states_there}
 use Rattle.asl_members.proofs.Items.{canon_each}
-use Rattle.asl_states.specs.declared.body.Body.{Body}
+use Rattle.asl_parts.specs.declared.body.Body.{Body}
 use Rattle.asl_def.specs.declared.build.Own.{Own}
 use Rattle.asl_def.specs.declared.build.Span.{Span}
 use Rattle.asl_states.specs.declared.state.State.{State}
 use Rattle.asl_states.specs.declared.state.State.TheVariants.{Task, Pass, Choice, Wait, Parallel, Map, Succeed, Fail}
 use Rattle.asl_states.specs.declared.parallel.Parallel.{Parallel as ParallelState}
 use Rattle.asl_states.specs.declared.map.Map.{Map as MapState}
-use Rattle.asl_states.specs.Show.{body_of, bodies_of, state_of, parallel_object, map_object, IsWithin, AreWithin, StateIsWithin}
+use Rattle.asl_parts.specs.Bodies.{body_of, bodies_of, IsWithin, AreWithin}
+use Rattle.asl_states.specs.Show.{state_of, parallel_object, map_object, StateIsWithin}
 use Rattle.asl_def.specs.Machines.{all_states}
-use Rattle.asl_states.specs.Built.{IsOfKind}
+use Rattle.asl_parts.specs.Built.{IsOfKind}
 use Rattle.asl_def.specs.Built.{HasRoom, HasRoomFor, Grows, IsBody, AreBodies, IsState, IsSpan, AreOwn, OwnAreWithin, row_in, rows_in, canon_row, canon_rows, tally}
 use Rattle.asl_def.proofs.Tables.{state_of-append, bodies_of-append}
 use Rattle.asl_def.proofs.Tally.{tally-append, own_once, tally-rows, tally_member, inner, tally_states, inner_at, within_items, tally_items, items_at}
 use Rattle.asl_def.proofs.Gathers.{has_machines, no_states, parallel_states, map_states, machine_states, items_all, machines_states, items_all-push, inner_all, inner_all-push, own_states_are, canon_states}
 use Rattle.asl_states.proofs.Canonical.{machine_is, kept_so}
-use Rattle.asl_states.proofs.Fits.{is_there}
+use Rattle.asl_parts.proofs.Fits.{is_there}
 
 -- ---- longer tables
 

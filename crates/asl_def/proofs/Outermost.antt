@@ -4,11 +4,11 @@ use Rattle.std.specs.Prelude.{Some, None, slice_get, codes}
 use Rattle.asl_json.specs.Data.{dict, pairs}
 use Rattle.asl_json.specs.View.{unpaired}
 use Rattle.asl_schema.specs.Canon.{Named}
-use Rattle.asl_states.specs.declared.body.Body.{Body}
-use Rattle.asl_states.specs.declared.heading.Heading.{Heading}
+use Rattle.asl_parts.specs.declared.body.Body.{Body}
+use Rattle.asl_parts.specs.declared.heading.Heading.{Heading}
 use Rattle.asl_def.specs.Own.{members_in, own_states_in}
-use Rattle.asl_states.specs.Show.{machine_members, machine_of, IsWithin}
-use Rattle.asl_states.proofs.Names.{named}
+use Rattle.asl_parts.specs.Bodies.{machine_members, machine_of, IsWithin}
+use Rattle.asl_parts.proofs.Names.{named}
 
 unpaired_pairs : (xs : List Named) → unpaired (pairs xs) ≡ xs
 unpaired_pairs [] = refl

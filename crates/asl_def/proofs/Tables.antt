@@ -10,10 +10,11 @@ use Rattle.asl_json.specs.Meaning.{value_at}
 use Rattle.asl_json.specs.Distinct.{has_key}
 use Rattle.asl_states.specs.declared.state.State.{State}
 use Rattle.asl_states.specs.declared.state.State.TheVariants.{Task, Pass, Choice, Wait, Parallel, Map, Succeed, Fail}
-use Rattle.asl_states.specs.declared.body.Body.{Body}
+use Rattle.asl_parts.specs.declared.body.Body.{Body}
 use Rattle.asl_def.specs.Machines.{number_at}
 use Rattle.asl_schema.specs.Canon.{Named}
-use Rattle.asl_states.specs.Show.{body_of, bodies_of, state_of, shown, IsWithin, AreWithin, StateIsWithin, AreInOrder}
+use Rattle.asl_parts.specs.Bodies.{body_of, bodies_of, IsWithin, AreWithin}
+use Rattle.asl_states.specs.Show.{state_of, shown, StateIsWithin, AreInOrder}
 
 -- what goes on behind does not change what is shown
 pub body_of-append : (t r : List Named) (b : Body) → IsWithin (length t) b → body_of (t ++ r) b ≡ body_of t b

@@ -14,11 +14,12 @@ use Rattle.asl_schema.proofs.Canons.{plain_kept}
 use Rattle.asl_schema.proofs.Inside.{clean, object_inside}
 use Rattle.asl_schema.proofs.Required.{definition_start, definition_states as states_there}
 use Rattle.asl_schema.proofs.Accepting.{accepted_clean, accepted_unique}
-use Rattle.asl_states.specs.declared.body.Body.{Body}
+use Rattle.asl_parts.specs.declared.body.Body.{Body}
 use Rattle.asl_def.specs.declared.build.Span.{Span}
-use Rattle.asl_states.specs.declared.heading.Heading.{Heading}
+use Rattle.asl_parts.specs.declared.heading.Heading.{Heading}
 use Rattle.asl_states.specs.declared.state.State.{State}
-use Rattle.asl_states.specs.Show.{machine_of, state_of, IsWithin}
+use Rattle.asl_parts.specs.Bodies.{machine_of, IsWithin}
+use Rattle.asl_states.specs.Show.{state_of}
 use Rattle.asl_def.specs.Machines.{all_states, states_of, state_object, state_number, state_count, number_at}
 use Rattle.asl_def.specs.Whole.{IsWhole}
 use Rattle.asl_def.specs.Built.{HasRoom, Grows, IsSpan, canon_rows}
@@ -26,7 +27,7 @@ use Rattle.asl_def.proofs.Tally.{unique_once}
 use Rattle.asl_def.proofs.Gathers.{definition_states, canon_states}
 use Rattle.asl_states.proofs.Canonical.{definition_is, kept_so}
 use Rattle.asl_def.proofs.Builds.{member_room}
-use Rattle.asl_states.proofs.Fits.{is_there}
+use Rattle.asl_parts.proofs.Fits.{is_there}
 
 pub definition_clean : (d : Data) → Accepted d → IsClean sort.Definition d
 definition_clean d a = clean (accepted_clean d a)

@@ -6,9 +6,10 @@ use Rattle.asl_schema.specs.declared.sort.Sort.{Sort}
 use Rattle.asl_schema.specs.declared.sort.Sort.TheVariants.{State as state_sort, Machine}
 use Rattle.asl_schema.specs.States.{states_in}
 use Rattle.asl_schema.specs.Canon.{Named, canon}
-use Rattle.asl_states.specs.declared.body.Body.{Body}
+use Rattle.asl_parts.specs.declared.body.Body.{Body}
 use Rattle.asl_states.specs.declared.state.State.{State}
-use Rattle.asl_states.specs.Show.{body_of, bodies_of, state_of, IsWithin, AreWithin, StateIsWithin}
+use Rattle.asl_parts.specs.Bodies.{body_of, bodies_of, IsWithin, AreWithin}
+use Rattle.asl_states.specs.Show.{state_of, StateIsWithin}
 use Rattle.asl_def.specs.declared.build.Own.{Own}
 use Rattle.asl_def.specs.declared.build.Span.{Span}
 use Rattle.asl_def.specs.Machines.{all_states}

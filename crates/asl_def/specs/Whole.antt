@@ -1,9 +1,9 @@
 -- A machine with all its states.
 use Rattle.std.specs.Prelude.{◌≡◌, List, length}
 use Rattle.asl_schema.specs.Canon.{Named}
-use Rattle.asl_states.specs.declared.heading.Heading.{Heading}
-use Rattle.asl_states.specs.declared.body.Body.{Body}
-use Rattle.asl_states.specs.Show.{machine_of, IsWithin}
+use Rattle.asl_parts.specs.declared.heading.Heading.{Heading}
+use Rattle.asl_parts.specs.declared.body.Body.{Body}
+use Rattle.asl_parts.specs.Bodies.{machine_of, IsWithin}
 use Rattle.asl_def.specs.Machines.{states_of}
 
 -- the table has the states of the machine, and no others; its own stand in it

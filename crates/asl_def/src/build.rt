@@ -11,7 +11,7 @@ ghost use Rattle.asl_schema.specs.declared.sort.Kind.TheVariants.{Parallel as pa
 ghost use Rattle.asl_schema.specs.Members.{kind_named as spec_kind_named};
 ghost use Rattle.asl_schema.specs.Canon.{Named, canon};
 ghost use Rattle.asl_schema.specs.Clean.{IsClean};
-ghost use Rattle.asl_states.specs.Built.{IsOfKind};
+ghost use Rattle.asl_parts.specs.Built.{IsOfKind};
 ghost use Rattle.asl_def.specs.Built.{Grows, HasRoom, HasRoomFor, IsBody, AreBodies, IsState, IsSpan, AreOwn, rows_in};
 
 use crate::table::Table;

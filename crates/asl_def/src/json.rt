@@ -1,7 +1,8 @@
 // Machines as JSON.
 ghost use Rattle.std.specs.Prelude.{◌≡◌, ◌≤◌, ◌+◌, IfOk, length, take, drop};
 ghost use Rattle.asl_json.specs.View.{data_of};
-ghost use Rattle.asl_states.specs.Show.{IsWithin, AreWithin, StateIsWithin, body_of, bodies_of, state_of};
+ghost use Rattle.asl_parts.specs.Bodies.{IsWithin, AreWithin, body_of, bodies_of};
+ghost use Rattle.asl_states.specs.Show.{StateIsWithin, state_of};
 
 use crate::table::Table;
 use asl_json::{Items, Json, Members, Txt};

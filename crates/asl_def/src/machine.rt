@@ -16,8 +16,8 @@ use crate::fault::{DefFault, answer};
 use crate::json::states_json;
 use crate::table::Table;
 use asl_json::{Json, write};
+use asl_judge::first_fault;
 use asl_members::{json_optional, object, read_optional};
-use asl_schema::first_fault;
 use asl_states::{Body, Heading, State, Target, entry};
 use std::alloc::{AllocError, Global};
 use std::marker::Model;
@@ -39,7 +39,7 @@ impl Model for Machine {
 
     ghost coded = { coded_data };
 
-    ghost use Rattle.asl_states.specs.Show.{machine_of};
+    ghost use Rattle.asl_parts.specs.Bodies.{machine_of};
     ghost use Rattle.asl_def.specs.Whole.{IsWhole};
 
     ghost view = { λ a. machine_of a.table a.heading a.root };

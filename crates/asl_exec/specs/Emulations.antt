@@ -5,7 +5,8 @@ use Rattle.asl_json.specs.declared.value.Json.{Json}
 use Rattle.asl_setup.specs.declared.step_at.StepAt.{StepAt}
 use Rattle.asl_setup.specs.Emulations.{AreTextsOf}
 use Rattle.asl_setup.specs.Texts.{setup_for}
-use Rattle.asl_exec.specs.RunText.{run_text, is_success}
+use Rattle.asl_run.specs.Lines.{is_success}
+use Rattle.asl_exec.specs.RunText.{run_text}
 use Rattle.asl_exec.specs.Steps.{opening, world_after}
 
 -- the text is that of the run that the texts spell, and says whether the execution has succeeded then

@@ -4,14 +4,11 @@ ghost use Rattle.std.specs.Option.{option_copied};
 ghost use Rattle.asl_schema.specs.Canon.{Named};
 ghost use Rattle.asl_states.specs.Show.{state_of as state_shown};
 ghost use Rattle.asl_setup.specs.Ready.{is_ready};
-ghost use Rattle.asl_exec.specs.World.{record_at};
-ghost use Rattle.asl_exec.specs.Steps.{opening, refusal_of, step, effect_in, number_in, object_in, seen_at, start_in};
+ghost use Rattle.asl_run.specs.World.{record_at};
+ghost use Rattle.asl_run.specs.Refusals.{refusal_of};
+ghost use Rattle.asl_exec.specs.Steps.{opening, step, effect_in, number_in, object_in, seen_at, start_in};
 ghost use Rattle.asl_exec.specs.Views.{setup_of, world_of};
 
-use crate::branches;
-use crate::outcome::Outcome;
-use crate::refusal::Refusal;
-use crate::run::Run;
 use asl_def::Machine;
 use asl_history::{History, Place};
 use asl_json::Txt;
@@ -20,6 +17,7 @@ use asl_kinds::kind::StateKind;
 use asl_kinds::record::Record;
 use asl_kinds::steps;
 use asl_kinds::visit::Visit;
+use asl_run::{Outcome, Refusal, Run, state_in};
 use asl_setup::Setup;
 use asl_states::State;
 use asl_time::Moment;
@@ -114,6 +112,13 @@ impl Execution {
         }
     }
 
+    /// Its world.
+    pub(crate) fn run(&self) -> &Run
+        ensures { result.now ≡ world_of self.now }
+    {
+        &self.run
+    }
+
     /// The allocator that it was opened with.
     pub(crate) fn alloc(&self) -> Global {
         self.alloc
@@ -151,7 +156,7 @@ fn state_of<'a>(machine: &'a Machine, current: &Record) -> (Option<usize>, Optio
     ensures number { result.0 ≡ number_in machine.now current.now }
     ensures object { (t : List Named) × (option_map (λ s. state_shown t s.now) result.1 ≡ object_in machine.now current.now) }
 {
-    let Some(name) = branches::state_in(current) else {
+    let Some(name) = state_in(current) else {
         return (None, None);
     };
     match machine.find(name.as_str()) {

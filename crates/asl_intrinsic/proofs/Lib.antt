@@ -1,11 +1,4 @@
-pub mod Converting
-pub mod Faulting
-pub mod Merging
-pub mod Marking
 pub mod Starting
-pub mod Filling
-pub mod Counting
-pub mod Partitioning
 pub mod Stretches
 pub mod Leaves
 pub mod Keeping

@@ -1,8 +1,8 @@
 // Calls as they were read.
 ghost use Rattle.std.specs.Prelude.{◌≡◌};
-ghost use Rattle.asl_intrinsic.specs.Names.{function_named};
+ghost use Rattle.asl_functions.specs.Names.{function_named};
 
-use crate::function::Function;
+use asl_functions::Function;
 use asl_json::{Json, Txt};
 use asl_path::RefPath;
 use std::marker::Model;
@@ -16,7 +16,7 @@ pub(crate) struct Name {
 
 impl Model for Name {
     ghost use Rattle.std.specs.Prelude.{List, ℕ, ◌≡◌};
-    ghost use Rattle.asl_intrinsic.specs.Names.{function_named};
+    ghost use Rattle.asl_functions.specs.Names.{function_named};
 
     ghost Value = { List ℕ };
 

@@ -2,17 +2,17 @@
 ghost use Rattle.std.specs.Prelude.{◌≡◌, IfOk, IfErr};
 ghost use Rattle.asl_intrinsic.specs.Steps.{heard};
 ghost use Rattle.asl_json.specs.View.{data_of};
-ghost use Rattle.asl_intrinsic.specs.Gives.{Gives};
+ghost use Rattle.asl_functions.specs.Gives.{Gives};
 ghost use Rattle.asl_intrinsic.specs.Values.{ev};
 ghost use Rattle.asl_intrinsic.specs.Leads.{Fails};
 ghost use Rattle.asl_intrinsic.specs.Keeps.{Tells};
 ghost use Rattle.asl_intrinsic.specs.Faults.{IsCall, IsFaultOf};
 
 use crate::call::Argument;
-use crate::fault::EvalFault;
 use crate::frame::Wrong;
 use crate::front::Halt;
 use crate::reading::spelled;
+use asl_functions::EvalFault;
 use asl_json::{Json, Txt};
 use std::alloc::{AllocError, Global};
 use std::marker::Model;

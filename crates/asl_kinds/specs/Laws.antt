@@ -10,7 +10,7 @@ use Rattle.asl_json.specs.Meaning.{value_in}
 use Rattle.asl_states.specs.declared.state.State.{State}
 use Rattle.asl_states.specs.declared.state.State.TheVariants as state
 use Rattle.asl_states.specs.Show.{state_of}
-use Rattle.asl_states.specs.Texts.{text_in}
+use Rattle.asl_parts.specs.Texts.{text_in}
 use Rattle.asl_kinds.specs.declared.effect.Effect.{Effect}
 use Rattle.asl_kinds.specs.declared.effect.Draft.{Draft}
 use Rattle.asl_kinds.specs.declared.record.Record.{Record}

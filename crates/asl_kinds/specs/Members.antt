@@ -4,7 +4,7 @@ use Rattle.asl_json.specs.Data.{Data}
 use Rattle.asl_json.specs.View.{json_of}
 use Rattle.asl_json.specs.Meaning.{value_in}
 use Rattle.asl_json.specs.declared.value.Json.{Json}
-use Rattle.asl_states.specs.Texts.{text_in}
+use Rattle.asl_parts.specs.Texts.{text_in}
 use Rattle.asl_kinds.specs.Paths.{Given, taken, put_into, and_then}
 
 -- Result, or the effective input where there is none

@@ -6,7 +6,7 @@ use Rattle.asl_history.specs.declared.kind.EventKind.{EventKind}
 use Rattle.asl_history.specs.declared.kind.EventKind.TheVariants.{PassStateEntered, PassStateExited, SucceedStateEntered, SucceedStateExited}
 use Rattle.asl_json.specs.Data.{Data}
 use Rattle.asl_json.specs.Meaning.{value_in}
-use Rattle.asl_states.specs.Texts.{text_in}
+use Rattle.asl_parts.specs.Texts.{text_in}
 use Rattle.asl_kinds.specs.declared.effect.Effect.{Effect}
 use Rattle.asl_kinds.specs.declared.effect.Draft.{Draft}
 use Rattle.asl_kinds.specs.declared.record.Record.{Record}

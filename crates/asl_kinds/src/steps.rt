@@ -2,8 +2,8 @@
 ghost use Rattle.std.specs.Prelude.{◌≡◌, ◌↔◌, [], IfOk, IsTrue};
 ghost use Rattle.asl_kinds.specs.Kinds.{idle as spec_idle, leaving as spec_leaving, failing as spec_failing, error_output as spec_error_output, entering as spec_entering, moved as spec_moved};
 ghost use Rattle.asl_kinds.specs.Table.{passed as spec_passed};
-ghost use Rattle.asl_states.specs.Parts.{next_shown};
-ghost use Rattle.asl_states.specs.Texts.{text_in};
+ghost use Rattle.asl_parts.specs.Parts.{next_shown};
+ghost use Rattle.asl_parts.specs.Texts.{text_in};
 ghost use Rattle.asl_kinds.specs.Paths.{Given};
 ghost use Rattle.asl_kinds.specs.Gives.{Gives};
 

@@ -2,10 +2,3 @@ pub mod Making
 pub mod Fitting
 pub mod Items
 pub mod Retrying
-pub mod Names
-pub mod Picked
-pub mod Ruled
-pub mod Decided
-pub mod Shows
-pub mod Apart
-pub mod Within

@@ -1,5 +1,3 @@
 pub mod Shown
 pub mod Readable
 pub mod Entries
-pub mod Rules
-pub mod Falls

@@ -2,21 +2,16 @@
 //!
 //! Modules in reading order: `compiled` is what all of it has in common, and `list` lists of it; `plain`, `path`, `number`,
 //! `stamp` and `retry` are the types; `entry` makes objects. `specs/Shown.antt` says what each shows, `specs/Readable.antt`
-//! which values each is compiled from. `operator`, `comparison` and `rule` are the rules of Choice states, of which
-//! `specs/Rules.antt` says what each shows.
+//! which values each is compiled from.
 #![tactic(auto)]
 
-mod comparison;
 mod compiled;
 mod entry;
-mod find;
 mod list;
 mod number;
-mod operator;
 mod path;
 mod plain;
 mod retry;
-mod rule;
 mod stamp;
 
 pub use compiled::{Compile, Compiled, clone_optional, json_optional, read_optional};
@@ -25,5 +20,4 @@ pub use list::{clone_all, json_all, read_all};
 pub use number::{BackoffRate, Count};
 pub use path::{PathField, PathOrCall};
 pub use retry::{ErrorNames, Retrier, Retriers};
-pub use rule::Rule;
 pub use stamp::Stamp;

@@ -1,11 +1,3 @@
-pub mod Answering
-pub mod Counting
-pub mod Forms
-pub mod Roots
-pub mod Walking
-pub mod Naming
-pub mod Objects
-pub mod Doubles
 pub mod Pointing
 pub mod Canons
 pub mod Inside
@@ -18,13 +10,3 @@ pub mod Templates
 pub mod Required
 pub mod Ending
 pub mod Accepting
-pub mod CanonicalTwice
-pub mod CanonicalAmounts
-pub mod CanonicalStates
-pub mod CanonicalLength
-pub mod CanonicalRows
-pub mod CanonicalMembers
-pub mod CanonicalHolds
-pub mod CanonicalKeys
-pub mod CanonicalAccepted
-pub mod Differing

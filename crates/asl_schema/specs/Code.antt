@@ -7,9 +7,6 @@ use Rattle.asl_schema.specs.declared.rows.Row.{Row as CodeRow}
 use Rattle.asl_schema.specs.declared.rows.Row.TheVariants as code
 use Rattle.asl_schema.specs.declared.rows.Group.{Group as CodeGroup}
 use Rattle.asl_schema.specs.declared.rows.Shape.{Shape as CodeShape}
-use Rattle.std.specs.HashSet.{contains_text}
-use Rattle.asl_schema.specs.declared.spot.Spot.{Spot as CodeSpot}
-use Rattle.asl_schema.specs.Claims.{Spot}
 use Rattle.asl_schema.specs.Members.{Row, required, optional, beside, Group, Shape}
 
 abbrev pub row_of : CodeRow → Row
@@ -31,6 +28,3 @@ shape_seen s = record { rows = rows_of s.rows.now; others = s.others; groups = g
 
 abbrev pub seen : Inside → FaultKind × List Step
 seen a = (a.kind, reverse a.steps.items)
-
-abbrev pub spot_of : CodeSpot → Spot
-spot_of p = record { names = contains_text p.names.now; level = p.level; ends = p.ends; key = p.key.now; doubled = p.doubled }

@@ -8,5 +8,3 @@ pub mod Code
 pub mod Pointers
 pub mod Canon
 pub mod Clean
-pub mod Keys
-pub mod Laws

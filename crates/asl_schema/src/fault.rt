@@ -116,7 +116,7 @@ impl Model for Fault {
 }
 
 impl Fault {
-    pub(crate) fn here(alloc: Global, kind: FaultKind) -> Fault
+    pub fn here(alloc: Global, kind: FaultKind) -> Fault
         ensures { result ≡ (kind, []) }
     {
         Fault {
@@ -133,7 +133,7 @@ impl Fault {
     }
 
     /// The fault, as it is seen from outside the member with this number and name.
-    pub(crate) fn under(self, alloc: Global, at: usize, name: &str) -> Result<Fault, AllocError>
+    pub fn under(self, alloc: Global, at: usize, name: &str) -> Result<Fault, AllocError>
         ensures { IfOk result (λ f. f ≡ (self.0, step at name.now ∷ self.1)) }
     {
         let mut steps = self.steps;
@@ -146,7 +146,7 @@ impl Fault {
     }
 
     /// The fault, as it is seen from outside the item of this number.
-    pub(crate) fn under_index(self, alloc: Global, at: usize) -> Result<Fault, AllocError>
+    pub fn under_index(self, alloc: Global, at: usize) -> Result<Fault, AllocError>
         ensures { IfOk result (λ f. f ≡ (self.0, step at (decimal at) ∷ self.1)) }
     {
         let mut name = String::new(alloc);

@@ -1,24 +1,15 @@
-//! What a definition may hold, and what it is refused for.
+//! What a definition may hold, and what it can be refused for.
 //!
-//! Modules in reading order: `sort` and `rows` are the table of members, `fault` a fault and its place; `value` judges a
-//! value by itself, `walk` a definition, `states` the names of its states; `laws` says what the canonical form keeps, of values
-//! whose keys differ as `keys` says.
+//! Modules in reading order: `sort` and `rows` are the table of members, `fault` a fault and its place. Which faults a definition
+//! has, and which is its first, is said in `specs`; `asl_judge` finds it.
 #![tactic(auto)]
 
-mod definition;
 mod fault;
-mod keys;
-mod laws;
 mod rows;
 mod sort;
-mod spot;
-mod states;
-mod value;
-mod walk;
 
-pub use definition::first_fault;
 pub use fault::{Fault, FaultKind, Step};
-pub use keys::keys_differ;
-pub use laws::the_canonical_form_is_accepted;
-pub use rows::kind_named;
-pub use sort::Kind;
+pub use rows::{
+    Group, Row, Shape, find, is_among, item_sort, kind_named, kind_of, shape_in, sort_at,
+};
+pub use sort::{Form, Kind, Sort};

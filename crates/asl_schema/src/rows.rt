@@ -14,7 +14,7 @@ use asl_template::name_before;
 
 /// A member that an object may have.
 #[derive(Clone, Copy)]
-pub(crate) enum Row {
+pub enum Row {
     /// It has to be there.
     Required(&'static str, Sort),
     /// It may be there.
@@ -25,18 +25,24 @@ pub(crate) enum Row {
 
 /// Members of which at most one is there, or exactly one.
 #[derive(Clone, Copy)]
-pub(crate) struct Group {
-    pub(crate) names: &'static [&'static str],
-    pub(crate) more: &'static [&'static str],
-    pub(crate) exact: bool,
+pub struct Group {
+    /// Some of their names.
+    pub names: &'static [&'static str],
+    /// The others.
+    pub more: &'static [&'static str],
+    /// Whether one of them has to be there.
+    pub exact: bool,
 }
 
 /// What an object may have: these members, others of one sort, and these groups among them.
 #[derive(Clone, Copy)]
-pub(crate) struct Shape {
-    pub(crate) rows: &'static [Row],
-    pub(crate) others: Sort,
-    pub(crate) groups: &'static [Group],
+pub struct Shape {
+    /// The members in canonical order.
+    pub rows: &'static [Row],
+    /// What all other members are to be.
+    pub others: Sort,
+    /// The groups among its members.
+    pub groups: &'static [Group],
 }
 
 /// (Amazon States Language, "Top-level fields".)
@@ -516,7 +522,7 @@ fn shape_of(sort: Sort, kind: Option<Kind>) -> Shape
 }
 
 /// What the items of a list are to be.
-pub(crate) fn item_sort(sort: Sort) -> Sort
+pub fn item_sort(sort: Sort) -> Sort
     ensures { result ≡ spec_item_sort sort }
 {
     match sort {
@@ -531,7 +537,8 @@ pub(crate) fn item_sort(sort: Sort) -> Sort
     }
 }
 
-pub(crate) fn kind_of(name: &str) -> Option<Kind>
+/// The type of states of this name.
+pub fn kind_of(name: &str) -> Option<Kind>
     ensures { result ≡ spec_kind_of name.now }
 {
     match name {
@@ -548,7 +555,7 @@ pub(crate) fn kind_of(name: &str) -> Option<Kind>
 }
 
 /// Whether a name is one of these.
-pub(crate) fn is_among(name: &str, names: &[&str]) -> bool
+pub fn is_among(name: &str, names: &[&str]) -> bool
     ensures { result ≡ spec_is_among name.now (map (λ l. l.now) names.now) }
 {
     for other in names {
@@ -594,7 +601,8 @@ fn other_sort(others: Sort, name: &str) -> Sort
 }
 
 impl Row {
-    pub(crate) fn name(self) -> &'static str
+    /// The name of the member.
+    pub fn name(self) -> &'static str
         ensures { result.now ≡ (row_of self).name }
     {
         match self {
@@ -602,7 +610,8 @@ impl Row {
         }
     }
 
-    pub(crate) fn sort(self) -> Sort
+    /// What its value is to be.
+    pub fn sort(self) -> Sort
         ensures { result ≡ (row_of self).sort }
     {
         match self {
@@ -612,7 +621,7 @@ impl Row {
 }
 
 /// What a member of this name is to be.
-pub(crate) fn sort_at(shape: Shape, name: &str) -> Sort
+pub fn sort_at(shape: Shape, name: &str) -> Sort
     ensures { result ≡ spec_sort_at (shape_seen shape) name.now }
 {
     for row in shape.rows {
@@ -624,7 +633,7 @@ pub(crate) fn sort_at(shape: Shape, name: &str) -> Sort
 }
 
 /// The value at a name.
-pub(crate) fn find<'a>(members: &'a [Member], name: &str) -> Option<&'a Json>
+pub fn find<'a>(members: &'a [Member], name: &str) -> Option<&'a Json>
     ensures { option_map (λ v. data_of v.now) result ≡ value_at name.now (pairs (members_of members.now)) }
 {
     for member in members {
@@ -646,7 +655,7 @@ pub fn kind_named(value: Option<&Json>) -> Option<Kind>
 }
 
 /// What an object of these members may have.
-pub(crate) fn shape_in(sort: Sort, members: &[Member]) -> Shape
+pub fn shape_in(sort: Sort, members: &[Member]) -> Shape
     ensures { shape_seen result ≡ spec_shape_in sort (pairs (members_of members.now)) }
 {
     shape_of(sort, kind_named(find(members, "Type")))

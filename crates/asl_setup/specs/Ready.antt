@@ -6,7 +6,7 @@ use Rattle.asl_json.specs.Data.{Data, null, boolean, number, text, list, dict}
 use Rattle.asl_json.specs.Meaning.{value_in}
 use Rattle.asl_schema.specs.Canon.{Named}
 use Rattle.asl_def.specs.Own.{own_states_in}
-use Rattle.asl_states.specs.Texts.{text_in}
+use Rattle.asl_parts.specs.Texts.{text_in}
 
 -- no path into the Context Object: such a path begins `$$`
 abbrev pub is_off_context : Option Data → Bool

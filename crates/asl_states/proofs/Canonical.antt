@@ -14,8 +14,8 @@ use Rattle.asl_schema.specs.Canon.{Named, opt, present, kept, kept_at, canon, ca
 use Rattle.asl_schema.proofs.Canons.{picked-canon, plain_kept}
 use Rattle.asl_schema.proofs.Typed.{type_is}
 use Rattle.asl_members.specs.Shown.{path_shown}
-use Rattle.asl_states.specs.declared.common.Common.{Common}
-use Rattle.asl_states.specs.declared.outcome.Outcome.{Outcome}
+use Rattle.asl_parts.specs.declared.common.Common.{Common}
+use Rattle.asl_parts.specs.declared.outcome.Outcome.{Outcome}
 use Rattle.asl_states.specs.declared.task.Task.{Task as TaskState}
 use Rattle.asl_states.specs.declared.pass.Pass.{Pass as PassState}
 use Rattle.asl_states.specs.declared.choice.Choice.{Choice as ChoiceState}
@@ -24,10 +24,12 @@ use Rattle.asl_states.specs.declared.parallel.Parallel.{Parallel as ParallelStat
 use Rattle.asl_states.specs.declared.map.Map.{Map as MapState}
 use Rattle.asl_states.specs.declared.succeed.Succeed.{Succeed as SucceedState}
 use Rattle.asl_states.specs.declared.fail.Fail.{Fail as FailState}
-use Rattle.asl_states.specs.Parts.{Slots, object, next_shown, end_shown}
-use Rattle.asl_states.specs.Show.{listed, told, told_at, seconds_shown, seconds_path_shown, timestamp_shown, timestamp_path_shown, task_members, pass_members, choice_members, wait_members, parallel_members, map_members, succeed_members, fail_members, task_object, pass_object, choice_object, wait_object, parallel_object, map_object, succeed_object, fail_object, body_of, bodies_of}
-use Rattle.asl_states.specs.Built.{IsOfKind, IsOutcome, Shows}
-use Rattle.asl_states.proofs.Fits.{map_same}
+use Rattle.asl_parts.specs.Parts.{Slots, object, next_shown, end_shown}
+use Rattle.asl_parts.specs.Parts.{listed}
+use Rattle.asl_states.specs.Show.{told, told_at, seconds_shown, seconds_path_shown, timestamp_shown, timestamp_path_shown, task_members, pass_members, choice_members, wait_members, parallel_members, map_members, succeed_members, fail_members, task_object, pass_object, choice_object, wait_object, parallel_object, map_object, succeed_object, fail_object}
+use Rattle.asl_parts.specs.Bodies.{body_of, bodies_of}
+use Rattle.asl_parts.specs.Built.{IsOfKind, IsOutcome, Shows}
+use Rattle.asl_parts.proofs.Fits.{map_same}
 
 -- ---- members row by row
 

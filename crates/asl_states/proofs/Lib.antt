@@ -1,9 +1,3 @@
 pub mod Canonical
-pub mod Fits
-pub mod Heads
-pub mod Catching
 pub mod Ruling
-pub mod Names
-pub mod Slots
 pub mod Begins
-pub mod Owning

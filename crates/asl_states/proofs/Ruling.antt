@@ -13,11 +13,11 @@ use Rattle.asl_schema.specs.Clean.{IsClean, IsThere}
 use Rattle.asl_schema.proofs.Canons.{picked-canon, plain_kept}
 use Rattle.asl_schema.proofs.Inside.{object_inside}
 use Rattle.asl_schema.proofs.Required.{rule_next}
-use Rattle.asl_members.specs.Rules.{IsRule, canonical_rule}
-use Rattle.asl_members.specs.Rules.IsRule.{outer}
+use Rattle.asl_choice.specs.Rules.{IsRule, canonical_rule}
+use Rattle.asl_choice.specs.Rules.IsRule.{outer}
 use Rattle.asl_states.specs.declared.choice.ChoiceRule.{ChoiceRule}
-use Rattle.asl_states.specs.Parts.{choice_rule_object}
-use Rattle.asl_states.proofs.Fits.{is_there}
+use Rattle.asl_states.specs.Show.{choice_rule_object}
+use Rattle.asl_parts.proofs.Fits.{is_there}
 
 -- ---- more rows behind don't change what the first are
 

@@ -1,5 +1,1 @@
-pub mod Parts
 pub mod Show
-pub mod Member
-pub mod Built
-pub mod Texts

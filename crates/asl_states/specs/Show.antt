@@ -1,13 +1,9 @@
--- What states and machines show: their canonical objects, over the states that stand before them in the table.
-use Rattle.std.specs.Prelude.{ℕ, suc, ◌+◌, ◌≤◌, List, [], ◌∷◌, ◌++◌, Option, Some, None, codes, map, take, drop, string_bytes, String, option_map}
+-- What states show: their canonical objects, over the states that stand before them in the table.
+use Rattle.std.specs.Prelude.{ℕ, suc, List, [], ◌∷◌, ◌++◌, Option, Some, None, codes, map, string_bytes, String, option_map}
 use Rattle.asl_json.specs.Data.{Data, number, text, list, dict, chain, pairs}
 use Rattle.asl_json.specs.View.{data_of}
 use Rattle.asl_schema.specs.Canon.{Named}
 use Rattle.asl_members.specs.Shown.{path_shown, path_or_call_shown}
-use Rattle.asl_states.specs.declared.common.Common.{Common}
-use Rattle.asl_states.specs.declared.outcome.Outcome.{Outcome}
-use Rattle.asl_states.specs.declared.body.Body.{Body}
-use Rattle.asl_states.specs.declared.heading.Heading.{Heading}
 use Rattle.asl_states.specs.declared.task.Task.{Task as TaskState}
 use Rattle.asl_states.specs.declared.pass.Pass.{Pass as PassState}
 use Rattle.asl_states.specs.declared.choice.Choice.{Choice as ChoiceState}
@@ -22,19 +18,9 @@ use Rattle.asl_states.specs.declared.fail.Reason.{Reason}
 use Rattle.asl_states.specs.declared.fail.Reason.TheVariants.{Told, At}
 use Rattle.asl_states.specs.declared.state.State.{State}
 use Rattle.asl_states.specs.declared.state.State.TheVariants.{Task, Pass, Choice, Wait, Parallel, Map, Succeed, Fail}
-use Rattle.asl_states.specs.Parts.{Slots, object, next_shown, end_shown, limits_members}
-
--- ---- what several types of states have
-
-abbrev pub common_members : List ℕ → Common → Slots
-common_members kind c = (codes "Type", Some (text kind)) ∷ (codes "Comment", option_map text c.comment) ∷ (codes "QueryLanguage", option_map text c.query_language) ∷ []
-
--- a list, where it is there
-abbrev pub listed : Option (List Data) → Option Data
-listed ds = option_map (λ (xs : List Data). list (chain xs)) ds
-
-abbrev pub outcome_members : Outcome → Slots
-outcome_members o = (codes "ResultSelector", o.result_selector) ∷ (codes "ResultPath", path_shown o.result_path) ∷ (codes "OutputPath", path_shown o.output_path) ∷ (codes "Retry", listed o.retry) ∷ (codes "Catch", listed o.catch) ∷ (codes "Next", next_shown o.next) ∷ (codes "End", end_shown o.next) ∷ []
+use Rattle.asl_states.specs.declared.choice.ChoiceRule.{ChoiceRule}
+use Rattle.asl_parts.specs.Parts.{Slots, object, next_shown, end_shown, limits_members, common_members, outcome_members}
+use Rattle.asl_parts.specs.Bodies.{body_of, bodies_of, IsWithin, AreWithin}
 
 -- ---- states without machines
 
@@ -58,6 +44,13 @@ pass_members p =
     ∷ (codes "Next", next_shown p.next)
     ∷ (codes "End", end_shown p.next)
     ∷ [])
+
+-- a rule with what comes next
+abbrev pub choice_rule_object : ChoiceRule → Data
+choice_rule_object r = dict (pairs (r.rule ++ (codes "Next", text r.next.name) ∷ []))
+
+abbrev pub choice_rule_objects : List ChoiceRule → List Data
+choice_rule_objects rs = map choice_rule_object rs
 
 abbrev pub choice_members : ChoiceState → Slots
 choice_members c =
@@ -135,23 +128,6 @@ fail_members f =
 
 -- ---- machines, and states that hold them
 
--- the machine whose states have these numbers
-abbrev pub body_members : List Named → Body → Slots
-body_members t b = (codes "Comment", option_map text b.comment) ∷ (codes "StartAt", Some (text b.start.name)) ∷ (codes "States", Some (dict (pairs (take b.count (drop b.first t))))) ∷ []
-
-abbrev pub body_of : List Named → Body → Data
-body_of t b = object (body_members t b)
-
--- the outermost machine
-abbrev pub machine_members : List Named → Heading → Body → Slots
-machine_members t h b = (codes "Comment", option_map text b.comment) ∷ (codes "QueryLanguage", option_map text h.query_language) ∷ (codes "Version", option_map text h.version) ∷ (codes "StartAt", Some (text b.start.name)) ∷ (codes "TimeoutSeconds", option_map number h.timeout) ∷ (codes "States", Some (dict (pairs (take b.count (drop b.first t))))) ∷ []
-
-abbrev pub machine_of : List Named → Heading → Body → Data
-machine_of t h b = object (machine_members t h b)
-
-abbrev pub bodies_of : List Named → List Body → List Data
-bodies_of t bs = map (body_of t) bs
-
 abbrev pub parallel_members : List Named → ParallelState → Slots
 parallel_members t p =
     common_members (codes "Parallel") p.common ++
@@ -211,14 +187,6 @@ abbrev pub map_object : List Named → MapState → Data
 map_object t x = object (map_members t x)
 
 -- ---- the table
-
--- the states of a machine stand among the first n
-abbrev pub IsWithin : ℕ → Body → Type 0
-IsWithin n b = b.first + b.count ≤ n
-
-abbrev pub AreWithin : ℕ → List Body → Type 0
-AreWithin n [] = Unit {0}
-AreWithin n (b ∷ bs) = IsWithin n b × AreWithin n bs
 
 -- the machines inside a state stand among the first n states
 abbrev pub StateIsWithin : ℕ → State → Type 0

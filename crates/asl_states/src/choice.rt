@@ -6,17 +6,16 @@ ghost use Rattle.asl_schema.specs.declared.sort.Sort.TheVariants.{State as state
 ghost use Rattle.asl_schema.specs.declared.sort.Kind.TheVariants.{Choice as choice_kind};
 ghost use Rattle.asl_schema.specs.Canon.{canon};
 ghost use Rattle.asl_schema.specs.Clean.{IsClean};
-ghost use Rattle.asl_states.specs.Built.{IsOfKind};
-ghost use Rattle.asl_states.specs.Parts.{choice_rule_object, choice_rule_objects};
+ghost use Rattle.asl_parts.specs.Built.{IsOfKind};
+ghost use Rattle.asl_states.specs.Show.{choice_rule_object, choice_rule_objects};
 ghost use Rattle.asl_states.specs.Show.{choice_object};
 ghost use Rattle.asl_json.specs.Meaning.{value_in};
 ghost use Rattle.asl_members.specs.Shown.{path_shown};
 
-use crate::common::Common;
-use crate::entries::entry;
-use crate::target::Target;
+use asl_choice::Rule;
 use asl_json::{Json, Members, Txt};
-use asl_members::{Compiled, PathField, Rule, clone_all, json_all};
+use asl_members::{Compiled, PathField, clone_all, json_all};
+use asl_parts::{Common, Target, entry};
 use std::alloc::{AllocError, Global};
 use std::marker::Model;
 
@@ -45,7 +44,7 @@ impl Model for ChoiceRules {
 
     ghost coded = { coded_items };
 
-    ghost use Rattle.asl_states.specs.Parts.{choice_rule_objects};
+    ghost use Rattle.asl_states.specs.Show.{choice_rule_objects};
 
     ghost view = { λ a. choice_rule_objects a.rules.items };
 }
@@ -76,7 +75,7 @@ impl ChoiceRule {
 }
 
 impl Compiled for ChoiceRule {
-    ghost use Rattle.asl_states.specs.Parts.{choice_rule_object};
+    ghost use Rattle.asl_states.specs.Show.{choice_rule_object};
 
     ghost shown = { choice_rule_object };
 

@@ -4,17 +4,16 @@ ghost use Rattle.asl_json.specs.Data.{dict, pairs};
 ghost use Rattle.asl_schema.specs.declared.sort.Sort.TheVariants.{State as state_sort};
 ghost use Rattle.asl_schema.specs.declared.sort.Kind.TheVariants.{Fail as fail_kind};
 ghost use Rattle.asl_schema.specs.Canon.{canon};
-ghost use Rattle.asl_states.specs.Built.{IsOfKind};
+ghost use Rattle.asl_parts.specs.Built.{IsOfKind};
 ghost use Rattle.asl_json.specs.View.{data_of};
 ghost use Rattle.asl_schema.specs.declared.sort.Sort.TheVariants.{Text, PathOrCall as path_or_call};
 ghost use Rattle.asl_schema.specs.Clean.{Fits};
 ghost use Rattle.asl_states.specs.Show.{fail_object, told as spec_told, told_at};
 ghost use Rattle.asl_json.specs.Meaning.{value_in};
 
-use crate::common::Common;
-use crate::entries::entry;
 use asl_json::{Json, Members, Txt};
 use asl_members::{Compile, Compiled, PathOrCall};
+use asl_parts::{Common, entry};
 use std::alloc::{AllocError, Global};
 
 /// What a Fail state tells as its error or its cause.

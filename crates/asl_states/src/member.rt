@@ -4,7 +4,7 @@ ghost use Rattle.asl_json.specs.Data.{text};
 ghost use Rattle.asl_schema.specs.Canon.{Named};
 ghost use Rattle.asl_members.specs.Shown.{path_shown, path_or_call_shown};
 ghost use Rattle.asl_states.specs.Show.{state_of, seconds_path_shown, timestamp_path_shown, told_at, task_object, pass_object, choice_object, wait_object, parallel_object, map_object, succeed_object, fail_object};
-ghost use Rattle.asl_states.specs.Member.{path_of, path_member, template_member};
+ghost use Rattle.asl_parts.specs.Member.{path_of, path_member, template_member};
 
 use crate::choice::Choice;
 use crate::fail::{Fail, Reason};

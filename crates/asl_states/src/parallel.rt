@@ -5,19 +5,17 @@ ghost use Rattle.asl_json.specs.Data.{dict, list, chain, pairs};
 ghost use Rattle.asl_schema.specs.declared.sort.Sort.TheVariants.{State as state_sort, Machines as part_sort};
 ghost use Rattle.asl_schema.specs.declared.sort.Kind.TheVariants.{Parallel as parallel_kind};
 ghost use Rattle.asl_schema.specs.Canon.{Named, canon, kept_at};
-ghost use Rattle.asl_states.specs.Built.{IsOfKind};
-ghost use Rattle.asl_states.specs.Show.{parallel_object, bodies_of};
+ghost use Rattle.asl_parts.specs.Built.{IsOfKind};
+ghost use Rattle.asl_states.specs.Show.{parallel_object};
+ghost use Rattle.asl_parts.specs.Bodies.{bodies_of};
 ghost use Rattle.asl_json.specs.Meaning.{value_in};
 ghost use Rattle.asl_members.specs.Shown.{path_shown};
 ghost use Rattle.asl_schema.specs.Members.{is_among};
-ghost use Rattle.asl_states.specs.Member.{outcome_names, outcome_object};
+ghost use Rattle.asl_parts.specs.Member.{outcome_names, outcome_object};
 
-use crate::body::Bodies;
-use crate::common::Common;
-use crate::entries::entry;
-use crate::outcome::Outcome;
 use asl_json::{Items, Json, Members};
 use asl_members::{PathField, clone_optional, json_optional, read_optional};
+use asl_parts::{Bodies, Common, Outcome, entry};
 use asl_template::Template;
 use std::alloc::{AllocError, Global};
 

@@ -4,18 +4,16 @@ ghost use Rattle.asl_json.specs.Data.{text, dict, pairs};
 ghost use Rattle.asl_schema.specs.declared.sort.Sort.TheVariants.{State as state_sort};
 ghost use Rattle.asl_schema.specs.declared.sort.Kind.TheVariants.{Pass as pass_kind};
 ghost use Rattle.asl_schema.specs.Canon.{canon};
-ghost use Rattle.asl_states.specs.Built.{IsOfKind};
+ghost use Rattle.asl_parts.specs.Built.{IsOfKind};
 ghost use Rattle.asl_states.specs.Show.{pass_object};
 ghost use Rattle.asl_json.specs.Meaning.{value_in};
 ghost use Rattle.asl_members.specs.Shown.{path_shown};
 ghost use Rattle.asl_json.specs.View.{data_of};
-ghost use Rattle.asl_states.specs.Parts.{next_shown, end_shown};
+ghost use Rattle.asl_parts.specs.Parts.{next_shown, end_shown};
 
-use crate::common::Common;
-use crate::entries::entry;
-use crate::target::Next;
 use asl_json::{Json, Members, Txt};
 use asl_members::{PathField, clone_optional, json_optional, read_optional};
+use asl_parts::{Common, Next, entry};
 use asl_template::Template;
 use std::alloc::{AllocError, Global};
 

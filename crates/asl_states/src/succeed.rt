@@ -5,15 +5,14 @@ ghost use Rattle.asl_json.specs.View.{data_of};
 ghost use Rattle.asl_schema.specs.declared.sort.Sort.TheVariants.{State as state_sort};
 ghost use Rattle.asl_schema.specs.declared.sort.Kind.TheVariants.{Succeed as succeed_kind};
 ghost use Rattle.asl_schema.specs.Canon.{canon};
-ghost use Rattle.asl_states.specs.Built.{IsOfKind};
+ghost use Rattle.asl_parts.specs.Built.{IsOfKind};
 ghost use Rattle.asl_states.specs.Show.{succeed_object};
 ghost use Rattle.asl_json.specs.Meaning.{value_in};
 ghost use Rattle.asl_members.specs.Shown.{path_shown};
 
-use crate::common::Common;
-use crate::entries::entry;
 use asl_json::{Json, Members, Txt};
 use asl_members::PathField;
+use asl_parts::{Common, entry};
 use std::alloc::{AllocError, Global};
 
 /// A Succeed state. (Amazon States Language, "Succeed State".) Contracts speak of its canonical object, `succeed_object`.

@@ -5,21 +5,18 @@ ghost use Rattle.asl_json.specs.Data.{dict, pairs, text, number};
 ghost use Rattle.asl_schema.specs.declared.sort.Sort.TheVariants.{State as state_sort};
 ghost use Rattle.asl_schema.specs.declared.sort.Kind.TheVariants.{Task as task_kind};
 ghost use Rattle.asl_schema.specs.Canon.{canon};
-ghost use Rattle.asl_states.specs.Built.{IsOfKind};
+ghost use Rattle.asl_parts.specs.Built.{IsOfKind};
 ghost use Rattle.asl_states.specs.Show.{task_object};
 ghost use Rattle.asl_json.specs.Meaning.{value_in};
 ghost use Rattle.asl_members.specs.Shown.{path_shown};
 ghost use Rattle.asl_schema.specs.Members.{is_among};
-ghost use Rattle.asl_states.specs.Member.{outcome_names, outcome_object};
+ghost use Rattle.asl_parts.specs.Member.{outcome_names, outcome_object};
 
-use crate::common::Common;
-use crate::entries::{and, entry};
-use crate::limits::Limits;
-use crate::outcome::Outcome;
 use asl_json::{Json, Members, Txt};
 use asl_members::{
     Compile, Compiled, Count, PathField, clone_optional, json_optional, read_optional,
 };
+use asl_parts::{Common, Limits, Outcome, and, entry};
 use asl_path::RefPath;
 use asl_template::Template;
 use std::alloc::{AllocError, Global};

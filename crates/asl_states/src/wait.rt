@@ -5,17 +5,15 @@ ghost use Rattle.asl_json.specs.Data.{dict, pairs};
 ghost use Rattle.asl_schema.specs.declared.sort.Sort.TheVariants.{State as state_sort};
 ghost use Rattle.asl_schema.specs.declared.sort.Kind.TheVariants.{Wait as wait_kind};
 ghost use Rattle.asl_schema.specs.Canon.{canon};
-ghost use Rattle.asl_states.specs.Built.{IsOfKind};
+ghost use Rattle.asl_parts.specs.Built.{IsOfKind};
 ghost use Rattle.asl_json.specs.Meaning.{value_at, value_in};
 ghost use Rattle.asl_states.specs.Show.{wait_object, seconds_shown, seconds_path_shown, timestamp_shown, timestamp_path_shown};
 ghost use Rattle.asl_members.specs.Shown.{path_shown};
-ghost use Rattle.asl_states.specs.Parts.{next_shown, end_shown};
+ghost use Rattle.asl_parts.specs.Parts.{next_shown, end_shown};
 
-use crate::common::Common;
-use crate::entries::entry;
-use crate::target::Next;
 use asl_json::{Json, Members};
 use asl_members::{Compile, Compiled, Count, PathField, Stamp};
+use asl_parts::{Common, Next, entry};
 use asl_path::RefPath;
 use std::alloc::{AllocError, Global};
 

@@ -3,10 +3,10 @@ use Rattle.std.specs.Prelude.{ℕ, List, [], ◌∷◌, Bool, false, ◌&&◌, �
 use Rattle.asl_json.specs.Data.{Data, null, boolean, number, text, list, dict, Chain, no_items, item, Pairs, no_members, member}
 use Rattle.asl_path.specs.Paths.{part_at}
 use Rattle.asl_intrinsic.specs.Values.{ev}
-use Rattle.asl_intrinsic.specs.declared.fault.EvalFault.{EvalFault}
-use Rattle.asl_intrinsic.specs.declared.fault.EvalFault.TheVariants.{Fails, PathMissing, OutOfMemory as NoMemory}
-use Rattle.asl_intrinsic.specs.declared.fault.Reason.{Reason}
-use Rattle.asl_intrinsic.specs.declared.fault.Reason.TheVariants as reason
+use Rattle.asl_functions.specs.declared.fault.EvalFault.{EvalFault}
+use Rattle.asl_functions.specs.declared.fault.EvalFault.TheVariants.{Fails, PathMissing, OutOfMemory as NoMemory}
+use Rattle.asl_functions.specs.declared.fault.Reason.{Reason}
+use Rattle.asl_functions.specs.declared.fault.Reason.TheVariants as reason
 use Rattle.asl_template.specs.Names.{name_before, name_of}
 use Rattle.asl_template.specs.declared.fill.FillFault.{FillFault}
 use Rattle.asl_template.specs.declared.fill.FillFault.TheVariants.{PathFails, IntrinsicFails, OutOfMemory}

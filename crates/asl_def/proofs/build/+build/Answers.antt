@@ -10,12 +10,12 @@ use Rattle.asl_schema.proofs.Kept.{form_fits}
 use Rattle.asl_schema.proofs.Inside.{clean}
 use Rattle.asl_schema.proofs.Parts.{items_clean, item_clean, states_clean, state_clean}
 use Rattle.asl_schema.proofs.Required.{parallel_branches, map_iterator}
-use Rattle.asl_schema.proofs.Walking.{item_depth, member_depth}
+use Rattle.asl_judge.proofs.Walking.{item_depth, member_depth}
 use Rattle.asl_members.specs.Readable.{IsText}
 use Rattle.asl_members.proofs.Fitting.{fit, text_fits}
 use Rattle.asl_members.proofs.Retrying.{not_none, value_there}
 use Rattle.asl_def.specs.Built.{HasRoom, Grows, IsBody}
-use Rattle.asl_states.proofs.Fits.{none_there, some_there, of_kind, of_none}
+use Rattle.asl_parts.proofs.Fits.{none_there, some_there, of_kind, of_none}
 use Rattle.asl_def.proofs.Builds.{on_ok, comment_fits, start_is_there, states_are_there, states_room, body_grows, body_shows, value_depth, branches_room, iterator_room, parallel_grows, map_grows, parallel_is, map_is, leaf_grows, room_as, grows_as, state_as, own_room, own_step, own_all, own_fit, states_grow, states_stand, body_room, bodies_step, bodies_all, bodies_grow}
 use Rattle.asl_def.proofs.build.+build.Goals as goal
 

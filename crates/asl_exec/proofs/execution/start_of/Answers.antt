@@ -1,5 +1,5 @@
 use Rattle.std.proofs.Common.{ap, ◌∙◌}
-use Rattle.asl_states.specs.Texts.{text_in}
+use Rattle.asl_parts.specs.Texts.{text_in}
 use Rattle.asl_exec.specs.Steps.{name_or_none}
 use Rattle.asl_exec.proofs.execution.start_of.Goals as goal
 

@@ -1,6 +1,7 @@
 use Rattle.std.proofs.Common.{sym, ◌∙◌}
+use Rattle.asl_run.proofs.Accepting.{accepted-room, has_place}
 use Rattle.asl_exec.specs.Steps.{seen_at}
-use Rattle.asl_exec.proofs.Accepting.{accepted-room, effect-bounded, has_place, step_taken}
+use Rattle.asl_exec.proofs.Accepting.{effect-bounded, step_taken}
 use Rattle.asl_exec.proofs.execution.Execution.step.Goals as goal
 
 pub apply-requires-clause-room : goal.apply-requires-clause-room

@@ -1,7 +1,7 @@
 use Rattle.std.proofs.Common.{refl, ◌∙◌}
 use Rattle.std.specs.Prelude.{codes, option_map}
-use Rattle.asl_states.proofs.Names.{named, lent}
-use Rattle.asl_states.specs.declared.target.Target.{Target}
+use Rattle.asl_parts.proofs.Names.{named, lent}
+use Rattle.asl_parts.specs.declared.target.Target.{Target}
 use Rattle.asl_json.specs.Data.{text}
 use Rattle.asl_states.specs.Show.{choice_members}
 use Rattle.asl_states.proofs.choice.Choice.default.Goals as goal

@@ -5,15 +5,15 @@ use Rattle.asl_schema.specs.declared.sort.Kind.TheVariants.{Choice as ChoiceKind
 use Rattle.asl_schema.specs.Members.{choice_rows}
 use Rattle.asl_members.specs.Readable.{IsPathOrNull}
 use Rattle.asl_members.proofs.Fitting.{path_or_null_fits}
-use Rattle.asl_states.specs.Built.{of_any_type}
+use Rattle.asl_parts.specs.Built.{of_any_type}
 use Rattle.asl_states.proofs.Canonical.{choice_shows}
-use Rattle.asl_states.proofs.Fits.{of_any, member_fits}
+use Rattle.asl_parts.proofs.Fits.{of_any, member_fits}
 use Rattle.std.specs.Prelude.{option_map}
 use Rattle.asl_json.specs.Data.{pairs}
 use Rattle.asl_json.specs.View.{data_of}
 use Rattle.asl_schema.specs.declared.sort.Sort.TheVariants.{Rules, Target}
 use Rattle.asl_schema.proofs.Required.{choice_rules}
-use Rattle.asl_states.proofs.Fits.{none_there, some_there, found_fits}
+use Rattle.asl_parts.proofs.Fits.{none_there, some_there, found_fits}
 use Rattle.asl_states.proofs.choice.Choice.read.Goals as goal
 
 pub unreachable-requires : goal.unreachable-requires

@@ -4,7 +4,7 @@ use Rattle.asl_json.specs.View.{data_of}
 use Rattle.asl_schema.specs.declared.sort.Sort.TheVariants.{Target}
 use Rattle.asl_schema.specs.Canon.{Named}
 use Rattle.asl_schema.specs.Clean.{IsThere}
-use Rattle.asl_members.specs.Rules.{IsRule, canonical_rule}
+use Rattle.asl_choice.specs.Rules.{IsRule, canonical_rule}
 use Rattle.std.specs.Prelude.{List}
 use Rattle.asl_states.proofs.Ruling.{rule_shows, is_rule, next_is_there}
 use Rattle.asl_states.proofs.choice.ChoiceRule.read.Goals as goal

@@ -2,8 +2,8 @@ use Rattle.std.proofs.Common.{ap, refl}
 use Rattle.asl_json.specs.View.{data_of}
 use Rattle.asl_schema.specs.declared.sort.Sort.TheVariants.{Rules}
 use Rattle.asl_members.proofs.Items.{clean_item}
-use Rattle.asl_states.specs.Parts.{choice_rule_objects}
-use Rattle.asl_states.proofs.Catching.{list_shows}
+use Rattle.asl_states.specs.Show.{choice_rule_objects}
+use Rattle.asl_parts.proofs.Catching.{list_shows}
 use Rattle.asl_states.proofs.choice.ChoiceRules.read.Goals as goal
 
 pub read-requires : goal.read-requires

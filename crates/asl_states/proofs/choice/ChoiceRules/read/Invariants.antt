@@ -3,7 +3,7 @@ use Rattle.std.specs.Prelude.{map}
 use Rattle.asl_json.specs.View.{items_of}
 use Rattle.asl_schema.specs.declared.sort.Sort.TheVariants.{Rule}
 use Rattle.asl_schema.specs.Canon.{canon}
-use Rattle.asl_states.specs.Parts.{choice_rule_objects}
+use Rattle.asl_states.specs.Show.{choice_rule_objects}
 use Rattle.asl_states.proofs.choice.ChoiceRules.read.Given as goal
 
 abbrev pub invariant-loop-value : goal.invariant-loop-value

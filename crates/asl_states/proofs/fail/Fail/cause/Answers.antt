@@ -1,7 +1,7 @@
 use Rattle.std.proofs.Common.{refl, ◌∙◌, ap}
 use Rattle.std.specs.Prelude.{codes}
-use Rattle.asl_states.proofs.Names.{named}
-use Rattle.asl_states.proofs.Owning.{copied}
+use Rattle.asl_parts.proofs.Names.{named}
+use Rattle.asl_parts.proofs.Owning.{copied}
 use Rattle.asl_states.specs.Show.{told, fail_members, told_at}
 use Rattle.asl_states.proofs.fail.Fail.cause.Goals as goal
 

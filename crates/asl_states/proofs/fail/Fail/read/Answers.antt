@@ -4,9 +4,9 @@ use Rattle.asl_json.specs.View.{data_of}
 use Rattle.asl_schema.specs.declared.sort.Sort.TheVariants.{Text, PathOrCall}
 use Rattle.asl_schema.specs.declared.sort.Kind.TheVariants.{Fail as FailKind}
 use Rattle.asl_schema.specs.Members.{fail_rows}
-use Rattle.asl_states.specs.Built.{of_any_type}
+use Rattle.asl_parts.specs.Built.{of_any_type}
 use Rattle.asl_states.proofs.Canonical.{fail_shows}
-use Rattle.asl_states.proofs.Fits.{of_any, found_fits, error_at_most, cause_at_most}
+use Rattle.asl_parts.proofs.Fits.{of_any, found_fits, error_at_most, cause_at_most}
 use Rattle.asl_states.proofs.fail.Fail.read.Goals as goal
 
 pub read-requires : goal.read-requires

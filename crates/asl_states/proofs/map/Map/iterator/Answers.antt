@@ -1,7 +1,8 @@
 use Rattle.std.proofs.Common.{refl}
 use Rattle.std.specs.Prelude.{codes, Some}
-use Rattle.asl_states.proofs.Names.{named}
-use Rattle.asl_states.specs.Show.{body_of, map_members}
+use Rattle.asl_parts.proofs.Names.{named}
+use Rattle.asl_parts.specs.Bodies.{body_of}
+use Rattle.asl_states.specs.Show.{map_members}
 use Rattle.asl_states.proofs.map.Map.iterator.Goals as goal
 
 pub returns : goal.returns

@@ -1,10 +1,10 @@
 use Rattle.std.proofs.Common.{[], ◌++◌, ◌∙◌, sym, ap}
 use Rattle.std.specs.Prelude.{Some, codes}
 use Rattle.asl_members.specs.Entries.{entries_of}
-use Rattle.asl_states.specs.Parts.{Slots, object}
-use Rattle.asl_states.specs.Show.{common_members, outcome_members}
-use Rattle.asl_states.proofs.Fits.{map_same}
-use Rattle.asl_states.proofs.Slots.{last_slot, more, if_ok}
+use Rattle.asl_parts.specs.Parts.{Slots, object}
+use Rattle.asl_parts.specs.Parts.{common_members, outcome_members}
+use Rattle.asl_parts.proofs.Fits.{map_same}
+use Rattle.asl_parts.proofs.Slots.{last_slot, more, if_ok}
 use Rattle.asl_states.proofs.map.Map.json.Goals as goal
 
 pub returns : goal.returns

@@ -1,7 +1,7 @@
 use Rattle.std.proofs.Common.{refl, ◌∙◌}
 use Rattle.std.specs.Prelude.{codes}
-use Rattle.asl_states.proofs.Names.{named}
-use Rattle.asl_states.proofs.Owning.{copied}
+use Rattle.asl_parts.proofs.Names.{named}
+use Rattle.asl_parts.proofs.Owning.{copied}
 use Rattle.asl_states.specs.Show.{map_members}
 use Rattle.asl_states.proofs.map.Map.parameters.Goals as goal
 

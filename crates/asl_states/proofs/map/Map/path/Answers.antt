@@ -3,8 +3,8 @@ use Rattle.std.specs.Prelude.{codes, option_map}
 use Rattle.asl_json.specs.Data.{text}
 use Rattle.asl_members.specs.Shown.{path_shown}
 use Rattle.asl_states.specs.Show.{map_members}
-use Rattle.asl_states.specs.Member.{path_names, path_of}
-use Rattle.asl_states.proofs.Owning.{own, not_own}
+use Rattle.asl_parts.specs.Member.{path_names, path_of}
+use Rattle.asl_parts.proofs.Owning.{own, not_own}
 use Rattle.asl_states.proofs.map.Map.path.Goals as goal
 
 pub returns-in-InputPath : goal.returns-in-InputPath

@@ -7,9 +7,9 @@ use Rattle.asl_schema.proofs.Templates.{is_template}
 use Rattle.asl_template.specs.Faults.{IsTemplate}
 use Rattle.asl_members.specs.Readable.{IsCount, IsPathOrNull, IsPathText}
 use Rattle.asl_members.proofs.Fitting.{from_zero_fits, path_fits, path_or_null_fits}
-use Rattle.asl_states.specs.Built.{of_any_type, has_outcome}
+use Rattle.asl_parts.specs.Built.{of_any_type, has_outcome}
 use Rattle.asl_states.proofs.Canonical.{map_shows}
-use Rattle.asl_states.proofs.Fits.{of_any, member_fits}
+use Rattle.asl_parts.proofs.Fits.{of_any, member_fits}
 use Rattle.asl_states.proofs.map.Map.read.Goals as goal
 
 pub read-requires : goal.read-requires

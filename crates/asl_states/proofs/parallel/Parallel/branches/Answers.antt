@@ -1,8 +1,9 @@
 use Rattle.std.proofs.Common.{refl}
 use Rattle.std.specs.Prelude.{codes, Some}
-use Rattle.asl_states.proofs.Names.{named}
+use Rattle.asl_parts.proofs.Names.{named}
 use Rattle.asl_json.specs.Data.{list, chain}
-use Rattle.asl_states.specs.Show.{bodies_of, parallel_members}
+use Rattle.asl_parts.specs.Bodies.{bodies_of}
+use Rattle.asl_states.specs.Show.{parallel_members}
 use Rattle.asl_states.proofs.parallel.Parallel.branches.Goals as goal
 
 pub returns : goal.returns

@@ -1,7 +1,8 @@
 use Rattle.std.proofs.Common.{refl}
-use Rattle.asl_states.specs.Show.{outcome_members, parallel_members}
-use Rattle.asl_states.specs.Member.{outcome_names}
-use Rattle.asl_states.proofs.Owning.{tied}
+use Rattle.asl_parts.specs.Parts.{outcome_members}
+use Rattle.asl_states.specs.Show.{parallel_members}
+use Rattle.asl_parts.specs.Member.{outcome_names}
+use Rattle.asl_parts.proofs.Owning.{tied}
 use Rattle.asl_states.proofs.parallel.Parallel.outcome.Goals as goal
 
 pub returns : goal.returns

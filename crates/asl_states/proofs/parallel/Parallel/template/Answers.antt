@@ -2,8 +2,8 @@ use Rattle.std.proofs.Common.{refl, [], ◌∷◌}
 use Rattle.std.specs.Prelude.{codes, Option}
 use Rattle.asl_json.specs.Data.{Data}
 use Rattle.asl_states.specs.Show.{parallel_members}
-use Rattle.asl_states.specs.Member.{template_names}
-use Rattle.asl_states.proofs.Owning.{own, not_own}
+use Rattle.asl_parts.specs.Member.{template_names}
+use Rattle.asl_parts.proofs.Owning.{own, not_own}
 use Rattle.asl_states.proofs.parallel.Parallel.template.Goals as goal
 
 pub returns-in-Parameters : goal.returns-in-Parameters

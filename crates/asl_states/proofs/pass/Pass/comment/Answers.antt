@@ -2,7 +2,7 @@ use Rattle.std.proofs.Common.{◌∙◌, refl}
 use Rattle.std.specs.Prelude.{codes, option_map}
 use Rattle.asl_json.specs.Data.{text}
 use Rattle.asl_states.specs.Show.{pass_members}
-use Rattle.asl_states.proofs.Names.{lent, named}
+use Rattle.asl_parts.proofs.Names.{lent, named}
 use Rattle.asl_states.proofs.pass.Pass.comment.Goals as goal
 
 pub returns : goal.returns

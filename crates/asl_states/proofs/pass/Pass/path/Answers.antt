@@ -2,8 +2,8 @@ use Rattle.std.proofs.Common.{◌≡◌, refl, [], ◌∷◌}
 use Rattle.std.specs.Prelude.{codes}
 use Rattle.asl_members.specs.Shown.{path_shown}
 use Rattle.asl_states.specs.Show.{pass_members}
-use Rattle.asl_states.specs.Member.{path_names, path_of}
-use Rattle.asl_states.proofs.Owning.{own, not_own}
+use Rattle.asl_parts.specs.Member.{path_names, path_of}
+use Rattle.asl_parts.proofs.Owning.{own, not_own}
 use Rattle.asl_states.proofs.pass.Pass.path.Goals as goal
 
 pub returns-in-InputPath : goal.returns-in-InputPath

@@ -8,9 +8,9 @@ use Rattle.asl_schema.proofs.Templates.{is_template}
 use Rattle.asl_template.specs.Faults.{IsTemplate}
 use Rattle.asl_members.specs.Readable.{IsPathOrNull}
 use Rattle.asl_members.proofs.Fitting.{path_or_null_fits, place_or_null_fits}
-use Rattle.asl_states.specs.Built.{of_any_type}
+use Rattle.asl_parts.specs.Built.{of_any_type}
 use Rattle.asl_states.proofs.Canonical.{pass_shows}
-use Rattle.asl_states.proofs.Fits.{of_any, member_fits}
+use Rattle.asl_parts.proofs.Fits.{of_any, member_fits}
 use Rattle.asl_states.proofs.pass.Pass.read.Goals as goal
 
 pub read-requires : goal.read-requires

@@ -9,8 +9,8 @@ use Rattle.asl_states.specs.declared.fail.Fail.{Fail as FailState}
 use Rattle.asl_states.specs.declared.state.State.{State}
 use Rattle.asl_states.specs.declared.state.State.TheVariants.{Choice, Wait, Succeed, Fail}
 use Rattle.asl_states.specs.Show.{state_members, state_of}
-use Rattle.asl_states.specs.Member.{template_names, template_member}
-use Rattle.asl_states.proofs.Owning.{lacks, not_own}
+use Rattle.asl_parts.specs.Member.{template_names, template_member}
+use Rattle.asl_parts.proofs.Owning.{lacks, not_own}
 use Rattle.asl_states.proofs.state.State.template.Goals as goal
 
 pub returns-in-Map : goal.returns-in-Map

@@ -5,9 +5,9 @@ use Rattle.asl_schema.specs.declared.sort.Kind.TheVariants.{Succeed as SucceedKi
 use Rattle.asl_schema.specs.Members.{succeed_rows}
 use Rattle.asl_members.specs.Readable.{IsPathOrNull}
 use Rattle.asl_members.proofs.Fitting.{path_or_null_fits}
-use Rattle.asl_states.specs.Built.{of_any_type}
+use Rattle.asl_parts.specs.Built.{of_any_type}
 use Rattle.asl_states.proofs.Canonical.{succeed_shows}
-use Rattle.asl_states.proofs.Fits.{of_any, member_fits}
+use Rattle.asl_parts.proofs.Fits.{of_any, member_fits}
 use Rattle.asl_states.proofs.succeed.Succeed.read.Goals as goal
 
 pub read-requires : goal.read-requires

@@ -1,6 +1,6 @@
 use Rattle.std.proofs.Common.{refl, ◌∙◌}
 use Rattle.std.specs.Prelude.{codes, option_map}
-use Rattle.asl_states.proofs.Names.{named, lent}
+use Rattle.asl_parts.proofs.Names.{named, lent}
 use Rattle.asl_json.specs.Data.{number}
 use Rattle.asl_states.specs.Show.{task_members}
 use Rattle.asl_states.proofs.task.Task.heartbeat.Goals as goal

@@ -1,10 +1,10 @@
 use Rattle.std.proofs.Common.{[], ◌++◌, ◌∙◌, sym, ap}
 use Rattle.std.specs.Prelude.{Some}
 use Rattle.asl_members.specs.Entries.{entries_of}
-use Rattle.asl_states.specs.Parts.{Slots, limits_members}
-use Rattle.asl_states.specs.Show.{outcome_members}
-use Rattle.asl_states.proofs.Fits.{map_same}
-use Rattle.asl_states.proofs.Slots.{last_slot, more}
+use Rattle.asl_parts.specs.Parts.{Slots, limits_members}
+use Rattle.asl_parts.specs.Parts.{outcome_members}
+use Rattle.asl_parts.proofs.Fits.{map_same}
+use Rattle.asl_parts.proofs.Slots.{last_slot, more}
 use Rattle.asl_states.proofs.task.Task.json.Goals as goal
 
 pub returns : goal.returns

@@ -7,14 +7,14 @@ use Rattle.asl_schema.proofs.Templates.{is_template}
 use Rattle.asl_template.specs.Faults.{IsTemplate}
 use Rattle.asl_members.specs.Readable.{IsPathOrNull}
 use Rattle.asl_members.proofs.Fitting.{path_or_null_fits, text_fits}
-use Rattle.asl_states.specs.Built.{of_any_type, has_outcome}
+use Rattle.asl_parts.specs.Built.{of_any_type, has_outcome}
 use Rattle.asl_states.proofs.Canonical.{task_shows}
-use Rattle.asl_states.proofs.Fits.{of_any, member_fits}
+use Rattle.asl_parts.proofs.Fits.{of_any, member_fits}
 use Rattle.std.specs.Prelude.{Some, option_map}
 use Rattle.asl_json.specs.Data.{pairs}
 use Rattle.asl_json.specs.View.{data_of}
 use Rattle.asl_schema.proofs.Required.{task_resource}
-use Rattle.asl_states.proofs.Fits.{none_there, some_there}
+use Rattle.asl_parts.proofs.Fits.{none_there, some_there}
 use Rattle.asl_states.proofs.task.Task.read.Goals as goal
 
 pub unreachable-requires : goal.unreachable-requires

@@ -1,6 +1,6 @@
 use Rattle.std.proofs.Common.{refl}
 use Rattle.std.specs.Prelude.{codes, Some}
-use Rattle.asl_states.proofs.Names.{named}
+use Rattle.asl_parts.proofs.Names.{named}
 use Rattle.asl_json.specs.Data.{text}
 use Rattle.asl_states.specs.Show.{task_members}
 use Rattle.asl_states.proofs.task.Task.resource.Goals as goal

@@ -5,7 +5,7 @@ use Rattle.asl_schema.specs.declared.sort.Sort.TheVariants.{FromZero, Path, Time
 use Rattle.asl_schema.specs.declared.sort.Kind.TheVariants.{Wait}
 use Rattle.asl_schema.specs.Members.{wait_rows}
 use Rattle.asl_members.proofs.Fitting.{from_zero_fits, path_fits, stamp_fits}
-use Rattle.asl_states.proofs.Fits.{wait_none, wait_nothing, clean_in}
+use Rattle.asl_parts.proofs.Fits.{wait_none, wait_nothing, clean_in}
 use Rattle.asl_states.proofs.wait.Delay.read.Goals as goal
 
 pub read-requires : goal.read-requires

@@ -1,0 +1,7 @@
+pub mod Names
+pub mod Picked
+pub mod Ruled
+pub mod Decided
+pub mod Shows
+pub mod Apart
+pub mod Within

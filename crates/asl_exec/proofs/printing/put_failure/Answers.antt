@@ -1,4 +1,0 @@
-use Rattle.asl_exec.proofs.printing.put_failure.Goals as goal
-
-pub returns : goal.returns
-returns c = rw c.in_ok-output.ensures at c.put_data.ensures

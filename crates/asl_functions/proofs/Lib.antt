@@ -1,0 +1,7 @@
+pub mod Converting
+pub mod Faulting
+pub mod Merging
+pub mod Marking
+pub mod Filling
+pub mod Counting
+pub mod Partitioning

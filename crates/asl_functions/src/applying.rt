@@ -1,0 +1,112 @@
+// Each function of the values of its arguments.
+ghost use Rattle.std.specs.Prelude.{◌≡◌, option_map};
+ghost use Rattle.asl_json.specs.View.{data_of};
+ghost use Rattle.asl_functions.specs.Gives.{Gives};
+ghost use Rattle.asl_functions.specs.Seen.{all_seen};
+ghost use Rattle.asl_functions.specs.Apply.{of_one as spec_one, of_two as spec_two, of_three as spec_three, by_count as spec_by_count, with_template as spec_template, apply as spec_apply};
+
+use crate::coding::{base64_decode, base64_encode, hash};
+use crate::fault::{EvalFault, Reason};
+use crate::format::format;
+use crate::function::Function;
+use crate::lists::{
+    array, array_contains, array_get_item, array_length, array_partition, array_unique,
+};
+use crate::merge::json_merge;
+use crate::range::array_range;
+use crate::split::string_split;
+use crate::texts::{json_to_string, math_add, string_to_json};
+use crate::value::Value;
+use asl_json::Json;
+use std::alloc::Global;
+
+/// A function of one value.
+fn of_one(alloc: Global, function: Function, one: &Json) -> Result<Json, EvalFault>
+    ensures { Gives data_of (spec_one function (data_of one.now)) result }
+{
+    match function {
+        Function::StringToJson => string_to_json(alloc, one),
+        Function::JsonToString => json_to_string(alloc, one),
+        Function::ArrayLength => array_length(alloc, one),
+        Function::ArrayUnique => array_unique(alloc, one),
+        Function::Base64Encode => base64_encode(alloc, one),
+        Function::Base64Decode => base64_decode(alloc, one),
+        _ => Err(EvalFault::Fails(Reason::Count)),
+    }
+}
+
+/// A function of two values.
+fn of_two(alloc: Global, function: Function, one: &Json, two: &Json) -> Result<Json, EvalFault>
+    ensures { Gives data_of (spec_two function (data_of one.now) (data_of two.now)) result }
+{
+    match function {
+        Function::ArrayPartition => array_partition(alloc, one, two),
+        Function::ArrayContains => array_contains(one, two),
+        Function::ArrayGetItem => array_get_item(alloc, one, two),
+        Function::Hash => hash(alloc, one, two),
+        Function::MathAdd => math_add(alloc, one, two),
+        Function::StringSplit => string_split(alloc, one, two),
+        _ => Err(EvalFault::Fails(Reason::Count)),
+    }
+}
+
+/// A function of three values.
+fn of_three(
+    alloc: Global,
+    function: Function,
+    one: &Json,
+    two: &Json,
+    three: &Json,
+) -> Result<Json, EvalFault>
+    ensures { Gives data_of (spec_three function (data_of one.now) (data_of two.now) (data_of three.now)) result }
+{
+    match function {
+        Function::ArrayRange => array_range(alloc, one, two, three),
+        Function::JsonMerge => json_merge(alloc, one, two, three),
+        _ => Err(EvalFault::Fails(Reason::Count)),
+    }
+}
+
+/// A function of so many values.
+fn by_count(alloc: Global, function: Function, values: &[Value<'_>]) -> Result<Json, EvalFault>
+    ensures { Gives data_of (spec_by_count function (all_seen values.now)) result }
+{
+    match values {
+        [one] => of_one(alloc, function, one.json()),
+        [one, two] => of_two(alloc, function, one.json(), two.json()),
+        [one, two, three] => of_three(alloc, function, one.json(), two.json(), three.json()),
+        _ => Err(EvalFault::Fails(Reason::Count)),
+    }
+}
+
+/// `States.Format` of a template and values.
+fn with_template(
+    alloc: Global,
+    written: Option<&str>,
+    values: &[Value<'_>],
+) -> Result<Json, EvalFault>
+    ensures { Gives data_of (spec_template (option_map (λ t. t.now) written.entry) (all_seen values.now)) result }
+{
+    match values {
+        [template, rest @ ..] => format(alloc, written, template.json(), rest),
+        [] => Err(EvalFault::Fails(Reason::Count)),
+    }
+}
+
+/// The value of a function of these values, with the first argument as it is written where it stands between apostrophes: `States.Format`
+/// reads its template from there. The fault is the function's own, or that memory ran out. (Amazon States Language, "Intrinsic
+/// Functions".)
+pub fn apply(
+    alloc: Global,
+    function: Function,
+    written: Option<&str>,
+    values: &[Value<'_>],
+) -> Result<Json, EvalFault>
+    ensures { Gives data_of (spec_apply function (option_map (λ t. t.now) written.entry) (all_seen values.now)) result }
+{
+    match function {
+        Function::Array => array(alloc, values),
+        Function::Format => with_template(alloc, written, values),
+        _ => by_count(alloc, function, values),
+    }
+}

@@ -1,0 +1,188 @@
+// The functions on lists.
+ghost use Rattle.std.specs.Prelude.{◌≡◌, ◌<◌, Ok, [], length, option_map, IfErr, OnOk};
+ghost use Rattle.std.specs.List.{list_any};
+ghost use Rattle.asl_json.specs.Meaning.{same as spec_same};
+ghost use Rattle.asl_json.specs.Data.{list as spec_list, chain};
+ghost use Rattle.asl_json.specs.View.{data_of, items_of};
+ghost use Rattle.asl_functions.specs.Gives.{Gives};
+ghost use Rattle.asl_functions.specs.Seen.{seen, all_seen};
+ghost use Rattle.asl_functions.specs.Outcome.{or_fails};
+ghost use Rattle.asl_functions.specs.Lists.{array as spec_array, array_contains as spec_contains, array_get_item as spec_get, array_length as spec_length, array_unique as spec_unique, array_partition as spec_partition, item_of, kept_with, first_ones as spec_first_ones, pieces as spec_pieces};
+ghost use Rattle.asl_functions.specs.declared.fault.Reason.TheVariants.{Range};
+ghost use Rattle.asl_functions.specs.Marks.{mark as spec_mark, IsApart, AreMarked};
+
+use crate::convert::{computed, list, number, whole};
+use crate::fault::{EvalFault, Reason};
+use crate::mark::mark;
+use crate::value::Value;
+use asl_json::{Items, Json, same};
+use std::alloc::Global;
+
+/// `States.Array`
+pub(crate) fn array(alloc: Global, values: &[Value<'_>]) -> Result<Json, EvalFault>
+    ensures { Gives data_of (spec_array (all_seen values.now)) result }
+{
+    let mut items = Vec::new(alloc);
+    for value in values {
+        items.push(value.copied(alloc)?)?;
+    }
+    Ok(Json::List(Items::of_values(items)))
+}
+
+/// Whether one of the items is the same as the value.
+fn is_among(items: &[Json], value: &Json) -> bool
+    ensures { result ≡ list_any (λ x. spec_same x (data_of value.now)) (items_of items.now) }
+{
+    for item in items {
+        if same(item, value) {
+            return true;
+        }
+    }
+    false
+}
+
+/// `States.ArrayContains`
+pub(crate) fn array_contains(items: &Json, value: &Json) -> Result<Json, EvalFault>
+    ensures { Gives data_of (spec_contains (data_of items.now) (data_of value.now)) result }
+{
+    let items = list(items)?;
+    Ok(Json::Bool(is_among(items, value)))
+}
+
+/// The item of this number.
+fn item(items: &[Json], index: i128) -> Option<&Json>
+    ensures { option_map (λ v. data_of v.now) result ≡ item_of (items_of items.now) index }
+{
+    let index = usize::try_from(index).ok()?;
+    items.get(index)
+}
+
+/// `States.ArrayGetItem`
+pub(crate) fn array_get_item(alloc: Global, items: &Json, index: &Json) -> Result<Json, EvalFault>
+    ensures { Gives data_of (spec_get (data_of items.now) (data_of index.now)) result }
+{
+    let items = list(items)?;
+    let index = whole(number(index)?)?;
+    match item(items, index) {
+        Some(item) => Ok(item.try_clone(alloc)?),
+        None => Err(EvalFault::Fails(Reason::Range)),
+    }
+}
+
+/// `States.ArrayLength`
+pub(crate) fn array_length(alloc: Global, items: &Json) -> Result<Json, EvalFault>
+    ensures { Gives data_of (spec_length (data_of items.now)) result }
+{
+    let items = list(items)?;
+    computed(alloc, items.len() as i128)
+}
+
+/// Whether two values of these marks are the same.
+#[tactic(auto, using(crate::proofs::Marking::unlike_marks))]
+fn is_like(kept: &Json, kept_mark: u64, item: &Json, item_mark: u64) -> bool
+    requires apart { IsApart (data_of kept.now) }
+    requires kept_mark { kept_mark ≡ spec_mark (data_of kept.now) }
+    requires item_mark { item_mark ≡ spec_mark (data_of item.now) }
+    ensures { result ≡ spec_same (data_of kept.now) (data_of item.now) }
+{
+    kept_mark == item_mark && same(kept, item)
+}
+
+/// Whether one of the items kept, which have these marks, is the same as the item.
+fn is_kept(kept: &[Json], marks: &[u64], item: &Json, item_mark: u64) -> bool
+    requires kept { AreMarked marks.now (items_of kept.now) }
+    requires item { item_mark ≡ spec_mark (data_of item.now) }
+    ensures { result ≡ list_any (λ x. spec_same x (data_of item.now)) (items_of kept.now) }
+{
+    for (i, one) in kept.iter().enumerate() {
+        if is_like(one, marks[i], item, item_mark) {
+            return true;
+        }
+    }
+    false
+}
+
+/// Keeps a copy of the item behind these, which have these marks, where it is the same as none of them.
+fn keep(
+    alloc: Global,
+    kept: &mut Vec<Json>,
+    marks: &mut Vec<u64>,
+    item: &Json,
+) -> Result<(), EvalFault>
+    requires { AreMarked marks.old.items (items_of kept.old.items) }
+    ensures kept { OnOk result (items_of kept.new.items ≡ kept_with (items_of kept.old.items) (data_of item.now)) }
+    ensures marks { OnOk result (AreMarked marks.new.items (items_of kept.new.items)) }
+    ensures memory { IfErr result (λ e. e ≡ EvalFault.OutOfMemory) }
+{
+    let item_mark = mark(item);
+    if !is_kept(kept, marks, item, item_mark) {
+        kept.push(item.try_clone(alloc)?)?;
+        marks.push(item_mark)?;
+    }
+    Ok(())
+}
+
+/// The items that are the same as none of those kept before them.
+fn first_ones(alloc: Global, items: &[Json]) -> Result<Vec<Json>, EvalFault>
+    ensures { Gives (λ v. items_of v.items) (Ok (spec_first_ones [] (items_of items.now))) result }
+{
+    let mut kept = Vec::new(alloc);
+    let mut marks = Vec::new(alloc);
+    for item in items {
+        keep(alloc, &mut kept, &mut marks, item)?;
+    }
+    Ok(kept)
+}
+
+/// `States.ArrayUnique`
+pub(crate) fn array_unique(alloc: Global, items: &Json) -> Result<Json, EvalFault>
+    ensures { Gives data_of (spec_unique (data_of items.now)) result }
+{
+    let items = list(items)?;
+    Ok(Json::List(Items::of_values(first_ones(alloc, items)?)))
+}
+
+/// Copies of the items.
+fn copies(alloc: Global, items: &[Json]) -> Result<Vec<Json>, EvalFault>
+    ensures { Gives (λ v. items_of v.items) (Ok (items_of items.now)) result }
+{
+    let mut copied = Vec::new(alloc);
+    for item in items {
+        copied.push(item.try_clone(alloc)?)?;
+    }
+    Ok(copied)
+}
+
+/// A list of copies of the items.
+fn piece(alloc: Global, items: &[Json]) -> Result<Json, EvalFault>
+    ensures { Gives data_of (Ok (spec_list (chain (items_of items.now)))) result }
+{
+    Ok(Json::List(Items::of_values(copies(alloc, items)?)))
+}
+
+/// Pieces of so many items.
+fn pieces(alloc: Global, items: &[Json], size: usize) -> Result<Vec<Json>, EvalFault>
+    requires { 0 < size }
+    ensures { Gives (λ v. items_of v.items) (Ok (spec_pieces (length items.now) size (items_of items.now))) result }
+{
+    let mut pieces = Vec::new(alloc);
+    let mut rest = items;
+    while rest.len() > 0 {
+        let (front, behind) = rest.split_at(size.min(rest.len()));
+        pieces.push(piece(alloc, front)?)?;
+        rest = behind;
+    }
+    Ok(pieces)
+}
+
+/// `States.ArrayPartition`
+pub(crate) fn array_partition(alloc: Global, items: &Json, size: &Json) -> Result<Json, EvalFault>
+    ensures { Gives data_of (spec_partition (data_of items.now) (data_of size.now)) result }
+{
+    let items = list(items)?;
+    let size = whole(number(size)?)?;
+    if size < 1 {
+        return Err(EvalFault::Fails(Reason::Range));
+    }
+    Ok(Json::List(Items::of_values(pieces(alloc, items, size as usize)?)))
+}

@@ -1,0 +1,19 @@
+use Rattle.std.proofs.Common.{ap, sym, subst, ◌∙◌}
+use Rattle.std.specs.Prelude.{is_some}
+use Rattle.asl_judge.specs.Spots.{spot_of}
+use Rattle.asl_schema.specs.Claims.{text_demands}
+use Rattle.asl_schema.specs.First.{Judges}
+use Rattle.asl_judge.proofs.Answering.{supported_judged, named_judged}
+use Rattle.asl_judge.proofs.value.text_fault.Goals as goal
+
+pub returns-in-KindName : goal.returns-in-KindName
+returns-in-KindName c = subst (λ s. Judges (text_demands (spot_of c.args.spot) s c.args.text.now) c.unless.result) (sym c.in-KindName.is) (supported_judged _ c.is_some.result c.unless.result (c.is_some.ensures ∙ ap is_some c.kind_of.ensures) c.unless.ensures)
+
+pub returns-in-Version : goal.returns-in-Version
+returns-in-Version c = subst (λ s. Judges (text_demands (spot_of c.args.spot) s c.args.text.now) c.unless-in-Version.result) (sym c.in-Version.is) (supported_judged _ c.eq.result c.unless-in-Version.result c.eq.ensures c.unless-in-Version.ensures)
+
+pub returns-in-QueryLanguage : goal.returns-in-QueryLanguage
+returns-in-QueryLanguage c = subst (λ s. Judges (text_demands (spot_of c.args.spot) s c.args.text.now) c.unless-in-QueryLanguage.result) (sym c.in-QueryLanguage.is) (supported_judged _ c.eq-in-QueryLanguage.result c.unless-in-QueryLanguage.result c.eq-in-QueryLanguage.ensures c.unless-in-QueryLanguage.ensures)
+
+pub returns-in-Target : goal.returns-in-Target
+returns-in-Target c = subst (λ s. Judges (text_demands (spot_of c.args.spot) s c.args.text.now) c.unless-in-Target.result) (sym c.in-Target.is) (named_judged _ c.contains.result c.unless-in-Target.result c.contains.ensures c.unless-in-Target.ensures)

@@ -1,0 +1,3 @@
+pub mod Spots
+pub mod Keys
+pub mod Laws

@@ -1,0 +1,15 @@
+// Laws of the canonical form: each is a contract, over every value.
+ghost use Rattle.asl_judge.specs.Laws.{CanonicalIsAccepted, CanonicalStays, CanonicalIsNoLonger, CanonicalIsNoDeeper, CanonicalKeysDiffer};
+
+/// What the canonical form of a definition keeps.
+pub fn the_canonical_form_is_accepted()
+    // That of a definition without faults has none.
+    ensures accepted { CanonicalIsAccepted }
+    // It is its own canonical form.
+    ensures stays { CanonicalStays }
+    // Its text is no longer, and it is no deeper.
+    ensures no_longer { CanonicalIsNoLonger }
+    ensures no_deeper { CanonicalIsNoDeeper }
+    // No object in it has a key twice.
+    ensures keys { CanonicalKeysDiffer }
+{}

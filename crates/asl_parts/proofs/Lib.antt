@@ -1,0 +1,6 @@
+pub mod Fits
+pub mod Heads
+pub mod Catching
+pub mod Names
+pub mod Slots
+pub mod Owning

@@ -1,0 +1,48 @@
+// What only the outermost machine has.
+ghost use Rattle.std.specs.Prelude.{◌≡◌, IfOk, codes, option_map};
+ghost use Rattle.asl_json.specs.Data.{number, text, dict, pairs};
+ghost use Rattle.asl_json.specs.Meaning.{value_at};
+ghost use Rattle.asl_schema.specs.declared.sort.Sort.TheVariants.{Definition};
+ghost use Rattle.asl_schema.specs.Clean.{IsClean};
+
+use asl_json::{Members, Txt};
+use asl_members::{Count, clone_optional, read_optional};
+use std::alloc::{AllocError, Global};
+
+/// The members that only the outermost machine may have. (Amazon States Language, "Top-level fields".)
+#[derive(Drop)]
+pub struct Heading {
+    /// `QueryLanguage`: `JSONPath`, where it is there.
+    pub query_language: Option<Txt>,
+    /// `Version`.
+    pub version: Option<Txt>,
+    /// `TimeoutSeconds`.
+    pub timeout: Option<Count>,
+}
+
+impl Heading {
+    /// Compiles these members of a definition without faults. The error is that memory ran out.
+    pub fn read(alloc: Global, members: &Members) -> Result<Heading, AllocError>
+        requires { IsClean Definition (dict (pairs members.now)) }
+        ensures language { IfOk result (λ h. option_map text h.query_language ≡ value_at (codes "QueryLanguage") (pairs members.now)) }
+        ensures version { IfOk result (λ h. option_map text h.version ≡ value_at (codes "Version") (pairs members.now)) }
+        ensures timeout { IfOk result (λ h. option_map number h.timeout ≡ value_at (codes "TimeoutSeconds") (pairs members.now)) }
+    {
+        Ok(Heading {
+            query_language: read_optional(alloc, members.find("QueryLanguage"))?,
+            version: read_optional(alloc, members.find("Version"))?,
+            timeout: read_optional(alloc, members.find("TimeoutSeconds"))?,
+        })
+    }
+
+    /// A copy of its own, equal to it. The error is that memory ran out.
+    pub fn try_clone(&self, alloc: Global) -> Result<Heading, AllocError>
+        ensures { IfOk result (λ h. h ≡ self.now) }
+    {
+        Ok(Heading {
+            query_language: clone_optional(alloc, &self.query_language)?,
+            version: clone_optional(alloc, &self.version)?,
+            timeout: clone_optional(alloc, &self.timeout)?,
+        })
+    }
+}

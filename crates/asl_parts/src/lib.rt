@@ -1,0 +1,24 @@
+//! What states of several types have, compiled from a definition without faults.
+//!
+//! Modules in reading order: `target`, `catcher`, `common`, `limits` and `outcome` are parts of states; `body` is a machine inside
+//! a state, `heading` what only the outermost machine has, and `entries` makes members. `specs/Parts.antt` and `specs/Bodies.antt`
+//! say what each shows.
+#![tactic(auto)]
+
+mod body;
+mod catcher;
+mod common;
+mod entries;
+mod heading;
+mod limits;
+mod outcome;
+mod target;
+
+pub use body::{Bodies, Body};
+pub use catcher::{Catcher, Catchers};
+pub use common::Common;
+pub use entries::{and, entry, joined};
+pub use heading::Heading;
+pub use limits::Limits;
+pub use outcome::Outcome;
+pub use target::{Next, Target};

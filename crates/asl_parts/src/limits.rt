@@ -1,0 +1,71 @@
+// How long a Task state may take.
+ghost use Rattle.std.specs.Prelude.{◌≡◌, ◌++◌, IfOk, codes, option_map};
+ghost use Rattle.asl_json.specs.Data.{number, text, pairs};
+ghost use Rattle.asl_json.specs.Meaning.{value_at};
+ghost use Rattle.asl_schema.specs.declared.sort.Kind.TheVariants.{Task as task_kind};
+ghost use Rattle.asl_members.specs.Entries.{entries_of};
+ghost use Rattle.asl_parts.specs.Built.{IsOfKind};
+ghost use Rattle.asl_parts.specs.Parts.{limits_members};
+
+use crate::entries::and;
+use asl_json::Members;
+use asl_members::{Count, Entry, clone_optional, json_optional, read_optional};
+use asl_path::RefPath;
+use std::alloc::{AllocError, Global};
+
+/// How long a Task state may take, and between two heartbeats, each in seconds or by a path. (Amazon States Language, "Task State".)
+#[derive(Drop)]
+pub struct Limits {
+    /// `TimeoutSeconds`.
+    pub timeout: Option<Count>,
+    /// `TimeoutSecondsPath`.
+    pub timeout_path: Option<RefPath>,
+    /// `HeartbeatSeconds`.
+    pub heartbeat: Option<Count>,
+    /// `HeartbeatSecondsPath`.
+    pub heartbeat_path: Option<RefPath>,
+}
+
+impl Limits {
+    /// Compiles these members of a Task state without faults. The error is that memory ran out.
+    pub fn read(alloc: Global, members: &Members) -> Result<Limits, AllocError>
+        requires { IsOfKind task_kind members.now }
+        ensures timeout { IfOk result (λ l. option_map number l.timeout ≡ value_at (codes "TimeoutSeconds") (pairs members.now)) }
+        ensures timeout_path { IfOk result (λ l. option_map text l.timeout_path ≡ value_at (codes "TimeoutSecondsPath") (pairs members.now)) }
+        ensures heartbeat { IfOk result (λ l. option_map number l.heartbeat ≡ value_at (codes "HeartbeatSeconds") (pairs members.now)) }
+        ensures heartbeat_path { IfOk result (λ l. option_map text l.heartbeat_path ≡ value_at (codes "HeartbeatSecondsPath") (pairs members.now)) }
+    {
+        Ok(Limits {
+            timeout: read_optional(alloc, members.find("TimeoutSeconds"))?,
+            timeout_path: read_optional(alloc, members.find("TimeoutSecondsPath"))?,
+            heartbeat: read_optional(alloc, members.find("HeartbeatSeconds"))?,
+            heartbeat_path: read_optional(alloc, members.find("HeartbeatSecondsPath"))?,
+        })
+    }
+
+    /// Its members, behind these. The error is that memory ran out.
+    pub fn entries(&self, alloc: Global, before: Vec<Entry>) -> Result<Vec<Entry>, AllocError>
+        ensures { IfOk result (λ es. entries_of es.items ≡ entries_of before.items ++ limits_members self.now) }
+    {
+        let timeout = json_optional(alloc, &self.timeout)?;
+        let own = and(before, "TimeoutSeconds", timeout)?;
+        let timeout_path = json_optional(alloc, &self.timeout_path)?;
+        let own = and(own, "TimeoutSecondsPath", timeout_path)?;
+        let heartbeat = json_optional(alloc, &self.heartbeat)?;
+        let own = and(own, "HeartbeatSeconds", heartbeat)?;
+        let heartbeat_path = json_optional(alloc, &self.heartbeat_path)?;
+        and(own, "HeartbeatSecondsPath", heartbeat_path)
+    }
+
+    /// A copy of its own, equal to it. The error is that memory ran out.
+    pub fn try_clone(&self, alloc: Global) -> Result<Limits, AllocError>
+        ensures { IfOk result (λ l. l ≡ self.now) }
+    {
+        Ok(Limits {
+            timeout: clone_optional(alloc, &self.timeout)?,
+            timeout_path: clone_optional(alloc, &self.timeout_path)?,
+            heartbeat: clone_optional(alloc, &self.heartbeat)?,
+            heartbeat_path: clone_optional(alloc, &self.heartbeat_path)?,
+        })
+    }
+}

@@ -1,0 +1,127 @@
+// What becomes of a result or an error.
+ghost use Rattle.std.specs.Prelude.{◌≡◌, ◌++◌, IfOk, codes, option_map};
+ghost use Rattle.asl_json.specs.Data.{pairs, list, chain};
+ghost use Rattle.asl_parts.specs.Built.{IsOfAny, IsOutcome, has_outcome};
+ghost use Rattle.asl_members.specs.Entries.{entries_of};
+ghost use Rattle.asl_parts.specs.Parts.{outcome_members};
+ghost use Rattle.asl_json.specs.Meaning.{value_in};
+ghost use Rattle.asl_members.specs.Shown.{path_shown};
+ghost use Rattle.asl_parts.specs.Parts.{next_shown, end_shown};
+ghost use Rattle.asl_parts.specs.Member.{outcome_object};
+
+use crate::catcher::Catchers;
+use crate::entries::and;
+use crate::target::Next;
+use asl_json::Members;
+use asl_members::{Entry, PathField, Retriers, clone_optional, json_optional, read_optional};
+use asl_template::Template;
+use std::alloc::{AllocError, Global};
+
+/// What becomes of the result or the error of a Task, Parallel or Map state. (Amazon States Language, "Input and Output
+/// Processing", "Errors".)
+#[derive(Drop)]
+pub struct Outcome {
+    /// `ResultSelector`.
+    pub result_selector: Option<Template>,
+    /// `ResultPath`.
+    pub result_path: PathField,
+    /// `OutputPath`.
+    pub output_path: PathField,
+    /// `Retry`.
+    pub retry: Option<Retriers>,
+    /// `Catch`.
+    pub catch: Option<Catchers>,
+    /// `Next` or `"End": true`.
+    pub next: Next,
+}
+
+impl Outcome {
+    /// `ResultSelector`.
+    pub fn result_selector(&self) -> Option<&Template>
+        ensures { option_map (λ x. x.now) result ≡ value_in (codes "ResultSelector") (outcome_object self.now) }
+    {
+        self.result_selector.as_ref()
+    }
+
+    /// `ResultPath`.
+    pub fn result_path(&self) -> &PathField
+        ensures { path_shown result.now ≡ value_in (codes "ResultPath") (outcome_object self.now) }
+    {
+        &self.result_path
+    }
+
+    /// `OutputPath`.
+    pub fn output_path(&self) -> &PathField
+        ensures { path_shown result.now ≡ value_in (codes "OutputPath") (outcome_object self.now) }
+    {
+        &self.output_path
+    }
+
+    /// `Retry`.
+    pub fn retry(&self) -> Option<&Retriers>
+        ensures { option_map (λ x. list (chain x.now)) result ≡ value_in (codes "Retry") (outcome_object self.now) }
+    {
+        self.retry.as_ref()
+    }
+
+    /// `Catch`.
+    pub fn catch(&self) -> Option<&Catchers>
+        ensures { option_map (λ x. list (chain x.now)) result ≡ value_in (codes "Catch") (outcome_object self.now) }
+    {
+        self.catch.as_ref()
+    }
+
+    /// `Next` or `"End": true`.
+    pub fn next(&self) -> &Next
+        ensures next { next_shown result.now ≡ value_in (codes "Next") (outcome_object self.now) }
+        ensures end { end_shown result.now ≡ value_in (codes "End") (outcome_object self.now) }
+    {
+        &self.next
+    }
+
+    /// Compiles these members of a state without faults. The error is that memory ran out.
+    pub fn read(alloc: Global, members: &Members) -> Result<Outcome, AllocError>
+        requires { IsOfAny has_outcome members.now }
+        ensures { IfOk result (λ o. IsOutcome (pairs members.now) o) }
+    {
+        Ok(Outcome {
+            result_selector: read_optional(alloc, members.find("ResultSelector"))?,
+            result_path: PathField::read(alloc, members.find("ResultPath"))?,
+            output_path: PathField::read(alloc, members.find("OutputPath"))?,
+            retry: Retriers::read_optional(alloc, members.find("Retry"))?,
+            catch: Catchers::read_optional(alloc, members.find("Catch"))?,
+            next: Next::read(alloc, members)?,
+        })
+    }
+
+    /// Its members, behind these. The error is that memory ran out.
+    pub fn entries(&self, alloc: Global, before: Vec<Entry>) -> Result<Vec<Entry>, AllocError>
+        ensures { IfOk result (λ es. entries_of es.items ≡ entries_of before.items ++ outcome_members self.now) }
+    {
+        let result_selector = json_optional(alloc, &self.result_selector)?;
+        let own = and(before, "ResultSelector", result_selector)?;
+        let result_path = self.result_path.json(alloc)?;
+        let own = and(own, "ResultPath", result_path)?;
+        let output_path = self.output_path.json(alloc)?;
+        let own = and(own, "OutputPath", output_path)?;
+        let retry = json_optional(alloc, &self.retry)?;
+        let own = and(own, "Retry", retry)?;
+        let catch = json_optional(alloc, &self.catch)?;
+        let own = and(own, "Catch", catch)?;
+        self.next.entries(alloc, own)
+    }
+
+    /// A copy of its own, equal to it. The error is that memory ran out.
+    pub fn try_clone(&self, alloc: Global) -> Result<Outcome, AllocError>
+        ensures { IfOk result (λ o. o ≡ self.now) }
+    {
+        Ok(Outcome {
+            result_selector: clone_optional(alloc, &self.result_selector)?,
+            result_path: self.result_path.try_clone(alloc)?,
+            output_path: self.output_path.try_clone(alloc)?,
+            retry: clone_optional(alloc, &self.retry)?,
+            catch: clone_optional(alloc, &self.catch)?,
+            next: self.next.try_clone(alloc)?,
+        })
+    }
+}

@@ -1,0 +1,5 @@
+pub mod World
+pub mod Refusals
+pub mod Order
+pub mod Rebuilds
+pub mod Lines

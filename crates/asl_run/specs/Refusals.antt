@@ -1,0 +1,60 @@
+-- When a step is refused, and the world before the first step.
+use Rattle.std.specs.Prelude.{ℕ, Bool, not, ◌&&◌, List, [], ◌∷◌, max, length, nat_lt, if◌then◌else◌, Option, Some, None, replicate}
+use Rattle.std.specs.List.{list_any, list_all}
+use Rattle.asl_json.specs.declared.value.Json.{Json}
+use Rattle.asl_history.specs.Events.{event_after}
+use Rattle.asl_history.specs.Places.{is_beside}
+use Rattle.asl_history.specs.declared.kind.EventKind.TheVariants.{ExecutionStarted}
+use Rattle.asl_kinds.specs.declared.record.Record.{Record}
+use Rattle.asl_kinds.specs.declared.record.Record.TheVariants.{New, Ready, Pausing, Again, Forked, Done, Failed}
+use Rattle.asl_run.specs.declared.branch.Branch.{Branch}
+use Rattle.asl_run.specs.declared.outcome.Outcome.TheVariants.{Running}
+use Rattle.asl_run.specs.declared.refusal.Refusal.{Refusal}
+use Rattle.asl_run.specs.declared.refusal.Refusal.TheVariants.{Over, NoSuchPlace, Stopped, Finished, Busy, NotYet, HistoryFull}
+use Rattle.asl_run.specs.World.{World, record_at, children_at, is_failed, is_done, is_over}
+
+-- ---- when a step is refused
+
+-- a sibling of the place, or of a place above it, has failed
+abbrev pub is_stopped : List ℕ → List Branch → Bool
+is_stopped p bs = list_any (λ b. is_failed b.current && is_beside p b.place) bs
+
+-- no child has failed, and some child is not done
+abbrev pub is_busy : List Record → Bool
+is_busy rs = not (list_any is_failed rs) && not (list_all is_done rs)
+
+-- there is no room for a step's events
+abbrev pub refusal_if_full : World → Option Refusal
+refusal_if_full w = if nat_lt 24992 (length w.events) then Some HistoryFull else None
+
+abbrev pub refusal_before : ℕ → ℕ → World → Option Refusal
+refusal_before until now w = if nat_lt now until then Some (NotYet until) else refusal_if_full w
+
+abbrev pub refusal_by : World → List ℕ → ℕ → Record → Option Refusal
+refusal_by w p now (New n x) = refusal_if_full w
+refusal_by w p now (Ready n x) = refusal_if_full w
+refusal_by w p now (Pausing n x since until) = refusal_before until now w
+refusal_by w p now (Again n x since uses until) = refusal_before until now w
+refusal_by w p now (Forked n x since uses items) = if is_busy (children_at p w.branches) then Some Busy else refusal_if_full w
+refusal_by w p now (Done x) = Some Finished
+refusal_by w p now (Failed e) = Some Finished
+
+abbrev pub refusal_at : World → List ℕ → ℕ → Option Record → Option Refusal
+refusal_at w p now None = Some NoSuchPlace
+refusal_at w p now (Some r) = if is_stopped p w.branches then Some Stopped else refusal_by w p now r
+
+-- why a step at a place, handed this moment, is refused: the first reason that applies
+unfoldable pub refusal_of : World → List ℕ → ℕ → Option Refusal
+refusal_of w p t = if is_over w.outcome then Some Over else refusal_at w p (max w.last t) (record_at p w.branches)
+
+-- ---- before the first step
+
+-- the world before the first step, of a machine with so many states that starts at this one
+abbrev pub opening_at : ℕ → List ℕ → Json → ℕ → World
+opening_at states start input moment = record {
+  branches = record { place = []; current = Ready start input } ∷ [];
+  counts = replicate states 0;
+  events = event_after [] moment ExecutionStarted [] [] input ∷ [];
+  last = moment;
+  outcome = Running;
+}

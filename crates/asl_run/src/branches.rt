@@ -1,0 +1,96 @@
+// What is read of branches.
+ghost use Rattle.std.specs.Prelude.{◌≡◌, ◌++◌, map, option_map, IfOk};
+ghost use Rattle.std.specs.Option.{option_copied};
+ghost use Rattle.asl_run.specs.World.{record_at, children_at, is_failed, is_done, state_in};
+ghost use Rattle.asl_run.specs.Refusals.{is_stopped, is_busy};
+
+use crate::branch::Branch;
+use asl_history::Place;
+use asl_json::Txt;
+use asl_kinds::record::Record;
+use std::alloc::{AllocError, Global};
+
+/// What the branch at a place is doing.
+pub(crate) fn record_at<'a>(branches: &'a [Branch], place: &Place) -> Option<&'a Record>
+    ensures { option_copied result ≡ record_at place.now branches.now }
+{
+    for branch in branches {
+        if *place == branch.place {
+            return Some(&branch.current);
+        }
+    }
+    None
+}
+
+/// What the branches directly under a place are doing, in order.
+pub(crate) fn children_at<'a>(
+    alloc: Global,
+    branches: &'a [Branch],
+    place: &Place,
+) -> Result<Vec<&'a Record>, AllocError>
+    ensures { IfOk result (λ v. map (λ r. r.now) v.items ≡ children_at place.now branches.now) }
+{
+    let mut children = Vec::new(alloc);
+    for branch in branches {
+        if place.is_parent_of(&branch.place) {
+            children.push(&branch.current)?;
+        }
+    }
+    Ok(children)
+}
+
+fn is_failed(current: &Record) -> bool
+    ensures { result ≡ is_failed current.now }
+{
+    matches!(current, Record::Failed(_))
+}
+
+fn is_done(current: &Record) -> bool
+    ensures { result ≡ is_done current.now }
+{
+    matches!(current, Record::Done(_))
+}
+
+/// The name of the state that a branch is in; none where it has ended.
+pub fn state_in(current: &Record) -> Option<&Txt>
+    ensures { option_map (λ n. n.now) result ≡ state_in current.now }
+{
+    match current {
+        Record::New(state, _)
+        | Record::Ready(state, _)
+        | Record::Pausing(state, ..)
+        | Record::Again(state, ..)
+        | Record::Forked(state, ..) => Some(state),
+        Record::Done(_) | Record::Failed(_) => None,
+    }
+}
+
+/// Whether a sibling of the place, or of a place above it, has failed.
+pub(crate) fn is_stopped(branches: &[Branch], place: &Place) -> bool
+    ensures { result ≡ is_stopped place.now branches.now }
+{
+    for branch in branches {
+        if is_failed(&branch.current) && place.is_beside(&branch.place) {
+            return true;
+        }
+    }
+    false
+}
+
+/// Whether no child has failed, and some child is not done.
+pub(crate) fn is_busy(branches: &[Branch], place: &Place) -> bool
+    ensures { result ≡ is_busy (children_at place.now branches.now) }
+{
+    let mut waits = false;
+    for branch in branches {
+        if place.is_parent_of(&branch.place) {
+            if is_failed(&branch.current) {
+                return false;
+            }
+            if !is_done(&branch.current) {
+                waits = true;
+            }
+        }
+    }
+    waits
+}
