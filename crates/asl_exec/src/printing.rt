@@ -41,16 +41,17 @@ impl Execution {
         Ok(())
     }
 
-    /// Takes steps in order: the text of them, of the history and of the status. The error is that memory ran out.
-    fn print(&mut self, steps: &[StepAt]) -> Result<String, AllocError>
-        ensures text { IfOk result (λ t. string_bytes t
+    /// Takes steps in order: the text of them, of the history and of the status, and whether the execution has succeeded then. The
+    /// error is that memory ran out.
+    fn print(&mut self, steps: &[StepAt]) -> Result<(String, bool), AllocError>
+        ensures text { IfOk result (λ r. string_bytes r.0
             ≡ step_lines (setup_of self.old).machine (world_of self.old) steps.now ++ end_text (world_after (setup_of self.old).machine (world_of self.old) steps.now)) }
-        ensures world { OnOk result (world_of self.new ≡ world_after (setup_of self.old).machine (world_of self.old) steps.now) }
+        ensures good { IfOk result (λ r. r.1 ≡ is_success (world_after (setup_of self.old).machine (world_of self.old) steps.now).outcome) }
     {
         let mut text = String::new(self.alloc());
         self.put_steps(&mut text, steps)?;
         put_end(self.alloc(), &mut text, self.run())?;
-        Ok(text)
+        Ok((text, is_success(self.outcome())))
     }
 }
 
@@ -65,6 +66,7 @@ pub(crate) fn run(
     ensures good { IfOk result (λ r. r.1 ≡ is_success (world_after setup.machine (opening setup) steps.now).outcome) }
 {
     let mut execution = Execution::open(alloc, setup)?;
-    let text = execution.print(steps)?;
-    Ok((text, is_success(execution.outcome())))
+    let printed = execution.print(steps);
+    drop(execution);
+    printed
 }

@@ -9,11 +9,12 @@ ghost use Rattle.asl_parts.specs.Parts.{catcher_object, catcher_objects};
 ghost use Rattle.asl_json.specs.Meaning.{value_in};
 ghost use Rattle.asl_members.specs.Shown.{path_shown, names_shown};
 
+use crate::entries::{and, with, with_optional, with_path};
 use crate::target::Target;
 use asl_json::{Json, Txt};
 use asl_members::{
-    Compile, Compiled, Entry, ErrorNames, PathField, clone_all, clone_optional, json_all,
-    json_optional, object, read_optional,
+    Compile, Compiled, ErrorNames, PathField, clone_all, clone_optional, json_all, object,
+    read_optional,
 };
 use std::alloc::{AllocError, Global};
 use std::marker::Model;
@@ -100,28 +101,11 @@ impl Compiled for Catcher {
     }
 
     fn json(&self, alloc: Global) -> Result<Json, AllocError> {
-        let comment = json_optional(alloc, &self.comment)?;
-        let errors = self.errors.json(alloc)?;
-        let result_path = self.result_path.json(alloc)?;
+        let entries = with_optional(alloc, Vec::new(alloc), "Comment", &self.comment)?;
+        let entries = with(alloc, entries, "ErrorEquals", &self.errors)?;
+        let entries = with_path(alloc, entries, "ResultPath", &self.result_path)?;
         let next = self.next.json(alloc)?;
-        let entries = vec![in alloc;
-            Entry {
-                name: "Comment",
-                value: comment,
-            },
-            Entry {
-                name: "ErrorEquals",
-                value: Some(errors),
-            },
-            Entry {
-                name: "ResultPath",
-                value: result_path,
-            },
-            Entry {
-                name: "Next",
-                value: Some(next),
-            },
-        ]?;
+        let entries = and(entries, "Next", Some(next))?;
         object(alloc, entries)
     }
 }

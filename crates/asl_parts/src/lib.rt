@@ -17,7 +17,7 @@ mod target;
 pub use body::{Bodies, Body};
 pub use catcher::{Catcher, Catchers};
 pub use common::Common;
-pub use entries::{and, entry, joined};
+pub use entries::{and, entry, joined, with, with_optional, with_path};
 pub use heading::Heading;
 pub use limits::Limits;
 pub use outcome::Outcome;

@@ -7,9 +7,9 @@ ghost use Rattle.asl_members.specs.Entries.{entries_of};
 ghost use Rattle.asl_parts.specs.Built.{IsOfKind};
 ghost use Rattle.asl_parts.specs.Parts.{limits_members};
 
-use crate::entries::and;
+use crate::entries::with_optional;
 use asl_json::Members;
-use asl_members::{Count, Entry, clone_optional, json_optional, read_optional};
+use asl_members::{Count, Entry, clone_optional, read_optional};
 use asl_path::RefPath;
 use std::alloc::{AllocError, Global};
 
@@ -47,14 +47,10 @@ impl Limits {
     pub fn entries(&self, alloc: Global, before: Vec<Entry>) -> Result<Vec<Entry>, AllocError>
         ensures { IfOk result (λ es. entries_of es.items ≡ entries_of before.items ++ limits_members self.now) }
     {
-        let timeout = json_optional(alloc, &self.timeout)?;
-        let own = and(before, "TimeoutSeconds", timeout)?;
-        let timeout_path = json_optional(alloc, &self.timeout_path)?;
-        let own = and(own, "TimeoutSecondsPath", timeout_path)?;
-        let heartbeat = json_optional(alloc, &self.heartbeat)?;
-        let own = and(own, "HeartbeatSeconds", heartbeat)?;
-        let heartbeat_path = json_optional(alloc, &self.heartbeat_path)?;
-        and(own, "HeartbeatSecondsPath", heartbeat_path)
+        let own = with_optional(alloc, before, "TimeoutSeconds", &self.timeout)?;
+        let own = with_optional(alloc, own, "TimeoutSecondsPath", &self.timeout_path)?;
+        let own = with_optional(alloc, own, "HeartbeatSeconds", &self.heartbeat)?;
+        with_optional(alloc, own, "HeartbeatSecondsPath", &self.heartbeat_path)
     }
 
     /// A copy of its own, equal to it. The error is that memory ran out.

@@ -10,10 +10,10 @@ ghost use Rattle.asl_parts.specs.Parts.{next_shown, end_shown};
 ghost use Rattle.asl_parts.specs.Member.{outcome_object};
 
 use crate::catcher::Catchers;
-use crate::entries::and;
+use crate::entries::{with_optional, with_path};
 use crate::target::Next;
 use asl_json::Members;
-use asl_members::{Entry, PathField, Retriers, clone_optional, json_optional, read_optional};
+use asl_members::{Entry, PathField, Retriers, clone_optional, read_optional};
 use asl_template::Template;
 use std::alloc::{AllocError, Global};
 
@@ -98,16 +98,11 @@ impl Outcome {
     pub fn entries(&self, alloc: Global, before: Vec<Entry>) -> Result<Vec<Entry>, AllocError>
         ensures { IfOk result (λ es. entries_of es.items ≡ entries_of before.items ++ outcome_members self.now) }
     {
-        let result_selector = json_optional(alloc, &self.result_selector)?;
-        let own = and(before, "ResultSelector", result_selector)?;
-        let result_path = self.result_path.json(alloc)?;
-        let own = and(own, "ResultPath", result_path)?;
-        let output_path = self.output_path.json(alloc)?;
-        let own = and(own, "OutputPath", output_path)?;
-        let retry = json_optional(alloc, &self.retry)?;
-        let own = and(own, "Retry", retry)?;
-        let catch = json_optional(alloc, &self.catch)?;
-        let own = and(own, "Catch", catch)?;
+        let own = with_optional(alloc, before, "ResultSelector", &self.result_selector)?;
+        let own = with_path(alloc, own, "ResultPath", &self.result_path)?;
+        let own = with_path(alloc, own, "OutputPath", &self.output_path)?;
+        let own = with_optional(alloc, own, "Retry", &self.retry)?;
+        let own = with_optional(alloc, own, "Catch", &self.catch)?;
         self.next.entries(alloc, own)
     }
 

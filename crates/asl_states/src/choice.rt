@@ -15,7 +15,7 @@ ghost use Rattle.asl_members.specs.Shown.{path_shown};
 use asl_choice::Rule;
 use asl_json::{Json, Members, Txt};
 use asl_members::{Compiled, PathField, clone_all, json_all};
-use asl_parts::{Common, Target, entry};
+use asl_parts::{Common, Target, and, with, with_path};
 use std::alloc::{AllocError, Global};
 use std::marker::Model;
 
@@ -183,16 +183,11 @@ impl Choice {
     pub fn json(&self, alloc: Global) -> Result<Json, AllocError>
         ensures { IfOk result (λ j. data_of j ≡ choice_object self.now) }
     {
-        let input_path = self.input_path.json(alloc)?;
-        let choices = self.choices.json(alloc)?;
+        let own = with_path(alloc, Vec::new(alloc), "InputPath", &self.input_path)?;
+        let own = with(alloc, own, "Choices", &self.choices)?;
         let default = Target::json_optional(alloc, &self.default)?;
-        let output_path = self.output_path.json(alloc)?;
-        let own = vec![in alloc;
-            entry("InputPath", input_path),
-            entry("Choices", Some(choices)),
-            entry("Default", default),
-            entry("OutputPath", output_path),
-        ]?;
+        let own = and(own, "Default", default)?;
+        let own = with_path(alloc, own, "OutputPath", &self.output_path)?;
         self.common.object(alloc, "Choice", own)
     }
 

@@ -13,7 +13,7 @@ ghost use Rattle.asl_json.specs.Meaning.{value_in};
 
 use asl_json::{Json, Members, Txt};
 use asl_members::{Compile, Compiled, PathOrCall};
-use asl_parts::{Common, entry};
+use asl_parts::{Common, and};
 use std::alloc::{AllocError, Global};
 
 /// What a Fail state tells as its error or its cause.
@@ -120,15 +120,13 @@ impl Fail {
         ensures { IfOk result (λ j. data_of j ≡ fail_object self.now) }
     {
         let error = told_json(alloc, &self.error)?;
+        let own = and(Vec::new(alloc), "Error", error)?;
         let error_path = path_json(alloc, &self.error)?;
+        let own = and(own, "ErrorPath", error_path)?;
         let cause = told_json(alloc, &self.cause)?;
+        let own = and(own, "Cause", cause)?;
         let cause_path = path_json(alloc, &self.cause)?;
-        let own = vec![in alloc;
-            entry("Error", error),
-            entry("ErrorPath", error_path),
-            entry("Cause", cause),
-            entry("CausePath", cause_path),
-        ]?;
+        let own = and(own, "CausePath", cause_path)?;
         self.common.object(alloc, "Fail", own)
     }
 

@@ -14,8 +14,8 @@ ghost use Rattle.asl_schema.specs.Members.{is_among};
 ghost use Rattle.asl_parts.specs.Member.{outcome_names, outcome_object};
 
 use asl_json::{Json, Members};
-use asl_members::{Count, PathField, clone_optional, json_optional, read_optional};
-use asl_parts::{Body, Common, Outcome, and, entry};
+use asl_members::{Count, PathField, clone_optional, read_optional};
+use asl_parts::{Body, Common, Outcome, and, with_optional, with_path};
 use asl_path::RefPath;
 use asl_template::Template;
 use std::alloc::{AllocError, Global};
@@ -97,14 +97,10 @@ impl Map {
     pub fn json(&self, alloc: Global, iterator: Json) -> Result<Json, AllocError>
         ensures { IfOk result (λ j. (t : List Named) → data_of iterator ≡ body_of t self.now.iterator → data_of j ≡ map_object t self.now) }
     {
-        let input_path = self.input_path.json(alloc)?;
-        let own = vec![in alloc; entry("InputPath", input_path)]?;
-        let items_path = json_optional(alloc, &self.items_path)?;
-        let own = and(own, "ItemsPath", items_path)?;
-        let max_concurrency = json_optional(alloc, &self.max_concurrency)?;
-        let own = and(own, "MaxConcurrency", max_concurrency)?;
-        let parameters = json_optional(alloc, &self.parameters)?;
-        let own = and(own, "Parameters", parameters)?;
+        let own = with_path(alloc, Vec::new(alloc), "InputPath", &self.input_path)?;
+        let own = with_optional(alloc, own, "ItemsPath", &self.items_path)?;
+        let own = with_optional(alloc, own, "MaxConcurrency", &self.max_concurrency)?;
+        let own = with_optional(alloc, own, "Parameters", &self.parameters)?;
         let own = and(own, "Iterator", Some(iterator))?;
         let own = self.outcome.entries(alloc, own)?;
         self.common.object(alloc, "Map", own)

@@ -14,8 +14,8 @@ ghost use Rattle.asl_schema.specs.Members.{is_among};
 ghost use Rattle.asl_parts.specs.Member.{outcome_names, outcome_object};
 
 use asl_json::{Items, Json, Members};
-use asl_members::{PathField, clone_optional, json_optional, read_optional};
-use asl_parts::{Bodies, Common, Outcome, entry};
+use asl_members::{PathField, clone_optional, read_optional};
+use asl_parts::{Bodies, Common, Outcome, and, with_optional, with_path};
 use asl_template::Template;
 use std::alloc::{AllocError, Global};
 
@@ -78,13 +78,9 @@ impl Parallel {
     pub fn json(&self, alloc: Global, branches: Items) -> Result<Json, AllocError>
         ensures { IfOk result (λ j. (t : List Named) → branches ≡ bodies_of t self.now.branches → data_of j ≡ parallel_object t self.now) }
     {
-        let input_path = self.input_path.json(alloc)?;
-        let parameters = json_optional(alloc, &self.parameters)?;
-        let own = vec![in alloc;
-            entry("InputPath", input_path),
-            entry("Parameters", parameters),
-            entry("Branches", Some(Json::List(branches))),
-        ]?;
+        let own = with_path(alloc, Vec::new(alloc), "InputPath", &self.input_path)?;
+        let own = with_optional(alloc, own, "Parameters", &self.parameters)?;
+        let own = and(own, "Branches", Some(Json::List(branches)))?;
         let own = self.outcome.entries(alloc, own)?;
         self.common.object(alloc, "Parallel", own)
     }

@@ -12,8 +12,8 @@ ghost use Rattle.asl_json.specs.View.{data_of};
 ghost use Rattle.asl_parts.specs.Parts.{next_shown, end_shown};
 
 use asl_json::{Json, Members, Txt};
-use asl_members::{PathField, clone_optional, json_optional, read_optional};
-use asl_parts::{Common, Next, entry};
+use asl_members::{PathField, clone_optional, read_optional};
+use asl_parts::{Common, Next, with_optional, with_path};
 use asl_template::Template;
 use std::alloc::{AllocError, Global};
 
@@ -100,18 +100,11 @@ impl Pass {
     pub fn json(&self, alloc: Global) -> Result<Json, AllocError>
         ensures { IfOk result (λ j. data_of j ≡ pass_object self.now) }
     {
-        let input_path = self.input_path.json(alloc)?;
-        let parameters = json_optional(alloc, &self.parameters)?;
-        let result = json_optional(alloc, &self.result)?;
-        let result_path = self.result_path.json(alloc)?;
-        let output_path = self.output_path.json(alloc)?;
-        let own = vec![in alloc;
-            entry("InputPath", input_path),
-            entry("Parameters", parameters),
-            entry("Result", result),
-            entry("ResultPath", result_path),
-            entry("OutputPath", output_path),
-        ]?;
+        let own = with_path(alloc, Vec::new(alloc), "InputPath", &self.input_path)?;
+        let own = with_optional(alloc, own, "Parameters", &self.parameters)?;
+        let own = with_optional(alloc, own, "Result", &self.result)?;
+        let own = with_path(alloc, own, "ResultPath", &self.result_path)?;
+        let own = with_path(alloc, own, "OutputPath", &self.output_path)?;
         let own = self.next.entries(alloc, own)?;
         self.common.object(alloc, "Pass", own)
     }

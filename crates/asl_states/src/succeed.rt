@@ -12,7 +12,7 @@ ghost use Rattle.asl_members.specs.Shown.{path_shown};
 
 use asl_json::{Json, Members, Txt};
 use asl_members::PathField;
-use asl_parts::{Common, entry};
+use asl_parts::{Common, with_path};
 use std::alloc::{AllocError, Global};
 
 /// A Succeed state. (Amazon States Language, "Succeed State".) Contracts speak of its canonical object, `succeed_object`.
@@ -61,12 +61,8 @@ impl Succeed {
     pub fn json(&self, alloc: Global) -> Result<Json, AllocError>
         ensures { IfOk result (λ j. data_of j ≡ succeed_object self.now) }
     {
-        let input_path = self.input_path.json(alloc)?;
-        let output_path = self.output_path.json(alloc)?;
-        let own = vec![in alloc;
-            entry("InputPath", input_path),
-            entry("OutputPath", output_path),
-        ]?;
+        let own = with_path(alloc, Vec::new(alloc), "InputPath", &self.input_path)?;
+        let own = with_path(alloc, own, "OutputPath", &self.output_path)?;
         self.common.object(alloc, "Succeed", own)
     }
 

@@ -13,10 +13,8 @@ ghost use Rattle.asl_schema.specs.Members.{is_among};
 ghost use Rattle.asl_parts.specs.Member.{outcome_names, outcome_object};
 
 use asl_json::{Json, Members, Txt};
-use asl_members::{
-    Compile, Compiled, Count, PathField, clone_optional, json_optional, read_optional,
-};
-use asl_parts::{Common, Limits, Outcome, and, entry};
+use asl_members::{Compile, Compiled, Count, PathField, clone_optional, read_optional};
+use asl_parts::{Common, Limits, Outcome, with, with_optional, with_path};
 use asl_path::RefPath;
 use asl_template::Template;
 use std::alloc::{AllocError, Global};
@@ -113,14 +111,10 @@ impl Task {
     pub fn json(&self, alloc: Global) -> Result<Json, AllocError>
         ensures { IfOk result (λ j. data_of j ≡ task_object self.now) }
     {
-        let resource = self.resource.json(alloc)?;
-        let own = vec![in alloc; entry("Resource", Some(resource))]?;
-        let input_path = self.input_path.json(alloc)?;
-        let own = and(own, "InputPath", input_path)?;
-        let parameters = json_optional(alloc, &self.parameters)?;
-        let own = and(own, "Parameters", parameters)?;
-        let credentials = json_optional(alloc, &self.credentials)?;
-        let own = and(own, "Credentials", credentials)?;
+        let own = with(alloc, Vec::new(alloc), "Resource", &self.resource)?;
+        let own = with_path(alloc, own, "InputPath", &self.input_path)?;
+        let own = with_optional(alloc, own, "Parameters", &self.parameters)?;
+        let own = with_optional(alloc, own, "Credentials", &self.credentials)?;
         let own = self.limits.entries(alloc, own)?;
         let own = self.outcome.entries(alloc, own)?;
         self.common.object(alloc, "Task", own)

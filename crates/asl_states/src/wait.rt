@@ -13,7 +13,7 @@ ghost use Rattle.asl_parts.specs.Parts.{next_shown, end_shown};
 
 use asl_json::{Json, Members};
 use asl_members::{Compile, Compiled, Count, PathField, Stamp};
-use asl_parts::{Common, Next, entry};
+use asl_parts::{Common, Next, and, with_path};
 use asl_path::RefPath;
 use std::alloc::{AllocError, Global};
 
@@ -166,20 +166,16 @@ impl Wait {
     pub fn json(&self, alloc: Global) -> Result<Json, AllocError>
         ensures { IfOk result (λ j. data_of j ≡ wait_object self.now) }
     {
-        let input_path = self.input_path.json(alloc)?;
+        let own = with_path(alloc, Vec::new(alloc), "InputPath", &self.input_path)?;
         let seconds = self.delay.seconds(alloc)?;
+        let own = and(own, "Seconds", seconds)?;
         let seconds_path = self.delay.seconds_path(alloc)?;
+        let own = and(own, "SecondsPath", seconds_path)?;
         let timestamp = self.delay.timestamp(alloc)?;
+        let own = and(own, "Timestamp", timestamp)?;
         let timestamp_path = self.delay.timestamp_path(alloc)?;
-        let output_path = self.output_path.json(alloc)?;
-        let own = vec![in alloc;
-            entry("InputPath", input_path),
-            entry("Seconds", seconds),
-            entry("SecondsPath", seconds_path),
-            entry("Timestamp", timestamp),
-            entry("TimestampPath", timestamp_path),
-            entry("OutputPath", output_path),
-        ]?;
+        let own = and(own, "TimestampPath", timestamp_path)?;
+        let own = with_path(alloc, own, "OutputPath", &self.output_path)?;
         let own = self.next.entries(alloc, own)?;
         self.common.object(alloc, "Wait", own)
     }

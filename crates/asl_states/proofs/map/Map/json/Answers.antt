@@ -1,16 +1,15 @@
-use Rattle.std.proofs.Common.{[], ◌++◌, ◌∙◌, sym, ap}
+use Rattle.std.proofs.Common.{[], ◌++◌, ◌∙◌, refl, sym, ap}
 use Rattle.std.specs.Prelude.{Some, codes}
 use Rattle.asl_members.specs.Entries.{entries_of}
-use Rattle.asl_parts.specs.Parts.{Slots, object}
-use Rattle.asl_parts.specs.Parts.{common_members, outcome_members}
+use Rattle.asl_parts.specs.Parts.{Slots, object, common_members, outcome_members}
 use Rattle.asl_parts.proofs.Fits.{map_same}
-use Rattle.asl_parts.proofs.Slots.{last_slot, more, if_ok}
+use Rattle.asl_parts.proofs.Slots.{more, if_ok}
 use Rattle.asl_states.proofs.map.Map.json.Goals as goal
 
 pub returns : goal.returns
 returns c =
-    let one = ap entries_of c.in_ok-own.ensures.items ∙ last_slot _ _ _ _ c.entry.ensures c.in_ok-input_path.ensures in
-    let two = more [] _ _ _ _ _ _ c.in_ok-own-2.ensures one c.in_ok-items_path.ensures in
-    let three = more [] _ _ _ _ _ _ c.in_ok-own-3.ensures two c.in_ok-max_concurrency.ensures in
-    let four = more [] _ _ _ _ _ _ c.in_ok-own-4.ensures three (c.in_ok-parameters.ensures ∙ sym (map_same _)) in
+    let one = more [] _ _ [] _ _ _ c.in_ok-own.ensures (ap entries_of c.new.ensures.items) refl in
+    let two = more [] _ _ _ _ _ _ c.in_ok-own-2.ensures one refl in
+    let three = more [] _ _ _ _ _ _ c.in_ok-own-3.ensures two refl in
+    let four = more [] _ _ _ _ _ _ c.in_ok-own-4.ensures three (sym (map_same _)) in
     if_ok _ _ c.object.result (λ j is t h. is ∙ ap (λ (es : Slots). object (common_members (codes "Map") c.args.self.now.common ++ es)) (c.in_ok-own-6.ensures ∙ ap (λ (es : Slots). es ++ outcome_members c.args.self.now.outcome) (more [] _ _ _ _ _ _ c.in_ok-own-5.ensures four (ap Some h)))) c.object.ensures

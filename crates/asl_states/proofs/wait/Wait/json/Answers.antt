@@ -1,13 +1,15 @@
-use Rattle.std.proofs.Common.{◌++◌, ◌∙◌, sym, ap}
-use Rattle.std.specs.Prelude.{Some}
+use Rattle.std.proofs.Common.{[], ◌++◌, ◌∙◌, refl, ap}
 use Rattle.asl_members.specs.Entries.{entries_of}
 use Rattle.asl_parts.specs.Parts.{Slots, next_members}
-use Rattle.asl_parts.specs.Parts.{outcome_members}
-use Rattle.asl_parts.proofs.Fits.{map_same}
-use Rattle.asl_parts.proofs.Slots.{slot, last_slot}
+use Rattle.asl_parts.proofs.Slots.{more}
 use Rattle.asl_states.proofs.wait.Wait.json.Goals as goal
 
 pub returns : goal.returns
 returns c =
-    let own = ap entries_of c.in_ok-own.ensures.items ∙ slot _ _ _ _ _ _ c.entry.ensures c.in_ok-input_path.ensures (slot _ _ _ _ _ _ c.entry-2.ensures c.in_ok-seconds.ensures (slot _ _ _ _ _ _ c.entry-3.ensures c.in_ok-seconds_path.ensures (slot _ _ _ _ _ _ c.entry-4.ensures c.in_ok-timestamp.ensures (slot _ _ _ _ _ _ c.entry-5.ensures c.in_ok-timestamp_path.ensures (last_slot _ _ _ _ c.entry-6.ensures c.in_ok-output_path.ensures))))) in
-    rw (c.in_ok-own-2.ensures ∙ ap (λ (es : Slots). es ++ next_members c.args.self.now.next) own) at c.object.ensures
+    let one = more [] _ _ [] _ _ _ c.in_ok-own.ensures (ap entries_of c.new.ensures.items) refl in
+    let two = more [] _ _ _ _ _ _ c.in_ok-own-2.ensures one c.in_ok-seconds.ensures in
+    let three = more [] _ _ _ _ _ _ c.in_ok-own-3.ensures two c.in_ok-seconds_path.ensures in
+    let four = more [] _ _ _ _ _ _ c.in_ok-own-4.ensures three c.in_ok-timestamp.ensures in
+    let five = more [] _ _ _ _ _ _ c.in_ok-own-5.ensures four c.in_ok-timestamp_path.ensures in
+    let six = more [] _ _ _ _ _ _ c.in_ok-own-6.ensures five refl in
+    rw (c.in_ok-own-7.ensures ∙ ap (λ (es : Slots). es ++ next_members c.args.self.now.next) six) at c.object.ensures
