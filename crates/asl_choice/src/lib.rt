@@ -1,11 +1,11 @@
 //! The rules of Choice states, compiled from a definition without faults.
 //!
 //! Modules in reading order: `operator` has the comparisons by name, `comparison` is one with its operand, and `rule` a rule;
-//! `find` looks up a member. `specs/Rules.antt` says what each shows.
+//! `comment` reads what is said of one. `specs/Rules.antt` says what each shows.
 #![tactic(auto)]
 
+mod comment;
 mod comparison;
-mod find;
 mod operator;
 mod rule;
 

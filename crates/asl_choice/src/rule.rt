@@ -10,10 +10,11 @@ ghost use Rattle.asl_schema.specs.Claims.{any_in};
 ghost use Rattle.asl_schema.specs.Clean.{IsClean, IsThere};
 ghost use Rattle.asl_choice.specs.Rules.{IsRule, HasVariable, canonical_rule, rule_object, rule_list, condition_named, comment_named, rule_named, kind_name, kind_sort, deciding as decides, comparison_operator, operand_sort, operator_name, test_named};
 
+use crate::comment::optional_text;
 use crate::comparison::{Comparison, Test, path, text_value};
-use crate::find::{find, optional_text};
 use crate::operator::{Operator, RuleKind};
 use asl_json::{Items, Json, Member, Members, Txt, clone_text};
+use asl_schema::find;
 use std::alloc::{AllocError, Global};
 use std::marker::Model;
 

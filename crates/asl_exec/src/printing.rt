@@ -47,6 +47,7 @@ impl Execution {
         ensures text { IfOk result (λ r. string_bytes r.0
             ≡ step_lines (setup_of self.old).machine (world_of self.old) steps.now ++ end_text (world_after (setup_of self.old).machine (world_of self.old) steps.now)) }
         ensures good { IfOk result (λ r. r.1 ≡ is_success (world_after (setup_of self.old).machine (world_of self.old) steps.now).outcome) }
+        ensures world { OnOk result (world_of self.new ≡ world_after (setup_of self.old).machine (world_of self.old) steps.now) }
     {
         let mut text = String::new(self.alloc());
         self.put_steps(&mut text, steps)?;
