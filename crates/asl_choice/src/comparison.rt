@@ -13,7 +13,6 @@ use asl_path::{PathFault, RefPath};
 use std::alloc::{AllocError, Global};
 
 /// A test of a value, with what it is compared to or is to be.
-#[derive(Drop)]
 pub enum Comparison {
     String(Order, Txt),
     StringPath(Order, RefPath),
@@ -27,11 +26,37 @@ pub enum Comparison {
     Is(Property, bool),
 }
 
+// Written out, so that a caller's proof sees one call and not the drop of each part.
+impl Drop for Comparison {
+    fn drop(self) {
+        match self {
+            Comparison::String(_a, _b) => {}
+            Comparison::StringPath(_a, _b) => {}
+            Comparison::Numeric(_a, _b) => {}
+            Comparison::NumericPath(_a, _b) => {}
+            Comparison::Timestamp(_a, _b) => {}
+            Comparison::TimestampPath(_a, _b) => {}
+            Comparison::Boolean(_part) => {}
+            Comparison::BooleanPath(_part) => {}
+            Comparison::Matches(_part) => {}
+            Comparison::Is(_a, _b) => {}
+        }
+    }
+}
+
 /// A test of the part of the input or of the Context Object that a path names (Amazon States Language, "Data-test expression").
-#[derive(Drop)]
 pub struct Test {
     pub(crate) variable: RefPath,
     pub(crate) comparison: Comparison,
+}
+
+impl Drop for Test {
+    fn drop(self) {
+        let Test {
+            variable: _variable,
+            comparison: _comparison,
+        } = self;
+    }
 }
 
 /// A text of its own as a value.
@@ -152,53 +177,5 @@ impl Comparison {
             Comparison::Matches(pattern) => text_value(alloc, pattern.as_str()),
             Comparison::Is(_, truth) => Ok(Json::Bool(*truth)),
         }
-    }
-
-    /// An equal test. The error is that memory ran out.
-    pub(crate) fn try_clone(&self, alloc: Global) -> Result<Comparison, AllocError>
-        ensures { IfOk result (λ c. c ≡ self.now) }
-    {
-        match self {
-            Comparison::String(order, text) => Ok(Comparison::String(
-                *order,
-                text.try_clone(alloc)?,
-            )),
-            Comparison::StringPath(order, path) => Ok(Comparison::StringPath(
-                *order,
-                path.try_clone(alloc)?,
-            )),
-            Comparison::Numeric(order, number) => Ok(Comparison::Numeric(
-                *order,
-                number.try_clone(alloc)?,
-            )),
-            Comparison::NumericPath(order, path) => Ok(Comparison::NumericPath(
-                *order,
-                path.try_clone(alloc)?,
-            )),
-            Comparison::Timestamp(order, stamp) => Ok(Comparison::Timestamp(
-                *order,
-                stamp.try_clone(alloc)?,
-            )),
-            Comparison::TimestampPath(order, path) => Ok(Comparison::TimestampPath(
-                *order,
-                path.try_clone(alloc)?,
-            )),
-            Comparison::Boolean(truth) => Ok(Comparison::Boolean(*truth)),
-            Comparison::BooleanPath(path) => Ok(Comparison::BooleanPath(path.try_clone(alloc)?)),
-            Comparison::Matches(pattern) => Ok(Comparison::Matches(pattern.try_clone(alloc)?)),
-            Comparison::Is(property, truth) => Ok(Comparison::Is(*property, *truth)),
-        }
-    }
-}
-
-impl Test {
-    /// An equal test. The error is that memory ran out.
-    pub(crate) fn try_clone(&self, alloc: Global) -> Result<Test, AllocError>
-        ensures { IfOk result (λ t. t ≡ self.now) }
-    {
-        Ok(Test {
-            variable: self.variable.try_clone(alloc)?,
-            comparison: self.comparison.try_clone(alloc)?,
-        })
     }
 }

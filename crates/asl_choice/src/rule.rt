@@ -13,7 +13,7 @@ ghost use Rattle.asl_choice.specs.Rules.{IsRule, HasVariable, canonical_rule, ru
 use crate::comment::optional_text;
 use crate::comparison::{Comparison, Test, path, text_value};
 use crate::operator::{Operator, RuleKind};
-use asl_json::{Items, Json, Member, Members, Txt, clone_text};
+use asl_json::{Items, Json, Member, Members, Txt};
 use asl_schema::find;
 use std::alloc::{AllocError, Global};
 use std::marker::Model;
@@ -264,41 +264,4 @@ impl Rule {
     {
         condition_members(alloc, &self.comment, &self.condition)
     }
-
-    /// An equal rule. The error is that memory ran out.
-    #[cycle(clone)]
-    pub fn try_clone(&self, alloc: Global) -> Result<Rule, AllocError>
-        ensures { IfOk result (λ r. r ≡ self.now) }
-    {
-        Ok(Rule {
-            comment: clone_text(alloc, &self.comment)?,
-            condition: self.condition.try_clone(alloc)?,
-        })
-    }
-}
-
-impl Condition {
-    /// One that shows the same.
-    #[cycle(clone)]
-    fn try_clone(&self, alloc: Global) -> Result<Condition, AllocError>
-        ensures { IfOk result (λ c. condition_named c ≡ condition_named self.now) }
-    {
-        match self {
-            Condition::And(rules) => Ok(Condition::And(clone_rules(alloc, rules)?)),
-            Condition::Or(rules) => Ok(Condition::Or(clone_rules(alloc, rules)?)),
-            Condition::Not(rule) => Ok(Condition::Not(Box::new(alloc, rule.try_clone(alloc)?)?)),
-            Condition::Test(test) => Ok(Condition::Test(test.try_clone(alloc)?)),
-        }
-    }
-}
-
-#[cycle(clone)]
-fn clone_rules(alloc: Global, rules: &Vec<Rule>) -> Result<Vec<Rule>, AllocError>
-    ensures { IfOk result (λ rs. rs.items ≡ rules.now.items) }
-{
-    let mut clones = Vec::new(alloc);
-    for rule in rules {
-        clones.push(rule.try_clone(alloc)?)?;
-    }
-    Ok(clones)
 }

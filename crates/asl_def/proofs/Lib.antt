@@ -1,5 +1,4 @@
 pub mod Tables
-pub mod Copies
 pub mod Tally
 pub mod Gathers
 pub mod Builds
@@ -7,3 +6,4 @@ pub mod Walks
 pub mod Wholes
 pub mod Refusing
 pub mod Outermost
+pub mod NewNames

@@ -13,7 +13,7 @@ use Rattle.asl_states.specs.declared.state.State.{State}
 use Rattle.asl_states.specs.Show.{state_of, shown, StateIsWithin, AreInOrder}
 use Rattle.asl_parts.specs.Bodies.{IsWithin, AreWithin}
 use Rattle.asl_def.proofs.Tables.{state_of-append, has_key-append, length-shown, shown_front}
-use Rattle.asl_def.proofs.Copies.{AreNew, copy_begins}
+use Rattle.asl_def.proofs.NewNames.{AreNew, each_is_new}
 
 module _ {Z : Type 0} where
   slice_get-shown : (t : List Named) (es : List (String Z × State)) (i : ℕ) (e : String Z × State) → AreInOrder (length t) es → slice_get es i ≡ Some e → slice_get (shown t es) (length t + i) ≡ Some (string_bytes e.0, state_of (shown t es) e.1)
@@ -64,8 +64,8 @@ module _ {Z : Type 0} where
   distinct_shown t (e ∷ es) d h = distinct_shown (t ++ (string_bytes e.0, state_of t e.1) ∷ []) es (distinct_push [] t (string_bytes e.0, state_of t e.1) d h.0) h.1
 
   -- distinct names stay so in what the table shows
-  pub names_differ : (es : List (String Z × State)) → AreInOrder 0 es → IsDistinct string_eq (keys_of es) → AreDistinct [] (shown [] es)
-  names_differ es order d = distinct_shown [] es tt (copy_begins (shown [] es) es refl order d).new
+  pub names_differ : (es : List (String Z × State)) → IsDistinct string_eq (keys_of es) → AreDistinct [] (shown [] es)
+  names_differ es d = distinct_shown [] es tt (each_is_new es d)
 
 -- a walk from one number has come to another, and made a list of the rows between
 pub record HasWalked (t : List Named) (first number : ℕ) (made : List Named) : Type 0 where

@@ -6,8 +6,9 @@ ghost use Rattle.asl_states.specs.Show.{StateIsWithin, state_of};
 
 use crate::table::Table;
 use asl_json::{Items, Json, Members, Txt};
-use asl_members::{json_optional, object};
-use asl_states::{Body, State, entry};
+use asl_members::object;
+use asl_parts::{and, with_optional};
+use asl_states::{Body, State};
 use std::alloc::{AllocError, Global};
 
 /// The canonical object of a machine inside a definition. The error is that memory ran out.
@@ -16,15 +17,12 @@ pub(crate) fn body_json(alloc: Global, table: &Table, body: &Body) -> Result<Jso
     requires { IsWithin (length table.now) body.now }
     ensures { IfOk result (λ j. data_of j ≡ body_of table.now body.now) }
 {
-    let comment = json_optional(alloc, &body.comment)?;
+    let own = with_optional(alloc, Vec::new(alloc), "Comment", &body.comment)?;
     let start = body.start.json(alloc)?;
+    let own = and(own, "StartAt", Some(start))?;
     let states = states_json(alloc, table, body.first, body.count)?;
-    let entries = vec![in alloc;
-        entry("Comment", comment),
-        entry("StartAt", Some(start)),
-        entry("States", Some(Json::Dict(states))),
-    ]?;
-    object(alloc, entries)
+    let own = and(own, "States", Some(Json::Dict(states)))?;
+    object(alloc, own)
 }
 
 /// So many states with the numbers from `first` on, by name. The error is that memory ran out.

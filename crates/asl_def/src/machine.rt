@@ -10,6 +10,7 @@ ghost use Rattle.asl_states.specs.Show.{state_of};
 ghost use Rattle.asl_def.specs.Machines.{state_object, state_number, state_count};
 ghost use Rattle.asl_def.specs.Own.{own_states_in};
 ghost use Rattle.asl_def.specs.Answer.{IsAnswer};
+ghost use Rattle.asl_def.specs.Whole.{shown_by, IsWholeIn};
 
 use crate::build::{object_in, states};
 use crate::fault::{DefFault, answer};
@@ -17,18 +18,42 @@ use crate::json::states_json;
 use crate::table::Table;
 use asl_json::{Json, write};
 use asl_judge::first_fault;
-use asl_members::{json_optional, object, read_optional};
-use asl_states::{Body, Heading, State, Target, entry};
+use asl_members::{object, read_optional};
+use asl_parts::{and, with_optional};
+use asl_states::{Body, Heading, State, Target};
 use std::alloc::{AllocError, Global};
 use std::marker::Model;
+use std::sync::Arc;
 
-/// A state machine, compiled from a definition without faults. (Amazon States Language, "Structure of a State Machine".)
-/// Contracts see it as its canonical definition: members in the order of the table, and `"End": false` left out.
-#[derive(Drop)]
-pub struct Machine {
+/// What a definition is compiled to.
+pub(crate) struct Parts {
     table: Table,
     heading: Heading,
     root: Body,
+}
+
+// Written out, so that a caller's proof sees one call and not the drop of each part.
+impl Drop for Parts {
+    fn drop(self) {
+        let Parts {
+            table: _table,
+            heading: _heading,
+            root: _root,
+        } = self;
+    }
+}
+
+/// A state machine, compiled from a definition without faults. (Amazon States Language, "Structure of a State Machine".)
+/// Contracts see it as its canonical definition: members in the order of the table, and `"End": false` left out. It never
+/// changes, so that its copies share one compiled definition.
+pub struct Machine {
+    shared: Arc<Parts>,
+}
+
+impl Drop for Machine {
+    fn drop(self) {
+        let Machine { shared: _shared } = self;
+    }
 }
 
 impl Model for Machine {
@@ -39,20 +64,37 @@ impl Model for Machine {
 
     ghost coded = { coded_data };
 
-    ghost use Rattle.asl_parts.specs.Bodies.{machine_of};
-    ghost use Rattle.asl_def.specs.Whole.{IsWhole};
+    ghost use Rattle.std.specs.Arc.{arc_value};
+    ghost use Rattle.asl_def.specs.Whole.{shown_by, IsWholeIn};
 
-    ghost view = { λ a. machine_of a.table a.heading a.root };
+    ghost view = { λ a. shown_by (arc_value a.shared) };
 
-    ghost invariant = { λ a. IsWhole a.table a.heading a.root };
+    ghost invariant = { λ a. IsWholeIn (arc_value a.shared) };
 }
 
 impl Machine {
+    /// The machine of these parts. The error is that memory ran out.
+    fn of_parts(alloc: Global, parts: Parts) -> Result<Machine, AllocError>
+        requires { IsWholeIn parts }
+        ensures { IfOk result (λ m. m ≡ shown_by parts) }
+    {
+        let shared = Arc::new(alloc, parts)?;
+        Ok(Machine { shared })
+    }
+
+    /// What its copies share.
+    fn parts(&self) -> &Parts
+        ensures shown { shown_by result.now ≡ self.now }
+        ensures whole { IsWholeIn result.now }
+    {
+        &self.shared
+    }
+
     /// The name of the state that a run begins at.
     pub fn start(&self) -> &str
         ensures { Some (text result.now) ≡ value_in (codes "StartAt") self.now }
     {
-        self.root.start.name.as_str()
+        self.parts().root.start.name.as_str()
     }
 
     /// The state of this name, in whatever machine it stands, by a hash. Contracts see its object over the states of the
@@ -60,14 +102,14 @@ impl Machine {
     pub fn state(&self, name: &str) -> Option<&State>
         ensures { (t : List Named) × (option_map (λ s. state_of t s.now) result ≡ state_object name.now self.now) }
     {
-        self.table.state(name)
+        self.parts().table.state(name)
     }
 
     /// How many states it has, those of the machines inside states among them.
     pub fn len(&self) -> usize
         ensures { result ≡ state_count self.now }
     {
-        self.table.len()
+        self.parts().table.len()
     }
 
     /// The state of this name, in whatever machine it stands, and its number among all states, counted from 0. One hash finds
@@ -77,14 +119,14 @@ impl Machine {
         ensures within { IfSome result (λ f. f.0 < state_count self.now) }
         ensures object { (t : List Named) × (option_map (λ f. state_of t f.1.now) result ≡ state_object name.now self.now) }
     {
-        self.table.find(name)
+        self.parts().table.find(name)
     }
 
     /// How many states the outermost machine has: those that stand in its own `States`.
     pub fn own_len(&self) -> usize
         ensures { result ≡ length (own_states_in self.now) }
     {
-        self.root.count
+        self.parts().root.count
     }
 
     /// The state with this number among those of the outermost machine, counted from 0 in document order, and its name. Contracts
@@ -92,12 +134,12 @@ impl Machine {
     pub fn own_state(&self, number: usize) -> Option<(&str, &State)>
         ensures { (t : List Named) × (option_map (λ x. (x.0.now, state_of t x.1.now)) result ≡ slice_get (own_states_in self.now) number) }
     {
-        if number >= self.root.count {
+        let parts = self.parts();
+        if number >= parts.root.count {
             return None;
         }
-        let table = &self.table;
-        let _states = table.len();
-        let (name, state) = table.at(self.root.first + number)?;
+        let _states = parts.table.len();
+        let (name, state) = parts.table.at(parts.root.first + number)?;
         Some((name.as_str(), state))
     }
 
@@ -105,32 +147,24 @@ impl Machine {
     pub fn json(&self, alloc: Global) -> Result<Json, AllocError>
         ensures { IfOk result (λ j. data_of j ≡ self.now) }
     {
-        let comment = json_optional(alloc, &self.root.comment)?;
-        let query_language = json_optional(alloc, &self.heading.query_language)?;
-        let version = json_optional(alloc, &self.heading.version)?;
-        let start = self.root.start.json(alloc)?;
-        let timeout = json_optional(alloc, &self.heading.timeout)?;
-        let states = states_json(alloc, &self.table, self.root.first, self.root.count)?;
-        let entries = vec![in alloc;
-            entry("Comment", comment),
-            entry("QueryLanguage", query_language),
-            entry("Version", version),
-            entry("StartAt", Some(start)),
-            entry("TimeoutSeconds", timeout),
-            entry("States", Some(Json::Dict(states))),
-        ]?;
-        object(alloc, entries)
+        let parts = self.parts();
+        let own = with_optional(alloc, Vec::new(alloc), "Comment", &parts.root.comment)?;
+        let own = with_optional(alloc, own, "QueryLanguage", &parts.heading.query_language)?;
+        let own = with_optional(alloc, own, "Version", &parts.heading.version)?;
+        let start = parts.root.start.json(alloc)?;
+        let own = and(own, "StartAt", Some(start))?;
+        let own = with_optional(alloc, own, "TimeoutSeconds", &parts.heading.timeout)?;
+        let states = states_json(alloc, &parts.table, parts.root.first, parts.root.count)?;
+        let own = and(own, "States", Some(Json::Dict(states)))?;
+        object(alloc, own)
     }
 
-    /// A machine of its own, equal to this one. The error is that memory ran out.
-    pub fn try_clone(&self, alloc: Global) -> Result<Machine, AllocError>
+    /// One more owner of the same machine. It copies no state. The error is that there are too many.
+    pub fn try_clone(&self) -> Result<Machine, AllocError>
         ensures { IfOk result (λ m. m ≡ self.now) }
     {
-        Ok(Machine {
-            table: self.table.try_clone(alloc)?,
-            heading: self.heading.try_clone(alloc)?,
-            root: self.root.try_clone(alloc)?,
-        })
+        let shared = Arc::try_clone(&self.shared)?;
+        Ok(Machine { shared })
     }
 }
 
@@ -154,11 +188,12 @@ fn build(alloc: Global, definition: &Json) -> Result<Machine, AllocError>
         first: span.first,
         count: span.count,
     };
-    Ok(Machine {
+    let parts = Parts {
         table,
         heading,
         root,
-    })
+    };
+    Machine::of_parts(alloc, parts)
 }
 
 /// The machine of a definition.

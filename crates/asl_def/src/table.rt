@@ -1,5 +1,5 @@
 // The states of a whole definition in one table.
-ghost use Rattle.std.specs.Prelude.{◌≡◌, ◌∷◌, ◌++◌, [], Some, false, length, slice_get, string_bytes, IfSome, IfNone, OnOk, OnErr, ◌≤◌, option_map, IfOk};
+ghost use Rattle.std.specs.Prelude.{◌≡◌, ◌∷◌, ◌++◌, [], Some, false, length, slice_get, string_bytes, IfSome, IfNone, OnOk, OnErr, ◌≤◌, option_map};
 ghost use Rattle.asl_json.specs.Data.{pairs};
 ghost use Rattle.asl_json.specs.Distinct.{AreDistinct, has_key};
 ghost use Rattle.asl_json.specs.Meaning.{value_at};
@@ -13,9 +13,15 @@ use std::marker::Model;
 
 /// The states of a definition, by name and by number. A machine inside a state stands before that state, and the states of
 /// one machine stand together. Contracts see the list of their names and canonical objects.
-#[derive(Drop)]
 pub(crate) struct Table {
     states: IndexMap<String, State>,
+}
+
+// Written out, so that a caller's proof sees one call and not the drop of each part.
+impl Drop for Table {
+    fn drop(self) {
+        let Table { states: _states } = self;
+    }
 }
 
 impl Model for Table {
@@ -90,17 +96,5 @@ impl Table {
     {
         drop(self.states.insert(name, state)?);
         Ok(())
-    }
-
-    /// A table of its own, equal to this one. The error is that memory ran out.
-    pub(crate) fn try_clone(&self, alloc: Global) -> Result<Table, AllocError>
-        ensures { IfOk result (λ t. t ≡ self.now) }
-    {
-        let mut copy = Table::new(alloc);
-        for (name, state) in &self.states {
-            let name = String::from_str(alloc, name.as_str())?;
-            copy.push(name, state.try_clone(alloc)?)?;
-        }
-        Ok(copy)
     }
 }

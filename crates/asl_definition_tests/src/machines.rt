@@ -55,7 +55,7 @@ fn lends_its_states(machine: &Machine) -> bool {
 }
 
 fn copy_lends_its_states(rt: &HostRuntime, machine: &Machine) -> bool {
-    match machine.try_clone(rt.alloc()) {
+    match machine.try_clone() {
         Ok(copy) => lends_its_states(&copy),
         Err(_) => false,
     }
@@ -101,7 +101,7 @@ fn holds_inner_states(machine: &Machine) -> bool {
 fn states_of_inner_machines(rt: HostRuntime) -> Result<(), Fail> {
     let machine = machine(&rt, INNER_MACHINES).ok_or("refused")?;
     assert!(rt; holds_inner_states(&machine));
-    let copy = machine.try_clone(rt.alloc()).map_err(|_| "memory")?;
+    let copy = machine.try_clone().map_err(|_| "memory")?;
     assert!(rt; holds_inner_states(&copy));
     Ok(())
 }

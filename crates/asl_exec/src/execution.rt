@@ -24,11 +24,21 @@ use asl_time::Moment;
 use std::alloc::{AllocError, Global};
 
 /// A setup, and the world of the steps so far. It keeps the allocator that it was opened with.
-#[derive(Drop)]
 pub struct Execution {
     setup: Setup,
     run: Run,
     alloc: Global,
+}
+
+// Written out, so that a caller's proof sees one call and not the drop of each part.
+impl Drop for Execution {
+    fn drop(self) {
+        let Execution {
+            setup: _setup,
+            run: _run,
+            alloc: _alloc,
+        } = self;
+    }
 }
 
 /// The name of the state that a machine starts at.

@@ -1,7 +1,7 @@
 -- Reaching a part of a list or an object.
-use Rattle.std.specs.Prelude.{ℕ, zero, suc, List, [], ◌∷◌, Option, Some, None, if◌then◌else◌, option_map, nat_eq}
+use Rattle.std.specs.Prelude.{ℕ, zero, suc, Bool, true, false, List, [], ◌∷◌, Option, Some, None, if◌then◌else◌, option_map, nat_eq}
 use Rattle.std.specs.Cmp.Lexicographic.{pointwise}
-use Rattle.asl_json.specs.Data.{Data}
+use Rattle.asl_json.specs.Data.{Data, list, dict}
 
 -- the number of the member with this key
 abbrev pub key_index : List ℕ → List (List ℕ × Data) → Option ℕ
@@ -13,3 +13,11 @@ abbrev pub with_value : List (List ℕ × Data) → ℕ → Data → List (List 
 with_value [] i d = []
 with_value (m ∷ ms) zero d = (m.0, d) ∷ ms
 with_value (m ∷ ms) (suc i) d = m ∷ with_value ms i d
+
+abbrev pub is_list : Data → Bool
+is_list (list ds) = true
+is_list v = false
+
+abbrev pub is_dict : Data → Bool
+is_dict (dict ms) = true
+is_dict v = false

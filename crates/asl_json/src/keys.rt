@@ -15,9 +15,15 @@ const MANY: usize = 16;
 
 /// The keys of an object's members so far, once there are many. They are asked for and added together with these members.
 /// Contracts see them as a list in some order, where there are any yet.
-#[derive(Drop)]
 pub struct Keys {
     names: Option<HashSet<String>>,
+}
+
+// Written out, so that a caller's proof sees one call and not the drop of each part.
+impl Drop for Keys {
+    fn drop(self) {
+        let Keys { names: _names } = self;
+    }
 }
 
 impl Model for Keys {

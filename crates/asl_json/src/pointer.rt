@@ -6,9 +6,15 @@ use std::alloc::{AllocError, Global};
 use std::marker::Model;
 
 /// A place in a value as a JSON Pointer (RFC 6901), as `/a/0`. Contracts see it as its text.
-#[derive(Drop)]
 pub struct Pointer {
     text: String,
+}
+
+// Written out, so that a caller's proof sees one call and not the drop of each part.
+impl Drop for Pointer {
+    fn drop(self) {
+        let Pointer { text: _text } = self;
+    }
 }
 
 impl Model for Pointer {

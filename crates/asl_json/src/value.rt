@@ -1,16 +1,23 @@
 // A JSON value. Contracts see a list as the list of its items and an object as the list of its pairs.
-ghost use Rattle.std.specs.Prelude.{◌≡◌, length, IfOk, slice_get, option_map, string_bytes};
+ghost use Rattle.std.specs.Prelude.{◌≡◌, false, length, IfOk, IfErr, slice_get, option_map, string_bytes};
 ghost use Rattle.asl_json.specs.View.{data_of};
 ghost use Rattle.asl_json.specs.Number.{units_of};
 ghost use Rattle.asl_json.specs.Meaning.{value_in};
+ghost use Rattle.asl_json.specs.Access.{is_list, is_dict};
 
 use std::alloc::{AllocError, Global};
 use std::marker::Model;
 
 /// A text in UTF-8. Contracts see it as its bytes.
-#[derive(Drop)]
 pub struct Txt {
     string: String,
+}
+
+// Written out, so that a caller's proof sees one call and not the drop of each part.
+impl Drop for Txt {
+    fn drop(self) {
+        let Txt { string: _string } = self;
+    }
 }
 
 impl Model for Txt {
@@ -23,10 +30,18 @@ impl Model for Txt {
 
 /// A number as it is spelled (RFC 8259, section 6), with its value in units of 10^-9. Contracts see it as its spelling,
 /// which is always a number in the limits: at most 40 bytes, an amount below 10^18, and a whole number of units.
-#[derive(Drop)]
 pub struct Dec {
     pub(crate) units: i128,
     pub(crate) spelled: Txt,
+}
+
+impl Drop for Dec {
+    fn drop(self) {
+        let Dec {
+            units: _units,
+            spelled: _spelled,
+        } = self;
+    }
 }
 
 impl Model for Dec {
@@ -42,7 +57,6 @@ impl Model for Dec {
 
 /// A JSON value (RFC 8259, section 3). Numbers keep their spelling, objects the order of their members.
 #[cycle(json)]
-#[derive(Drop)]
 pub enum Json {
     Null,
     Bool(bool),
@@ -52,18 +66,43 @@ pub enum Json {
     Dict(Members),
 }
 
+impl Drop for Json {
+    #[cycle(drop)]
+    fn drop(self) {
+        match self {
+            Json::Null | Json::Bool(_) => {}
+            Json::Num(_number) => {}
+            Json::Text(_text) => {}
+            Json::List(_items) => {}
+            Json::Dict(_members) => {}
+        }
+    }
+}
+
 /// The items of a list. Contracts see them as the list of their values.
 #[cycle(json)]
-#[derive(Drop)]
 pub struct Items {
     pub(crate) values: Vec<Json>,
 }
 
+impl Drop for Items {
+    #[cycle(drop)]
+    fn drop(self) {
+        let Items { values: _values } = self;
+    }
+}
+
 /// The members of an object in order, no key twice. Contracts see them as the list of pairs of key and value.
 #[cycle(json)]
-#[derive(Drop)]
 pub struct Members {
     pub(crate) members: Vec<Member>,
+}
+
+impl Drop for Members {
+    #[cycle(drop)]
+    fn drop(self) {
+        let Members { members: _members } = self;
+    }
 }
 
 /// A member of an object.
@@ -204,6 +243,28 @@ impl Json {
         match self {
             Json::Dict(members) => members.find(key),
             _ => None,
+        }
+    }
+
+    /// Its items, where it is a list; any other value is handed back.
+    pub fn into_items(self) -> Result<Items, Json>
+        ensures ok { IfOk result (λ vs. self ≡ Json.List vs) }
+        ensures err { IfErr result (λ v. (v ≡ self) × (is_list (data_of self) ≡ false)) }
+    {
+        match self {
+            Json::List(items) => Ok(items),
+            other => Err(other),
+        }
+    }
+
+    /// Its members, where it is an object; any other value is handed back.
+    pub fn into_members(self) -> Result<Members, Json>
+        ensures ok { IfOk result (λ ms. self ≡ Json.Dict ms) }
+        ensures err { IfErr result (λ v. (v ≡ self) × (is_dict (data_of self) ≡ false)) }
+    {
+        match self {
+            Json::Dict(members) => Ok(members),
+            other => Err(other),
         }
     }
 

@@ -7,16 +7,30 @@ use std::alloc::{AllocError, Global};
 use std::marker::Model;
 
 /// Why a branch failed: an error's name and its cause, each where there is one. (ASL, "Errors".)
-#[derive(Drop)]
 pub struct ErrorOut {
     pub error: Option<Txt>,
     pub cause: Option<Txt>,
 }
 
+// Written out, so that a caller's proof sees one call and not the drop of each part.
+impl Drop for ErrorOut {
+    fn drop(self) {
+        let ErrorOut {
+            error: _error,
+            cause: _cause,
+        } = self;
+    }
+}
+
 /// How often each retrier of a state was used since the state was entered.
-#[derive(Drop)]
 pub struct Uses {
     pub counts: Vec<u32>,
+}
+
+impl Drop for Uses {
+    fn drop(self) {
+        let Uses { counts: _counts } = self;
+    }
 }
 
 impl Model for Uses {
@@ -29,7 +43,6 @@ impl Model for Uses {
 
 /// What a branch is doing. The text is the name of its state, the value the state's raw input, `since` the moment of the
 /// state's first step.
-#[derive(Drop)]
 pub enum Record {
     /// An iteration of a Map that hasn't begun.
     New(Txt, Json),
@@ -45,6 +58,20 @@ pub enum Record {
     Done(Json),
     /// Failed with this error.
     Failed(ErrorOut),
+}
+
+impl Drop for Record {
+    fn drop(self) {
+        match self {
+            Record::New(_a, _b) => {}
+            Record::Ready(_a, _b) => {}
+            Record::Pausing(_a, _b, _c, _d) => {}
+            Record::Again(_a, _b, _c, _d, _e) => {}
+            Record::Forked(_a, _b, _c, _d, _e) => {}
+            Record::Done(_part) => {}
+            Record::Failed(_part) => {}
+        }
+    }
 }
 
 impl ErrorOut {

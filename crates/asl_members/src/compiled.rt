@@ -12,10 +12,6 @@ pub trait Compiled: Drop {
     /// The value that it shows.
     ghost shown: { Self → Data };
 
-    /// One of its own, equal to this one.
-    fn try_clone(&self, alloc: Global) -> Result<Self, AllocError>
-        ensures { IfOk result (λ x. x ≡ self.now) };
-
     /// The value that it shows, as JSON.
     fn json(&self, alloc: Global) -> Result<Json, AllocError>
         ensures { IfOk result (λ j. data_of j ≡ shown self.now) };
@@ -44,19 +40,6 @@ pub fn read_optional<T: Compile>(
 {
     match value {
         Some(value) => Ok(Some(T::read(alloc, value)?)),
-        None => Ok(None),
-    }
-}
-
-/// An equal one, where it is there.
-pub fn clone_optional<T: Compiled>(
-    alloc: Global,
-    value: &Option<T>,
-) -> Result<Option<T>, AllocError>
-    ensures { IfOk result (λ x. x ≡ value.now) }
-{
-    match value {
-        Some(value) => Ok(Some(value.try_clone(alloc)?)),
         None => Ok(None),
     }
 }

@@ -14,9 +14,9 @@ mod plain;
 mod retry;
 mod stamp;
 
-pub use compiled::{Compile, Compiled, clone_optional, json_optional, read_optional};
+pub use compiled::{Compile, Compiled, json_optional, read_optional};
 pub use entry::{Entry, object};
-pub use list::{clone_all, json_all, read_all};
+pub use list::{json_all, read_all};
 pub use number::{BackoffRate, Count};
 pub use path::{PathField, PathOrCall};
 pub use retry::{ErrorNames, Retrier, Retriers};

@@ -20,17 +20,6 @@ pub fn read_all<T: Compile>(alloc: Global, values: &[Json]) -> Result<Vec<T>, Al
     Ok(compiled)
 }
 
-/// Equal ones.
-pub fn clone_all<T: Compiled>(alloc: Global, values: &[T]) -> Result<Vec<T>, AllocError>
-    ensures { IfOk result (λ xs. xs.items ≡ values.now) }
-{
-    let mut copied = Vec::new(alloc);
-    for value in values {
-        copied.push(value.try_clone(alloc)?)?;
-    }
-    Ok(copied)
-}
-
 /// The list of the values that they show, as JSON.
 pub fn json_all<T: Compiled>(alloc: Global, values: &[T]) -> Result<Items, AllocError>
     ensures { IfOk result (λ js. js ≡ map T.shown values.now) }

@@ -10,10 +10,19 @@ use std::alloc::{AllocError, Global};
 use std::marker::Model;
 
 /// A whole number from 0 to 99,999,999. Contracts see it as its spelling.
-#[derive(Drop)]
 pub struct Count {
     spelled: Dec,
     value: u32,
+}
+
+// Written out, so that a caller's proof sees one call and not the drop of each part.
+impl Drop for Count {
+    fn drop(self) {
+        let Count {
+            spelled: _spelled,
+            value: _value,
+        } = self;
+    }
 }
 
 impl Model for Count {
@@ -29,10 +38,18 @@ impl Model for Count {
 
 /// The factor by which each delay before a retry is longer than the one before. (Amazon States Language, "Retrying after
 /// error".) Contracts see it as its spelling.
-#[derive(Drop)]
 pub struct BackoffRate {
     spelled: Dec,
     rate: Rate,
+}
+
+impl Drop for BackoffRate {
+    fn drop(self) {
+        let BackoffRate {
+            spelled: _spelled,
+            rate: _rate,
+        } = self;
+    }
 }
 
 impl Model for BackoffRate {
@@ -61,14 +78,6 @@ impl Compiled for Count {
     ghost use Rattle.asl_json.specs.Data.{number};
 
     ghost shown = { number };
-
-    fn try_clone(&self, alloc: Global) -> Result<Count, AllocError> {
-        let Count { spelled, value } = self;
-        Ok(Count {
-            spelled: spelled.try_clone(alloc)?,
-            value: *value,
-        })
-    }
 
     fn json(&self, alloc: Global) -> Result<Json, AllocError> {
         self.spelled.json(alloc)
@@ -108,14 +117,6 @@ impl Compiled for BackoffRate {
     ghost use Rattle.asl_json.specs.Data.{number};
 
     ghost shown = { number };
-
-    fn try_clone(&self, alloc: Global) -> Result<BackoffRate, AllocError> {
-        let BackoffRate { spelled, rate } = self;
-        Ok(BackoffRate {
-            spelled: spelled.try_clone(alloc)?,
-            rate: *rate,
-        })
-    }
 
     fn json(&self, alloc: Global) -> Result<Json, AllocError> {
         self.spelled.json(alloc)

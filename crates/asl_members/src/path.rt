@@ -14,7 +14,6 @@ use asl_template::is_path;
 use std::alloc::{AllocError, Global};
 
 /// What `InputPath`, `ResultPath` or `OutputPath` names. (Amazon States Language, "Input and Output Processing".)
-#[derive(Drop)]
 pub enum PathField {
     /// The member is absent: the whole value.
     Whole,
@@ -24,13 +23,32 @@ pub enum PathField {
     At(RefPath),
 }
 
+// Written out, so that a caller's proof sees one call and not the drop of each part.
+impl Drop for PathField {
+    fn drop(self) {
+        match self {
+            PathField::Whole => {}
+            PathField::Nowhere => {}
+            PathField::At(_part) => {}
+        }
+    }
+}
+
 /// What `ErrorPath` or `CausePath` names. (Amazon States Language, "Fail State".)
-#[derive(Drop)]
 pub enum PathOrCall {
     /// A path, which begins with `$`.
     Path(RefPath),
     /// A call of an intrinsic function.
     Call(Expr),
+}
+
+impl Drop for PathOrCall {
+    fn drop(self) {
+        match self {
+            PathOrCall::Path(_part) => {}
+            PathOrCall::Call(_part) => {}
+        }
+    }
 }
 
 impl PathField {
@@ -43,17 +61,6 @@ impl PathField {
             None => Ok(PathField::Whole),
             Some(Json::Text(text)) => Ok(PathField::At(path(alloc, text.as_str())?)),
             Some(_) => Ok(PathField::Nowhere),
-        }
-    }
-
-    /// One of its own, equal to this one.
-    pub fn try_clone(&self, alloc: Global) -> Result<PathField, AllocError>
-        ensures { IfOk result (λ p. p ≡ self.now) }
-    {
-        match self {
-            PathField::Whole => Ok(PathField::Whole),
-            PathField::Nowhere => Ok(PathField::Nowhere),
-            PathField::At(path) => Ok(PathField::At(path.try_clone(alloc)?)),
         }
     }
 
@@ -85,13 +92,6 @@ impl Compiled for PathOrCall {
     ghost use Rattle.asl_members.specs.Shown.{path_or_call_shown};
 
     ghost shown = { path_or_call_shown };
-
-    fn try_clone(&self, alloc: Global) -> Result<PathOrCall, AllocError> {
-        match self {
-            PathOrCall::Path(path) => Ok(PathOrCall::Path(path.try_clone(alloc)?)),
-            PathOrCall::Call(call) => Ok(PathOrCall::Call(call.try_clone(alloc)?)),
-        }
-    }
 
     fn json(&self, alloc: Global) -> Result<Json, AllocError> {
         let text = match self {

@@ -13,10 +13,6 @@ impl Compiled for Txt {
 
     ghost shown = { text };
 
-    fn try_clone(&self, alloc: Global) -> Result<Txt, AllocError> {
-        self.try_clone(alloc)
-    }
-
     fn json(&self, alloc: Global) -> Result<Json, AllocError> {
         Ok(Json::Text(self.try_clone(alloc)?))
     }
@@ -40,10 +36,6 @@ impl Compiled for Dec {
 
     ghost shown = { number };
 
-    fn try_clone(&self, alloc: Global) -> Result<Dec, AllocError> {
-        self.try_clone(alloc)
-    }
-
     fn json(&self, alloc: Global) -> Result<Json, AllocError> {
         Ok(Json::Num(self.try_clone(alloc)?))
     }
@@ -66,10 +58,6 @@ impl Compiled for bool {
     ghost use Rattle.asl_json.specs.Data.{boolean};
 
     ghost shown = { boolean };
-
-    fn try_clone(&self, _alloc: Global) -> Result<bool, AllocError> {
-        Ok(*self)
-    }
 
     fn json(&self, _alloc: Global) -> Result<Json, AllocError> {
         Ok(Json::Bool(*self))
@@ -106,10 +94,6 @@ impl Compiled for RefPath {
 
     ghost shown = { text };
 
-    fn try_clone(&self, alloc: Global) -> Result<RefPath, AllocError> {
-        self.try_clone(alloc)
-    }
-
     fn json(&self, alloc: Global) -> Result<Json, AllocError> {
         let string = String::from_str(alloc, self.text())?;
         Ok(Json::Text(Txt::new(string)))
@@ -131,10 +115,6 @@ impl Compile for RefPath {
 
 impl Compiled for Template {
     ghost shown = { λ t. t };
-
-    fn try_clone(&self, alloc: Global) -> Result<Template, AllocError> {
-        self.try_clone(alloc)
-    }
 
     fn json(&self, alloc: Global) -> Result<Json, AllocError> {
         self.rebuild(alloc)
@@ -159,10 +139,6 @@ impl Compiled for Json {
     ghost use Rattle.asl_json.specs.View.{data_of};
 
     ghost shown = { data_of };
-
-    fn try_clone(&self, alloc: Global) -> Result<Json, AllocError> {
-        self.try_clone(alloc)
-    }
 
     fn json(&self, alloc: Global) -> Result<Json, AllocError> {
         self.try_clone(alloc)

@@ -7,9 +7,9 @@ ghost use Rattle.asl_schema.specs.Canon.{canon};
 ghost use Rattle.asl_schema.specs.Clean.{IsClean, Fits};
 ghost use Rattle.asl_members.specs.Shown.{retrier_object};
 
-use crate::compiled::{Compile, Compiled, clone_optional, json_optional, read_optional};
+use crate::compiled::{Compile, Compiled, json_optional, read_optional};
 use crate::entry::{Entry, object};
-use crate::list::{clone_all, json_all, read_all};
+use crate::list::{json_all, read_all};
 use crate::number::{BackoffRate, Count};
 use asl_json::{Json, Txt};
 use std::alloc::{AllocError, Global};
@@ -17,9 +17,15 @@ use std::marker::Model;
 
 /// The names of the errors that a retrier or a catcher is for. (Amazon States Language, "Errors".) Contracts see them as the
 /// list of their texts.
-#[derive(Drop)]
 pub struct ErrorNames {
     names: Vec<Txt>,
+}
+
+// Written out, so that a caller's proof sees one call and not the drop of each part.
+impl Drop for ErrorNames {
+    fn drop(self) {
+        let ErrorNames { names: _names } = self;
+    }
 }
 
 impl Model for ErrorNames {
@@ -31,7 +37,6 @@ impl Model for ErrorNames {
 }
 
 /// A retrier. (Amazon States Language, "Retrying after error".) Contracts speak of its canonical object, `retrier_object`.
-#[derive(Drop)]
 pub struct Retrier {
     comment: Option<Txt>,
     errors: ErrorNames,
@@ -40,10 +45,29 @@ pub struct Retrier {
     rate: Option<BackoffRate>,
 }
 
+impl Drop for Retrier {
+    fn drop(self) {
+        let Retrier {
+            comment: _comment,
+            errors: _errors,
+            interval: _interval,
+            attempts: _attempts,
+            rate: _rate,
+        } = self;
+    }
+}
+
 /// The retriers of a state, in the order in which they are tried. Contracts see them as the list of their canonical objects.
-#[derive(Drop)]
 pub struct Retriers {
     retriers: Vec<Retrier>,
+}
+
+impl Drop for Retriers {
+    fn drop(self) {
+        let Retriers {
+            retriers: _retriers,
+        } = self;
+    }
 }
 
 impl Model for Retriers {
@@ -63,12 +87,6 @@ impl Compiled for ErrorNames {
     ghost use Rattle.asl_members.specs.Shown.{names_shown};
 
     ghost shown = { names_shown };
-
-    fn try_clone(&self, alloc: Global) -> Result<ErrorNames, AllocError> {
-        Ok(ErrorNames {
-            names: clone_all(alloc, &self.names)?,
-        })
-    }
 
     fn json(&self, alloc: Global) -> Result<Json, AllocError> {
         Ok(Json::List(json_all(alloc, &self.names)?))
@@ -112,16 +130,6 @@ impl Compiled for Retrier {
     ghost use Rattle.asl_members.specs.Shown.{retrier_object};
 
     ghost shown = { retrier_object };
-
-    fn try_clone(&self, alloc: Global) -> Result<Retrier, AllocError> {
-        Ok(Retrier {
-            comment: clone_optional(alloc, &self.comment)?,
-            errors: self.errors.try_clone(alloc)?,
-            interval: clone_optional(alloc, &self.interval)?,
-            attempts: clone_optional(alloc, &self.attempts)?,
-            rate: clone_optional(alloc, &self.rate)?,
-        })
-    }
 
     fn json(&self, alloc: Global) -> Result<Json, AllocError> {
         let comment = json_optional(alloc, &self.comment)?;
@@ -190,12 +198,6 @@ impl Compiled for Retriers {
     ghost use Rattle.asl_json.specs.Data.{list, chain};
 
     ghost shown = { λ rs. list (chain rs) };
-
-    fn try_clone(&self, alloc: Global) -> Result<Retriers, AllocError> {
-        Ok(Retriers {
-            retriers: clone_all(alloc, &self.retriers)?,
-        })
-    }
 
     fn json(&self, alloc: Global) -> Result<Json, AllocError> {
         Ok(Json::List(json_all(alloc, &self.retriers)?))

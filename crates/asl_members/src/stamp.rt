@@ -8,10 +8,19 @@ use std::alloc::{AllocError, Global};
 use std::marker::Model;
 
 /// A timestamp. (Amazon States Language, "Timestamps".) Contracts see it as its text.
-#[derive(Drop)]
 pub struct Stamp {
     text: Txt,
     moment: Moment,
+}
+
+// Written out, so that a caller's proof sees one call and not the drop of each part.
+impl Drop for Stamp {
+    fn drop(self) {
+        let Stamp {
+            text: _text,
+            moment: _moment,
+        } = self;
+    }
 }
 
 impl Model for Stamp {
@@ -39,14 +48,6 @@ impl Compiled for Stamp {
     ghost use Rattle.asl_json.specs.Data.{text};
 
     ghost shown = { text };
-
-    fn try_clone(&self, alloc: Global) -> Result<Stamp, AllocError> {
-        let Stamp { text, moment } = self;
-        Ok(Stamp {
-            text: text.try_clone(alloc)?,
-            moment: *moment,
-        })
-    }
 
     fn json(&self, alloc: Global) -> Result<Json, AllocError> {
         self.text.json(alloc)

@@ -12,15 +12,11 @@ ghost use Rattle.asl_members.specs.Shown.{path_shown, names_shown};
 use crate::entries::{and, with, with_optional, with_path};
 use crate::target::Target;
 use asl_json::{Json, Txt};
-use asl_members::{
-    Compile, Compiled, ErrorNames, PathField, clone_all, clone_optional, json_all, object,
-    read_optional,
-};
+use asl_members::{Compile, Compiled, ErrorNames, PathField, json_all, object, read_optional};
 use std::alloc::{AllocError, Global};
 use std::marker::Model;
 
 /// A catcher. (Amazon States Language, "Fallback States".) Contracts speak of its canonical object, `catcher_object`.
-#[derive(Drop)]
 pub struct Catcher {
     pub(crate) comment: Option<Txt>,
     pub(crate) errors: ErrorNames,
@@ -28,10 +24,29 @@ pub struct Catcher {
     pub(crate) next: Target,
 }
 
+// Written out, so that a caller's proof sees one call and not the drop of each part.
+impl Drop for Catcher {
+    fn drop(self) {
+        let Catcher {
+            comment: _comment,
+            errors: _errors,
+            result_path: _result_path,
+            next: _next,
+        } = self;
+    }
+}
+
 /// The catchers of a state, in the order in which they are tried. Contracts see them as the list of their canonical objects.
-#[derive(Drop)]
 pub struct Catchers {
     pub(crate) catchers: Vec<Catcher>,
+}
+
+impl Drop for Catchers {
+    fn drop(self) {
+        let Catchers {
+            catchers: _catchers,
+        } = self;
+    }
 }
 
 impl Model for Catchers {
@@ -91,15 +106,6 @@ impl Compiled for Catcher {
 
     ghost shown = { catcher_object };
 
-    fn try_clone(&self, alloc: Global) -> Result<Catcher, AllocError> {
-        Ok(Catcher {
-            comment: clone_optional(alloc, &self.comment)?,
-            errors: self.errors.try_clone(alloc)?,
-            result_path: self.result_path.try_clone(alloc)?,
-            next: self.next.try_clone(alloc)?,
-        })
-    }
-
     fn json(&self, alloc: Global) -> Result<Json, AllocError> {
         let entries = with_optional(alloc, Vec::new(alloc), "Comment", &self.comment)?;
         let entries = with(alloc, entries, "ErrorEquals", &self.errors)?;
@@ -151,12 +157,6 @@ impl Compiled for Catchers {
     ghost use Rattle.asl_json.specs.Data.{list, chain};
 
     ghost shown = { λ cs. list (chain cs) };
-
-    fn try_clone(&self, alloc: Global) -> Result<Catchers, AllocError> {
-        Ok(Catchers {
-            catchers: clone_all(alloc, &self.catchers)?,
-        })
-    }
 
     fn json(&self, alloc: Global) -> Result<Json, AllocError> {
         Ok(Json::List(json_all(alloc, &self.catchers)?))

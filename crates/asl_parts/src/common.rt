@@ -10,16 +10,25 @@ ghost use Rattle.asl_parts.specs.Parts.{common_members};
 
 use crate::entries::{entry, joined};
 use asl_json::{Json, Members, Txt};
-use asl_members::{Entry, clone_optional, json_optional, object, read_optional};
+use asl_members::{Entry, json_optional, object, read_optional};
 use std::alloc::{AllocError, Global};
 
 /// The members that a state of any type may have beside its type. (Amazon States Language, "Common State Fields".)
-#[derive(Drop)]
 pub struct Common {
     /// `Comment`.
     pub comment: Option<Txt>,
     /// `QueryLanguage`: `JSONPath`, where it is there.
     pub query_language: Option<Txt>,
+}
+
+// Written out, so that a caller's proof sees one call and not the drop of each part.
+impl Drop for Common {
+    fn drop(self) {
+        let Common {
+            comment: _comment,
+            query_language: _query_language,
+        } = self;
+    }
 }
 
 impl Common {
@@ -49,15 +58,5 @@ impl Common {
             entry("QueryLanguage", query_language),
         ]?;
         object(alloc, joined(common, own)?)
-    }
-
-    /// A copy of its own, equal to it. The error is that memory ran out.
-    pub fn try_clone(&self, alloc: Global) -> Result<Common, AllocError>
-        ensures { IfOk result (λ c. c ≡ self.now) }
-    {
-        Ok(Common {
-            comment: clone_optional(alloc, &self.comment)?,
-            query_language: clone_optional(alloc, &self.query_language)?,
-        })
     }
 }

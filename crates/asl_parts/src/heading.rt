@@ -6,11 +6,10 @@ ghost use Rattle.asl_schema.specs.declared.sort.Sort.TheVariants.{Definition};
 ghost use Rattle.asl_schema.specs.Clean.{IsClean};
 
 use asl_json::{Members, Txt};
-use asl_members::{Count, clone_optional, read_optional};
+use asl_members::{Count, read_optional};
 use std::alloc::{AllocError, Global};
 
 /// The members that only the outermost machine may have. (Amazon States Language, "Top-level fields".)
-#[derive(Drop)]
 pub struct Heading {
     /// `QueryLanguage`: `JSONPath`, where it is there.
     pub query_language: Option<Txt>,
@@ -18,6 +17,17 @@ pub struct Heading {
     pub version: Option<Txt>,
     /// `TimeoutSeconds`.
     pub timeout: Option<Count>,
+}
+
+// Written out, so that a caller's proof sees one call and not the drop of each part.
+impl Drop for Heading {
+    fn drop(self) {
+        let Heading {
+            query_language: _query_language,
+            version: _version,
+            timeout: _timeout,
+        } = self;
+    }
 }
 
 impl Heading {
@@ -32,17 +42,6 @@ impl Heading {
             query_language: read_optional(alloc, members.find("QueryLanguage"))?,
             version: read_optional(alloc, members.find("Version"))?,
             timeout: read_optional(alloc, members.find("TimeoutSeconds"))?,
-        })
-    }
-
-    /// A copy of its own, equal to it. The error is that memory ran out.
-    pub fn try_clone(&self, alloc: Global) -> Result<Heading, AllocError>
-        ensures { IfOk result (λ h. h ≡ self.now) }
-    {
-        Ok(Heading {
-            query_language: clone_optional(alloc, &self.query_language)?,
-            version: clone_optional(alloc, &self.version)?,
-            timeout: clone_optional(alloc, &self.timeout)?,
         })
     }
 }

@@ -9,12 +9,11 @@ ghost use Rattle.asl_parts.specs.Parts.{limits_members};
 
 use crate::entries::with_optional;
 use asl_json::Members;
-use asl_members::{Count, Entry, clone_optional, read_optional};
+use asl_members::{Count, Entry, read_optional};
 use asl_path::RefPath;
 use std::alloc::{AllocError, Global};
 
 /// How long a Task state may take, and between two heartbeats, each in seconds or by a path. (Amazon States Language, "Task State".)
-#[derive(Drop)]
 pub struct Limits {
     /// `TimeoutSeconds`.
     pub timeout: Option<Count>,
@@ -24,6 +23,18 @@ pub struct Limits {
     pub heartbeat: Option<Count>,
     /// `HeartbeatSecondsPath`.
     pub heartbeat_path: Option<RefPath>,
+}
+
+// Written out, so that a caller's proof sees one call and not the drop of each part.
+impl Drop for Limits {
+    fn drop(self) {
+        let Limits {
+            timeout: _timeout,
+            timeout_path: _timeout_path,
+            heartbeat: _heartbeat,
+            heartbeat_path: _heartbeat_path,
+        } = self;
+    }
 }
 
 impl Limits {
@@ -51,17 +62,5 @@ impl Limits {
         let own = with_optional(alloc, own, "TimeoutSecondsPath", &self.timeout_path)?;
         let own = with_optional(alloc, own, "HeartbeatSeconds", &self.heartbeat)?;
         with_optional(alloc, own, "HeartbeatSecondsPath", &self.heartbeat_path)
-    }
-
-    /// A copy of its own, equal to it. The error is that memory ran out.
-    pub fn try_clone(&self, alloc: Global) -> Result<Limits, AllocError>
-        ensures { IfOk result (λ l. l ≡ self.now) }
-    {
-        Ok(Limits {
-            timeout: clone_optional(alloc, &self.timeout)?,
-            timeout_path: clone_optional(alloc, &self.timeout_path)?,
-            heartbeat: clone_optional(alloc, &self.heartbeat)?,
-            heartbeat_path: clone_optional(alloc, &self.heartbeat_path)?,
-        })
     }
 }

@@ -13,13 +13,12 @@ use crate::catcher::Catchers;
 use crate::entries::{with_optional, with_path};
 use crate::target::Next;
 use asl_json::Members;
-use asl_members::{Entry, PathField, Retriers, clone_optional, read_optional};
+use asl_members::{Entry, PathField, Retriers, read_optional};
 use asl_template::Template;
 use std::alloc::{AllocError, Global};
 
 /// What becomes of the result or the error of a Task, Parallel or Map state. (Amazon States Language, "Input and Output
 /// Processing", "Errors".)
-#[derive(Drop)]
 pub struct Outcome {
     /// `ResultSelector`.
     pub result_selector: Option<Template>,
@@ -33,6 +32,20 @@ pub struct Outcome {
     pub catch: Option<Catchers>,
     /// `Next` or `"End": true`.
     pub next: Next,
+}
+
+// Written out, so that a caller's proof sees one call and not the drop of each part.
+impl Drop for Outcome {
+    fn drop(self) {
+        let Outcome {
+            result_selector: _result_selector,
+            result_path: _result_path,
+            output_path: _output_path,
+            retry: _retry,
+            catch: _catch,
+            next: _next,
+        } = self;
+    }
 }
 
 impl Outcome {
@@ -104,19 +117,5 @@ impl Outcome {
         let own = with_optional(alloc, own, "Retry", &self.retry)?;
         let own = with_optional(alloc, own, "Catch", &self.catch)?;
         self.next.entries(alloc, own)
-    }
-
-    /// A copy of its own, equal to it. The error is that memory ran out.
-    pub fn try_clone(&self, alloc: Global) -> Result<Outcome, AllocError>
-        ensures { IfOk result (λ o. o ≡ self.now) }
-    {
-        Ok(Outcome {
-            result_selector: clone_optional(alloc, &self.result_selector)?,
-            result_path: self.result_path.try_clone(alloc)?,
-            output_path: self.output_path.try_clone(alloc)?,
-            retry: clone_optional(alloc, &self.retry)?,
-            catch: clone_optional(alloc, &self.catch)?,
-            next: self.next.try_clone(alloc)?,
-        })
     }
 }

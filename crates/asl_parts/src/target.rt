@@ -16,19 +16,33 @@ use asl_members::Entry;
 use std::alloc::{AllocError, Global};
 
 /// The name of the state that comes next.
-#[derive(Drop)]
 pub struct Target {
     /// A name of a state of the same machine.
     pub name: Txt,
 }
 
+// Written out, so that a caller's proof sees one call and not the drop of each part.
+impl Drop for Target {
+    fn drop(self) {
+        let Target { name: _name } = self;
+    }
+}
+
 /// How a state goes on. (Amazon States Language, "Transitions".)
-#[derive(Drop)]
 pub enum Next {
     /// `"End": true`.
     End,
     /// `"Next"`.
     To(Target),
+}
+
+impl Drop for Next {
+    fn drop(self) {
+        match self {
+            Next::End => {}
+            Next::To(_part) => {}
+        }
+    }
 }
 
 impl Target {
@@ -58,19 +72,6 @@ impl Target {
         }
     }
 
-    /// An equal one, where it is there. The error is that memory ran out.
-    pub fn clone_optional(
-        alloc: Global,
-        target: &Option<Target>,
-    ) -> Result<Option<Target>, AllocError>
-        ensures { IfOk result (λ t. t ≡ target.now) }
-    {
-        match target {
-            None => Ok(None),
-            Some(target) => Ok(Some(target.try_clone(alloc)?)),
-        }
-    }
-
     /// Its name as JSON. The error is that memory ran out.
     pub fn json(&self, alloc: Global) -> Result<Json, AllocError>
         ensures { IfOk result (λ j. data_of j ≡ text self.now.name) }
@@ -86,15 +87,6 @@ impl Target {
             None => Ok(None),
             Some(target) => Ok(Some(target.json(alloc)?)),
         }
-    }
-
-    /// A copy of its own, equal to it. The error is that memory ran out.
-    pub fn try_clone(&self, alloc: Global) -> Result<Target, AllocError>
-        ensures { IfOk result (λ t. t ≡ self.now) }
-    {
-        Ok(Target {
-            name: self.name.try_clone(alloc)?,
-        })
     }
 }
 
@@ -123,15 +115,5 @@ impl Next {
             }
         };
         joined(before, own)
-    }
-
-    /// A copy of its own, equal to it. The error is that memory ran out.
-    pub fn try_clone(&self, alloc: Global) -> Result<Next, AllocError>
-        ensures { IfOk result (λ n. n ≡ self.now) }
-    {
-        match self {
-            Next::End => Ok(Next::End),
-            Next::To(target) => Ok(Next::To(target.try_clone(alloc)?)),
-        }
     }
 }

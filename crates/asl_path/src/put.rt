@@ -122,13 +122,13 @@ fn meet(value: Json, step: &Step) -> Met
     ensures { IsMet (data_of value) step.now result }
 {
     match step {
-        Step::Name(name) => match value {
-            Json::Dict(members) => meet_member(members, name),
-            other => Met::Nothing(other),
+        Step::Name(name) => match value.into_members() {
+            Ok(members) => meet_member(members, name),
+            Err(other) => Met::Nothing(other),
         },
-        Step::Index(i) => match value {
-            Json::List(items) => meet_item(items, *i),
-            other => Met::Nothing(other),
+        Step::Index(i) => match value.into_items() {
+            Ok(items) => meet_item(items, *i),
+            Err(other) => Met::Nothing(other),
         },
     }
 }

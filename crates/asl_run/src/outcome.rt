@@ -4,7 +4,6 @@ use asl_json::Json;
 use asl_kinds::record::ErrorOut;
 
 /// How far an execution is. (Step Functions Developer Guide, DescribeExecution, `status`.)
-#[derive(Drop)]
 pub enum Outcome {
     /// `RUNNING`.
     Running,
@@ -12,4 +11,15 @@ pub enum Outcome {
     Succeeded(Json),
     /// `FAILED`, with the error.
     Failed(ErrorOut),
+}
+
+// Written out, so that a caller's proof sees one call and not the drop of each part.
+impl Drop for Outcome {
+    fn drop(self) {
+        match self {
+            Outcome::Running => {}
+            Outcome::Succeeded(_part) => {}
+            Outcome::Failed(_part) => {}
+        }
+    }
 }

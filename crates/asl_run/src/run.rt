@@ -23,13 +23,25 @@ use std::mem;
 const FULL: usize = 24_992;
 
 /// What changes as an execution goes on. Contracts see its world.
-#[derive(Drop)]
 pub struct Run {
     branches: Vec<Branch>,
     counts: Vec<u64>,
     history: History,
     last: Moment,
     outcome: Outcome,
+}
+
+// Written out, so that a caller's proof sees one call and not the drop of each part.
+impl Drop for Run {
+    fn drop(self) {
+        let Run {
+            branches: _branches,
+            counts: _counts,
+            history: _history,
+            last: _last,
+            outcome: _outcome,
+        } = self;
+    }
 }
 
 impl Model for Run {

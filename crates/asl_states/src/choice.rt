@@ -14,14 +14,13 @@ ghost use Rattle.asl_members.specs.Shown.{path_shown};
 
 use asl_choice::Rule;
 use asl_json::{Json, Members, Txt};
-use asl_members::{Compiled, PathField, clone_all, json_all};
+use asl_members::{Compiled, PathField, json_all};
 use asl_parts::{Common, Target, and, with, with_path};
 use std::alloc::{AllocError, Global};
 use std::marker::Model;
 
 /// A rule of a Choice state, with the state that comes next where it holds. Contracts speak of its canonical object,
 /// `choice_rule_object`.
-#[derive(Drop)]
 pub struct ChoiceRule {
     /// The rule.
     pub rule: Rule,
@@ -29,10 +28,25 @@ pub struct ChoiceRule {
     pub next: Target,
 }
 
+// Written out, so that a caller's proof sees one call and not the drop of each part.
+impl Drop for ChoiceRule {
+    fn drop(self) {
+        let ChoiceRule {
+            rule: _rule,
+            next: _next,
+        } = self;
+    }
+}
+
 /// The rules of a Choice state, in the order in which they are tried. Contracts see them as the list of their canonical objects.
-#[derive(Drop)]
 pub struct ChoiceRules {
     pub(crate) rules: Vec<ChoiceRule>,
+}
+
+impl Drop for ChoiceRules {
+    fn drop(self) {
+        let ChoiceRules { rules: _rules } = self;
+    }
 }
 
 impl Model for ChoiceRules {
@@ -50,13 +64,24 @@ impl Model for ChoiceRules {
 }
 
 /// A Choice state. (Amazon States Language, "Choice State".) Contracts speak of its canonical object, `choice_object`.
-#[derive(Drop)]
 pub struct Choice {
     pub(crate) common: Common,
     pub(crate) input_path: PathField,
     pub(crate) choices: ChoiceRules,
     pub(crate) default: Option<Target>,
     pub(crate) output_path: PathField,
+}
+
+impl Drop for Choice {
+    fn drop(self) {
+        let Choice {
+            common: _common,
+            input_path: _input_path,
+            choices: _choices,
+            default: _default,
+            output_path: _output_path,
+        } = self;
+    }
 }
 
 impl ChoiceRule {
@@ -78,13 +103,6 @@ impl Compiled for ChoiceRule {
     ghost use Rattle.asl_states.specs.Show.{choice_rule_object};
 
     ghost shown = { choice_rule_object };
-
-    fn try_clone(&self, alloc: Global) -> Result<ChoiceRule, AllocError> {
-        Ok(ChoiceRule {
-            rule: self.rule.try_clone(alloc)?,
-            next: self.next.try_clone(alloc)?,
-        })
-    }
 
     fn json(&self, alloc: Global) -> Result<Json, AllocError> {
         let mut members = self.rule.members(alloc)?;
@@ -121,12 +139,6 @@ impl Compiled for ChoiceRules {
     ghost use Rattle.asl_json.specs.Data.{list, chain};
 
     ghost shown = { λ rs. list (chain rs) };
-
-    fn try_clone(&self, alloc: Global) -> Result<ChoiceRules, AllocError> {
-        Ok(ChoiceRules {
-            rules: clone_all(alloc, &self.rules)?,
-        })
-    }
 
     fn json(&self, alloc: Global) -> Result<Json, AllocError> {
         Ok(Json::List(json_all(alloc, &self.rules)?))
@@ -189,18 +201,5 @@ impl Choice {
         let own = and(own, "Default", default)?;
         let own = with_path(alloc, own, "OutputPath", &self.output_path)?;
         self.common.object(alloc, "Choice", own)
-    }
-
-    /// A copy of its own, equal to it. The error is that memory ran out.
-    pub fn try_clone(&self, alloc: Global) -> Result<Choice, AllocError>
-        ensures { IfOk result (λ c. c ≡ self.now) }
-    {
-        Ok(Choice {
-            common: self.common.try_clone(alloc)?,
-            input_path: self.input_path.try_clone(alloc)?,
-            choices: self.choices.try_clone(alloc)?,
-            default: Target::clone_optional(alloc, &self.default)?,
-            output_path: self.output_path.try_clone(alloc)?,
-        })
     }
 }

@@ -17,7 +17,6 @@ use asl_parts::{Common, and};
 use std::alloc::{AllocError, Global};
 
 /// What a Fail state tells as its error or its cause.
-#[derive(Drop)]
 pub enum Reason {
     /// `Error` or `Cause`.
     Told(Txt),
@@ -25,12 +24,31 @@ pub enum Reason {
     At(PathOrCall),
 }
 
+// Written out, so that a caller's proof sees one call and not the drop of each part.
+impl Drop for Reason {
+    fn drop(self) {
+        match self {
+            Reason::Told(_part) => {}
+            Reason::At(_part) => {}
+        }
+    }
+}
+
 /// A Fail state. (Amazon States Language, "Fail State".) Contracts speak of its canonical object, `fail_object`.
-#[derive(Drop)]
 pub struct Fail {
     pub(crate) common: Common,
     pub(crate) error: Option<Reason>,
     pub(crate) cause: Option<Reason>,
+}
+
+impl Drop for Fail {
+    fn drop(self) {
+        let Fail {
+            common: _common,
+            error: _error,
+            cause: _cause,
+        } = self;
+    }
 }
 
 impl Reason {
@@ -53,16 +71,6 @@ impl Reason {
             Some(path) => Ok(Some(Reason::At(PathOrCall::read(alloc, path)?))),
             None => Ok(None),
         }
-    }
-}
-
-fn clone_reason(alloc: Global, reason: &Option<Reason>) -> Result<Option<Reason>, AllocError>
-    ensures { IfOk result (λ r. r ≡ reason.now) }
-{
-    match reason {
-        None => Ok(None),
-        Some(Reason::Told(text)) => Ok(Some(Reason::Told(text.try_clone(alloc)?))),
-        Some(Reason::At(path)) => Ok(Some(Reason::At(path.try_clone(alloc)?))),
     }
 }
 
@@ -128,16 +136,5 @@ impl Fail {
         let cause_path = path_json(alloc, &self.cause)?;
         let own = and(own, "CausePath", cause_path)?;
         self.common.object(alloc, "Fail", own)
-    }
-
-    /// A copy of its own, equal to it. The error is that memory ran out.
-    pub fn try_clone(&self, alloc: Global) -> Result<Fail, AllocError>
-        ensures { IfOk result (λ f. f ≡ self.now) }
-    {
-        Ok(Fail {
-            common: self.common.try_clone(alloc)?,
-            error: clone_reason(alloc, &self.error)?,
-            cause: clone_reason(alloc, &self.cause)?,
-        })
     }
 }

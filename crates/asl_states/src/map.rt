@@ -14,7 +14,7 @@ ghost use Rattle.asl_schema.specs.Members.{is_among};
 ghost use Rattle.asl_parts.specs.Member.{outcome_names, outcome_object};
 
 use asl_json::{Json, Members};
-use asl_members::{Count, PathField, clone_optional, read_optional};
+use asl_members::{Count, PathField, read_optional};
 use asl_parts::{Body, Common, Outcome, and, with_optional, with_path};
 use asl_path::RefPath;
 use asl_template::Template;
@@ -22,7 +22,6 @@ use std::alloc::{AllocError, Global};
 
 /// A Map state. (Amazon States Language, "Map State".) Contracts speak of its canonical object over the table of states,
 /// `map_object`.
-#[derive(Drop)]
 pub struct Map {
     pub(crate) common: Common,
     pub(crate) input_path: PathField,
@@ -31,6 +30,21 @@ pub struct Map {
     pub(crate) parameters: Option<Template>,
     pub iterator: Body,
     pub(crate) outcome: Outcome,
+}
+
+// Written out, so that a caller's proof sees one call and not the drop of each part.
+impl Drop for Map {
+    fn drop(self) {
+        let Map {
+            common: _common,
+            input_path: _input_path,
+            items_path: _items_path,
+            max_concurrency: _max_concurrency,
+            parameters: _parameters,
+            iterator: _iterator,
+            outcome: _outcome,
+        } = self;
+    }
 }
 
 impl Map {
@@ -104,20 +118,5 @@ impl Map {
         let own = and(own, "Iterator", Some(iterator))?;
         let own = self.outcome.entries(alloc, own)?;
         self.common.object(alloc, "Map", own)
-    }
-
-    /// A copy of its own, equal to it. The error is that memory ran out.
-    pub fn try_clone(&self, alloc: Global) -> Result<Map, AllocError>
-        ensures { IfOk result (λ m. m ≡ self.now) }
-    {
-        Ok(Map {
-            common: self.common.try_clone(alloc)?,
-            input_path: self.input_path.try_clone(alloc)?,
-            items_path: clone_optional(alloc, &self.items_path)?,
-            max_concurrency: clone_optional(alloc, &self.max_concurrency)?,
-            parameters: clone_optional(alloc, &self.parameters)?,
-            iterator: self.iterator.try_clone(alloc)?,
-            outcome: self.outcome.try_clone(alloc)?,
-        })
     }
 }

@@ -14,20 +14,32 @@ ghost use Rattle.asl_schema.specs.Members.{is_among};
 ghost use Rattle.asl_parts.specs.Member.{outcome_names, outcome_object};
 
 use asl_json::{Items, Json, Members};
-use asl_members::{PathField, clone_optional, read_optional};
+use asl_members::{PathField, read_optional};
 use asl_parts::{Bodies, Common, Outcome, and, with_optional, with_path};
 use asl_template::Template;
 use std::alloc::{AllocError, Global};
 
 /// A Parallel state. (Amazon States Language, "Parallel State".) Contracts speak of its canonical object over the table of
 /// states, `parallel_object`.
-#[derive(Drop)]
 pub struct Parallel {
     pub(crate) common: Common,
     pub(crate) input_path: PathField,
     pub(crate) parameters: Option<Template>,
     pub branches: Bodies,
     pub(crate) outcome: Outcome,
+}
+
+// Written out, so that a caller's proof sees one call and not the drop of each part.
+impl Drop for Parallel {
+    fn drop(self) {
+        let Parallel {
+            common: _common,
+            input_path: _input_path,
+            parameters: _parameters,
+            branches: _branches,
+            outcome: _outcome,
+        } = self;
+    }
 }
 
 impl Parallel {
@@ -83,18 +95,5 @@ impl Parallel {
         let own = and(own, "Branches", Some(Json::List(branches)))?;
         let own = self.outcome.entries(alloc, own)?;
         self.common.object(alloc, "Parallel", own)
-    }
-
-    /// A copy of its own, equal to it. The error is that memory ran out.
-    pub fn try_clone(&self, alloc: Global) -> Result<Parallel, AllocError>
-        ensures { IfOk result (λ p. p ≡ self.now) }
-    {
-        Ok(Parallel {
-            common: self.common.try_clone(alloc)?,
-            input_path: self.input_path.try_clone(alloc)?,
-            parameters: clone_optional(alloc, &self.parameters)?,
-            branches: self.branches.try_clone(alloc)?,
-            outcome: self.outcome.try_clone(alloc)?,
-        })
     }
 }

@@ -12,13 +12,12 @@ ghost use Rattle.asl_json.specs.View.{data_of};
 ghost use Rattle.asl_parts.specs.Parts.{next_shown, end_shown};
 
 use asl_json::{Json, Members, Txt};
-use asl_members::{PathField, clone_optional, read_optional};
+use asl_members::{PathField, read_optional};
 use asl_parts::{Common, Next, with_optional, with_path};
 use asl_template::Template;
 use std::alloc::{AllocError, Global};
 
 /// A Pass state. (Amazon States Language, "Pass State".) Contracts speak of its canonical object, `pass_object`.
-#[derive(Drop)]
 pub struct Pass {
     pub(crate) common: Common,
     pub(crate) input_path: PathField,
@@ -27,6 +26,21 @@ pub struct Pass {
     pub(crate) result_path: PathField,
     pub(crate) output_path: PathField,
     pub(crate) next: Next,
+}
+
+// Written out, so that a caller's proof sees one call and not the drop of each part.
+impl Drop for Pass {
+    fn drop(self) {
+        let Pass {
+            common: _common,
+            input_path: _input_path,
+            parameters: _parameters,
+            result: _result,
+            result_path: _result_path,
+            output_path: _output_path,
+            next: _next,
+        } = self;
+    }
 }
 
 impl Pass {
@@ -107,20 +121,5 @@ impl Pass {
         let own = with_path(alloc, own, "OutputPath", &self.output_path)?;
         let own = self.next.entries(alloc, own)?;
         self.common.object(alloc, "Pass", own)
-    }
-
-    /// A copy of its own, equal to it. The error is that memory ran out.
-    pub fn try_clone(&self, alloc: Global) -> Result<Pass, AllocError>
-        ensures { IfOk result (λ p. p ≡ self.now) }
-    {
-        Ok(Pass {
-            common: self.common.try_clone(alloc)?,
-            input_path: self.input_path.try_clone(alloc)?,
-            parameters: clone_optional(alloc, &self.parameters)?,
-            result: clone_optional(alloc, &self.result)?,
-            result_path: self.result_path.try_clone(alloc)?,
-            output_path: self.output_path.try_clone(alloc)?,
-            next: self.next.try_clone(alloc)?,
-        })
     }
 }

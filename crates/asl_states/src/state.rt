@@ -12,7 +12,6 @@ use crate::wait::Wait;
 use std::alloc::{AllocError, Global};
 
 /// A state. (Amazon States Language, "State Types".)
-#[derive(Drop)]
 pub enum State {
     /// `"Type": "Task"`.
     Task(Task),
@@ -32,20 +31,20 @@ pub enum State {
     Fail(Fail),
 }
 
-impl State {
-    /// A state of its own, equal to this one. The error is that memory ran out.
-    pub fn try_clone(&self, alloc: Global) -> Result<State, AllocError>
-        ensures { IfOk result (λ s. s ≡ self.now) }
-    {
+// Written out, so that a caller's proof sees one call and not the drop of each part.
+impl Drop for State {
+    fn drop(self) {
         match self {
-            State::Task(task) => Ok(State::Task(task.try_clone(alloc)?)),
-            State::Pass(pass) => Ok(State::Pass(pass.try_clone(alloc)?)),
-            State::Choice(choice) => Ok(State::Choice(choice.try_clone(alloc)?)),
-            State::Wait(wait) => Ok(State::Wait(wait.try_clone(alloc)?)),
-            State::Parallel(parallel) => Ok(State::Parallel(parallel.try_clone(alloc)?)),
-            State::Map(map) => Ok(State::Map(map.try_clone(alloc)?)),
-            State::Succeed(succeed) => Ok(State::Succeed(succeed.try_clone(alloc)?)),
-            State::Fail(fail) => Ok(State::Fail(fail.try_clone(alloc)?)),
+            State::Task(_part) => {}
+            State::Pass(_part) => {}
+            State::Choice(_part) => {}
+            State::Wait(_part) => {}
+            State::Parallel(_part) => {}
+            State::Map(_part) => {}
+            State::Succeed(_part) => {}
+            State::Fail(_part) => {}
         }
     }
 }
+
+impl State {}

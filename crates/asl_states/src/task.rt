@@ -13,14 +13,13 @@ ghost use Rattle.asl_schema.specs.Members.{is_among};
 ghost use Rattle.asl_parts.specs.Member.{outcome_names, outcome_object};
 
 use asl_json::{Json, Members, Txt};
-use asl_members::{Compile, Compiled, Count, PathField, clone_optional, read_optional};
+use asl_members::{Compile, Compiled, Count, PathField, read_optional};
 use asl_parts::{Common, Limits, Outcome, with, with_optional, with_path};
 use asl_path::RefPath;
 use asl_template::Template;
 use std::alloc::{AllocError, Global};
 
 /// A Task state. (Amazon States Language, "Task State".) Contracts speak of its canonical object, `task_object`.
-#[derive(Drop)]
 pub struct Task {
     pub(crate) common: Common,
     pub(crate) resource: Txt,
@@ -29,6 +28,21 @@ pub struct Task {
     pub(crate) credentials: Option<Json>,
     pub(crate) limits: Limits,
     pub(crate) outcome: Outcome,
+}
+
+// Written out, so that a caller's proof sees one call and not the drop of each part.
+impl Drop for Task {
+    fn drop(self) {
+        let Task {
+            common: _common,
+            resource: _resource,
+            input_path: _input_path,
+            parameters: _parameters,
+            credentials: _credentials,
+            limits: _limits,
+            outcome: _outcome,
+        } = self;
+    }
 }
 
 impl Task {
@@ -118,20 +132,5 @@ impl Task {
         let own = self.limits.entries(alloc, own)?;
         let own = self.outcome.entries(alloc, own)?;
         self.common.object(alloc, "Task", own)
-    }
-
-    /// A copy of its own, equal to it. The error is that memory ran out.
-    pub fn try_clone(&self, alloc: Global) -> Result<Task, AllocError>
-        ensures { IfOk result (λ t. t ≡ self.now) }
-    {
-        Ok(Task {
-            common: self.common.try_clone(alloc)?,
-            resource: self.resource.try_clone(alloc)?,
-            input_path: self.input_path.try_clone(alloc)?,
-            parameters: clone_optional(alloc, &self.parameters)?,
-            credentials: clone_optional(alloc, &self.credentials)?,
-            limits: self.limits.try_clone(alloc)?,
-            outcome: self.outcome.try_clone(alloc)?,
-        })
     }
 }

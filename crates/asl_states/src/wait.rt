@@ -18,7 +18,6 @@ use asl_path::RefPath;
 use std::alloc::{AllocError, Global};
 
 /// How long a Wait state waits.
-#[derive(Drop)]
 pub enum Delay {
     /// `Seconds`.
     Seconds(Count),
@@ -30,14 +29,37 @@ pub enum Delay {
     TimestampPath(RefPath),
 }
 
+// Written out, so that a caller's proof sees one call and not the drop of each part.
+impl Drop for Delay {
+    fn drop(self) {
+        match self {
+            Delay::Seconds(_part) => {}
+            Delay::SecondsPath(_part) => {}
+            Delay::Timestamp(_part) => {}
+            Delay::TimestampPath(_part) => {}
+        }
+    }
+}
+
 /// A Wait state. (Amazon States Language, "Wait State".) Contracts speak of its canonical object, `wait_object`.
-#[derive(Drop)]
 pub struct Wait {
     pub(crate) common: Common,
     pub(crate) input_path: PathField,
     pub(crate) delay: Delay,
     pub(crate) output_path: PathField,
     pub(crate) next: Next,
+}
+
+impl Drop for Wait {
+    fn drop(self) {
+        let Wait {
+            common: _common,
+            input_path: _input_path,
+            delay: _delay,
+            output_path: _output_path,
+            next: _next,
+        } = self;
+    }
 }
 
 impl Delay {
@@ -100,17 +122,6 @@ impl Delay {
         match self {
             Delay::TimestampPath(path) => Ok(Some(path.json(alloc)?)),
             _ => Ok(None),
-        }
-    }
-
-    fn try_clone(&self, alloc: Global) -> Result<Delay, AllocError>
-        ensures { IfOk result (λ d. d ≡ self.now) }
-    {
-        match self {
-            Delay::Seconds(count) => Ok(Delay::Seconds(count.try_clone(alloc)?)),
-            Delay::SecondsPath(path) => Ok(Delay::SecondsPath(path.try_clone(alloc)?)),
-            Delay::Timestamp(stamp) => Ok(Delay::Timestamp(stamp.try_clone(alloc)?)),
-            Delay::TimestampPath(path) => Ok(Delay::TimestampPath(path.try_clone(alloc)?)),
         }
     }
 }
@@ -178,18 +189,5 @@ impl Wait {
         let own = with_path(alloc, own, "OutputPath", &self.output_path)?;
         let own = self.next.entries(alloc, own)?;
         self.common.object(alloc, "Wait", own)
-    }
-
-    /// A copy of its own, equal to it. The error is that memory ran out.
-    pub fn try_clone(&self, alloc: Global) -> Result<Wait, AllocError>
-        ensures { IfOk result (λ w. w ≡ self.now) }
-    {
-        Ok(Wait {
-            common: self.common.try_clone(alloc)?,
-            input_path: self.input_path.try_clone(alloc)?,
-            delay: self.delay.try_clone(alloc)?,
-            output_path: self.output_path.try_clone(alloc)?,
-            next: self.next.try_clone(alloc)?,
-        })
     }
 }

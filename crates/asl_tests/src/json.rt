@@ -410,7 +410,7 @@ fn whole_spelled(alloc: Global, amount: i128) -> Option<String> {
 
 /// Whether a text is read as a number with this whole value.
 fn has_whole(alloc: Global, text: &str, wanted: Option<i128>) -> bool {
-    match value_of(alloc, text) {
+    match &value_of(alloc, text) {
         Some(Json::Num(number)) => number.whole() == wanted,
         _ => false,
     }

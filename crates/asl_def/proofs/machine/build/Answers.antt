@@ -1,5 +1,5 @@
-use Rattle.std.proofs.Common.{◌∙◌, ap, sym, subst, refl}
-use Rattle.std.specs.Prelude.{List, Option, Some, IfSome}
+use Rattle.std.proofs.Common.{◌≡◌, ◌∙◌, ap, sym, subst, refl}
+use Rattle.std.specs.Prelude.{List, Option, Some, IfSome, IfOk}
 use Rattle.asl_json.specs.Data.{Data, dict, pairs}
 use Rattle.asl_json.specs.View.{data_of}
 use Rattle.asl_schema.specs.declared.sort.Sort.TheVariants.{Text, Target, States}
@@ -40,9 +40,9 @@ pub states-requires-clause-room : goal.states-requires-clause-room
 states-requires-clause-room c = rw c.new-table.ensures (empty_room (data_of c.args.definition.now) c.object_in-members.result.now (dict (pairs c.object_in.result.now)) c.requires c.object_in-members.ensures (sym (rw c.in-Some.is at c.find-3.ensures) ∙ ap Some c.object_in.ensures))
 
 pub returns : goal.returns
-returns c = definition_shows (data_of c.args.definition.now) c.states.new.table c.object_in-members.result.now c.object_in.result.now _ _ c.in_ok-span.span c.object_in-members.ensures (c.in_ok-comment.ensures ∙ c.find.ensures) c.in_ok-heading.ensures.language c.in_ok-heading.ensures.version (c.in_ok-start.ensures ∙ c.find-2.ensures) c.in_ok-heading.ensures.timeout (sym (rw c.in-Some.is at c.find-3.ensures) ∙ ap Some c.object_in.ensures) c.in_ok-span.ensures.span refl refl
+returns c = subst (λ (d : Data). IfOk c.of_parts.result (λ m. m ≡ d)) (definition_shows (data_of c.args.definition.now) c.states.new.table c.object_in-members.result.now c.object_in.result.now _ _ c.in_ok-span.span c.object_in-members.ensures (c.in_ok-comment.ensures ∙ c.find.ensures) c.in_ok-heading.ensures.language c.in_ok-heading.ensures.version (c.in_ok-start.ensures ∙ c.find-2.ensures) c.in_ok-heading.ensures.timeout (sym (rw c.in-Some.is at c.find-3.ensures) ∙ ap Some c.object_in.ensures) c.in_ok-span.ensures.span refl refl) c.of_parts.ensures
 
-pub invariant_of-result : goal.invariant_of-result
-invariant_of-result c =
+pub of_parts-requires : goal.of_parts-requires
+of_parts-requires c =
     let made = subst (λ (t : List Named). Grows States (dict (pairs c.object_in.result.now)) t c.states.new.table) c.new-table.ensures c.in_ok-span.ensures.grows in
     whole (data_of c.args.definition.now) c.states.new.table c.object_in-members.result.now c.object_in.result.now _ _ c.object_in-members.ensures (sym (rw c.in-Some.is at c.find-3.ensures) ∙ ap Some c.object_in.ensures) (definition_shows (data_of c.args.definition.now) c.states.new.table c.object_in-members.result.now c.object_in.result.now _ _ c.in_ok-span.span c.object_in-members.ensures (c.in_ok-comment.ensures ∙ c.find.ensures) c.in_ok-heading.ensures.language c.in_ok-heading.ensures.version (c.in_ok-start.ensures ∙ c.find-2.ensures) c.in_ok-heading.ensures.timeout (sym (rw c.in-Some.is at c.find-3.ensures) ∙ ap Some c.object_in.ensures) c.in_ok-span.ensures.span refl refl) made c.in_ok-span.ensures.span.within

@@ -8,5 +8,5 @@ use Rattle.asl_functions.proofs.merge.merged.Goals as goal
 pub returns : goal.returns
 returns c =
     let one : c.put_all.new.members ≡ merged [] c.args.first.now = c.in_ok-put_all.ensures.members ∙ ap (λ (x : List (List ℕ × Data)). merged x (members_of c.members.result.now)) c.new-members.ensures ∙ ap (merged []) c.members.ensures.members in
-    let both : c.put_all-2.new.members ≡ merged [] (c.args.first.now ++ c.args.second.now) = c.in_ok-put_all-2.ensures.members ∙ ap (λ (x : List (List ℕ × Data)). merged x (members_of c.members-3.result.now)) one ∙ ap (merged (merged [] c.args.first.now)) c.members-3.ensures.members ∙ merged_on [] c.args.first.now c.args.second.now in
+    let both : c.put_all-2.new.members ≡ merged [] (c.args.first.now ++ c.args.second.now) = c.in_ok-put_all-2.ensures.members ∙ ap (λ (x : List (List ℕ × Data)). merged x (members_of c.members-2.result.now)) one ∙ ap (merged (merged [] c.args.first.now)) c.members-2.ensures.members ∙ merged_on [] c.args.first.now c.args.second.now in
     ap (λ (x : List (List ℕ × Data)). Ok x) (sym both)

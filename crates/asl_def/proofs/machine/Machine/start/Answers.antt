@@ -5,4 +5,4 @@ use Rattle.asl_parts.proofs.Names.{start_named}
 use Rattle.asl_def.proofs.machine.Machine.start.Goals as goal
 
 pub returns : goal.returns
-returns c = rw (← c.self.view_is) (ap (λ (n : List ℕ). Some (text n)) c.as_str.ensures ∙ start_named c.self.inside.table c.self.inside.heading c.self.inside.root)
+returns c = rw (← c.parts.ensures.shown) (ap (λ (n : List ℕ). Some (text n)) c.as_str.ensures ∙ start_named c.parts.result.now.table c.parts.result.now.heading c.parts.result.now.root)

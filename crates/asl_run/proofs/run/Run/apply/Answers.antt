@@ -5,10 +5,10 @@ use Rattle.asl_run.proofs.Sound.{sound-after}
 use Rattle.asl_run.proofs.Telling.{told-at}
 use Rattle.asl_run.proofs.run.Run.apply.Goals as goal
 
-branches_are : (c : goal.Joined-self-outcome_after) → c.rebuilt.result.items ≡ branches_after c.args.place.now c.args.effect c.self.inside.branches.items
+branches_are : (c : goal.After-drop-self-inside-2) → c.rebuilt.result.items ≡ branches_after c.args.place.now c.args.effect c.self.inside.branches.items
 branches_are c = c.rebuilt.ensures ∙ rw (c.replace-old.ensures.value, c.in_ok-keeps.ensures.keeps, c.in_ok-keeps.ensures.family) (rebuilt-is c.args.place.now c.args.effect _ c.self.invariant.in_order)
 
-events_are : (c : goal.Joined-self-outcome_after) → c.tell.new.history.events ≡ events_after c.args.place.now c.args.moment c.args.effect.events c.self.inside.history.events
+events_are : (c : goal.After-drop-self-inside-2) → c.tell.new.history.events ≡ events_after c.args.place.now c.args.moment c.args.effect.events c.self.inside.history.events
 events_are c = c.tell.ensures ∙ rw (c.in_ok-reserve.ensures.events, c.in_ok-keeps.ensures.told) (told-at c.args.place.now c.args.moment c.args.effect.events c.self.inside.history.events)
 
 pub invariant_of-self-2 : goal.invariant_of-self-2

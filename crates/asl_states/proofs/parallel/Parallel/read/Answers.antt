@@ -27,4 +27,4 @@ pub read-requires-3 : goal.read-requires-3
 read-requires-3 c = of_any has_outcome ParallelKind c.args.members.now refl c.requires
 
 pub returns-clause-object : goal.returns-clause-object
-returns-clause-object c = rw c.branches.view_is (λ t e. parallel_shows t c.args.members.now _ c.requires c.in_ok-read.ensures.comment c.in_ok-read.ensures.language (c.in_ok-read-2.ensures ∙ c.find.ensures) (c.in_ok-read_optional.ensures ∙ c.find-2.ensures) e c.in_ok-read-3.ensures)
+returns-clause-object c = λ t e. parallel_shows t c.args.members.now _ c.requires c.in_ok-read.ensures.comment c.in_ok-read.ensures.language (c.in_ok-read-2.ensures ∙ c.find.ensures) (c.in_ok-read_optional.ensures ∙ c.find-2.ensures) e c.in_ok-read-3.ensures
