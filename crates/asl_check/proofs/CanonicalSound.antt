@@ -11,7 +11,7 @@ use Rattle.asl_schema.specs.declared.sort.Sort.TheVariants as sort
 use Rattle.asl_schema.specs.Members.{Row, Shape, shape_in, sort_at, item_sort}
 use Rattle.asl_schema.specs.Canon.{Named, opt, kept, canon, canon_items, canon_members, arranged, listed, picked}
 use Rattle.asl_judge.proofs.CanonicalAmounts.{kept_is}
-use Rattle.asl_check.specs.Sound.{IsSound, AreSoundItems, AreSoundMembers}
+use Rattle.asl_json.specs.Sound.{IsSound, AreSoundItems, AreSoundMembers}
 
 -- a member that is found, with its key
 value_sound : (k : List ℕ) (ms : Pairs) (d : Data) → AreSoundMembers ms → value_at k ms ≡ Some d → IsUtf8 k × IsSound d

@@ -5,8 +5,8 @@ use Rattle.asl_json.specs.Data.{Data, null, boolean, number, text, list, dict, C
 use Rattle.asl_json.specs.Distinct.{Members, AreDistinct}
 use Rattle.asl_json.specs.View.{unpaired}
 use Rattle.asl_json.specs.Limits.{max_depth, Allowed, AllowedItems, AllowedMembers}
-use Rattle.asl_judge.specs.Keys.{KeysDiffer, KeysDifferInItems, KeysDifferInMembers}
-use Rattle.asl_check.specs.Sound.{IsSound, AreSoundItems, AreSoundMembers}
+use Rattle.asl_json.specs.Sound.{KeysDiffer, KeysDifferInItems, KeysDifferInMembers}
+use Rattle.asl_json.specs.Sound.{IsSound, AreSoundItems, AreSoundMembers}
 
 level : (n : ℕ) → nat_le max_depth n ≡ false → suc n ≤ max_depth
 level n e = grind (arith, e)

@@ -6,7 +6,7 @@ use Rattle.asl_json.specs.Data.{Data, null, boolean, number, text, list, dict, C
 use Rattle.asl_json.specs.Distinct.{Members}
 use Rattle.asl_json.specs.Limits.{Allowed, AllowedItems, AllowedMembers}
 use Rattle.asl_json.specs.Grammar.{comma, colon, open_bracket, open_brace, SpellsKey, Padded, IsMember, Spells, SpellsItems, SpellsMoreItems, SpellsMembers, SpellsMore, IsText}
-use Rattle.asl_check.specs.Sound.{IsSound, AreSoundItems, AreSoundMembers}
+use Rattle.asl_json.specs.Sound.{IsSound, AreSoundItems, AreSoundMembers}
 use Rattle.asl_check.proofs.Meaning.{text_utf8}
 
 -- the bytes of a part stand within bytes in UTF-8

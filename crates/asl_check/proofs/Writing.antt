@@ -11,7 +11,7 @@ use Rattle.asl_json.specs.Compact.{control_letter, escaped_control, escaped_byte
 use Rattle.asl_json.proofs.Fronts.{not_plain_ascii}
 use Rattle.asl_json.proofs.Quoting.{escaped_plain}
 use Rattle.asl_json.proofs.Figures.{number_utf8}
-use Rattle.asl_check.specs.Sound.{IsSound, AreSoundItems, AreSoundMembers}
+use Rattle.asl_json.specs.Sound.{IsSound, AreSoundItems, AreSoundMembers}
 use Rattle.asl_check.proofs.Cutting.{utf8_byte, utf8_cons, cut_before, cut_behind, one_more}
 
 digit_small : (d : ℕ) → d < 16 → digit_char d < 128

@@ -5,9 +5,7 @@ use Rattle.asl_json.specs.Compact.{compact}
 use Rattle.asl_json.specs.Limits.{max_len, max_depth}
 use Rattle.asl_schema.specs.Canon.{canonical}
 use Rattle.asl_schema.specs.Faults.{Accepted}
-use Rattle.asl_judge.specs.Keys.{KeysDiffer}
 use Rattle.asl_check.specs.Judged.{IsMachineOf}
-use Rattle.asl_check.specs.Sound.{IsSound}
 
 -- what is printed for a machine that a text spells is accepted as that machine
 abbrev pub PrintedIsAccepted : Type 0
@@ -17,11 +15,9 @@ PrintedIsAccepted = (b : List ℕ) (m : Data) → IsMachineOf b m → IsMachineO
 abbrev pub PrintedIsNoLonger : Type 0
 PrintedIsNoLonger = (b : List ℕ) (m : Data) → IsMachineOf b m → length (compact m) ≤ length b
 
--- what is printed for a definition without faults, wherever it comes from, is accepted as its canonical form, unless it is too long or
--- too deep to be read
-abbrev pub FittingIsAccepted : Type 0
-FittingIsAccepted = (d : Data) → IsSound d → KeysDiffer d → Accepted d → length (compact (canonical d)) ≤ max_len → depth (canonical d) ≤ max_depth
-    → IsMachineOf (compact (canonical d)) (canonical d)
+-- what is printed for a definition without faults is accepted as its canonical form, unless it is too long or too deep to be read
+abbrev pub FittingIsAccepted : Data → Type 0
+FittingIsAccepted d = Accepted d → length (compact (canonical d)) ≤ max_len → depth (canonical d) ≤ max_depth → IsMachineOf (compact (canonical d)) (canonical d)
 
 -- no text is accepted as two machines
 abbrev pub OneMachine : Type 0

@@ -1,15 +1,15 @@
 // Tests of a variable.
 ghost use Rattle.std.specs.Prelude.{◌≡◌, IfOk};
 ghost use Rattle.asl_json.specs.View.{data_of};
-ghost use Rattle.asl_json.specs.Data.{text as spec_text, number as spec_number, boolean};
-ghost use Rattle.asl_schema.specs.declared.sort.Sort.TheVariants.{Text, Path, Number, Timestamp as timestamp_sort, Truth};
+ghost use Rattle.asl_json.specs.Data.{text as spec_text};
+ghost use Rattle.asl_schema.specs.declared.sort.Sort.TheVariants.{Path};
 ghost use Rattle.asl_schema.specs.Clean.{IsClean};
 ghost use Rattle.asl_choice.specs.Rules.{comparison_operator, operand, operand_sort, operator_name, test_named};
 
 use crate::operator::{Operator, Order, Property};
 use asl_json::{Dec, Json, Txt};
 use asl_members::{Compile, Compiled, Stamp};
-use asl_path::{PathFault, RefPath};
+use asl_path::RefPath;
 use std::alloc::{AllocError, Global};
 
 /// A test of a value, with what it is compared to or is to be.
@@ -59,62 +59,12 @@ impl Drop for Test {
     }
 }
 
-/// A text of its own as a value.
-pub(crate) fn text_value(alloc: Global, text: &str) -> Result<Json, AllocError>
-    ensures { IfOk result (λ v. v ≡ Json.Text text.now) }
-{
-    Ok(Json::Text(Txt::new(String::from_str(alloc, text)?)))
-}
-
-fn text(alloc: Global, value: &Json) -> Result<Txt, AllocError>
-    requires { IsClean Text (data_of value.now) }
-    ensures { IfOk result (λ t. spec_text t ≡ data_of value.now) }
-{
-    let Json::Text(text) = value else {
-        unreachable!();
-    };
-    text.try_clone(alloc)
-}
-
-fn number(alloc: Global, value: &Json) -> Result<Dec, AllocError>
-    requires { IsClean Number (data_of value.now) }
-    ensures { IfOk result (λ n. spec_number n ≡ data_of value.now) }
-{
-    let Json::Num(number) = value else {
-        unreachable!();
-    };
-    number.try_clone(alloc)
-}
-
-fn truth(value: &Json) -> bool
-    requires { IsClean Truth (data_of value.now) }
-    ensures { boolean result ≡ data_of value.now }
-{
-    let Json::Bool(truth) = value else {
-        unreachable!();
-    };
-    *truth
-}
-
+/// The path of a member. (`RefPath::read` alone takes a text.)
 pub(crate) fn path(alloc: Global, value: &Json) -> Result<RefPath, AllocError>
     requires { IsClean Path (data_of value.now) }
     ensures { IfOk result (λ p. spec_text p ≡ data_of value.now) }
 {
-    let Json::Text(text) = value else {
-        unreachable!();
-    };
-    match RefPath::read(alloc, text.as_str()) {
-        Ok(path) => Ok(path),
-        Err(PathFault::OutOfMemory) => Err(AllocError),
-        Err(PathFault::PathProfile(_)) => unreachable!(),
-    }
-}
-
-fn stamp(alloc: Global, value: &Json) -> Result<Stamp, AllocError>
-    requires { IsClean timestamp_sort (data_of value.now) }
-    ensures { IfOk result (λ s. spec_text s ≡ data_of value.now) }
-{
-    Stamp::read(alloc, value)
+    <RefPath as Compile>::read(alloc, value)
 }
 
 impl Comparison {
@@ -128,19 +78,22 @@ impl Comparison {
         ensures { IfOk result (λ c. test_named c ≡ (operator_name operator, data_of value.now)) }
     {
         match operator {
-            Operator::String(order) => Ok(Comparison::String(order, text(alloc, value)?)),
+            Operator::String(order) => Ok(Comparison::String(order, Txt::read(alloc, value)?)),
             Operator::StringPath(order) => Ok(Comparison::StringPath(order, path(alloc, value)?)),
-            Operator::Numeric(order) => Ok(Comparison::Numeric(order, number(alloc, value)?)),
+            Operator::Numeric(order) => Ok(Comparison::Numeric(order, Dec::read(alloc, value)?)),
             Operator::NumericPath(order) => Ok(Comparison::NumericPath(order, path(alloc, value)?)),
-            Operator::Timestamp(order) => Ok(Comparison::Timestamp(order, stamp(alloc, value)?)),
+            Operator::Timestamp(order) => Ok(Comparison::Timestamp(
+                order,
+                Stamp::read(alloc, value)?,
+            )),
             Operator::TimestampPath(order) => Ok(Comparison::TimestampPath(
                 order,
                 path(alloc, value)?,
             )),
-            Operator::Boolean => Ok(Comparison::Boolean(truth(value))),
+            Operator::Boolean => Ok(Comparison::Boolean(bool::read(alloc, value)?)),
             Operator::BooleanPath => Ok(Comparison::BooleanPath(path(alloc, value)?)),
-            Operator::Matches => Ok(Comparison::Matches(text(alloc, value)?)),
-            Operator::Is(property) => Ok(Comparison::Is(property, truth(value))),
+            Operator::Matches => Ok(Comparison::Matches(Txt::read(alloc, value)?)),
+            Operator::Is(property) => Ok(Comparison::Is(property, bool::read(alloc, value)?)),
         }
     }
 
@@ -166,16 +119,16 @@ impl Comparison {
         ensures { IfOk result (λ v. data_of v ≡ operand self.now) }
     {
         match self {
-            Comparison::String(_, text) => text_value(alloc, text.as_str()),
-            Comparison::StringPath(_, path) => text_value(alloc, path.text()),
-            Comparison::Numeric(_, number) => Ok(Json::Num(number.try_clone(alloc)?)),
-            Comparison::NumericPath(_, path) => text_value(alloc, path.text()),
+            Comparison::String(_, text) => text.json(alloc),
+            Comparison::StringPath(_, path) => path.json(alloc),
+            Comparison::Numeric(_, number) => number.json(alloc),
+            Comparison::NumericPath(_, path) => path.json(alloc),
             Comparison::Timestamp(_, stamp) => stamp.json(alloc),
-            Comparison::TimestampPath(_, path) => text_value(alloc, path.text()),
-            Comparison::Boolean(truth) => Ok(Json::Bool(*truth)),
-            Comparison::BooleanPath(path) => text_value(alloc, path.text()),
-            Comparison::Matches(pattern) => text_value(alloc, pattern.as_str()),
-            Comparison::Is(_, truth) => Ok(Json::Bool(*truth)),
+            Comparison::TimestampPath(_, path) => path.json(alloc),
+            Comparison::Boolean(truth) => truth.json(alloc),
+            Comparison::BooleanPath(path) => path.json(alloc),
+            Comparison::Matches(pattern) => pattern.json(alloc),
+            Comparison::Is(_, truth) => truth.json(alloc),
         }
     }
 }

@@ -10,10 +10,10 @@ ghost use Rattle.asl_schema.specs.Claims.{any_in};
 ghost use Rattle.asl_schema.specs.Clean.{IsClean, IsThere};
 ghost use Rattle.asl_choice.specs.Rules.{IsRule, HasVariable, canonical_rule, rule_object, rule_list, condition_named, comment_named, rule_named, kind_name, kind_sort, deciding as decides, comparison_operator, operand_sort, operator_name, test_named};
 
-use crate::comment::optional_text;
-use crate::comparison::{Comparison, Test, path, text_value};
+use crate::comparison::{Comparison, Test, path};
 use crate::operator::{Operator, RuleKind};
 use asl_json::{Items, Json, Member, Members, Txt};
+use asl_members::{Compiled, read_optional};
 use asl_schema::find;
 use std::alloc::{AllocError, Global};
 use std::marker::Model;
@@ -146,7 +146,7 @@ fn started(alloc: Global, comment: &Option<Txt>) -> Result<Members, AllocError>
 {
     let mut members = Members::new(alloc);
     if let Some(comment) = comment {
-        members.push(key(alloc, "Comment")?, text_value(alloc, comment.as_str())?)?;
+        members.push(key(alloc, "Comment")?, comment.json(alloc)?)?;
     }
     Ok(members)
 }
@@ -188,7 +188,7 @@ fn test_members(alloc: Global, comment: &Option<Txt>, test: &Test) -> Result<Mem
         variable,
         comparison,
     } = test;
-    let variable = text_value(alloc, variable.text())?;
+    let variable = variable.json(alloc)?;
     let members = commented(alloc, comment, key(alloc, "Variable")?, variable)?;
     with(
         members,
@@ -248,7 +248,7 @@ impl Rule {
         requires { IsRule (pairs (members_of members.now)) }
         ensures { IfOk result (λ r. r ≡ canonical_rule (pairs (members_of members.now))) }
     {
-        let comment = optional_text(alloc, find(members, "Comment"))?;
+        let comment: Option<Txt> = read_optional(alloc, find(members, "Comment"))?;
         let Some((kind, value)) = deciding(members) else {
             unreachable!();
         };

@@ -4,7 +4,7 @@ use Rattle.std.specs.Prelude.{Option, Some, None, codes, if◌then◌else◌}
 use Rattle.std.proofs.lemmas.List.{append-nil}
 use Rattle.asl_json.specs.Data.{Data, Pairs, member, Chain, null, boolean, number, text, list, dict, chain, pairs}
 use Rattle.asl_json.specs.Meaning.{value_at}
-use Rattle.asl_json.specs.View.{unpaired}
+use Rattle.asl_json.specs.View.{unpaired-pairs}
 use Rattle.asl_schema.specs.declared.sort.Sort.{Sort}
 use Rattle.asl_schema.specs.declared.sort.Sort.TheVariants as sort
 use Rattle.asl_schema.specs.declared.sort.Kind.{Kind}
@@ -163,10 +163,6 @@ pub inner_all-push : (ms : List Named) (m : Named) → inner_all (ms ++ m ∷ []
 inner_all-push [] m = append-nil (all_states sort.State (canon sort.State m.1))
 inner_all-push (x ∷ ms) m = ap (λ (xs : List Named). all_states sort.State (canon sort.State x.1) ++ xs) (inner_all-push ms m) ∙ sym (append_assoc (all_states sort.State (canon sort.State x.1)) (inner_all ms) (all_states sort.State (canon sort.State m.1)))
 
-unpaired_pairs : (xs : List Named) → unpaired (pairs xs) ≡ xs
-unpaired_pairs [] = refl
-unpaired_pairs (x ∷ xs) = ap (λ (ys : List Named). x ∷ ys) (unpaired_pairs xs)
-
 pub canon_states : (xs : List Named) → canon sort.States (dict (pairs xs)) ≡ dict (pairs (canon_rows xs))
 canon_states xs = ap dict (by xs)
   where
@@ -179,4 +175,4 @@ inner_are o [] = refl
 inner_are o (x ∷ xs) = ap (λ (ys : List Named). all_states sort.State (canon sort.State x.1) ++ ys) (inner_are o xs)
 
 pub own_states_are : (xs : List Named) → all_states sort.States (canon sort.States (dict (pairs xs))) ≡ inner_all xs ++ canon_rows xs
-own_states_are xs = ap (all_states sort.States) (canon_states xs) ∙ (λ i. inner_are (kind_named (value_at (codes "Type") (pairs (canon_rows xs)))) xs i ++ unpaired_pairs (canon_rows xs) i)
+own_states_are xs = ap (all_states sort.States) (canon_states xs) ∙ (λ i. inner_are (kind_named (value_at (codes "Type") (pairs (canon_rows xs)))) xs i ++ unpaired-pairs (canon_rows xs) i)

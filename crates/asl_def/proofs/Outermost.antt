@@ -2,7 +2,7 @@
 use Rattle.std.proofs.Common.{◌≡◌, ℕ, zero, suc, ◌+◌, ◌<◌, ◌≤◌, List, [], ◌∷◌, length, take, drop, refl, sym, ◌∙◌, ap, arith}
 use Rattle.std.specs.Prelude.{Some, None, slice_get, codes}
 use Rattle.asl_json.specs.Data.{dict, pairs}
-use Rattle.asl_json.specs.View.{unpaired}
+use Rattle.asl_json.specs.View.{unpaired-pairs}
 use Rattle.asl_schema.specs.Canon.{Named}
 use Rattle.asl_parts.specs.declared.body.Body.{Body}
 use Rattle.asl_parts.specs.declared.heading.Heading.{Heading}
@@ -10,12 +10,8 @@ use Rattle.asl_def.specs.Own.{members_in, own_states_in}
 use Rattle.asl_parts.specs.Bodies.{machine_members, machine_of, IsWithin}
 use Rattle.asl_parts.proofs.Names.{named}
 
-unpaired_pairs : (xs : List Named) → unpaired (pairs xs) ≡ xs
-unpaired_pairs [] = refl
-unpaired_pairs (x ∷ xs) = ap (λ (ys : List Named). x ∷ ys) (unpaired_pairs xs)
-
 own_are : (t : List Named) (h : Heading) (b : Body) → own_states_in (machine_of t h b) ≡ take b.count (drop b.first t)
-own_are t h b = ap members_in (sym (named (codes "States") (Some (dict (pairs (take b.count (drop b.first t))))) (machine_members t h b) refl)) ∙ unpaired_pairs (take b.count (drop b.first t))
+own_are t h b = ap members_in (sym (named (codes "States") (Some (dict (pairs (take b.count (drop b.first t))))) (machine_members t h b) refl)) ∙ unpaired-pairs (take b.count (drop b.first t))
 
 slice_length : (m n : ℕ) (t : List Named) → m + n ≤ length t → length (take n (drop m t)) ≡ n
 slice_length zero zero t h = refl

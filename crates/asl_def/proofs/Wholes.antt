@@ -85,8 +85,13 @@ whole v t ms own h b is at shows g within = record { within = within; all = g.is
 
 -- ---- by names
 
-pub state_named : {R : Type 0} (f : R → State) (r : Option R) (k : List ℕ) (t : List Named) (h : Heading) (b : Body) → IsWhole t h b → option_map (λ s. state_of t (f s)) r ≡ value_at k (pairs t) → (u : List Named) × (option_map (λ s. state_of u (f s)) r ≡ state_object k (machine_of t h b))
-state_named f r k t h b w e = (t, e ∙ ap (λ (xs : List Named). value_at k (pairs xs)) w.all)
+-- over the states of the machine, which are those of the table
+pub among_all : (P : List Named → Type 0) (t : List Named) (h : Heading) (b : Body) → IsWhole t h b → P t → P (states_of (machine_of t h b))
+among_all P t h b w p = subst P w.all p
+
+pub state_named : {R : Type 0} (f : R → State) (r : Option R) (k : List ℕ) (t : List Named) (h : Heading) (b : Body) → IsWhole t h b → option_map (λ s. state_of t (f s)) r ≡ value_at k (pairs t)
+    → option_map (λ s. state_of (states_of (machine_of t h b)) (f s)) r ≡ state_object k (machine_of t h b)
+state_named f r k t h b w e = among_all (λ (u : List Named). option_map (λ s. state_of u (f s)) r ≡ value_at k (pairs u)) t h b w e
 
 pub states_counted : (t : List Named) (h : Heading) (b : Body) → IsWhole t h b → length t ≡ state_count (machine_of t h b)
 states_counted t h b w = ap length w.all

@@ -1,13 +1,13 @@
 // A definition, compiled.
-ghost use Rattle.std.specs.Prelude.{◌≡◌, ◌<◌, List, Some, codes, length, option_map, slice_get, string_bytes, IfOk, IfErr, IfSome};
+ghost use Rattle.std.specs.Prelude.{◌≡◌, ◌<◌, Some, codes, length, option_map, slice_get, string_bytes, IfOk, IfErr, IfSome};
 ghost use Rattle.asl_json.specs.View.{data_of};
 ghost use Rattle.asl_json.specs.Data.{text};
 ghost use Rattle.asl_json.specs.Compact.{compact};
 ghost use Rattle.asl_json.specs.Meaning.{value_in};
-ghost use Rattle.asl_schema.specs.Canon.{Named, canonical};
+ghost use Rattle.asl_schema.specs.Canon.{canonical};
 ghost use Rattle.asl_schema.specs.Faults.{Accepted};
 ghost use Rattle.asl_states.specs.Show.{state_of};
-ghost use Rattle.asl_def.specs.Machines.{state_object, state_number, state_count};
+ghost use Rattle.asl_def.specs.Machines.{states_of, state_object, state_number, state_count};
 ghost use Rattle.asl_def.specs.Own.{own_states_in};
 ghost use Rattle.asl_def.specs.Answer.{IsAnswer};
 ghost use Rattle.asl_def.specs.Whole.{shown_by, IsWholeIn};
@@ -100,7 +100,7 @@ impl Machine {
     /// The state of this name, in whatever machine it stands, by a hash. Contracts see its object over the states of the
     /// machines inside it.
     pub fn state(&self, name: &str) -> Option<&State>
-        ensures { (t : List Named) × (option_map (λ s. state_of t s.now) result ≡ state_object name.now self.now) }
+        ensures { option_map (λ s. state_of (states_of self.now) s.now) result ≡ state_object name.now self.now }
     {
         self.parts().table.state(name)
     }
@@ -117,7 +117,7 @@ impl Machine {
     pub fn find(&self, name: &str) -> Option<(usize, &State)>
         ensures number { option_map (λ f. f.0) result ≡ state_number name.now self.now }
         ensures within { IfSome result (λ f. f.0 < state_count self.now) }
-        ensures object { (t : List Named) × (option_map (λ f. state_of t f.1.now) result ≡ state_object name.now self.now) }
+        ensures object { option_map (λ f. state_of (states_of self.now) f.1.now) result ≡ state_object name.now self.now }
     {
         self.parts().table.find(name)
     }
@@ -132,7 +132,7 @@ impl Machine {
     /// The state with this number among those of the outermost machine, counted from 0 in document order, and its name. Contracts
     /// see its object over the states of the machines inside it.
     pub fn own_state(&self, number: usize) -> Option<(&str, &State)>
-        ensures { (t : List Named) × (option_map (λ x. (x.0.now, state_of t x.1.now)) result ≡ slice_get (own_states_in self.now) number) }
+        ensures { option_map (λ x. (x.0.now, state_of (states_of self.now) x.1.now)) result ≡ slice_get (own_states_in self.now) number }
     {
         let parts = self.parts();
         if number >= parts.root.count {

@@ -1,7 +1,7 @@
 // Executions.
-ghost use Rattle.std.specs.Prelude.{◌≡◌, ◌++◌, ◌⊎◌, ◌≤◌, List, length, true, Some, None, option_map, IfOk, IfErr, OnOk, OnErr};
+ghost use Rattle.std.specs.Prelude.{◌≡◌, ◌++◌, ◌⊎◌, ◌≤◌, length, true, Some, None, option_map, IfOk, IfErr, OnOk, OnErr};
 ghost use Rattle.std.specs.Option.{option_copied};
-ghost use Rattle.asl_schema.specs.Canon.{Named};
+ghost use Rattle.asl_def.specs.Machines.{states_of};
 ghost use Rattle.asl_states.specs.Show.{state_of as state_shown};
 ghost use Rattle.asl_setup.specs.Ready.{is_ready};
 ghost use Rattle.asl_run.specs.World.{record_at};
@@ -164,7 +164,7 @@ impl Execution {
 /// The state that a branch is in, and its number; neither where the branch has ended.
 fn state_of<'a>(machine: &'a Machine, current: &Record) -> (Option<usize>, Option<&'a State>)
     ensures number { result.0 ≡ number_in machine.now current.now }
-    ensures object { (t : List Named) × (option_map (λ s. state_shown t s.now) result.1 ≡ object_in machine.now current.now) }
+    ensures object { option_map (λ s. state_shown (states_of machine.now) s.now) result.1 ≡ object_in machine.now current.now }
 {
     let Some(name) = state_in(current) else {
         return (None, None);

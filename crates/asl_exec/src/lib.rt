@@ -1,6 +1,7 @@
 //! Executions: worlds that go on by steps at places, and the text of a whole run.
 //!
 //! Modules in reading order: `execution` steps a world, `printing` prints a run, and `emulation` is a whole run, from texts to text.
+//! What an execution begins with and the refusals of texts are published from the crates below.
 #![tactic(auto)]
 
 mod emulation;
@@ -8,5 +9,6 @@ mod execution;
 mod printing;
 
 pub use asl_run::{Branch, Outcome, Refusal};
+pub use asl_setup::{EmulateFault, Setup, StepAt, ready};
 pub use emulation::{Emulated, emulate};
 pub use execution::Execution;

@@ -26,3 +26,4 @@ pub mod Counting
 pub mod Accessing
 pub mod Wholes
 pub mod Pointing
+pub mod Sounding

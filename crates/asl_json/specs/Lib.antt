@@ -3,6 +3,7 @@ pub mod Code
 pub mod View
 pub mod Number
 pub mod Distinct
+pub mod Sound
 pub mod Falls
 pub mod Text
 pub mod Grammar

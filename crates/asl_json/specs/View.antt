@@ -47,7 +47,7 @@ unchained-chain : (ds : List Data) → unchained (chain ds) ≡ ds
 unchained-chain [] = refl
 unchained-chain (d ∷ ds) = ap (λ (x : List Data). d ∷ x) (unchained-chain ds)
 
-unpaired-pairs : (ms : List (List ℕ × Data)) → unpaired (pairs ms) ≡ ms
+pub unpaired-pairs : (ms : List (List ℕ × Data)) → unpaired (pairs ms) ≡ ms
 unpaired-pairs [] = refl
 unpaired-pairs (m ∷ ms) = ap (λ (x : List (List ℕ × Data)). m ∷ x) (unpaired-pairs ms)
 
@@ -55,7 +55,7 @@ chain-unchained : (ds : Chain) → chain (unchained ds) ≡ ds
 chain-unchained no_items = refl
 chain-unchained (item d ds) = ap (item d) (chain-unchained ds)
 
-pairs-unpaired : (ms : Pairs) → pairs (unpaired ms) ≡ ms
+pub pairs-unpaired : (ms : Pairs) → pairs (unpaired ms) ≡ ms
 pairs-unpaired no_members = refl
 pairs-unpaired (member k d ms) = ap (member k d) (pairs-unpaired ms)
 

@@ -1,7 +1,8 @@
 // A JSON value. Contracts see a list as the list of its items and an object as the list of its pairs.
 ghost use Rattle.std.specs.Prelude.{◌≡◌, false, length, IfOk, IfErr, slice_get, option_map, string_bytes};
 ghost use Rattle.asl_json.specs.View.{data_of};
-ghost use Rattle.asl_json.specs.Number.{units_of};
+ghost use Rattle.std.specs.Str.{IsUtf8};
+ghost use Rattle.asl_json.specs.Number.{units_of, IsNumber};
 ghost use Rattle.asl_json.specs.Meaning.{value_in};
 ghost use Rattle.asl_json.specs.Access.{is_list, is_dict};
 
@@ -170,6 +171,13 @@ impl Txt {
         self.string.as_str()
     }
 
+    /// Its bytes are UTF-8. It does nothing: it is there for its contract.
+    pub(crate) fn is_utf8(&self)
+        ensures { IsUtf8 self.now }
+    {
+        let _string = &self.string;
+    }
+
     /// Gives the text back, without memory.
     pub fn into_string(self) -> String
         ensures { string_bytes result ≡ self }
@@ -221,6 +229,13 @@ impl Dec {
         ensures { result.now ≡ self.now }
     {
         self.spelled.as_str()
+    }
+
+    /// It is a number in the limits. It does nothing: it is there for its contract.
+    pub(crate) fn is_number(&self)
+        ensures { IsNumber self.now }
+    {
+        let _spelled = &self.spelled;
     }
 
     /// An equal number with the same spelling. The error is that memory ran out.

@@ -7,7 +7,7 @@ use Rattle.asl_schema.specs.First.{Hold}
 use Rattle.asl_schema.specs.States.{states_in, unique_claims}
 use Rattle.asl_schema.specs.Canon.{canonical}
 use Rattle.asl_schema.specs.Faults.{Accepted}
-use Rattle.asl_judge.specs.Keys.{KeysDiffer}
+use Rattle.asl_json.specs.Sound.{KeysDiffer}
 use Rattle.asl_judge.proofs.Answering.{each-append}
 use Rattle.asl_schema.proofs.Inside.{each_left}
 use Rattle.asl_schema.proofs.Accepting.{accepted_unique}

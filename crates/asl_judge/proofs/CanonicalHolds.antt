@@ -13,7 +13,7 @@ use Rattle.asl_schema.specs.declared.sort.Kind.{Kind}
 use Rattle.asl_schema.specs.Members.{Shape, shape_of, shape_in, sort_at, item_sort, kind_named, definition_rows, machine_rows}
 use Rattle.asl_schema.specs.Claims.{Spot, under, heres, step, demands, claims, at_member, at_item, inside, one_deeper, names_in, members_in, member_claims, item_claims, row_claims, group_demands, object_claims, is_object, is_template, is_nonempty, item_count}
 use Rattle.asl_schema.specs.First.{Each, Hold}
-use Rattle.asl_judge.specs.Keys.{KeysDiffer, KeysDifferInItems, KeysDifferInMembers}
+use Rattle.asl_json.specs.Sound.{KeysDiffer, KeysDifferInItems, KeysDifferInMembers}
 use Rattle.asl_schema.specs.Clean.{IsCleanInside}
 use Rattle.asl_schema.specs.Canon.{kept, canon, canon_items, canon_members, arranged, listed, picked}
 use Rattle.asl_schema.proofs.Canons.{value_at-canon}

@@ -11,7 +11,7 @@ use Rattle.asl_json.proofs.Knowing.{has_key-push}
 use Rattle.asl_schema.specs.declared.sort.Sort.{Sort}
 use Rattle.asl_schema.specs.declared.sort.Sort.TheVariants as sort
 use Rattle.asl_schema.specs.Members.{Row, Shape, shape_in, sort_at, item_sort, kind_named}
-use Rattle.asl_judge.specs.Keys.{KeysDiffer, KeysDifferInItems, KeysDifferInMembers}
+use Rattle.asl_json.specs.Sound.{KeysDiffer, KeysDifferInItems, KeysDifferInMembers}
 use Rattle.asl_schema.specs.Canon.{opt, kept, canon, canon_items, canon_members, arranged, listed, picked}
 use Rattle.asl_schema.proofs.Inside.{or_right}
 use Rattle.asl_schema.proofs.Deciding.{not_true}

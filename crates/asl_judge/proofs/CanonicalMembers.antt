@@ -7,7 +7,7 @@ use Rattle.asl_json.specs.Same.{bytes_eq}
 use Rattle.asl_json.specs.SameLaws.{bytes_refl}
 use Rattle.asl_json.specs.Meaning.{value_at}
 use Rattle.asl_json.specs.Distinct.{Members, has_key, AreDistinct}
-use Rattle.asl_json.specs.View.{unpaired}
+use Rattle.asl_json.specs.View.{unpaired, pairs-unpaired}
 use Rattle.asl_json.proofs.Knowing.{has_key-push}
 use Rattle.asl_schema.specs.declared.fault.Step.{Step}
 use Rattle.asl_schema.specs.declared.sort.Sort.{Sort}
@@ -206,10 +206,6 @@ in_there g (member l v ms) k d e h = by (bytes_eq k l) refl (λ f. in_there g ms
         rw first refl
     by false p rest = or_right (counts g l v) (any_in g ms) (rest (rw p at e))
 
-paired : (ms : Pairs) → pairs (unpaired ms) ≡ ms
-paired no_members = refl
-paired (member k d ms) = ap (member k d) (paired ms)
-
 still_counts : (s : Sort) (o : Option Kind) (g : Group) (ms : Pairs) (k : List ℕ) (d : Data) → IsGroup g (shape_of s o).groups → value_at k ms ≡ Some d → counts g k d ≡ true → any_in g (pairs (picked (shape_of s o).rows (canon_members (shape_of s o) ms))) ≡ true
 still_counts s o g ms k d at e h =
     let sh = shape_of s o in
@@ -232,8 +228,8 @@ still_any s o g ms distinct at h = by (any_in g (pairs (picked (shape_of s o).ro
     by : (b : Bool) → any_in g (pairs (picked (shape_of s o).rows (canon_members (shape_of s o) ms))) ≡ b → any_in g (pairs (picked (shape_of s o).rows (canon_members (shape_of s o) ms))) ≡ true
     by true e = e
     by false e =
-        let none : any_in g (pairs (unpaired ms)) ≡ false = none_in g [] (unpaired ms) distinct (λ k d f. quiet e k d (subst (λ (x : Pairs). value_at k x ≡ Some d) (paired ms) f)) in
-        let off : any_in g ms ≡ false = subst (λ (x : Pairs). any_in g x ≡ false) (paired ms) none in
+        let none : any_in g (pairs (unpaired ms)) ≡ false = none_in g [] (unpaired ms) distinct (λ k d f. quiet e k d (subst (λ (x : Pairs). value_at k x ≡ Some d) (pairs-unpaired ms) f)) in
+        let off : any_in g ms ≡ false = subst (λ (x : Pairs). any_in g x ≡ false) (pairs-unpaired ms) none in
         absurd (let x : true ≡ false = sym h ∙ off in cc)
 
 decide_all : (gs : List Group) (ns : Pairs) → ((g : Group) → IsGroup g gs → g.exact ≡ true → any_in g ns ≡ true) → Each Hold (heres (group_demands gs ns))

@@ -15,4 +15,3 @@ pub mod CanonicalMembers
 pub mod CanonicalHolds
 pub mod CanonicalKeys
 pub mod CanonicalAccepted
-pub mod Differing

@@ -4,7 +4,7 @@ use Rattle.std.specs.Prelude.{Option, Some, None, is_some, option_map, map, nat_
 use Rattle.std.specs.Fmt.{decimal}
 use Rattle.std.proofs.lemmas.List.{drop_more, drop_all, take_more, map-append}
 use Rattle.std.proofs.lemmas.Bool.Decides.{nat_tests}
-use Rattle.asl_json.specs.Data.{Data, chain, Pairs, pairs, depth, items_depth, members_depth}
+use Rattle.asl_json.specs.Data.{Data, chain, Pairs, pairs}
 use Rattle.asl_json.specs.Same.{bytes_eq}
 use Rattle.asl_json.specs.Distinct.{Members}
 use Rattle.asl_json.specs.Meaning.{value_at, count}
@@ -213,18 +213,6 @@ rows_more ms all best new f rs i dr lt so_far h is =
 -- what is missing, told
 pub row_told : (i : ℕ) (r : Row) (ms : Pairs) (f : Found) (name : List ℕ) → is_needed r ms ≡ true → is_some (value_at r.name ms) ≡ false → name ≡ r.name → f ≡ (kind.Missing, step i name ∷ []) → Answers (row_claims i (r ∷ []) ms) (Some f)
 row_told i r ms f name n e same is = subst (λ (g : Found). Answers (row_claims i (r ∷ []) ms) (Some g)) (sym (is ∙ ap (λ (k : List ℕ). (kind.Missing, step i k ∷ [])) same)) (row_missing i r ms n e)
-
--- items and members of what holds them
-
-pub item_depth : (vs : List Json) (i : ℕ) (v : Json) → i < length vs → v ≡ get_or vs i v → depth (data_of v) ≤ items_depth (chain (items_of vs))
-item_depth [] i v lt e = absurd (omega arith)
-item_depth (x ∷ xs) zero v lt e = rw e (omega arith)
-item_depth (x ∷ xs) (suc i) v lt e = omega (arith, item_depth xs i v (omega arith) e)
-
-pub member_depth : (ms : List Member) (i : ℕ) (m : Member) → i < length ms → m ≡ get_or ms i m → depth (data_of m.value) ≤ members_depth (pairs (members_of ms))
-member_depth [] i m lt e = absurd (omega arith)
-member_depth (x ∷ xs) zero m lt e = rw e (omega arith)
-member_depth (x ∷ xs) (suc i) m lt e = omega (arith, member_depth xs i m (omega arith) e)
 
 pub not_there : {X : Type 0} (f : X → Data) (o : Option X) (b : Bool) (k l : List ℕ) (ms : Pairs) → option_map f o ≡ value_at k ms → b ≡ is_some o → b ≡ false → k ≡ l → is_some (value_at l ms) ≡ false
 not_there f o b k l ms e is off same = subst (λ (n : List ℕ). is_some (value_at n ms) ≡ false) same (ap is_some (sym e) ∙ mapped o ∙ sym is ∙ off)

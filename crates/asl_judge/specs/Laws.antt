@@ -4,7 +4,7 @@ use Rattle.asl_json.specs.Data.{Data, depth}
 use Rattle.asl_json.specs.Compact.{compact}
 use Rattle.asl_schema.specs.Canon.{canonical}
 use Rattle.asl_schema.specs.Faults.{Accepted}
-use Rattle.asl_judge.specs.Keys.{KeysDiffer}
+use Rattle.asl_json.specs.Sound.{KeysDiffer}
 
 -- that of a definition without faults has none
 abbrev pub CanonicalIsAccepted : Type 0

@@ -1,12 +1,10 @@
 //! What a definition is refused for.
 //!
 //! Modules in reading order: `spot` is where a value stands; `value` judges a value by itself, `walk` a definition, `states` the
-//! names of its states, and `definition` all of it; `laws` says what the canonical form keeps, of values whose keys differ as
-//! `keys` says.
+//! names of its states, and `definition` all of it; `laws` says what the canonical form keeps.
 #![tactic(auto)]
 
 mod definition;
-mod keys;
 mod laws;
 mod spot;
 mod states;
@@ -14,5 +12,4 @@ mod value;
 mod walk;
 
 pub use definition::first_fault;
-pub use keys::keys_differ;
 pub use laws::the_canonical_form_is_accepted;

@@ -15,6 +15,7 @@ mod succeed;
 mod task;
 mod wait;
 
+pub use asl_choice::Rule;
 pub use asl_parts::{
     Bodies, Body, Catcher, Catchers, Common, Heading, Limits, Next, Outcome, Target, entry,
 };

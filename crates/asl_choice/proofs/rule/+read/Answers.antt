@@ -1,10 +1,12 @@
 use Rattle.std.proofs.Common.{◌≡◌, ◌≤◌, suc, List, [], ◌∷◌, ◌++◌, refl, sym, subst, ap, ◌∙◌, arith}
-use Rattle.std.specs.Prelude.{codes, Option, option_map}
+use Rattle.std.specs.Prelude.{codes, Option, IfSome, option_map}
 use Rattle.asl_json.specs.Data.{Data, pairs, chain, depth, items_depth, members_depth}
 use Rattle.asl_json.specs.View.{data_of, items_of, members_of}
 use Rattle.asl_schema.specs.declared.sort.Sort.TheVariants.{Text}
 use Rattle.asl_schema.specs.Canon.{Named, canon, opt}
 use Rattle.asl_schema.specs.Clean.{Fits}
+use Rattle.asl_members.specs.Readable.{IsText}
+use Rattle.asl_members.proofs.Fitting.{fit, text_fits}
 use Rattle.asl_choice.proofs.Within.{item_within}
 use Rattle.asl_choice.specs.declared.operator.RuleKind.{RuleKind}
 use Rattle.asl_choice.specs.declared.operator.RuleKind.TheVariants as kind
@@ -56,8 +58,8 @@ inner_rule-read-requires t c =
 pub inner_rule-returns : goal.inner_rule-returns
 inner_rule-returns t c = inner_ok (data_of c.args.value.now) (members_of c.members.result.now) c.in-Dict.members c.read.result (ap data_of c.in-Dict.is) c.members.ensures.members c.read.ensures
 
-pub Rule::read-optional_text-requires : goal.Rule::read-optional_text-requires
-Rule::read-optional_text-requires t c = subst (λ (o : Option Data). Fits Text o) (sym c.find.ensures) (ruled (pairs (members_of c.args.members.now)) c.requires).comment
+pub Rule::read-read_optional-requires : goal.Rule::read-read_optional-requires
+Rule::read-read_optional-requires t c = subst (λ (o : Option Data). IfSome o IsText) (sym c.find.ensures) (fit Text IsText (λ d clean. text_fits Text d refl clean) _ (ruled (pairs (members_of c.args.members.now)) c.requires).comment)
 
 pub Rule::read-condition_of-requires : goal.Rule::read-condition_of-requires
 Rule::read-condition_of-requires t c =

@@ -10,7 +10,7 @@ use Rattle.asl_schema.proofs.Kept.{form_fits}
 use Rattle.asl_schema.proofs.Inside.{clean}
 use Rattle.asl_schema.proofs.Parts.{items_clean, item_clean, states_clean, state_clean}
 use Rattle.asl_schema.proofs.Required.{parallel_branches, map_iterator}
-use Rattle.asl_judge.proofs.Walking.{item_depth, member_depth}
+use Rattle.asl_json.proofs.Sounding.{item_depth, member_depth}
 use Rattle.asl_members.specs.Readable.{IsText}
 use Rattle.asl_members.proofs.Fitting.{fit, text_fits}
 use Rattle.asl_members.proofs.Retrying.{not_none, value_there}

@@ -7,7 +7,7 @@ use Rattle.asl_schema.specs.Claims.{step}
 use Rattle.asl_schema.specs.First.{IsFirst}
 use Rattle.asl_schema.specs.Members.{sort_at}
 use Rattle.asl_schema.specs.States.{Named, Finds, own_name, states_in, item_states, member_states, unique_claims}
-use Rattle.asl_judge.proofs.Walking.{item_depth, member_depth}
+use Rattle.asl_json.proofs.Sounding.{item_depth, member_depth}
 use Rattle.asl_judge.proofs.Doubles.{continues-start, stopped, went_on, items_done, members_done, name_then, name_again, items_split, members_split}
 use Rattle.asl_judge.proofs.states.+states.Goals as goal
 
