@@ -8,10 +8,12 @@ use crate::printing::run;
 use asl_setup::{EmulateFault, Emulation};
 use std::alloc::Global;
 
-/// What a run printed, and whether its execution has succeeded.
+/// What becomes of a run.
 #[derive(Drop)]
 pub struct Emulated {
+    /// The lines of the steps, of the history, and of the status.
     pub text: String,
+    /// Whether the execution has succeeded.
     pub good: bool,
 }
 

@@ -13,12 +13,15 @@ pub struct Event {
     pub id: u64,
     /// The number of the last event before it along its place: at that place, above it or under it; 0 for none.
     pub previous: u64,
+    /// When it happened.
     pub at: Moment,
+    /// What happened.
     pub kind: EventKind,
     /// The place of the branch that it happened in; of an iteration's event, the iteration's.
     pub place: Place,
     /// The name of the state; of an iteration's event, the Map's; empty for an event of the execution.
     pub name: Txt,
+    /// What is told of it, as the input or the output of a state.
     pub body: Json,
 }
 

@@ -185,8 +185,6 @@ fn place_fault(alloc: Global, text: &str) -> Result<Option<FaultKind>, AllocErro
     Ok(unless(is_input(root), FaultKind::Path))
 }
 
-fn let_go(_fault: CallFault) {}
-
 fn call_fault(alloc: Global, text: &str) -> Result<Option<FaultKind>, AllocError>
     ensures { IfOk result (Judges (call text.now ∷ [])) }
 {
@@ -194,10 +192,7 @@ fn call_fault(alloc: Global, text: &str) -> Result<Option<FaultKind>, AllocError
         Ok(_) => Ok(None),
         Err(fault) => match fault {
             CallFault::OutOfMemory => Err(AllocError),
-            fault => {
-                let_go(fault);
-                Ok(Some(FaultKind::Expression))
-            }
+            _fault => Ok(Some(FaultKind::Expression)),
         },
     }
 }

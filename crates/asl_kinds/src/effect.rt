@@ -10,8 +10,11 @@ use std::marker::Model;
 /// An event before it has a place, a moment and a number.
 #[derive(Drop)]
 pub struct Draft {
+    /// What happened.
     pub kind: EventKind,
+    /// The name of the state; empty for an event of the execution.
     pub name: Txt,
+    /// What is told of it.
     pub body: Json,
 }
 
@@ -89,13 +92,17 @@ pub enum Ended {
     Failed(ErrorOut),
 }
 
-/// What a step does: what its branch is doing then, what becomes of the places under it, whether the state's count is raised,
-/// what is told, and the outcome where the execution ends.
+/// What a step does.
 #[derive(Drop)]
 pub struct Effect {
+    /// What the branch is doing then.
     pub after: Record,
+    /// What becomes of the branches under it.
     pub children: Children,
+    /// Whether the count of the state's invocations grows by one.
     pub raises: bool,
+    /// The events, in order.
     pub events: Drafts,
+    /// The outcome, where the execution ends.
     pub outcome: Option<Ended>,
 }

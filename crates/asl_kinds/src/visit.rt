@@ -3,13 +3,17 @@ use crate::record::Record;
 use asl_history::Place;
 use asl_time::Moment;
 
-/// What a step may read: the place, what the branch there and its children are doing, how often the state was invoked, and
-/// the present moment.
+/// What a step may read.
 #[derive(Drop)]
 pub struct Visit<'a> {
+    /// The place of the branch.
     pub place: &'a Place,
+    /// What the branch is doing.
     pub current: &'a Record,
+    /// What the branches right under it are doing, in order.
     pub children: &'a [&'a Record],
+    /// How often the state was invoked before, in the whole execution.
     pub count: u64,
+    /// The present moment.
     pub moment: Moment,
 }

@@ -7,9 +7,13 @@ use std::marker::Model;
 
 /// A machine inside a definition: its states are those of the table with the numbers from `first` on.
 pub struct Body {
+    /// Its `Comment`.
     pub comment: Option<Txt>,
+    /// Its `StartAt`.
     pub start: Target,
+    /// The number of its first state in the table, from 0.
     pub first: usize,
+    /// How many states it has.
     pub count: usize,
 }
 

@@ -3,9 +3,11 @@
 use asl_history::Place;
 use asl_kinds::record::Record;
 
-/// A running branch: its place, and what it is doing.
+/// A running branch.
 pub struct Branch {
+    /// Where it runs.
     pub place: Place,
+    /// What it is doing.
     pub current: Record,
 }
 

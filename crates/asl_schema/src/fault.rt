@@ -88,11 +88,12 @@ impl FaultKind {
     }
 }
 
-/// A step down a definition: to the member or item of this number, counted from 0, which has this name. A member that is
-/// missing has a number behind those that are there.
+/// A step down a definition, to a member or an item.
 #[derive(Drop)]
 pub struct Step {
+    /// The number of the member or item, from 0. A member that is missing has one behind those that are there.
     pub at: usize,
+    /// The member's name, or the item's number in decimal.
     pub name: Txt,
 }
 

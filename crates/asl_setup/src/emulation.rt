@@ -10,10 +10,12 @@ use crate::step_at::StepAt;
 use crate::texts::{check_case, check_mocks, input_of, machine_of, setup_for, steps_of};
 use std::alloc::Global;
 
-/// What an execution begins with, and the steps that it is to take.
+/// What the texts of a run say.
 #[derive(Drop)]
 pub struct Emulation {
+    /// What the execution begins with.
     pub setup: Setup,
+    /// The steps that it is to take, in order.
     pub steps: Vec<StepAt>,
 }
 

@@ -4,12 +4,17 @@ use asl_def::Machine;
 use asl_json::{Json, Txt};
 use asl_time::Moment;
 
-/// What an execution begins with: the machine and its name, the execution's input and name, and the moment of its start.
+/// What an execution begins with.
 pub struct Setup {
+    /// The state machine.
     pub machine: Machine,
+    /// The name of the state machine.
     pub name_of_machine: Txt,
+    /// The execution's input.
     pub input: Json,
+    /// The execution's name.
     pub name: Txt,
+    /// When the execution starts.
     pub start: Moment,
 }
 

@@ -2,9 +2,11 @@
 use asl_history::Place;
 use asl_time::Moment;
 
-/// A place to step at, and the moment of the step.
+/// A step of a branch.
 pub struct StepAt {
+    /// The place of the branch that steps.
     pub place: Place,
+    /// The moment that is given for it.
     pub moment: Moment,
 }
 

@@ -28,6 +28,7 @@ pub struct Map {
     pub(crate) items_path: Option<RefPath>,
     pub(crate) max_concurrency: Option<Count>,
     pub(crate) parameters: Option<Template>,
+    /// Its `Iterator`.
     pub iterator: Body,
     pub(crate) outcome: Outcome,
 }

@@ -25,6 +25,7 @@ pub struct Parallel {
     pub(crate) common: Common,
     pub(crate) input_path: PathField,
     pub(crate) parameters: Option<Template>,
+    /// Its `Branches`.
     pub branches: Bodies,
     pub(crate) outcome: Outcome,
 }

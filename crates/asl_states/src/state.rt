@@ -46,5 +46,3 @@ impl Drop for State {
         }
     }
 }
-
-impl State {}

@@ -1,6 +1,7 @@
 // Values far deeper than any that is read, as runs make them: with room on the stack they are measured, written, cloned, compared
-// and dropped.
-use asl_json::{Items, Json, Members, Txt, same, write};
+// and dropped, and go through templates and functions.
+use asl_json::{Items, Json, Members, Txt, read, same, write};
+use asl_template::Template;
 use std::alloc::Global;
 use std::test::Fail;
 use std::thread::Builder;
@@ -39,11 +40,51 @@ fn are_right(alloc: Global) -> Option<bool> {
     Some(len == 4 * LEVELS + 4 && measured && same(&value, &copy) && value == copy)
 }
 
+/// What templates and functions make of a value that they know nothing of.
+const TEMPLATE: &[u8] =
+    br#"{"whole.$":"$","list.$":"States.Array($)","unique.$":"States.ArrayUnique(States.Array($, $))","there.$":"States.ArrayContains(States.Array(1, $), $)","text.$":"States.JsonToString($)"}"#;
+
+fn filled(alloc: Global, input: &Json) -> Option<Json> {
+    let template = read(alloc, TEMPLATE).ok()?;
+    match Template::read(alloc, &template) {
+        Ok(template) => template.fill(alloc, input, &Json::Null).ok(),
+        Err(_) => None,
+    }
+}
+
+fn is_list_of(list: &Json, value: &Json) -> bool {
+    match list {
+        Json::List(items) => match items.get(0) {
+            Some(item) => items.len() == 1 && item == value,
+            None => false,
+        },
+        _ => false,
+    }
+}
+
+fn is_text_of(alloc: Global, text: &Json, value: &Json) -> Option<bool> {
+    let written = write(alloc, value).ok()?;
+    Some(matches!(text, Json::Text(text) if text.as_str() == written.as_str()))
+}
+
+/// Whether a template and the functions in it give of a nested value what they give of any.
+fn go_through(alloc: Global) -> Option<bool> {
+    let value = nested(alloc)?;
+    let made = filled(alloc, &value)?;
+    Some(
+        made.get("whole")? == &value
+            && is_list_of(made.get("list")?, &value)
+            && is_list_of(made.get("unique")?, &value)
+            && made.get("there")? == &Json::Bool(true)
+            && is_text_of(alloc, made.get("text")?, &value)?,
+    )
+}
+
 #[test]
 fn values_of_fifty_thousand_levels(rt: HostRuntime) -> Result<(), Fail> {
     let alloc = rt.alloc();
     let roomy = Builder::new().stack_size(ROOM);
-    let right = match roomy.spawn(&rt, move || are_right(alloc)) {
+    let right = match roomy.spawn(&rt, move || Some(are_right(alloc)? && go_through(alloc)?)) {
         Ok(thread) => thread.join(&rt),
         Err(_) => None,
     };
