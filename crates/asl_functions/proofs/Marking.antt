@@ -15,7 +15,7 @@ use Rattle.asl_json.specs.SameLaws.{bytes_refl}
 use Rattle.asl_json.specs.View.{data_of, items_of}
 use Rattle.asl_json.specs.declared.value.Json.{Json}
 use Rattle.asl_functions.specs.declared.mark.TheConstants.{MODULUS, TRUE, FALSE, TEXT, LIST, DICT}
-use Rattle.asl_functions.specs.Marks.{blended, joined, added, text_mark, mark, items_mark, members_mark, IsApart, AreApart, HasApart, AreMarked}
+use Rattle.asl_functions.specs.Marks.{blended, joined, added, text_mark, mark, items_mark, members_mark, IsApart, AreApart, HasApart}
 
 abbrev of_member : List ℕ → Data → ℕ
 of_member k d = joined (text_mark TEXT k) (mark d)
@@ -237,22 +237,3 @@ unlike_marks d e m n is at apart ne = by (same d e) refl
     by : (b : Bool) → same d e ≡ b → same d e ≡ false
     by true like = absurd (ne (is ∙ same_marks d e apart like ∙ sym at))
     by false unlike = unlike
-
--- ---- the marks of what is kept
-
-pushed : (ns : List ℕ) (vs : List Json) (n : ℕ) (v : Json) → AreMarked ns (items_of vs) → n ≡ mark (data_of v) → IsApart (data_of v) → AreMarked (ns ++ n ∷ []) (items_of (vs ++ v ∷ []))
-pushed [] [] n v marked is apart = ((is, apart), tt)
-pushed [] (w ∷ vs) n v marked is apart = absurd marked
-pushed (m ∷ ns) [] n v marked is apart = absurd marked
-pushed (m ∷ ns) (w ∷ vs) n v marked is apart = (marked.0, pushed ns vs n v marked.1 is apart)
-
-pub marked_push : (ns ms : List ℕ) (vs ws : List Json) (n : ℕ) (v copy : Json) → AreMarked ns (items_of vs) → n ≡ mark (data_of v) → IsApart (data_of v) → copy ≡ v → ws ≡ vs ++ copy ∷ [] → ms ≡ ns ++ n ∷ [] → AreMarked ms (items_of ws)
-marked_push ns ms vs ws n v copy marked is apart like grown further =
-    let whole : ws ≡ vs ++ v ∷ [] = grown ∙ ap (λ (x : Json). vs ++ x ∷ []) like in
-    rw (whole, further) (pushed ns vs n v marked is apart)
-
-pub as_many : (ns : List ℕ) (vs : List Json) → AreMarked ns (items_of vs) → length ns ≡ length vs
-as_many [] [] marked = refl
-as_many [] (v ∷ vs) marked = absurd marked
-as_many (m ∷ ns) [] marked = absurd marked
-as_many (m ∷ ns) (v ∷ vs) marked = ap suc (as_many ns vs marked.1)

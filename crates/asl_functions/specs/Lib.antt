@@ -3,6 +3,7 @@ pub mod Outcome
 pub mod Converting
 pub mod Lists
 pub mod Marks
+pub mod Links
 pub mod Letters
 pub mod Format
 pub mod Texts

@@ -58,10 +58,3 @@ abbrev mutual
   pub HasApart : Pairs → Type 0
   HasApart no_members = Unit {0}
   HasApart (member k d ms) = (value_at k ms ≡ None) × (IsApart d × HasApart ms)
-
--- each value's mark, beside the values
-abbrev pub AreMarked : List ℕ → List Data → Type 0
-AreMarked [] [] = Unit {0}
-AreMarked [] (d ∷ ds) = ⊥
-AreMarked (n ∷ ns) [] = ⊥
-AreMarked (n ∷ ns) (d ∷ ds) = ((n ≡ mark d) × IsApart d) × AreMarked ns ds

@@ -14,6 +14,7 @@ mod convert;
 mod fault;
 mod format;
 mod function;
+mod kept;
 mod letter;
 mod lists;
 mod mark;

@@ -1,5 +1,5 @@
 // The functions on lists.
-ghost use Rattle.std.specs.Prelude.{◌≡◌, ◌<◌, Ok, [], length, option_map, IfErr, OnOk};
+ghost use Rattle.std.specs.Prelude.{◌≡◌, ◌<◌, Ok, [], length, option_map};
 ghost use Rattle.std.specs.List.{list_any};
 ghost use Rattle.asl_json.specs.Meaning.{same as spec_same};
 ghost use Rattle.asl_json.specs.Data.{list as spec_list, chain};
@@ -7,13 +7,12 @@ ghost use Rattle.asl_json.specs.View.{data_of, items_of};
 ghost use Rattle.asl_functions.specs.Gives.{Gives};
 ghost use Rattle.asl_functions.specs.Seen.{seen, all_seen};
 ghost use Rattle.asl_functions.specs.Outcome.{or_fails};
-ghost use Rattle.asl_functions.specs.Lists.{array as spec_array, array_contains as spec_contains, array_get_item as spec_get, array_length as spec_length, array_unique as spec_unique, array_partition as spec_partition, item_of, kept_with, first_ones as spec_first_ones, pieces as spec_pieces};
+ghost use Rattle.asl_functions.specs.Lists.{array as spec_array, array_contains as spec_contains, array_get_item as spec_get, array_length as spec_length, array_unique as spec_unique, array_partition as spec_partition, item_of, first_ones as spec_first_ones, pieces as spec_pieces};
 ghost use Rattle.asl_functions.specs.declared.fault.Reason.TheVariants.{Range};
-ghost use Rattle.asl_functions.specs.Marks.{mark as spec_mark, IsApart, AreMarked};
 
 use crate::convert::{computed, list, number, whole};
 use crate::fault::{EvalFault, Reason};
-use crate::mark::mark;
+use crate::kept::Kept;
 use crate::value::Value;
 use asl_json::{Items, Json, same};
 use std::alloc::Global;
@@ -77,61 +76,15 @@ pub(crate) fn array_length(alloc: Global, items: &Json) -> Result<Json, EvalFaul
     computed(alloc, items.len() as i128)
 }
 
-/// Whether two values of these marks are the same.
-#[tactic(auto, using(crate::proofs::Marking::unlike_marks))]
-fn is_like(kept: &Json, kept_mark: u64, item: &Json, item_mark: u64) -> bool
-    requires apart { IsApart (data_of kept.now) }
-    requires kept_mark { kept_mark ≡ spec_mark (data_of kept.now) }
-    requires item_mark { item_mark ≡ spec_mark (data_of item.now) }
-    ensures { result ≡ spec_same (data_of kept.now) (data_of item.now) }
-{
-    kept_mark == item_mark && same(kept, item)
-}
-
-/// Whether one of the items kept, which have these marks, is the same as the item.
-fn is_kept(kept: &[Json], marks: &[u64], item: &Json, item_mark: u64) -> bool
-    requires kept { AreMarked marks.now (items_of kept.now) }
-    requires item { item_mark ≡ spec_mark (data_of item.now) }
-    ensures { result ≡ list_any (λ x. spec_same x (data_of item.now)) (items_of kept.now) }
-{
-    for (i, one) in kept.iter().enumerate() {
-        if is_like(one, marks[i], item, item_mark) {
-            return true;
-        }
-    }
-    false
-}
-
-/// Keeps a copy of the item behind these, which have these marks, where it is the same as none of them.
-fn keep(
-    alloc: Global,
-    kept: &mut Vec<Json>,
-    marks: &mut Vec<u64>,
-    item: &Json,
-) -> Result<(), EvalFault>
-    requires { AreMarked marks.old.items (items_of kept.old.items) }
-    ensures kept { OnOk result (items_of kept.new.items ≡ kept_with (items_of kept.old.items) (data_of item.now)) }
-    ensures marks { OnOk result (AreMarked marks.new.items (items_of kept.new.items)) }
-    ensures memory { IfErr result (λ e. e ≡ EvalFault.OutOfMemory) }
-{
-    let item_mark = mark(item);
-    if !is_kept(kept, marks, item, item_mark) {
-        kept.push(item.try_clone(alloc)?)?;
-        marks.push(item_mark)?;
-    }
-    Ok(())
-}
-
 /// The items that are the same as none of those kept before them.
 fn first_ones(alloc: Global, items: &[Json]) -> Result<Vec<Json>, EvalFault>
     ensures { Gives (λ v. items_of v.items) (Ok (spec_first_ones [] (items_of items.now))) result }
 {
-    let mut kept = Vec::new(alloc);
-    let mut marks = Vec::new(alloc);
+    let mut kept = Kept::new(alloc);
     for item in items {
-        keep(alloc, &mut kept, &mut marks, item)?;
+        kept = kept.with(alloc, item)?;
     }
-    Ok(kept)
+    Ok(kept.into_items())
 }
 
 /// `States.ArrayUnique`

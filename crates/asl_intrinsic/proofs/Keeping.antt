@@ -4,7 +4,8 @@ use Rattle.std.specs.Prelude.{nat_lt, nat_le}
 use Rattle.std.proofs.lemmas.List.{length-append, map-append}
 use Rattle.asl_intrinsic.specs.Tree.{Argument, call, arguments, Frame}
 use Rattle.asl_intrinsic.specs.View.{tree_of, trees_of}
-use Rattle.asl_functions.specs.Names.{function_named, takes}
+use Rattle.asl_functions.specs.Names.{name_of, function_named, takes}
+use Rattle.asl_intrinsic.proofs.Naming.{has_its_name}
 use Rattle.asl_intrinsic.specs.Faults.{count, sooner, misfit, own_fault, first_fault, first_faults}
 use Rattle.asl_intrinsic.specs.Keeps.{fault_of, fault_in, Keeps}
 use Rattle.asl_functions.specs.declared.function.Function.{Function}
@@ -95,10 +96,10 @@ pub closed_inner : (level : ℕ) (o : Open) (f : Frame) (known : List ℕ) (g : 
 closed_inner level o f known g w h l e n t x = fine level o f known g h l e n t ∙ h.wrong ∙ ap fault_in x
 
 pub closed_fine : (level : ℕ) (o : Open) (f : Frame) (known : List ℕ) (g : Function) → Keeps level o f → level ≤ 10 → known ≡ o.name.now → function_named known ≡ Some g → takes g o.count ≡ true → o.wrong ≡ None
-    → (call known (arguments (trees_of o.arguments.items)) ≡ call f.0 (arguments f.1)) × (first_fault level (call f.0 (arguments f.1)) ≡ None)
+    → (call (name_of g) (arguments (trees_of o.arguments.items)) ≡ call f.0 (arguments f.1)) × (first_fault level (call f.0 (arguments f.1)) ≡ None)
 closed_fine level o f known g h l e n t x =
     let same : o.name.now ≡ f.0 = h.name in (
-      ap (λ (z : List ℕ). call z (arguments (trees_of o.arguments.items))) (e ∙ same) ∙ ap (λ (z : List Argument). call f.0 (arguments z)) (h.kept x),
+      ap (λ (z : List ℕ). call z (arguments (trees_of o.arguments.items))) (has_its_name known g n ∙ e ∙ same) ∙ ap (λ (z : List Argument). call f.0 (arguments z)) (h.kept x),
       fine level o f known g h l e n t ∙ h.wrong ∙ ap fault_in x,
     )
 

@@ -1,6 +1,7 @@
 pub mod Starting
 pub mod Stretches
 pub mod Leaves
+pub mod Naming
 pub mod Keeping
 pub mod Turns
 pub mod Reaching

@@ -1,50 +1,9 @@
 // Calls as they were read.
-ghost use Rattle.std.specs.Prelude.{◌≡◌};
-ghost use Rattle.asl_functions.specs.Names.{function_named};
 
 use asl_functions::Function;
 use asl_json::{Json, Txt};
 use asl_path::RefPath;
 use std::marker::Model;
-
-/// A name behind `States.`, with the function that has it. Contracts see it as its text.
-#[derive(Drop)]
-pub(crate) struct Name {
-    spelled: Txt,
-    function: Option<Function>,
-}
-
-impl Model for Name {
-    ghost use Rattle.std.specs.Prelude.{List, ℕ, ◌≡◌};
-    ghost use Rattle.asl_functions.specs.Names.{function_named};
-
-    ghost Value = { List ℕ };
-
-    ghost view = { λ a. a.spelled };
-
-    ghost invariant = { λ a. a.function ≡ function_named a.spelled };
-}
-
-impl Name {
-    pub(crate) fn new(spelled: Txt) -> Name
-        ensures { result ≡ spelled }
-    {
-        let function = Function::named(spelled.as_str());
-        Name { spelled, function }
-    }
-
-    pub(crate) fn text(&self) -> &str
-        ensures { result.now ≡ self.now }
-    {
-        self.spelled.as_str()
-    }
-
-    pub(crate) fn function(&self) -> Option<Function>
-        ensures { result ≡ function_named self.now }
-    {
-        self.function
-    }
-}
 
 /// An argument of a call.
 #[cycle(call)]
@@ -57,7 +16,7 @@ pub(crate) enum Argument {
     /// A path into the input or the context.
     Path(RefPath),
     /// Another call, which can also be the whole.
-    Call(Name, Arguments),
+    Call(Function, Arguments),
 }
 
 /// The arguments of a call. Contracts see them as the list of their trees.

@@ -3,7 +3,7 @@ ghost use Rattle.std.specs.Prelude.{◌≡◌, Ok, option_map, if◌then◌else�
 ghost use Rattle.asl_json.specs.Data.{text};
 ghost use Rattle.asl_json.specs.View.{data_of};
 ghost use Rattle.asl_path.specs.Paths.{part_at};
-ghost use Rattle.asl_functions.specs.Names.{function_named};
+ghost use Rattle.asl_functions.specs.Names.{name_of, function_named};
 ghost use Rattle.asl_functions.specs.Letters.{meant};
 ghost use Rattle.asl_functions.specs.Gives.{Gives};
 ghost use Rattle.asl_functions.specs.Seen.{seen, all_seen};
@@ -11,25 +11,22 @@ ghost use Rattle.asl_intrinsic.specs.Tree.{arguments};
 ghost use Rattle.asl_intrinsic.specs.View.{tree_of};
 ghost use Rattle.asl_intrinsic.specs.Calls.{apply_named as spec_apply_named, first_written as spec_written, is_context, found, value_of, values_of};
 
-use crate::call::{Argument, Arguments, Name};
-use asl_functions::{EvalFault, Reason, Value, apply, meaning};
+use crate::call::{Argument, Arguments};
+use asl_functions::{EvalFault, Function, Value, apply, meaning};
 use asl_json::{Json, Txt};
 use asl_path::{RefPath, Root};
 use std::alloc::Global;
 
-/// The function of this name of values, with the first argument as it is written where it stands between apostrophes.
+/// The function of values, by its name, with the first argument as it is written where it stands between apostrophes.
 fn apply_named(
     alloc: Global,
-    name: &Name,
+    function: Function,
     written: Option<&str>,
     values: &[Value<'_>],
 ) -> Result<Json, EvalFault>
-    ensures { Gives data_of (spec_apply_named (function_named name.now) (option_map (λ t. t.now) written.entry) (all_seen values.now)) result }
+    ensures { Gives data_of (spec_apply_named (function_named (name_of function)) (option_map (λ t. t.now) written.entry) (all_seen values.now)) result }
 {
-    match name.function() {
-        Some(function) => apply(alloc, function, written, values),
-        None => Err(EvalFault::Fails(Reason::Count)),
-    }
+    apply(alloc, function, written, values)
 }
 
 /// What a path starts from.
@@ -103,9 +100,9 @@ impl Argument {
             Argument::Constant(value) => Ok(Value::Lent(value)),
             Argument::Quoted(written) => quoted(alloc, written),
             Argument::Path(path) => part(path, input, context),
-            Argument::Call(name, arguments) => {
+            Argument::Call(function, arguments) => {
                 let values = arguments.eval(alloc, input, context)?;
-                let value = apply_named(alloc, name, arguments.first_written(), &values)?;
+                let value = apply_named(alloc, *function, arguments.first_written(), &values)?;
                 Ok(Value::Made(value))
             }
         }

@@ -5,9 +5,9 @@ ghost use Rattle.asl_intrinsic.specs.Keeps.{Keeps, KeepsOne};
 ghost use Rattle.std.specs.Prelude.{ℕ, List};
 ghost use Rattle.asl_intrinsic.specs.declared.front.Halt.{Halt};
 
-use crate::call::{Argument, Arguments, Name};
+use crate::call::{Argument, Arguments};
 use crate::front::Halt;
-use asl_json::Txt;
+use asl_functions::Function;
 use std::alloc::Global;
 
 /// How many calls may stand in one another.
@@ -94,13 +94,8 @@ impl<'a> Open<'a> {
     }
 
     /// The call as an argument, which stands in so many calls with itself.
-    pub(crate) fn closed(
-        self,
-        alloc: Global,
-        level: usize,
-    ) -> Result<Result<Argument, Wrong<'a>>, Halt>
-        ensures keeps { (f : Frame) → Keeps level self.entry f → IfOk result (λ kept. KeepsOne level kept (call f.0 (arguments f.1))) }
-        ensures memory { IfErr result (λ e. e ≡ Halt.Memory) }
+    pub(crate) fn closed(self, level: usize) -> Result<Argument, Wrong<'a>>
+        ensures { (f : Frame) → Keeps level self.entry f → KeepsOne level result (call f.0 (arguments f.1)) }
     {
         let Open {
             name,
@@ -109,18 +104,17 @@ impl<'a> Open<'a> {
             wrong,
         } = self;
         if level > MAX_CALLS {
-            return Ok(Err(Wrong::Depth));
+            return Err(Wrong::Depth);
         }
-        let known = Name::new(Txt::new(String::from_str(alloc, name)?));
-        let Some(function) = known.function() else {
-            return Ok(Err(Wrong::Unknown(name)));
+        let Some(function) = Function::named(name) else {
+            return Err(Wrong::Unknown(name));
         };
         if !function.takes(count) {
-            return Ok(Err(Wrong::Arity));
+            return Err(Wrong::Arity);
         }
         if let Some(wrong) = wrong {
-            return Ok(Err(wrong));
+            return Err(wrong);
         }
-        Ok(Ok(Argument::Call(known, Arguments { list: arguments })))
+        Ok(Argument::Call(function, Arguments { list: arguments }))
     }
 }

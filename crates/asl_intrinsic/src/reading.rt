@@ -55,23 +55,22 @@ fn opened<'a>(
 }
 
 /// Ends the innermost open call.
-fn close<'a>(alloc: Global, calls: Vec<Open<'a>>, rest: &'a str) -> Result<Reader<'a>, Halt>
+fn close<'a>(calls: Vec<Open<'a>>, rest: &'a str) -> Reader<'a>
     requires { 0 < length calls.items }
-    ensures hears { (o : Result Tree ℕ) (f : Frame) (st : List Frame) → KeepsAll (reverse calls.entry.items) (f ∷ st) → o ≡ run (ended (call f.0 (arguments f.1))) st rest.now → IfOk result (Hears o) }
-    ensures memory { IfErr result (λ e. e ≡ Halt.Memory) }
-    ensures rest { IfOk result (λ r. waits r ≤ 2 * length rest.now) }
+    ensures hears { (o : Result Tree ℕ) (f : Frame) (st : List Frame) → KeepsAll (reverse calls.entry.items) (f ∷ st) → o ≡ run (ended (call f.0 (arguments f.1))) st rest.now → Hears o result }
+    ensures rest { waits result ≤ 2 * length rest.now }
 {
     let mut calls = calls;
     let level = calls.len();
     let Some(innermost) = calls.pop() else {
         unreachable!()
     };
-    let kept = innermost.closed(alloc, level)?;
-    Ok(Reader {
+    let kept = innermost.closed(level);
+    Reader {
         calls,
         place: Place::Ended(kept),
         rest,
-    })
+    }
 }
 
 /// The open calls with an argument more of the innermost one.
@@ -109,7 +108,6 @@ fn argument<'a>(alloc: Global, calls: Vec<Open<'a>>, rest: &'a str) -> Result<Re
 
 /// Goes on behind an argument.
 fn behind<'a>(
-    alloc: Global,
     calls: Vec<Open<'a>>,
     kept: Result<Argument, Wrong<'a>>,
     rest: &'a str,
@@ -127,7 +125,7 @@ fn behind<'a>(
         });
     }
     if let Some(outside) = after_byte(rest, b')') {
-        return close(alloc, calls, outside);
+        return Ok(close(calls, outside));
     }
     Err(stuck(rest))
 }
@@ -143,12 +141,12 @@ fn turn(alloc: Global, reader: Reader) -> Result<Reader, Halt>
     match place {
         Place::Opening => {
             if let Some(outside) = after_byte(rest, b')') {
-                return close(alloc, calls, outside);
+                return Ok(close(calls, outside));
             }
             argument(alloc, calls, rest)
         }
         Place::Wanting => argument(alloc, calls, rest),
-        Place::Ended(kept) => behind(alloc, calls, kept, rest),
+        Place::Ended(kept) => behind(calls, kept, rest),
     }
 }
 

@@ -10,11 +10,11 @@ returns-clause-hears c = λ o f st h e.
     let all : c.len-level.result ≡ length c.args.calls.items = search rules in
     let level : c.len-level.result ≡ suc (length st) = all ∙ levels c.args.calls.items (f ∷ st) h in
     let k = popped c.args.calls.items c.pop.new.self.items c.in-Some.innermost f st c.in-Some.ensures.items h in
-    let kept = c.in_ok-kept.ensures.keeps f (subst (λ (n : ℕ). Keeps n c.in-Some.innermost f) (sym level) k.0) in
+    let kept = c.closed-kept.ensures f (subst (λ (n : ℕ). Keeps n c.in-Some.innermost f) (sym level) k.0) in
     record {
       mode = ended (call f.0 (arguments f.1));
       st = st;
-      stands = (call f.0 (arguments f.1), (refl, subst (λ (n : ℕ). KeepsOne n c.in_ok-kept.kept (call f.0 (arguments f.1))) level kept));
+      stands = (call f.0 (arguments f.1), (refl, subst (λ (n : ℕ). KeepsOne n c.closed-kept.result (call f.0 (arguments f.1))) level kept));
       keeps = k.1;
       leads = e;
     }

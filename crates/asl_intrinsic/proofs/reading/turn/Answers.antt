@@ -2,7 +2,7 @@ use Rattle.std.proofs.Common.{true, ◌<◌, ℕ, List, suc, length, reverse, su
 use Rattle.asl_intrinsic.specs.Steps.{opening, run}
 use Rattle.asl_intrinsic.specs.Tree.{Frame}
 use Rattle.asl_intrinsic.specs.Keeps.{KeepsOne, KeepsAll}
-use Rattle.asl_intrinsic.proofs.Turns.{split, levels, opening_goes, opening_wants, wanting_goes, ended_goes, bracket_closes, memory_fails}
+use Rattle.asl_intrinsic.proofs.Turns.{split, levels, opening_goes, opening_wants, wanting_goes, ended_goes, bracket_closes}
 use Rattle.asl_intrinsic.proofs.reading.turn.Goals as goal
 
 pub returns-in-Some-clause-hears : goal.returns-in-Some-clause-hears
@@ -12,9 +12,7 @@ returns-in-Some-clause-hears c = λ o h.
     let s = rw c.in-Opening.is at h.stands in
     let x = split h.st s.1 in
     let goes = opening_goes o h.mode c.args.reader.rest.now rest h.st s.0 c.skip_spaces-rest.ensures.skips h.leads in
-    memory_fails o c.close.result
-    (c.close.ensures.hears o x.0 x.1 (subst (KeepsAll (reverse calls)) x.2 h.keeps) (goes ∙ ap (λ (z : List Frame). run opening z rest) x.2 ∙ bracket_closes true rest c.in-Some.outside.now x.0 x.1 c.in-Some.ensures.found))
-    c.close.ensures.memory
+    c.close.ensures.hears o x.0 x.1 (subst (KeepsAll (reverse calls)) x.2 h.keeps) (goes ∙ ap (λ (z : List Frame). run opening z rest) x.2 ∙ bracket_closes true rest c.in-Some.outside.now x.0 x.1 c.in-Some.ensures.found)
 
 pub returns-in_default-clause-hears : goal.returns-in_default-clause-hears
 returns-in_default-clause-hears c = λ o h.
