@@ -251,13 +251,19 @@ fn each_has_its_values(rt: HostRuntime) -> Result<(), Fail> {
     Ok(())
 }
 
+/// A member that isn't there.
+fn left_out(name: &str) -> Tried<'_> {
+    let value = None;
+    Tried {
+        name,
+        value,
+        instead: &[],
+    }
+}
+
 fn try_without(alloc: Global, trial: &mut Trial, shape: &Shape) -> Result<(), AllocError> {
     for name in shape.required {
-        let tried = Tried {
-            name,
-            value: None,
-            instead: &[],
-        };
+        let tried = left_out(name);
         try_value(alloc, trial, shape, &tried, "F3 Missing")?;
     }
     Ok(())
@@ -318,12 +324,7 @@ fn try_besides(
     wanted: &str,
 ) -> Result<(), AllocError> {
     for name in names {
-        let nothing = Tried {
-            name: "",
-            value: None,
-            instead: &[],
-        };
-        let mut members = joined(alloc, &members(alloc, shape, &nothing)?)?;
+        let mut members = joined(alloc, &members(alloc, shape, &left_out(""))?)?;
         let more = format!(in alloc; "\"{name}\":{{\"StartAt\":[],\"Type\":5}}")?;
         push_member(&mut members, more.as_str())?;
         let wanted = told_of(alloc, name, wanted)?;

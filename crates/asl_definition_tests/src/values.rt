@@ -151,7 +151,7 @@ const CALLS: &[&str] = &[
     r#""States.Format('\\'\\\\\\{\\}é')""#,
     r#""States.MathAdd($$.State.RetryCount,-1.0)""#,
     r#""States.StringToJson(States.JsonToString($['a b']))""#,
-    r#""States.Array(States.Array(States.Array(States.Array(States.Array(States.Array(States.Array(States.Array(States.Array(States.Array()))))))))))""#,
+    r#""States.Array(States.Array(States.Array(States.Array(States.Array(States.Array(States.Array(States.Array(States.Array(States.Array())))))))))""#,
 ];
 
 /// Texts that aren't a call of an intrinsic function, and don't begin as a path.
@@ -182,7 +182,7 @@ const NO_CALLS: &[&str] = &[
     r#""States.ArrayLength()""#,
     r#""States.MathAdd(1)""#,
     r#""States.MathAdd(1,2,3)""#,
-    r#""States.Array(States.Array(States.Array(States.Array(States.Array(States.Array(States.Array(States.Array(States.Array(States.Array(States.Array())))))))))))""#,
+    r#""States.Array(States.Array(States.Array(States.Array(States.Array(States.Array(States.Array(States.Array(States.Array(States.Array(States.Array()))))))))))""#,
 ];
 
 const TIMESTAMPS: &[&str] = &[
