@@ -1,27 +1,79 @@
 #!/bin/bash
-# Builds the program where a source is newer than the built one, and runs it with the words given.
-set -eu
-top=$(cd "$(dirname "$0")" && pwd)
+# Starts the program. Where tools/build hasn't built it yet, or a source has changed since, this runs the sources as they are by
+# `rt try`, which compiles them and proves nothing. Help is answered at once: tools/front compares it with the program's.
+set -euo pipefail
+top=$(dirname "$(readlink -f "$0")")
 crate=$top/crates/asl
 program=$crate/out/asl
 
-is_current() {
-  [ -x "$program" ] && [ -z "$(find "$top/crates" "$top/crates.txt" -name out -prune -o \
-    -newer "$program" \( -name '*.rt' -o -name '*.antt' -o -name crates.txt \) -print -quit)" ]
+changed_source() { # a source that is newer than the program, where there is one
+  find "$top/crates" "$top/crates.txt" -name out -prune -o -newer "$program" \
+    \( -name '*.rt' -o -name '*.antt' -o -name crates.txt \) -print -quit
 }
 
-if ! is_current; then
-  if ! command -v rt > /dev/null; then
-    echo "asl: building needs Rattle's command rt on the PATH" >&2
+answer_help() { # the words; fails where no help is stored for them
+  local help=$top/tools/help
+  case "$# $*" in
+    '1 --help' | '1 -h' | '1 help') cat "$help/asl.txt" ;;
+    '2 check --help' | '2 check -h' | '2 help check') cat "$help/check.txt" ;;
+    '2 print --help' | '2 print -h' | '2 help print') cat "$help/print.txt" ;;
+    '2 run --help' | '2 run -h' | '2 help run') cat "$help/run.txt" ;;
+    *) return 1 ;;
+  esac
+}
+
+hand_in() { # a word; where it names a file, the run gets a copy of it under that name, or one as good
+  local option='' file=$1 name
+  case $1 in
+    --*=*) option=${1%%=*}= file=${1#*=} ;;
+  esac
+  if [ -d "$file" ] || ! [ -r "$file" ]; then
+    words+=("$1")
+    return
+  fi
+  name=$file
+  case /$file/ in
+    *//* | */./* | */../* | *=* | /program/* | /stdin/* | /stdout/* | /stderr/*) name=file${#files[@]} ;;
+  esac
+  cat < "$file" > "$room/file${#files[@]}"
+  files+=(--data "$name=$room/file${#files[@]}")
+  words+=("$option$name")
+}
+
+run_sources() { # the words
+  local status=0 last
+  room=$(mktemp -d)
+  trap 'rm -rf "$room"' EXIT
+  words=() files=()
+  for word in "$@"; do hand_in "$word"; done
+  (cd "$crate" && rt try "${files[@]}" -- "${words[@]}") > "$room/out" 2> "$room/err" < /dev/null || true
+  last=$(tail -n 1 "$room/err")
+  if ! [[ $last =~ ^run=ended\ status=([0-9]+)\  ]]; then
+    cat "$room/err" >&2
+    echo "asl: the sources didn't run; tools/build proves and builds the program" >&2
     exit 2
   fi
-  echo "asl: building (the first build proves everything and takes minutes)" >&2
-  if ! (cd "$crate" && rt run -- --help) > "$crate/out.log" 2>&1 < /dev/null; then
-    tail -n 20 "$crate/out.log" >&2
-    echo "asl: not built; $crate/out.log has the whole output" >&2
-    exit 2
-  fi
-  rm -f "$crate/out.log"
-  touch "$program" # where a source was only touched, it is built already
+  status=${BASH_REMATCH[1]}
+  cat "$room/out"
+  sed '/^\(interpreter\|checked\): /,$d' "$room/err" >&2 # rt try's own lines come last
+  exit "$status"
+}
+
+if [ -x "$program" ]; then
+  newer=$(changed_source)
+  if [ -z "$newer" ]; then exec "$program" "$@"; fi
+  why="${newer#"$top"/} has changed since the program was built"
+else
+  why="the program isn't built yet"
 fi
-exec "$program" "$@"
+if answer_help "$@"; then exit; fi
+if [ $# = 0 ]; then
+  cat "$top/tools/help/none.txt" >&2
+  exit 2
+fi
+if ! command -v rt > /dev/null; then
+  echo "asl: $why, and Rattle's command rt isn't on the PATH: README.md says where it comes from" >&2
+  exit 2
+fi
+echo "asl: $why: running the sources as they are, which takes a minute or two and proves nothing; tools/build proves and builds it" >&2
+run_sources "$@"
