@@ -40,12 +40,13 @@ fn machine_of(alloc: Global, definition: &Json) -> Result<Machine, Fault>
     }
 }
 
-/// The machine of a definition's text.
+/// Makes the machine of a definition's text.
 ///
-/// A text that is no JSON text is told with the first fault of that text. Of several faults of a value the one with the lowest
-/// number is answered, and of its places the first in document order; a missing member counts as standing behind its object's
-/// members, several in the order of the table of members. What stands below a value of a wrong type, or in a state whose
-/// `Type` is missing or unknown, isn't searched. The cost is the length of the text.
+/// If the text isn't a JSON text, the answer is the first fault of that text. Of several faults of a value the answer
+/// is the one with the lowest number, and of its places the first in document order. A missing member counts as coming
+/// after the members of its object that are there; several count in the order of the table of members. The search
+/// leaves out what is inside a value of a wrong type, or in a state whose `Type` is missing or unknown. The cost is the
+/// length of the text.
 pub fn accept(alloc: Global, text: &[u8]) -> Result<Machine, Fault>
     // The machine is the definition in canonical form.
     ensures found { IfOk result (IsMachineOf text.now) }

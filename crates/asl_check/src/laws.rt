@@ -14,8 +14,8 @@ pub fn what_is_printed_is_accepted()
     ensures one { OneMachine }
 {}
 
-/// What is printed for a definition without faults is accepted too where the value wasn't read from a text, as long as it is no
-/// longer and no deeper than a text may be. The law has no code.
+/// What is printed for a definition without faults is accepted, also if the value wasn't read from a text, as long as
+/// the printed text is no longer and no deeper than a text may be. The law computes nothing.
 pub fn what_is_printed_of_a_value_is_accepted(value: &Json)
     ensures { FittingIsAccepted (data_of value.now) }
 {

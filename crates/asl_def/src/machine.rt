@@ -112,8 +112,8 @@ impl Machine {
         self.parts().table.len()
     }
 
-    /// The state of this name, in whatever machine it stands, and its number among all states, counted from 0. One hash finds
-    /// both.
+    /// The state of this name, in the outermost machine or any inner one, and its number among all states, counted from
+    /// 0. One hash finds both.
     pub fn find(&self, name: &str) -> Option<(usize, &State)>
         ensures number { option_map (λ f. f.0) result ≡ state_number name.now self.now }
         ensures within { IfSome result (λ f. f.0 < state_count self.now) }
@@ -129,8 +129,8 @@ impl Machine {
         self.parts().root.count
     }
 
-    /// The state with this number among those of the outermost machine, counted from 0 in document order, and its name. Contracts
-    /// see its object over the states of the machines inside it.
+    /// The name of the state with this number, and the state, among those of the outermost machine, counted from 0 in
+    /// document order. Contracts see its object over the states of the machines inside it.
     pub fn own_state(&self, number: usize) -> Option<(&str, &State)>
         ensures { option_map (λ x. (x.0.now, state_of (states_of self.now) x.1.now)) result ≡ slice_get (own_states_in self.now) number }
     {
@@ -196,12 +196,12 @@ fn build(alloc: Global, definition: &Json) -> Result<Machine, AllocError>
     Machine::of_parts(alloc, parts)
 }
 
-/// The machine of a definition.
+/// Makes the machine of a definition, exactly if the definition has no fault, unless memory runs out.
 ///
-/// A machine is made exactly where the definition has no fault, unless memory runs out. Of several faults the one of the
-/// lowest number is answered, and of these the first in document order; a missing member counts as standing behind its
-/// object's members, several in the order of the table. What stands below a value of a wrong type, or in a state whose
-/// `Type` is missing or unknown, isn't searched. Its cost is the length of the definition.
+/// Of several faults the answer is the one with the lowest number, and of its places the first in document order. A
+/// missing member counts as coming after the members of its object that are there; several count in the order of the
+/// table. The search leaves out what is inside a value of a wrong type, or in a state whose `Type` is missing or
+/// unknown. Its cost is the length of the definition.
 pub fn parse(alloc: Global, definition: &Json) -> Result<Machine, DefFault>
     // The machine is the definition in canonical form.
     ensures found { IfOk result (λ m. m ≡ canonical (data_of definition.now)) }

@@ -93,9 +93,9 @@ fn with_template(
     }
 }
 
-/// The value of a function of these values, with the first argument as it is written where it stands between apostrophes: `States.Format`
-/// reads its template from there. The fault is the function's own, or that memory ran out. (Amazon States Language, "Intrinsic
-/// Functions".)
+/// The value of a function of these values. If the first argument is a text between apostrophes, `written` is that text
+/// as it is written: `States.Format` reads its template from there. The fault is the function's own, or that memory ran
+/// out. (Amazon States Language, "Intrinsic Functions".)
 pub fn apply(
     alloc: Global,
     function: Function,

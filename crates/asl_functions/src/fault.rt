@@ -6,9 +6,9 @@ use std::alloc::{AllocError, AllocFailed};
 pub enum Reason {
     /// An argument is of a type that the function doesn't take.
     Unfit,
-    /// A number or a name is none of those that the function takes.
+    /// A number or a name that the function doesn't take.
     Range,
-    /// There are more or fewer arguments than places for them.
+    /// More or fewer arguments than there are places for them, such as `{}` in a template.
     Count,
     /// A text isn't the coding of a value.
     Undecoded,

@@ -35,7 +35,7 @@ impl<'a> Value<'a> {
         Ok(self.json().try_clone(alloc)?)
     }
 
-    /// The value as one of its own; a part is copied. The error is that memory ran out.
+    /// Makes an owned value: a lent part is copied. The error is that memory ran out.
     pub fn into_json(self, alloc: Global) -> Result<Json, EvalFault>
         ensures { Gives data_of (Ok (seen self.entry)) result }
     {

@@ -20,13 +20,13 @@ use std::marker::Model;
 /// Why a text is no call.
 #[derive(PartialEq, Eq, Drop)]
 pub enum CallFault {
-    /// I1: the byte of this number, counted from 0, is the first one with which the text is no longer the front of a call,
-    /// or the first one of a number outside the limits, whichever is less. It is the length of the text where the text is
-    /// the front of a call and none itself.
+    /// I1: the number of the first wrong byte, counted from 0. It is the first byte at which the text is no longer the
+    /// beginning of a call, or the first byte of a number past the limits, whichever is less; the length of the text if
+    /// it ends too early.
     Syntax(usize),
     /// I2: there is no function of this name behind `States.`.
     Unknown(Txt),
-    /// I3: more than ten calls stand in one another.
+    /// I3: a call is inside ten others.
     Depth,
     /// I4: a function takes more or fewer arguments.
     Arity,
@@ -113,10 +113,10 @@ fn told(alloc: Global, wrong: Wrong) -> CallFault
 }
 
 impl Expr {
-    /// The call that a text spells: `States.Name(arg, ..)`, where an argument is a text in apostrophes, a number, `null`,
-    /// `true`, `false`, a path or another call. Its cost is the length of the text, however deep calls stand in one another.
+    /// Reads a text as a call: `States.Name(arg, ..)`. An argument is a text in apostrophes, a number, `null`, `true`,
+    /// `false`, a path or another call. Its cost is the length of the text, however deeply calls nest.
     ///
-    /// I1 is judged on the whole text; then, call by call in the order of their names, I3, I2 and I4.
+    /// I1 is judged on the whole text; then each call, in the order of the calls' names, is judged for I3, I2 and I4.
     pub fn read(alloc: Global, text: &str) -> Result<Expr, CallFault>
         ensures text { IfOk result (λ e. e ≡ text.now) }
         // What is read is a call, as the grammar spells it, without a fault.
@@ -148,8 +148,8 @@ impl Expr {
         self.spelled.as_str()
     }
 
-    /// The value of the call on an input and a context: of its arguments from the left, then of its function. A path that
-    /// begins `$$` is one into the context. The first fault is answered.
+    /// Evaluates the call on an input and a context: the arguments from the left, then the function. A path that begins
+    /// with `$$` leads into the context. The first fault counts.
     pub fn eval(&self, alloc: Global, input: &Json, context: &Json) -> Result<Json, EvalFault>
         ensures { Gives data_of (ev self.now (data_of input.now) (data_of context.now)) result }
     {

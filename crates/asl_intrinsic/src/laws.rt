@@ -1,7 +1,7 @@
 // Laws of calls: each is a contract, over every text and every value.
 ghost use Rattle.asl_intrinsic.specs.Laws.{HasOneTree, HasOneMeaning, OthersAreWrong};
 
-/// What a text means, by the call that it spells.
+/// A text spells at most one call, which decides its value. The laws have no code.
 pub fn a_call_has_one_meaning()
     // A text spells one call at most.
     ensures tree { HasOneTree }

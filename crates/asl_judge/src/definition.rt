@@ -30,10 +30,12 @@ fn doubled(alloc: Global, definition: &Json) -> Result<Option<Fault>, AllocError
     }
 }
 
-/// The first fault of a definition, and `None` where it has none: of the lowest number, and of several places the first in
-/// document order. A missing member counts as standing behind its object's members, several in the order of the table. What
-/// stands below a value of a wrong type, or in a state whose `Type` is missing or unknown, isn't searched. Its cost is the
-/// length of the definition. The error is that memory ran out.
+/// The first fault of a definition, and `None` if it has none. It is the fault with the lowest number; of several
+/// places the first in document order. A missing member counts as coming after the members of its object that are
+/// there; several count in the order of the table.
+///
+/// The search leaves out what is inside a value of a wrong type, or in a state whose `Type` is missing or unknown. Its
+/// cost is the length of the definition. The error is that memory ran out.
 pub fn first_fault(alloc: Global, definition: &Json) -> Result<Option<Fault>, AllocError>
     ensures { IfOk result (Answers (claims_of (data_of definition.now))) }
 {

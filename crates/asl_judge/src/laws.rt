@@ -1,8 +1,8 @@
 // Laws of the canonical form: each is a contract, over every value.
 ghost use Rattle.asl_judge.specs.Laws.{CanonicalIsAccepted, CanonicalStays, CanonicalIsNoLonger, CanonicalIsNoDeeper, CanonicalKeysDiffer};
 
-/// What the canonical form of a definition keeps. That no object has a key twice, which the first law asks and the last gives,
-/// `asl_json::every_value_is_sound` says of every value.
+/// What the canonical form of a definition keeps. The first law assumes that no object has a key twice, and the last
+/// one gives it; `asl_json::every_value_is_sound` says it of every value. The laws have no code.
 pub fn the_canonical_form_is_accepted()
     // That of a definition without faults has none.
     ensures accepted { CanonicalIsAccepted }

@@ -1,7 +1,7 @@
 // Laws of paths: each is a contract, over every text and every value.
 ghost use Rattle.asl_path.specs.Laws.{HasOneMeaning, HasNoMeaning, HasOneFault, IsThere, LastStays, SameChangesNothing, LeavesTheRest, NeedsTheSamePlace};
 
-/// What a path text means, by its root and steps.
+/// A path has one meaning: one root and one list of steps. The laws have no code.
 pub fn a_path_has_one_meaning()
     // A path spells one root and one list of steps, by which it starts, names a part and puts one.
     ensures meaning { HasOneMeaning }
@@ -11,7 +11,7 @@ pub fn a_path_has_one_meaning()
     ensures fault { HasOneFault }
 {}
 
-/// How reading a part and putting one agree.
+/// Getting and putting by paths agree. The laws have no code.
 pub fn reading_and_putting_agree()
     // What was put is there.
     ensures there { IsThere }

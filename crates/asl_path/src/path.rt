@@ -18,27 +18,28 @@ use std::marker::Model;
 /// Why a text is no path.
 #[derive(Clone, Copy, Debug, PartialEq, Eq)]
 pub enum PathFault {
-    /// P1: the byte of this number, counted from 0, is the first one that can't go on. It is the length of the text where
-    /// the text is the front of a path and none itself.
+    /// P1: the number of the first byte, counted from 0, that can't continue a path; the length of the text if it ends
+    /// too early.
     PathProfile(usize),
     /// P2: a growth was refused.
     OutOfMemory,
 }
 
-/// Why a value isn't put, with the value that it was to go into, then itself, both as they were.
+/// Why a value wasn't put. Both values come back as they were: first the base, then the part.
 #[derive(Drop)]
 pub enum PutFault {
-    /// P3: there is no such place. A name leads into an object alone, where it makes the member that is missing; an index
-    /// leads into a list that is long enough.
+    /// P3: there is no such place. A name needs an object, which gets the member if it is missing; an index needs a
+    /// list that is long enough.
     NoMatch(Json, Json),
     /// P4: a growth was refused.
     OutOfMemory(Json, Json),
 }
 
-/// A path that was read: `$` or `$$`, then steps `.name`, `['name']`, `["name"]` and `[index]`. Contracts see it as its text.
+/// A path that was read: `$` or `$$`, then steps `.name`, `['name']`, `["name"]` and `[index]`. Contracts see it as its
+/// text.
 ///
-/// These are the Reference Paths of the Amazon States Language (<https://states-language.net/spec.html>, "Reference Paths"),
-/// each of which names at most one part of a value, and those that start from the Context Object ("Paths").
+/// It is a Reference Path of the Amazon States Language (<https://states-language.net/spec.html>, "Reference Paths"),
+/// which names at most one part of a value, or such a path from the Context Object ("Paths").
 pub struct RefPath {
     spelled: Txt,
     root: Root,
@@ -101,7 +102,7 @@ fn fault_of(text: &str, halt: Halt) -> PathFault
 }
 
 impl RefPath {
-    /// The path that a text is. Its cost is the length of the text.
+    /// Reads a text as a path. Its cost is the length of the text.
     pub fn read(alloc: Global, text: &str) -> Result<RefPath, PathFault>
         ensures text { IfOk result (λ p. p ≡ text.now) }
         // What is read is a path.
@@ -155,20 +156,20 @@ impl RefPath {
         })
     }
 
-    /// The part of a value that its steps reach, or `None` where there is none. The value is the input or the Context
-    /// Object, as the caller chooses by `root`. Takes no memory. Its cost is the number of steps and the width of the
-    /// objects on the way.
+    /// The part of a value that the steps reach, or `None` if there is none. The caller chooses the value by `root`:
+    /// the input or the Context Object. Takes no memory. Its cost is the number of steps and the width of the objects
+    /// on the way.
     pub fn get<'a>(&self, value: &'a Json) -> Option<&'a Json>
         ensures { option_map (λ v. data_of v.now) result ≡ part_at self.now (data_of value.now) }
     {
         walk(value, &self.steps)
     }
 
-    /// The base with `part` at the place that its steps reach: in place of what is there, or behind the other members of
-    /// an object that lacks the name, in as many new objects as there are names left. (Amazon States Language, "ResultPath".)
+    /// Puts `part` into `base` at the place that the steps reach. It replaces what is there. If an object lacks the
+    /// name, it gets a new last member; names after that make an object each. (Amazon States Language, "ResultPath".)
     ///
-    /// It is put exactly where `with_part` has a value, unless memory runs out. No value is copied. Its cost is the number
-    /// of steps and the width of the objects on the way.
+    /// It succeeds exactly if `with_part` has a value, unless memory runs out. It copies no value. Its cost is the
+    /// number of steps and the width of the objects on the way.
     pub fn put(&self, alloc: Global, base: Json, part: Json) -> Result<Json, PutFault>
         ensures ok { IfOk result (λ v. with_part self.now (data_of base) (data_of part) ≡ Some (data_of v)) }
         ensures err { IfErr result (HandsBack self.now base part) }

@@ -24,15 +24,15 @@ pub enum FaultKind {
     WrongType,
     /// F7: a value outside its range.
     Range,
-    /// F8: a member beside another of its group: the later of the two.
+    /// F8: two members of a group of which one may be there. The place is the later of the two.
     Both,
-    /// F9: an object with no member of a group.
+    /// F9: no member of a group of which one has to be there. The place is the object.
     Neither,
     /// F10: no state of the same machine has this name.
     NoTarget,
-    /// F11: a state before this one has its name.
+    /// F11: an earlier state of the definition has this name.
     DuplicateState,
-    /// F12: `States.ALL` not alone, or not in the last retrier or catcher.
+    /// F12: `States.ALL` isn't alone in its list, or isn't in the last retrier or catcher.
     AllNotLast,
     /// F13: a text that isn't a path, or is one into the Context Object where a result is put.
     Path,
@@ -91,13 +91,13 @@ impl FaultKind {
 /// A step down a definition, to a member or an item.
 #[derive(Drop)]
 pub struct Step {
-    /// The number of the member or item, from 0. A member that is missing has one behind those that are there.
+    /// The number of the member or item, from 0. A missing member has a number after those that are there.
     pub at: usize,
     /// The member's name, or the item's number in decimal.
     pub name: Txt,
 }
 
-/// A fault and its place. The steps are kept with the innermost one first, and seen with the outermost one first.
+/// A fault and its place. It keeps the innermost step first; contracts see the outermost step first.
 #[derive(Drop)]
 pub struct Fault {
     kind: FaultKind,
@@ -133,7 +133,8 @@ impl Fault {
         self.kind
     }
 
-    /// The fault, as it is seen from outside the member with this number and name.
+    /// The fault as seen from one step further out: its place begins with the member of this number and name. If memory
+    /// runs out, the fault is dropped.
     pub fn under(self, alloc: Global, at: usize, name: &str) -> Result<Fault, AllocError>
         ensures { IfOk result (λ f. f ≡ (self.0, step at name.now ∷ self.1)) }
     {
@@ -146,7 +147,8 @@ impl Fault {
         })
     }
 
-    /// The fault, as it is seen from outside the item of this number.
+    /// The fault as seen from one step further out: its place begins with the item of this number. If memory runs out,
+    /// the fault is dropped.
     pub fn under_index(self, alloc: Global, at: usize) -> Result<Fault, AllocError>
         ensures { IfOk result (λ f. f ≡ (self.0, step at (decimal at) ∷ self.1)) }
     {
@@ -155,8 +157,8 @@ impl Fault {
         self.under(alloc, at, name.as_str())
     }
 
-    /// Its place in the definition, as `/States/A/Next`. A member that is missing has the place where it would stand. The error
-    /// is that memory ran out.
+    /// Its place in the definition as a JSON Pointer, such as `/States/A/Next`. A missing member has the place that it
+    /// would have. The error is that memory ran out.
     pub fn place(&self, alloc: Global) -> Result<Pointer, AllocError>
         ensures { IfOk result (λ p. p ≡ pointer_text self.now.1) }
     {

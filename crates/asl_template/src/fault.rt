@@ -11,16 +11,16 @@ use asl_path::Step;
 use std::alloc::{AllocError, Global};
 use std::marker::Model;
 
-/// Why a value is no template, each with its place in the value. The lowest number is answered, and of several places the
-/// first in document order.
+/// Why a value isn't a template, with the place in the value. The answer is the fault with the lowest number; of
+/// several places the first in document order.
 #[derive(Drop)]
 pub enum TemplateFault {
     /// L1: the value of a member `name.$` is no text.
     NotText(Pointer),
-    /// L2: `name` and `name.$` stand in one object: the later of the two.
+    /// L2: `name` and `name.$` are in one object. The place is the later of the two.
     Both(Pointer),
-    /// L5: the text of a member `name.$` begins with `$` and is no path. The number is that of the first byte, counted
-    /// from 0, that can't go on.
+    /// L5: the text of a member `name.$` begins with `$` and isn't a path. The number is that of the first byte,
+    /// counted from 0, that can't continue a path.
     PathText(Pointer, usize),
     /// L6: the text of a member `name.$` is no call.
     CallText(Pointer, CallFault),

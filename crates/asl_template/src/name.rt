@@ -5,7 +5,7 @@ ghost use Rattle.asl_template.specs.Names.{mark, name_before as spec_name_before
 use asl_json::Txt;
 use std::alloc::{AllocError, Global};
 
-/// The name before `.$`, of a key that ends so: the name that a computed member has once the template is filled.
+/// The name before `.$`, if the key ends so. Once the template is filled, the computed member has this name.
 pub fn name_before(key: &str) -> Option<&str>
     ensures { option_map (λ n. n.now) result ≡ spec_name_before key.now }
 {

@@ -18,7 +18,7 @@ use asl_json::{Items, Json, Keys, Member, Members, Txt};
 use asl_path::{PathFault, RefPath};
 use std::alloc::{AllocError, Global};
 
-/// Whether the text of a computed member is to be a path, since it begins with `$`; else it is to be a call.
+/// Whether the text of a computed member has to be a path, because it begins with `$`. Any other text has to be a call.
 pub fn is_path(text: &str) -> bool
     ensures { result ≡ begins_path text.now }
 {
@@ -118,7 +118,7 @@ fn parts(alloc: Global, items: &Items) -> Result<Result<Parts, Fault>, AllocErro
     }
 }
 
-/// Whether of `k` and `k.$` the other one is among these members, which are those so far, and whose keys these are. The error
+/// Whether the other one of `k` and `k.$` is among the members so far. `keys` are the keys of these members. The error
 /// is that memory ran out.
 pub fn is_double(
     alloc: Global,

@@ -18,12 +18,13 @@ use asl_json::Json;
 use std::alloc::{AllocError, Global};
 use std::marker::Model;
 
-/// A template that was read (Amazon States Language, "Payload Template"). Contracts see it as the value that it was read
-/// from.
+/// A template that was read (Amazon States Language, "Payload Template"). Contracts see it as the value that it was
+/// read from.
 ///
-/// Any JSON value may be a template, where the standard asks for an object. At any depth, in objects and lists, a member
-/// `name.$` has a text: a path into the Context Object where it begins with `$$`, else a path into the input where it begins
-/// with `$`, else a call of an intrinsic function. No object has `name` and `name.$`.
+/// Any JSON value may be a template; the standard asks for an object. At any depth, in objects and lists, a member
+/// `name.$` has a text. A text that begins with `$$` is a path into the Context Object, another text that begins with
+/// `$` is a path into the input, and any other text is a call of an intrinsic function. No object has both `name` and
+/// `name.$`.
 pub struct Template {
     part: Part,
 }
@@ -71,7 +72,7 @@ impl Eq for Template {
 }
 
 impl Template {
-    /// The template that a value is. Its paths and calls are read here, once. Its cost is the size of the value.
+    /// Reads a value as a template. Its paths and calls are read here, once. Its cost is the size of the value.
     pub fn read(alloc: Global, value: &Json) -> Result<Template, TemplateFault>
         ensures value { IfOk result (λ t. t ≡ data_of value.now) }
         // What is read is a template.
@@ -88,9 +89,9 @@ impl Template {
         }
     }
 
-    /// The value that it gives on an input and a Context Object: each computed member stands under its name, in its place,
-    /// with the part that its path names or the value of its call. The error is the first in document order. Its cost is
-    /// the size of the template and of the values that are put in.
+    /// Fills the template on an input and a Context Object. Each computed member gets its name without `.$`, at the
+    /// same position, with the part that its path names or the value of its call. The error is the first in document
+    /// order. Its cost is the size of the template and of the values that are put in.
     pub fn fill(&self, alloc: Global, input: &Json, context: &Json) -> Result<Json, FillFault>
         ensures { Gives data_of (spec_fill self.now (data_of input.now) (data_of context.now)) result }
     {

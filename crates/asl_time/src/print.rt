@@ -82,8 +82,7 @@ pub fn print_stamp(alloc: Global, moment: Moment) -> Result<String, AllocError>
     spell(alloc, shown(moment))
 }
 
-/// The text of each moment up to the last one, reckoned from its day's place in the calendar, is the text of what calendar and
-/// clock show then.
+/// The text of each moment, computed from its day, is what calendar and clock show at that moment. The law has no code.
 pub fn stamps_show_their_moments()
     ensures { (moment : ℕ) → moment ≤ 253402300799999 → IsStampOf moment (stamp_of moment) }
 {}
