@@ -6,11 +6,6 @@ top=$(dirname "$(readlink -f "$0")")
 crate=$top/crates/asl
 program=$crate/out/asl
 
-changed_source() { # a source that is newer than the program, where there is one
-  find "$top/crates" "$top/crates.txt" -name out -prune -o -newer "$program" \
-    \( -name '*.rt' -o -name '*.antt' -o -name crates.txt \) -print -quit
-}
-
 answer_help() { # the words; fails where no help is stored for them
   local help=$top/tools/help
   case "$# $*" in
@@ -60,9 +55,9 @@ run_sources() { # the words
 }
 
 if [ -x "$program" ]; then
-  newer=$(changed_source)
+  newer=$("$top/tools/changed")
   if [ -z "$newer" ]; then exec "$program" "$@"; fi
-  why="${newer#"$top"/} has changed since the program was built"
+  why="$newer has changed since the program was built"
 else
   why="the program isn't built yet"
 fi
