@@ -14,8 +14,8 @@ const STACK: usize = 1 << 30;
 /// Does what the words of the command line ask for, and tells the status.
 fn program(rt: HostRuntime) -> u8 {
     let alloc = rt.alloc();
-    let mut out = Stream::new(alloc, rt.stdout());
-    let mut err = Stream::new(alloc, rt.stderr());
+    let mut out = Stream::new(rt.stdout());
+    let mut err = Stream::new(rt.stderr());
     let mut files = Machine::new(&rt);
     match given(&rt) {
         Ok(words) => run_words(alloc, words.as_slice(), &mut files, &mut out, &mut err),

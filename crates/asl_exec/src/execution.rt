@@ -11,7 +11,7 @@ ghost use Rattle.asl_exec.specs.Views.{setup_of, world_of};
 
 use asl_def::Machine;
 use asl_history::{History, Place};
-use asl_json::Txt;
+use asl_json::Name;
 use asl_kinds::effect::Effect;
 use asl_kinds::kind::StateKind;
 use asl_kinds::record::Record;
@@ -42,10 +42,10 @@ impl Drop for Execution {
 }
 
 /// The name of the state that a machine starts at.
-fn start_of(alloc: Global, machine: &Machine) -> Result<Txt, AllocError>
+fn start_of(alloc: Global, machine: &Machine) -> Result<Name, AllocError>
     ensures { IfOk result (λ n. n ≡ start_in machine.now) }
 {
-    Ok(Txt::new(String::from_str(alloc, machine.start())?))
+    Name::new(alloc, machine.start())
 }
 
 impl Execution {

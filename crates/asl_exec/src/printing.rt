@@ -33,10 +33,9 @@ impl Execution {
             ≡ string_bytes out.old ++ step_lines (setup_of self.old).machine (world_of self.old) steps.now) }
         ensures world { OnOk result (world_of self.new ≡ world_after (setup_of self.old).machine (world_of self.old) steps.now) }
     {
-        let alloc = self.alloc();
         for at in steps {
             let reply = self.reply(at)?;
-            put_step(alloc, out, &at.place, reply)?;
+            put_step(out, &at.place, reply)?;
         }
         Ok(())
     }

@@ -3,7 +3,7 @@ ghost use Rattle.std.specs.Prelude.{◌≡◌, IfOk};
 
 use crate::kind::EventKind;
 use crate::place::Place;
-use asl_json::{Json, Txt};
+use asl_json::{Name, Shared};
 use asl_time::Moment;
 use std::alloc::{AllocError, Global};
 
@@ -20,9 +20,9 @@ pub struct Event {
     /// The place of the branch that it happened in; of an iteration's event, the iteration's.
     pub place: Place,
     /// The name of the state; of an iteration's event, the Map's; empty for an event of the execution.
-    pub name: Txt,
+    pub name: Name,
     /// What is told of it, as the input or the output of a state.
-    pub body: Json,
+    pub body: Shared,
 }
 
 // Written out, so that a caller's proof sees one call and not the drop of each part.
@@ -41,13 +41,13 @@ impl Drop for Event {
 }
 
 impl Event {
-    /// An equal event. The error is that memory ran out.
+    /// An equal event, of the same name and body. The error is that memory ran out.
     pub fn try_clone(&self, alloc: Global) -> Result<Event, AllocError>
         ensures { IfOk result (λ e. e ≡ self.now) }
     {
         let place = self.place.try_clone(alloc)?;
-        let name = self.name.try_clone(alloc)?;
-        let body = self.body.try_clone(alloc)?;
+        let name = self.name.try_clone()?;
+        let body = self.body.try_clone()?;
         Ok(Event {
             id: self.id,
             previous: self.previous,

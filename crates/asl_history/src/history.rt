@@ -5,7 +5,7 @@ ghost use Rattle.asl_history.specs.Events.{is_along, previous_id, IsHistory, eve
 use crate::event::Event;
 use crate::kind::EventKind;
 use crate::place::Place;
-use asl_json::{Json, Txt};
+use asl_json::{Name, Shared};
 use asl_time::Moment;
 use std::alloc::{AllocError, Global};
 use std::marker::Model;
@@ -62,7 +62,7 @@ impl History {
     }
 
     /// Adds an event behind the others, with the next id and its link. It takes no memory.
-    pub fn append(&mut self, at: Moment, kind: EventKind, place: Place, name: Txt, body: Json)
+    pub fn append(&mut self, at: Moment, kind: EventKind, place: Place, name: Name, body: Shared)
         requires { 0 < self.old.spare }
         ensures events { self.new.events
             ≡ self.old.events ++ event_after self.old.events at kind place name body ∷ [] }

@@ -120,8 +120,8 @@ impl Place {
         Ok(out)
     }
 
-    /// Appends the text of the place.
-    pub(crate) fn put(&self, out: &mut String) -> Result<(), AllocError>
+    /// Appends the text of the place. The error is that memory ran out.
+    pub fn put(&self, out: &mut String) -> Result<(), AllocError>
         ensures { OnOk result (string_bytes out.new ≡ string_bytes out.old ++ place_text self.now) }
     {
         if self.is_root() {

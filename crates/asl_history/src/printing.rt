@@ -1,14 +1,12 @@
 // The line of an event.
 ghost use Rattle.std.specs.Prelude.{◌≡◌, ◌∷◌, ◌++◌, [], IfOk, OnOk, string_bytes};
 ghost use Rattle.std.specs.Fmt.{decimal};
-ghost use Rattle.asl_json.specs.Data.{text};
-ghost use Rattle.asl_json.specs.Compact.{compact};
 ghost use Rattle.asl_history.specs.Lines.{head_of, tail_of, line_of};
 ghost use Rattle.asl_time.specs.StampText.{stamp_of};
 
 use crate::event::Event;
-use asl_json::{Json, Txt, write};
-use asl_time::{Moment, print_stamp};
+use asl_json::{put, put_quoted};
+use asl_time::{Moment, put_stamp};
 use std::alloc::{AllocError, Global};
 
 /// The line of an event: id, previous id, stamp, place, kind, name and body with single spaces between, the last two as
@@ -18,26 +16,26 @@ pub fn line(alloc: Global, event: &Event) -> Result<String, AllocError>
     ensures { IfOk result (λ t. string_bytes t ≡ line_of event.now) }
 {
     let mut out = String::new(alloc);
-    put_line(alloc, &mut out, event)?;
+    put_line(&mut out, event)?;
     Ok(out)
 }
 
 /// Appends the line of an event, as `line` gives it. The error is that memory ran out.
 #[tactic(auto, unfolding(crate::specs::Lines::line_of))]
-pub fn put_line(alloc: Global, out: &mut String, event: &Event) -> Result<(), AllocError>
+pub fn put_line(out: &mut String, event: &Event) -> Result<(), AllocError>
     ensures { OnOk result (string_bytes out.new ≡ string_bytes out.old ++ line_of event.now) }
 {
-    put_head(alloc, out, event)?;
-    put_tail(alloc, out, event)
+    put_head(out, event)?;
+    put_tail(out, event)
 }
 
 /// Appends id, previous id, stamp, place and kind, a space behind each.
-fn put_head(alloc: Global, out: &mut String, event: &Event) -> Result<(), AllocError>
+fn put_head(out: &mut String, event: &Event) -> Result<(), AllocError>
     ensures { OnOk result (string_bytes out.new ≡ string_bytes out.old ++ head_of event.now) }
 {
     put_number(out, event.id)?;
     put_number(out, event.previous)?;
-    put_stamp(alloc, out, event.at)?;
+    put_moment(out, event.at)?;
     event.place.put(out)?;
     out.push(' ')?;
     out.push_str(event.kind.name())?;
@@ -52,30 +50,19 @@ fn put_number(out: &mut String, number: u64) -> Result<(), AllocError>
 }
 
 /// Appends the stamp of a moment and a space.
-fn put_stamp(alloc: Global, out: &mut String, moment: Moment) -> Result<(), AllocError>
+fn put_moment(out: &mut String, moment: Moment) -> Result<(), AllocError>
     ensures { OnOk result (string_bytes out.new ≡ string_bytes out.old ++ (stamp_of moment ++ 32 ∷ [])) }
 {
-    let stamp = print_stamp(alloc, moment)?;
-    out.push_str(stamp.as_str())?;
+    put_stamp(out, moment)?;
     out.push(' ')
 }
 
 /// Appends name and body, a space between and a line feed behind.
-fn put_tail(alloc: Global, out: &mut String, event: &Event) -> Result<(), AllocError>
+fn put_tail(out: &mut String, event: &Event) -> Result<(), AllocError>
     ensures { OnOk result (string_bytes out.new ≡ string_bytes out.old ++ tail_of event.now) }
 {
-    let name = quoted_name(alloc, &event.name)?;
-    out.push_str(name.as_str())?;
+    put_quoted(out, event.name.as_str())?;
     out.push(' ')?;
-    let body = write(alloc, &event.body)?;
-    out.push_str(body.as_str())?;
+    put(out, &event.body)?;
     out.push('\n')
-}
-
-/// The compact JSON text of a name.
-fn quoted_name(alloc: Global, name: &Txt) -> Result<String, AllocError>
-    ensures { IfOk result (λ t. string_bytes t ≡ compact (text name.now)) }
-{
-    let name = Json::Text(name.try_clone(alloc)?);
-    write(alloc, &name)
 }

@@ -9,7 +9,6 @@ use crate::fault::WriteFault;
 use crate::history::History;
 use crate::printing::put_line;
 use crate::sink::Sink;
-use std::alloc::Global;
 
 impl History {
     /// Writes the lines of the events to a sink, one after another, each made in the same memory. A fault is that the sink
@@ -25,11 +24,10 @@ impl History {
         // The sink failed, once, at Y1 and not at Y2.
         ensures failed { IfErr result (λ fault. W.failures sink.new ≡ failures_after fault (W.failures sink.old)) }
     {
-        let alloc = self.allocator();
-        let mut buffer = String::new(alloc);
+        let mut buffer = String::new(self.allocator());
         let mut sent = 0u128;
         for event in self.events() {
-            match write_line(alloc, &mut buffer, event, sink) {
+            match write_line(&mut buffer, event, sink) {
                 Ok(length) => sent += length as u128,
                 Err(fault) => return Err(fault.after(sent)),
             }
@@ -40,7 +38,6 @@ impl History {
 
 /// Writes the line of an event, made in a buffer, and tells its length.
 fn write_line<W: Sink>(
-    alloc: Global,
     buffer: &mut String,
     event: &Event,
     sink: &mut W,
@@ -54,7 +51,7 @@ fn write_line<W: Sink>(
     ensures failed { IfErr result (λ fault. W.failures sink.new ≡ failures_after fault (W.failures sink.old)) }
 {
     buffer.clear();
-    if put_line(alloc, buffer, event).is_err() {
+    if put_line(buffer, event).is_err() {
         return Err(WriteFault::OutOfMemory { sent: 0 });
     }
     match write_all(sink, buffer.as_bytes()) {

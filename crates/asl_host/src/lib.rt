@@ -1,11 +1,13 @@
 //! What a command-line program has of its host: its words, the files that these name, and the streams that it writes.
 //!
-//! Modules in reading order: `words` reads the command line; `files` what files give; `streams` the streams that are written;
+//! Modules in reading order: `words` reads the command line; `files` what files give; `streams` the streams that are written,
+//! of which `taken` says what they took;
 //! `telling` writes texts to them, and the line that tells a fault.
 #![tactic(auto)]
 
 mod files;
 mod streams;
+mod taken;
 mod telling;
 mod words;
 

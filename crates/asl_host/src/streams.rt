@@ -2,28 +2,27 @@
 ghost use Rattle.std.specs.Prelude.{◌≡◌, ◌<◌, ◌≤◌, ◌++◌, [], length, take, IfOk, OnErr};
 ghost use Rattle.std.specs.Io.KnownBytes.{Appends};
 
+use crate::taken::Taken;
 use asl_history::{Sink, SinkFault};
-use std::alloc::Global;
 use std::io::Write;
 
-/// A stream, as standard output, as a sink. It keeps a copy of what it has taken, and fails where the stream does or memory
-/// runs out.
+/// A stream, as standard output, as a sink. It fails where the stream does. What it has taken is kept by proofs alone.
 #[derive(Drop)]
 pub struct Stream<W> {
     stream: W,
-    taken: Vec<u8>,
+    taken: Taken,
     failures: u64,
 }
 
 impl<W: Write> Stream<W> {
     /// A stream that has taken nothing so far.
-    pub fn new(alloc: Global, stream: W) -> Stream<W>
-        ensures taken { result.taken.items ≡ [] }
+    pub fn new(stream: W) -> Stream<W>
+        ensures taken { result.taken.bytes ≡ [] }
         ensures failures { result.failures ≡ 0 }
     {
         Stream {
             stream,
-            taken: Vec::new(alloc),
+            taken: Taken::new(),
             failures: 0,
         }
     }
@@ -32,30 +31,25 @@ impl<W: Write> Stream<W> {
     fn pass(&mut self, bytes: &[u8]) -> Result<usize, SinkFault>
         ensures bound { IfOk result (λ n. n ≤ length bytes.now) }
         ensures some { 0 < length bytes.now → IfOk result (λ n. 0 < n) }
-        ensures taken { IfOk result (λ n. self.new.taken.items ≡ self.old.taken.items ++ take n bytes.now) }
+        ensures taken { IfOk result (λ n. self.new.taken.bytes ≡ self.old.taken.bytes ++ take n bytes.now) }
         // What the stream itself holds, where that is known.
         ensures passed { IfOk result (λ n. Appends (W.contents self.old.stream) (W.contents self.new.stream) (take n bytes.now)) }
-        ensures kept { OnErr result (self.new.taken.items ≡ self.old.taken.items) }
+        ensures kept { OnErr result (self.new.taken ≡ self.old.taken) }
         ensures failures { self.new.failures ≡ self.old.failures }
     {
-        let before = self.taken.len();
-        if self.taken.extend_from_slice(bytes).is_err() {
+        let Ok(count) = self.stream.write(bytes) else {
             return Err(SinkFault);
-        }
-        let count = match self.stream.write(bytes) {
-            Ok(count) => count,
-            Err(_) => 0,
         };
-        self.taken.truncate(before + count);
         if count == 0 && !bytes.is_empty() {
             return Err(SinkFault);
         }
+        self.taken = self.taken.with(&bytes[..count]);
         Ok(count)
     }
 }
 
 impl<W: Write> Sink for Stream<W> {
-    ghost taken = { λ s. s.taken.items };
+    ghost taken = { λ s. s.taken.bytes };
 
     ghost failures = { λ s. s.failures };
 

@@ -2,7 +2,8 @@
 //!
 //! Modules in reading order: `value` and `fault` are the types, `whole` the whole numbers; `front`, `units`, `number`, `escape`,
 //! `keys` and `reading` the reader, which `judging` turns into `read`; `writing` the printer, and `within` the length of what it
-//! prints; `equal` and `sameness` compare; `sound` says what every value has; `access` reaches into a value, and `pointer` writes where a
+//! prints; `equal` and `sameness` compare; `sound` says what every value has; `shared` has values and names with
+//! several owners; `access` reaches into a value, and `pointer` writes where a
 //! part of it is.
 #![tactic(auto)]
 
@@ -17,6 +18,7 @@ mod number;
 mod pointer;
 mod reading;
 mod sameness;
+mod shared;
 mod sound;
 mod units;
 mod value;
@@ -30,6 +32,7 @@ pub use keys::Keys;
 pub use number::{Part, longest_number};
 pub use pointer::Pointer;
 pub use sameness::same;
+pub use shared::{Name, Shared};
 pub use sound::every_value_is_sound;
 pub use value::{Dec, Items, Json, Member, Members, Txt, clone_text};
-pub use writing::write;
+pub use writing::{put, put_quoted, write};

@@ -80,8 +80,8 @@ fn put_escaped(out: &mut String, bytes: &[u8]) -> Result<(), AllocError>
     }
 }
 
-/// Appends a text in quotes, with its escapes.
-fn put_quoted(out: &mut String, text: &str) -> Result<(), AllocError>
+/// Appends the compact JSON text of a text: in quotes, with its escapes. The error is that memory ran out.
+pub fn put_quoted(out: &mut String, text: &str) -> Result<(), AllocError>
     ensures { OnOk result (string_bytes out.new ≡ string_bytes out.old ++ quoted text.now) }
 {
     out.push('"')?;
@@ -99,8 +99,9 @@ fn separate(out: &mut String, i: usize) -> Result<(), AllocError>
     Ok(())
 }
 
+/// Appends the compact text of a value, as `write` gives it. The error is that memory ran out.
 #[cycle(put)]
-fn put(out: &mut String, value: &Json) -> Result<(), AllocError>
+pub fn put(out: &mut String, value: &Json) -> Result<(), AllocError>
     ensures { OnOk result (string_bytes out.new ≡ string_bytes out.old ++ compact (data_of value.now)) }
 {
     match value {

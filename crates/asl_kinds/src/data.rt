@@ -1,5 +1,5 @@
 // Data by a state's paths.
-ghost use Rattle.std.specs.Prelude.{◌≡◌, Some, codes};
+ghost use Rattle.std.specs.Prelude.{◌≡◌, [], Some, Ok, IfOk, codes};
 ghost use Rattle.asl_json.specs.View.{data_of};
 ghost use Rattle.asl_members.specs.Shown.{path_shown};
 ghost use Rattle.asl_path.specs.Paths.{part_at, with_part};
@@ -7,45 +7,58 @@ ghost use Rattle.asl_kinds.specs.Paths.{taken as spec_taken, put_into as spec_pu
 ghost use Rattle.asl_kinds.specs.Gives.{Gives};
 
 use crate::fault::{Fault, missing, placeless};
-use asl_json::{Json, Members};
+use asl_json::{Json, Members, Shared};
 use asl_members::PathField;
 use asl_path::{PutFault, RefPath};
-use std::alloc::Global;
+use std::alloc::{AllocError, Global};
+
+/// An equal value, with one owner. What fails is memory.
+pub fn copied(alloc: Global, value: &Json) -> Result<Shared, AllocError>
+    ensures { IfOk result (λ s. s ≡ value.now) }
+{
+    Ok(Shared::new(alloc, value.try_clone(alloc)?)?)
+}
 
 /// The part of a value that a field's path names.
-fn part(alloc: Global, field: &str, path: &RefPath, value: &Json) -> Result<Json, Fault>
+fn part(alloc: Global, field: &str, path: &RefPath, value: &Json) -> Result<Shared, Fault>
     ensures { Gives (given_or (no_value field.now) (part_at path.now (data_of value.now))) result }
 {
     match path.get(value) {
-        Some(part) => Ok(part.try_clone(alloc)?),
+        Some(part) => Ok(copied(alloc, part)?),
         None => Err(missing(alloc, field)),
     }
 }
 
-/// What a field's path takes of a value that stays.
-pub fn taken(alloc: Global, field: &str, path: &PathField, value: &Json) -> Result<Json, Fault>
+/// The object without members.
+fn empty_object(alloc: Global) -> Result<Shared, AllocError>
+    ensures { IfOk result (λ s. s ≡ Json.Dict []) }
+{
+    Ok(Shared::new(alloc, Json::Dict(Members::new(alloc)))?)
+}
+
+/// What a field's path takes of a value: where that is the whole of it, the value itself.
+pub fn taken(
+    alloc: Global,
+    field: &str,
+    path: &PathField,
+    value: &Shared,
+) -> Result<Shared, Fault>
     ensures { Gives (spec_taken field.now (path_shown path.now) value.now) result }
 {
     match path {
-        PathField::Whole => Ok(value.try_clone(alloc)?),
-        PathField::Nowhere => Ok(Json::Dict(Members::new(alloc))),
+        PathField::Whole => Ok(value.try_clone()?),
+        PathField::Nowhere => Ok(empty_object(alloc)?),
         PathField::At(path) => part(alloc, field, path, value),
     }
 }
 
-/// What a field's path takes of a value that is handed over.
-pub fn kept(alloc: Global, field: &str, path: &PathField, value: Json) -> Result<Json, Fault>
-    ensures { Gives (spec_taken field.now (path_shown path.now) value) result }
-{
-    match path {
-        PathField::Whole => Ok(value),
-        PathField::Nowhere => Ok(Json::Dict(Members::new(alloc))),
-        PathField::At(path) => part(alloc, field, path, &value),
-    }
-}
-
 /// A result put where a path leads in a value.
-fn put_at(alloc: Global, path: &RefPath, base: Json, result_value: Json) -> Result<Json, Fault>
+fn put_at(
+    alloc: Global,
+    path: &RefPath,
+    base: Json,
+    result_value: Json,
+) -> Result<Json, Fault>
     ensures { Gives (given_or no_place (with_part path.now (data_of base) (data_of result_value))) result }
 {
     match path.put(alloc, base, result_value) {
@@ -55,18 +68,45 @@ fn put_at(alloc: Global, path: &RefPath, base: Json, result_value: Json) -> Resu
     }
 }
 
-/// A result put into the raw input.
+/// A result put where a path leads in a copy of a value. The result is taken out where it has no other owner.
+fn put_in_copy(
+    alloc: Global,
+    path: &RefPath,
+    base: &Json,
+    result_value: Shared,
+) -> Result<Shared, Fault>
+    ensures { Gives (given_or no_place (with_part path.now (data_of base.now) (data_of result_value))) result }
+{
+    let base = base.try_clone(alloc)?;
+    let result_value = result_value.into_json(alloc)?;
+    match put_at(alloc, path, base, result_value) {
+        Ok(value) => owned(alloc, value),
+        Err(fault) => Err(fault),
+    }
+}
+
+/// A value with one owner.
+fn owned(alloc: Global, value: Json) -> Result<Shared, Fault>
+    ensures { Gives (Ok value) result }
+{
+    match Shared::new(alloc, value) {
+        Ok(value) => Ok(value),
+        Err(_) => Err(Fault::Memory),
+    }
+}
+
+/// A result put into the raw input: it is that input where it is lost.
 pub fn put_into(
     alloc: Global,
     path: &PathField,
-    input: &Json,
-    result_value: Json,
-) -> Result<Json, Fault>
+    input: &Shared,
+    result_value: Shared,
+) -> Result<Shared, Fault>
     ensures { Gives (spec_put_into (path_shown path.now) input.now result_value) result }
 {
     match path {
         PathField::Whole => Ok(result_value),
-        PathField::Nowhere => Ok(input.try_clone(alloc)?),
-        PathField::At(path) => put_at(alloc, path, input.try_clone(alloc)?, result_value),
+        PathField::Nowhere => Ok(input.try_clone()?),
+        PathField::At(path) => put_in_copy(alloc, path, input, result_value),
     }
 }

@@ -3,7 +3,7 @@ ghost use Rattle.std.specs.Prelude.{◌≡◌, [], ◌∷◌, ◌++◌, IfOk};
 
 use crate::record::{ErrorOut, Record};
 use asl_history::EventKind;
-use asl_json::{Json, Txt};
+use asl_json::{Name, Shared};
 use std::alloc::{AllocError, Global};
 use std::marker::Model;
 
@@ -13,9 +13,9 @@ pub struct Draft {
     /// What happened.
     pub kind: EventKind,
     /// The name of the state; empty for an event of the execution.
-    pub name: Txt,
+    pub name: Name,
     /// What is told of it.
-    pub body: Json,
+    pub body: Shared,
 }
 
 /// Some drafts, in order.
@@ -48,7 +48,7 @@ impl Drafts {
     }
 
     /// These drafts and one more.
-    pub fn and(self, kind: EventKind, name: Txt, body: Json) -> Result<Drafts, AllocError>
+    pub fn and(self, kind: EventKind, name: Name, body: Shared) -> Result<Drafts, AllocError>
         ensures { IfOk result (λ d. d ≡ self ++ record { kind = kind; name = name; body = body } ∷ []) }
     {
         let mut list = self.list;
@@ -88,7 +88,7 @@ pub enum Children {
 /// How an execution ended.
 #[derive(Drop)]
 pub enum Ended {
-    Succeeded(Json),
+    Succeeded(Shared),
     Failed(ErrorOut),
 }
 

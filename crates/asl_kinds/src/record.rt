@@ -1,7 +1,7 @@
 // What a branch is doing.
 ghost use Rattle.std.specs.Prelude.{◌≡◌, IfOk};
 
-use asl_json::{Items, Json, Txt, clone_text};
+use asl_json::{Items, Name, Shared, Txt, clone_text};
 use asl_time::Moment;
 use std::alloc::{AllocError, Global};
 use std::marker::Model;
@@ -41,21 +41,21 @@ impl Model for Uses {
     ghost view = { λ u. u.counts.items };
 }
 
-/// What a branch is doing. The text is the name of its state, the value the state's raw input, `since` the moment of the
+/// What a branch is doing. The name is its state's, the value the state's raw input, `since` the moment of the
 /// state's first step.
 pub enum Record {
     /// An iteration of a Map that hasn't begun.
-    New(Txt, Json),
+    New(Name, Shared),
     /// About to enter its state.
-    Ready(Txt, Json),
+    Ready(Name, Shared),
     /// Waiting until a moment: `since`, then until when.
-    Pausing(Txt, Json, Moment, Moment),
+    Pausing(Name, Shared, Moment, Moment),
     /// About to be retried: `since`, the uses, then until when it waits.
-    Again(Txt, Json, Moment, Uses, Moment),
+    Again(Name, Shared, Moment, Uses, Moment),
     /// Waiting for its children: `since`, the uses, and a Map's items.
-    Forked(Txt, Json, Moment, Uses, Items),
+    Forked(Name, Shared, Moment, Uses, Items),
     /// Ended with this output.
-    Done(Json),
+    Done(Shared),
     /// Failed with this error.
     Failed(ErrorOut),
 }
@@ -96,42 +96,42 @@ impl Uses {
 }
 
 impl Record {
-    /// An equal record. What fails is memory.
+    /// An equal record, of the same name and value. What fails is memory.
     pub fn try_clone(&self, alloc: Global) -> Result<Record, AllocError>
         ensures { IfOk result (λ r. r ≡ self.now) }
     {
         Ok(match self {
             Record::New(state, input) => Record::New(
-                state.try_clone(alloc)?,
-                input.try_clone(alloc)?,
+                state.try_clone()?,
+                input.try_clone()?,
             ),
             Record::Ready(state, input) => Record::Ready(
-                state.try_clone(alloc)?,
-                input.try_clone(alloc)?,
+                state.try_clone()?,
+                input.try_clone()?,
             ),
             Record::Pausing(state, input, since, until) => {
                 Record::Pausing(
-                    state.try_clone(alloc)?,
-                    input.try_clone(alloc)?,
+                    state.try_clone()?,
+                    input.try_clone()?,
                     *since,
                     *until,
                 )
             }
             Record::Again(state, input, since, uses, until) => Record::Again(
-                state.try_clone(alloc)?,
-                input.try_clone(alloc)?,
+                state.try_clone()?,
+                input.try_clone()?,
                 *since,
                 uses.try_clone(alloc)?,
                 *until,
             ),
             Record::Forked(state, input, since, uses, items) => Record::Forked(
-                state.try_clone(alloc)?,
-                input.try_clone(alloc)?,
+                state.try_clone()?,
+                input.try_clone()?,
                 *since,
                 uses.try_clone(alloc)?,
                 items.try_clone(alloc)?,
             ),
-            Record::Done(output) => Record::Done(output.try_clone(alloc)?),
+            Record::Done(output) => Record::Done(output.try_clone()?),
             Record::Failed(error) => Record::Failed(error.try_clone(alloc)?),
         })
     }

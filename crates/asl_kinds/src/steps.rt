@@ -11,7 +11,7 @@ use crate::effect::{Children, Drafts, Effect, Ended};
 use crate::fault::Fault;
 use crate::record::{ErrorOut, Record};
 use asl_history::{EventKind, Place};
-use asl_json::{Json, Members, Txt};
+use asl_json::{Json, Members, Name, Shared, Txt};
 use asl_states::Next;
 use std::alloc::{AllocError, Global};
 
@@ -29,12 +29,15 @@ pub fn idle(alloc: Global, current: &Record) -> Result<Effect, AllocError>
 }
 
 /// What a branch does next: it goes on to the next state with this data, or ends with it.
-fn moved(alloc: Global, next: &Next, output: Json) -> Result<Record, AllocError>
+fn moved(alloc: Global, next: &Next, output: Shared) -> Result<Record, AllocError>
     ensures { IfOk result (λ r. r ≡ spec_moved (text_in (next_shown next.now)) output) }
 {
     match next {
         Next::End => Ok(Record::Done(output)),
-        Next::To(target) => Ok(Record::Ready(target.name.try_clone(alloc)?, output)),
+        Next::To(target) => Ok(Record::Ready(
+            Name::new(alloc, target.name.as_str())?,
+            output,
+        )),
     }
 }
 
@@ -50,14 +53,14 @@ pub fn leaving(
     alloc: Global,
     place: &Place,
     exited: EventKind,
-    name: &Txt,
+    name: &Name,
     next: &Next,
     events: Drafts,
-    output: Json,
+    output: Shared,
 ) -> Result<Effect, AllocError>
     ensures { IfOk result (λ e. e ≡ spec_leaving place.now exited name.now (text_in (next_shown next.now)) events output) }
 {
-    let events = events.and(exited, name.try_clone(alloc)?, output.try_clone(alloc)?)?;
+    let events = events.and(exited, name.try_clone()?, output.try_clone()?)?;
     if !ends(place, next) {
         return Ok(Effect {
             after: moved(alloc, next, output)?,
@@ -67,13 +70,13 @@ pub fn leaving(
             outcome: None,
         });
     }
-    let nameless = Txt::new(String::new(alloc));
+    let nameless = Name::new(alloc, "")?;
     let events = events.and(
         EventKind::ExecutionSucceeded,
         nameless,
-        output.try_clone(alloc)?,
+        output.try_clone()?,
     )?;
-    let outcome = Some(Ended::Succeeded(output.try_clone(alloc)?));
+    let outcome = Some(Ended::Succeeded(output.try_clone()?));
     Ok(Effect {
         after: Record::Done(output),
         children: Children::Kept,
@@ -121,12 +124,9 @@ pub fn failing(
             outcome: None,
         });
     }
-    let nameless = Txt::new(String::new(alloc));
-    let events = events.and(
-        EventKind::ExecutionFailed,
-        nameless,
-        error_output(alloc, &error)?,
-    )?;
+    let nameless = Name::new(alloc, "")?;
+    let body = Shared::new(alloc, error_output(alloc, &error)?)?;
+    let events = events.and(EventKind::ExecutionFailed, nameless, body)?;
     let outcome = Some(Ended::Failed(error.try_clone(alloc)?));
     Ok(Effect {
         after: Record::Failed(error),
@@ -141,12 +141,12 @@ pub fn failing(
 pub fn entering(
     alloc: Global,
     entered: EventKind,
-    name: &Txt,
-    input: &Json,
+    name: &Name,
+    input: &Shared,
 ) -> Result<Drafts, AllocError>
     ensures { IfOk result (λ d. d ≡ spec_entering entered name.now input.now) }
 {
-    Drafts::new(alloc).and(entered, name.try_clone(alloc)?, input.try_clone(alloc)?)
+    Drafts::new(alloc).and(entered, name.try_clone()?, input.try_clone()?)
 }
 
 /// A state that was entered is left with what it gives, or fails with the error that it raises.
@@ -154,10 +154,10 @@ pub fn passed(
     alloc: Global,
     place: &Place,
     exited: EventKind,
-    name: &Txt,
+    name: &Name,
     next: &Next,
     events: Drafts,
-    given: Result<Json, Fault>,
+    given: Result<Shared, Fault>,
 ) -> Result<Effect, AllocError>
     ensures { (g : Given) → Gives g given → IfOk result (λ e. e ≡ spec_passed place.now exited name.now (text_in (next_shown next.now)) events g) }
 {

@@ -3,7 +3,7 @@ ghost use Rattle.asl_states.specs.Show.{succeed_object};
 ghost use Rattle.asl_kinds.specs.Members.{succeed_output};
 ghost use Rattle.asl_kinds.specs.Gives.{Gives};
 
-use crate::data::{kept, taken};
+use crate::data::taken;
 use crate::effect::Effect;
 use crate::fault::Fault;
 use crate::kind::StateKind;
@@ -11,16 +11,16 @@ use crate::record::Record;
 use crate::steps::{entering, idle, passed};
 use crate::visit::Visit;
 use asl_history::EventKind;
-use asl_json::Json;
+use asl_json::Shared;
 use asl_states::{Next, Succeed};
 use std::alloc::{AllocError, Global};
 
 /// What a Succeed gives for a raw input.
-fn output(alloc: Global, succeed: &Succeed, input: &Json) -> Result<Json, Fault>
+fn output(alloc: Global, succeed: &Succeed, input: &Shared) -> Result<Shared, Fault>
     ensures { Gives (succeed_output (succeed_object succeed.now) input.now) result }
 {
     let effective = taken(alloc, "InputPath", succeed.input_path(), input)?;
-    kept(alloc, "OutputPath", succeed.output_path(), effective)
+    taken(alloc, "OutputPath", succeed.output_path(), &effective)
 }
 
 impl StateKind for Succeed {

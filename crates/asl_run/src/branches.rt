@@ -6,7 +6,7 @@ ghost use Rattle.asl_run.specs.Refusals.{is_stopped, is_busy};
 
 use crate::branch::Branch;
 use asl_history::Place;
-use asl_json::Txt;
+use asl_json::Name;
 use asl_kinds::record::Record;
 use std::alloc::{AllocError, Global};
 
@@ -52,7 +52,7 @@ fn is_done(current: &Record) -> bool
 }
 
 /// The name of the state that a branch is in; none where it has ended.
-pub fn state_in(current: &Record) -> Option<&Txt>
+pub fn state_in(current: &Record) -> Option<&Name>
     ensures { option_map (λ n. n.now) result ≡ state_in current.now }
 {
     match current {

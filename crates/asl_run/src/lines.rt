@@ -10,10 +10,10 @@ use crate::outcome::Outcome;
 use crate::refusal::Refusal;
 use crate::run::Run;
 use asl_history::{History, Place, put_line};
-use asl_json::{Json, write};
+use asl_json::{Json, put};
 use asl_kinds::record::ErrorOut;
 use asl_kinds::steps::error_output;
-use asl_time::{Moment, print_stamp};
+use asl_time::{Moment, put_stamp};
 use std::alloc::{AllocError, Global};
 
 impl Refusal {
@@ -46,69 +46,65 @@ impl Refusal {
 }
 
 /// Appends a space and the stamp of a moment.
-fn put_stamp(alloc: Global, out: &mut String, moment: Moment) -> Result<(), AllocError>
+fn put_moment(out: &mut String, moment: Moment) -> Result<(), AllocError>
     ensures { OnOk result (string_bytes out.new ≡ string_bytes out.old ++ 32 ∷ stamp_of moment) }
 {
-    let stamp = print_stamp(alloc, moment)?;
     out.push(' ')?;
-    out.push_str(stamp.as_str())
+    put_stamp(out, moment)
 }
 
 /// Appends why a step was refused.
-fn put_refusal(alloc: Global, out: &mut String, refusal: Refusal) -> Result<(), AllocError>
+fn put_refusal(out: &mut String, refusal: Refusal) -> Result<(), AllocError>
     ensures { OnOk result (string_bytes out.new ≡ string_bytes out.old ++ with_stamp (refusal_words refusal) (awaited refusal)) }
 {
     out.push_str(refusal.words())?;
     match refusal.awaited() {
         None => Ok(()),
-        Some(until) => put_stamp(alloc, out, until),
+        Some(until) => put_moment(out, until),
     }
 }
 
 /// Appends `ok`, or why a step was refused.
-fn put_reply(alloc: Global, out: &mut String, reply: Option<Refusal>) -> Result<(), AllocError>
+fn put_reply(out: &mut String, reply: Option<Refusal>) -> Result<(), AllocError>
     ensures { OnOk result (string_bytes out.new ≡ string_bytes out.old ++ reply_text reply) }
 {
     match reply {
         None => out.push_str("ok"),
-        Some(refusal) => put_refusal(alloc, out, refusal),
+        Some(refusal) => put_refusal(out, refusal),
     }
 }
 
 /// Appends the line of a step: `step`, the place, and `ok` or why it was refused. The error is that memory ran out.
 pub fn put_step(
-    alloc: Global,
     out: &mut String,
     place: &Place,
     reply: Option<Refusal>,
 ) -> Result<(), AllocError>
     ensures { OnOk result (string_bytes out.new ≡ string_bytes out.old ++ step_line place.now reply) }
 {
-    let place = place.write(alloc)?;
     out.push_str("step ")?;
-    out.push_str(place.as_str())?;
+    place.put(out)?;
     out.push(' ')?;
-    put_reply(alloc, out, reply)?;
+    put_reply(out, reply)?;
     out.push('\n')
 }
 
 /// Appends the lines of a history.
-fn put_history(alloc: Global, out: &mut String, history: &History) -> Result<(), AllocError>
+fn put_history(out: &mut String, history: &History) -> Result<(), AllocError>
     ensures { OnOk result (string_bytes out.new ≡ string_bytes out.old ++ history_text history.now.events) }
 {
     for event in history.events() {
-        put_line(alloc, out, event)?;
+        put_line(out, event)?;
     }
     Ok(())
 }
 
 /// Appends a status and the data that it has.
-fn put_data(alloc: Global, out: &mut String, status: &str, value: &Json) -> Result<(), AllocError>
+fn put_data(out: &mut String, status: &str, value: &Json) -> Result<(), AllocError>
     ensures { OnOk result (string_bytes out.new ≡ string_bytes out.old ++ (status.now ++ compact (data_of value.now))) }
 {
-    let value = write(alloc, value)?;
     out.push_str(status)?;
-    out.push_str(value.as_str())
+    put(out, value)
 }
 
 /// Appends the status of an execution that failed, and the error output.
@@ -116,7 +112,7 @@ fn put_failure(alloc: Global, out: &mut String, error: &ErrorOut) -> Result<(), 
     ensures { OnOk result (string_bytes out.new ≡ string_bytes out.old ++ status_text (Outcome.Failed error.now)) }
 {
     let output = error_output(alloc, error)?;
-    put_data(alloc, out, "status FAILED ", &output)
+    put_data(out, "status FAILED ", &output)
 }
 
 /// Appends the status, and the output or the error output.
@@ -125,7 +121,7 @@ fn put_outcome(alloc: Global, out: &mut String, outcome: &Outcome) -> Result<(),
 {
     match outcome {
         Outcome::Running => out.push_str("status RUNNING"),
-        Outcome::Succeeded(output) => put_data(alloc, out, "status SUCCEEDED ", output),
+        Outcome::Succeeded(output) => put_data(out, "status SUCCEEDED ", output),
         Outcome::Failed(error) => put_failure(alloc, out, error),
     }
 }
@@ -149,6 +145,6 @@ pub fn is_success(outcome: &Outcome) -> bool
 pub fn put_end(alloc: Global, out: &mut String, run: &Run) -> Result<(), AllocError>
     ensures { OnOk result (string_bytes out.new ≡ string_bytes out.old ++ end_text run.now) }
 {
-    put_history(alloc, out, run.history())?;
+    put_history(out, run.history())?;
     put_status(alloc, out, run.outcome())
 }

@@ -1,6 +1,6 @@
 // Outcomes of executions.
 
-use asl_json::Json;
+use asl_json::Shared;
 use asl_kinds::record::ErrorOut;
 
 /// How far an execution is. (Step Functions Developer Guide, DescribeExecution, `status`.)
@@ -8,7 +8,7 @@ pub enum Outcome {
     /// `RUNNING`.
     Running,
     /// `SUCCEEDED`, with the output.
-    Succeeded(Json),
+    Succeeded(Shared),
     /// `FAILED`, with the error.
     Failed(ErrorOut),
 }

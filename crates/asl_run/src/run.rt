@@ -11,7 +11,7 @@ use crate::branches;
 use crate::outcome::Outcome;
 use crate::refusal::Refusal;
 use asl_history::{EventKind, History, Place};
-use asl_json::{Json, Txt};
+use asl_json::{Json, Name, Shared};
 use asl_kinds::effect::{Children, Draft, Drafts, Effect, Ended, Records};
 use asl_kinds::record::Record;
 use asl_time::Moment;
@@ -249,12 +249,12 @@ fn planned(
 }
 
 /// A history of the event that tells of an execution's start.
-fn started(alloc: Global, input: Json, moment: Moment) -> Result<History, AllocError>
+fn started(alloc: Global, input: Shared, moment: Moment) -> Result<History, AllocError>
     ensures { IfOk result (λ h. h.events ≡ (opening_at 0 [] input moment).events) }
 {
     let mut history = History::new(alloc);
     history.reserve(1)?;
-    let nameless = Txt::new(String::new(alloc));
+    let nameless = Name::new(alloc, "")?;
     history.append(
         moment,
         EventKind::ExecutionStarted,
@@ -281,17 +281,17 @@ impl Run {
     pub fn open(
         alloc: Global,
         states: usize,
-        start: Txt,
-        input: &Json,
+        start: Name,
+        input: &Shared,
         moment: Moment,
     ) -> Result<Run, AllocError>
         ensures { IfOk result (λ r. r ≡ opening_at states start input.now moment) }
     {
-        let history = started(alloc, input.try_clone(alloc)?, moment)?;
+        let history = started(alloc, input.try_clone()?, moment)?;
         let mut branches = Vec::new(alloc);
         branches.push(Branch {
             place: Place::root(alloc),
-            current: Record::Ready(start, input.try_clone(alloc)?),
+            current: Record::Ready(start, input.try_clone()?),
         })?;
         let counts = zeros(alloc, states)?;
         Ok(Run {

@@ -3,7 +3,7 @@ use asl_check::accept;
 use asl_def::Machine;
 use asl_exec::{Emulated, Execution, Refusal, emulate};
 use asl_history::Place;
-use asl_json::{Json, Txt, read as read_json, write};
+use asl_json::{Json, Shared, Txt, read as read_json, write};
 use asl_kinds::record::Record;
 use asl_setup::{EmulateFault, Setup, StepAt, StepsFault, read_steps, ready};
 use asl_time::Moment;
@@ -230,7 +230,7 @@ fn setup(alloc: Global) -> Option<Setup> {
     let name_of_machine = text(alloc, "M")?;
     let name = text(alloc, "run")?;
     let machine = two_states(alloc)?;
-    let input = read_json(alloc, b"{}").ok()?;
+    let input = Shared::new(alloc, read_json(alloc, b"{}").ok()?).ok()?;
     Some(Setup {
         machine,
         name_of_machine,

@@ -1,7 +1,7 @@
 // What an execution begins with.
 
 use asl_def::Machine;
-use asl_json::{Json, Txt};
+use asl_json::{Shared, Txt};
 use asl_time::Moment;
 
 /// What an execution begins with.
@@ -10,8 +10,8 @@ pub struct Setup {
     pub machine: Machine,
     /// The name of the state machine.
     pub name_of_machine: Txt,
-    /// The execution's input.
-    pub input: Json,
+    /// The execution's input, which records and events share.
+    pub input: Shared,
     /// The execution's name.
     pub name: Txt,
     /// When the execution starts.

@@ -14,7 +14,7 @@ use crate::step_at::StepAt;
 use crate::steps_file::{StepsFault, read_steps};
 use asl_check::{Fault, accept};
 use asl_def::Machine;
-use asl_json::{Json, JsonFault, Pointer, Txt, read};
+use asl_json::{Json, JsonFault, Pointer, Shared, Txt, read};
 use asl_schema::FaultKind;
 use asl_time::Moment;
 use std::alloc::{AllocError, Global};
@@ -148,7 +148,7 @@ pub(crate) fn setup_for(
     Ok(Setup {
         machine,
         name_of_machine: Txt::new(String::from_str(alloc, name_of_machine)?),
-        input,
+        input: Shared::new(alloc, input)?,
         name: Txt::new(String::from_str(alloc, "run")?),
         start: start_of(steps),
     })

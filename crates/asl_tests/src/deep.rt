@@ -1,6 +1,6 @@
 // Values far deeper than any that is read, as runs make them: with room on the stack they are measured, written, cloned, compared
 // and dropped, and go through templates and functions.
-use asl_json::{Items, Json, Members, Txt, read, same, write};
+use asl_json::{Items, Json, Members, Shared, Txt, read, same, write};
 use asl_template::Template;
 use std::alloc::Global;
 use std::test::Fail;
@@ -38,6 +38,14 @@ fn are_right(alloc: Global) -> Option<bool> {
     let len = write(alloc, &copy).ok()?.len();
     let measured = value.text_within(len) && !value.text_within(len - 1);
     Some(len == 4 * LEVELS + 4 && measured && same(&value, &copy) && value == copy)
+}
+
+/// Whether a nested value that two own is had outright by the first, as a copy, and is dropped by the last.
+fn is_shared(alloc: Global) -> Option<bool> {
+    let one = Shared::new(alloc, nested(alloc)?).ok()?;
+    let other = one.try_clone().ok()?;
+    let copy = other.into_json(alloc).ok()?;
+    Some(copy == *one.get())
 }
 
 /// What templates and functions make of a value that they know nothing of.
@@ -84,7 +92,7 @@ fn go_through(alloc: Global) -> Option<bool> {
 fn values_of_fifty_thousand_levels(rt: HostRuntime) -> Result<(), Fail> {
     let alloc = rt.alloc();
     let roomy = Builder::new().stack_size(ROOM);
-    let right = match roomy.spawn(&rt, move || Some(are_right(alloc)? && go_through(alloc)?)) {
+    let right = match roomy.spawn(&rt, move || Some(are_right(alloc)? && is_shared(alloc)? && go_through(alloc)?)) {
         Ok(thread) => thread.join(&rt),
         Err(_) => None,
     };

@@ -1,6 +1,6 @@
 // What no clause says: lines and links from worked examples, and that calls succeed with ample memory.
 use asl_history::{Event, EventKind, History, Memory, Place, Sink, SinkFault, WriteFault, line};
-use asl_json::{Json, Txt, read};
+use asl_json::{Json, Name, Shared, read};
 use asl_time::{Moment, read_stamp};
 use std::alloc::Global;
 use std::test::Fail;
@@ -68,8 +68,8 @@ fn add(
     let moment = read_stamp("2024-01-01T00:00:00.000Z")?;
     history.reserve(1).ok()?;
     let place = place(alloc, at)?;
-    let name = Txt::new(String::from_str(alloc, name).ok()?);
-    let body = read(alloc, body.as_bytes()).ok()?;
+    let name = Name::new(alloc, name).ok()?;
+    let body = Shared::new(alloc, read(alloc, body.as_bytes()).ok()?).ok()?;
     history.append(moment, kind, place, name, body);
     Some(())
 }

@@ -1,5 +1,5 @@
 // What no clause says: which values and faults texts from outside give, and that calls succeed with ample memory.
-use asl_json::{Dec, Items, Json, JsonFault, Members, read, same, write};
+use asl_json::{Dec, Items, Json, JsonFault, Members, Name, Shared, put, put_quoted, read, same, write};
 use std::alloc::Global;
 use std::test::Fail;
 
@@ -45,6 +45,27 @@ fn clones(alloc: Global, text: &str) -> Option<bool> {
     let value = value_of(alloc, text)?;
     let copy = value.try_clone(alloc).ok()?;
     Some(copy == value)
+}
+
+/// Whether a value that two own is one value, and is had outright by the first of them and by the last.
+fn is_shared(alloc: Global, text: &str) -> Option<bool> {
+    let value = value_of(alloc, text)?;
+    let copy = value.try_clone(alloc).ok()?;
+    let one = Shared::new(alloc, value).ok()?;
+    let other = one.try_clone().ok()?;
+    let equal = one == other && *one.get() == copy && same(&one, &other);
+    let first = other.into_json(alloc).ok()?;
+    let last = one.into_json(alloc).ok()?;
+    Some(equal && first == copy && last == copy)
+}
+
+/// What a buffer has after a value and a name are written behind what it held.
+fn written_behind(alloc: Global, held: &str, value: &str, name: &str) -> Option<String> {
+    let mut out = String::from_str(alloc, held).ok()?;
+    put(&mut out, &value_of(alloc, value)?).ok()?;
+    let name = Name::new(alloc, name).ok()?;
+    put_quoted(&mut out, name.try_clone().ok()?.as_str()).ok()?;
+    Some(out)
 }
 
 /// Whether the compact text of what a text is read as is within its own length, and not within less.
@@ -444,5 +465,21 @@ fn whole_numbers(rt: HostRuntime) -> Result<(), Fail> {
         assert!(rt; text.as_str() == *spelled);
         assert!(rt; has_whole(alloc, other, *whole));
     }
+    Ok(())
+}
+
+#[test]
+fn values_are_shared(rt: HostRuntime) -> Result<(), Fail> {
+    let alloc = rt.alloc();
+    for text in ["null", "[1,{\"a\":[true,\"x\"]}]", "{}"] {
+        assert_eq!(rt; is_shared(alloc, text), Some(true));
+    }
+    Ok(())
+}
+
+#[test]
+fn values_and_names_stand_behind_what_a_buffer_held(rt: HostRuntime) -> Result<(), Fail> {
+    let text = written_behind(rt.alloc(), "held ", "[1, {\"a\":2e0}]", "a\"b").ok_or("memory")?;
+    assert_eq!(rt; text.as_str(), "held [1,{\"a\":2e0}]\"a\\\"b\"");
     Ok(())
 }

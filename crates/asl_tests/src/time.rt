@@ -1,5 +1,5 @@
 // Values that no clause gives: examples of RFC 3339, and moments that another calendar reckoned.
-use asl_time::{Moment, Rate, add, delay, print_stamp, read_stamp};
+use asl_time::{Moment, Rate, add, delay, print_stamp, put_stamp, read_stamp};
 use std::test::Fail;
 
 fn millis_of(text: &str) -> Option<u64> {
@@ -148,5 +148,14 @@ fn delays_grow_by_the_rate_up_to_the_cap(rt: HostRuntime) -> Result<(), Fail> {
     }
     assert!(rt; Rate::of(999_999_999) == None);
     assert!(rt; Rate::of(1_000_000_000_001) == None);
+    Ok(())
+}
+
+#[test]
+fn a_stamp_stands_behind_what_a_buffer_held(rt: HostRuntime) -> Result<(), Fail> {
+    let moment = Moment::of_millis(1_704_067_200_123).ok_or("no moment")?;
+    let mut out = String::from_str(rt.alloc(), "at ")?;
+    put_stamp(&mut out, moment)?;
+    assert_eq!(rt; out.as_str(), "at 2024-01-01T00:00:00.123Z");
     Ok(())
 }

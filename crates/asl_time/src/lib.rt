@@ -12,6 +12,6 @@ mod rate;
 mod read;
 
 pub use moment::{Moment, add};
-pub use print::{print_stamp, stamps_show_their_moments};
+pub use print::{print_stamp, put_stamp, stamps_show_their_moments};
 pub use rate::{Rate, delay};
 pub use read::read_stamp;

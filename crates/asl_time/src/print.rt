@@ -51,18 +51,32 @@ fn shown(moment: Moment) -> DateTime
     DateTime::from_nanosecond_in_range(i128::from(moment.millis()) * 1_000_000)
 }
 
+/// Appends the text of what calendar and clock show.
+fn put_shown(out: &mut String, shown: DateTime) -> Result<(), AllocError>
+    ensures { OnOk result (string_bytes out.new ≡ string_bytes out.old ++ spelled shown) }
+{
+    put_date(out, shown.date)?;
+    out.push('T')?;
+    put_time(out, shown.time)?;
+    out.push('.')?;
+    put_digits(out, shown.time.subsec_nanosecond / 1_000_000, 3)?;
+    out.push('Z')
+}
+
 /// The text of what calendar and clock show.
 fn spell(alloc: Global, shown: DateTime) -> Result<String, AllocError>
     ensures { IfOk result (λ text. string_bytes text ≡ spelled shown) }
 {
     let mut out = String::new(alloc);
-    put_date(&mut out, shown.date)?;
-    out.push('T')?;
-    put_time(&mut out, shown.time)?;
-    out.push('.')?;
-    put_digits(&mut out, shown.time.subsec_nanosecond / 1_000_000, 3)?;
-    out.push('Z')?;
+    put_shown(&mut out, shown)?;
     Ok(out)
+}
+
+/// Appends the text of a moment, as `print_stamp` gives it. The error is that memory ran out.
+pub fn put_stamp(out: &mut String, moment: Moment) -> Result<(), AllocError>
+    ensures { OnOk result (string_bytes out.new ≡ string_bytes out.old ++ stamp_of moment) }
+{
+    put_shown(out, shown(moment))
 }
 
 /// The text of a moment in UTC, to the millisecond, as `2024-01-01T00:00:00.000Z`: 24 bytes.

@@ -5,5 +5,5 @@ use Rattle.asl_kinds.specs.Paths.{no_value}
 use Rattle.asl_kinds.proofs.Giving.{given_some}
 use Rattle.asl_kinds.proofs.data.part.Goals as goal
 
-pub returns-in_ok-try_clone-in-Some : goal.returns-in_ok-try_clone-in-Some
-returns-in_ok-try_clone-in-Some c = given_some (no_value c.args.field.now) _ c.in_ok-try_clone-in-Some.field-0 (sym c.in-Some.ensures ∙ ap (λ (v : Json). Some (data_of v)) (sym c.in_ok-try_clone-in-Some.ensures))
+pub returns-in_ok-copied-in-Some : goal.returns-in_ok-copied-in-Some
+returns-in_ok-copied-in-Some c = given_some (no_value c.args.field.now) _ c.in_ok-copied-in-Some.field-0 (sym c.in-Some.ensures ∙ ap (λ (v : Json). Some (data_of v)) (sym c.in_ok-copied-in-Some.ensures))
