@@ -27,3 +27,5 @@ pub mod Accessing
 pub mod Wholes
 pub mod Pointing
 pub mod Sounding
+pub mod Fitting
+pub mod Plainly

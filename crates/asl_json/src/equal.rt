@@ -13,7 +13,7 @@ fn equals(a: &Json, b: &Json) -> bool
     match (a, b) {
         (Json::Null, Json::Null) => true,
         (Json::Bool(x), Json::Bool(y)) => *x == *y,
-        (Json::Num(x), Json::Num(y)) => x.spelled == y.spelled,
+        (Json::Num(x), Json::Num(y)) => x.spelling() == y.spelling(),
         (Json::Text(x), Json::Text(y)) => *x == *y,
         (Json::List(x), Json::List(y)) => equals_items(x, y),
         (Json::Dict(x), Json::Dict(y)) => equals_members(x, y),

@@ -141,16 +141,20 @@ pub(crate) fn syntax(rest: &[u8]) -> Stop
     })
 }
 
-/// A text of these bytes.
-pub(crate) fn txt(alloc: Global, bytes: &[u8]) -> Result<Txt, Stop>
+/// These bytes as a text. They are known to be UTF-8, and aren't looked at again.
+pub(crate) fn as_text(bytes: &[u8]) -> &str
     requires { IsUtf8 bytes.now }
-    ensures found { IfOk result (λ t. t ≡ bytes.now) }
-    ensures memory { IfErr result (λ e. e ≡ Stop.Memory) }
+    ensures { result.now ≡ bytes.now }
 {
-    match String::from_utf8(bytes.to_vec(alloc)?) {
-        Ok(string) => Ok(Txt::new(string)),
-        Err(_) => unreachable!(),
-    }
+    unsafe { str::from_utf8_unchecked(bytes) }
+}
+
+/// A text of these bytes, which are copied once.
+pub(crate) fn txt(alloc: Global, bytes: &[u8]) -> Result<Txt, AllocError>
+    requires { IsUtf8 bytes.now }
+    ensures { IfOk result (λ t. t ≡ bytes.now) }
+{
+    Ok(Txt::new(String::from_str(alloc, as_text(bytes))?))
 }
 
 /// Appends bytes to a text.
@@ -158,8 +162,5 @@ pub(crate) fn append(text: &mut String, bytes: &[u8]) -> Result<(), AllocError>
     requires { IsUtf8 bytes.now }
     ensures { OnOk result (string_bytes text.new ≡ string_bytes text.old ++ bytes.now) }
 {
-    match str::from_utf8(bytes) {
-        Ok(piece) => text.push_str(piece),
-        Err(_) => unreachable!(),
-    }
+    text.push_str(as_text(bytes))
 }

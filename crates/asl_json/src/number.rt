@@ -8,9 +8,9 @@ ghost use Rattle.asl_json.specs.Machine.{value, after, run, leading as spec_lead
 ghost use Rattle.asl_json.specs.Leads.{Fails, Leads, begins, IsNumberFront};
 
 use crate::fault::{Fault, Kind, Stop};
-use crate::front::{syntax, txt};
+use crate::front::{as_text, syntax};
 use crate::units::{is_mark, is_point, is_sign, units};
-use crate::value::{Dec, Txt};
+use crate::value::Dec;
 use std::alloc::{AllocError, Global};
 
 /// How much of a number there is (RFC 8259, section 6).
@@ -153,21 +153,20 @@ fn number_len(bytes: &[u8]) -> Result<usize, Stop>
 }
 
 impl Dec {
-    /// The number that a text spells, or `None` where it is past the limits. The error is that memory ran out.
-    pub fn of_numeral(alloc: Global, text: &str) -> Result<Option<Dec>, AllocError>
+    /// The number that a text spells, or `None` where it is past the limits. It takes no memory, and so never fails.
+    pub fn of_numeral(_alloc: Global, text: &str) -> Result<Option<Dec>, AllocError>
         requires { IsNumeral text.now }
         ensures { IfOk result (λ o. MatchOption o (is_over text.now ≡ true) (λ d. (d ≡ text.now) × (is_over text.now ≡ false))) }
     {
         let Some(units) = units(text.as_bytes()) else {
             return Ok(None);
         };
-        let spelled = Txt::new(String::from_str(alloc, text)?);
-        Ok(Some(Dec { units, spelled }))
+        Ok(Some(Dec::of_units(units, text)))
     }
 }
 
 /// The number that stands in front, and what follows it.
-pub(crate) fn number(alloc: Global, bytes: &[u8]) -> Result<(Dec, &[u8]), Stop>
+pub(crate) fn number(bytes: &[u8]) -> Result<(Dec, &[u8]), Stop>
     requires utf8 { IsUtf8 bytes.now }
     requires begins { begins bytes.now ≡ true }
     ensures run { (st : List Frame) → Leads (λ x. run true (after (spec_number x.0)) st x.1.now) result (run true value st bytes.now) }
@@ -181,6 +180,6 @@ pub(crate) fn number(alloc: Global, bytes: &[u8]) -> Result<(Dec, &[u8]), Stop>
             left: bytes.len(),
         }));
     };
-    let spelled = txt(alloc, &bytes[..end])?;
-    Ok((Dec { units, spelled }, &bytes[end..]))
+    let text = as_text(&bytes[..end]);
+    Ok((Dec::of_units(units, text), &bytes[end..]))
 }

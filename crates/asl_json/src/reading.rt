@@ -15,7 +15,7 @@ ghost use Rattle.asl_json.specs.Keys.{Knows};
 
 use crate::escape::escaped;
 use crate::fault::{Fault, Kind, Stop};
-use crate::front::{after_byte, append, skip_spaces, split_plain, syntax};
+use crate::front::{after_byte, append, skip_spaces, split_plain, syntax, txt};
 use crate::keys::Keys;
 use crate::number::{begins_number, number};
 use crate::value::{Items, Json, Member, Members, Txt};
@@ -24,8 +24,8 @@ use std::alloc::Global;
 /// How many lists and objects may stand open at once.
 const MAX_DEPTH: usize = 64;
 
-/// What the bytes up to the closing quote mean, and what follows it.
-fn text(alloc: Global, bytes: &[u8]) -> Result<(Txt, &[u8]), Stop>
+/// What the bytes up to the closing quote mean where escapes are among them, and what follows it.
+fn escaped_text(alloc: Global, bytes: &[u8]) -> Result<(Txt, &[u8]), Stop>
     requires { IsUtf8 bytes.now }
     ensures found { IfOk result (λ x. text_run bare [] bytes.now ≡ closed x.0 x.1.now) }
     ensures shorter { IfOk result (λ x. length x.1.now < length bytes.now) }
@@ -47,6 +47,21 @@ fn text(alloc: Global, bytes: &[u8]) -> Result<(Txt, &[u8]), Stop>
         content.push(character)?;
         rest = next;
     }
+}
+
+/// What the bytes up to the closing quote mean, and what follows it. Without escapes they are copied once.
+fn text(alloc: Global, bytes: &[u8]) -> Result<(Txt, &[u8]), Stop>
+    requires { IsUtf8 bytes.now }
+    ensures found { IfOk result (λ x. text_run bare [] bytes.now ≡ closed x.0 x.1.now) }
+    ensures shorter { IfOk result (λ x. length x.1.now < length bytes.now) }
+    ensures utf8 { IfOk result (λ x. IsUtf8 x.1.now) }
+    ensures broken { IfErr result (λ e. Breaks e (text_run bare [] bytes.now)) }
+{
+    let (plain, behind) = split_plain(bytes);
+    if let Some(closed) = after_byte(behind, b'"') {
+        return Ok((txt(alloc, plain)?, closed));
+    }
+    escaped_text(alloc, bytes)
 }
 
 /// A key that these members lack, and what follows its colon.
@@ -160,7 +175,7 @@ fn value(alloc: Global, bytes: &[u8], levels: usize) -> Result<(Json, &[u8]), St
         return Ok((Json::Dict(members), behind));
     }
     if begins_number(rest) {
-        let (found, behind) = number(alloc, rest)?;
+        let (found, behind) = number(rest)?;
         return Ok((Json::Num(found), behind));
     }
     word_value(rest)

@@ -1,5 +1,5 @@
 // What numbers mean, in units of 10^-9.
-ghost use Rattle.std.specs.Prelude.{◌≡◌, ℕ, ◌+◌, ◌*◌, ◌-◌, ◌^◌, ◌<◌, ◌≤◌, ◌++◌, min, true, false, cond, pos, neg_ℤ, length, take, drop, slice_index, MatchOption};
+ghost use Rattle.std.specs.Prelude.{◌≡◌, ℕ, ◌+◌, ◌*◌, ◌-◌, ◌^◌, ◌<◌, ◌≤◌, ◌++◌, [], min, true, false, cond, pos, neg_ℤ, length, take, drop, slice_index, MatchOption};
 ghost use Rattle.asl_json.specs.Number.{is_digit as spec_digit, is_point as spec_point, is_mark as spec_mark, is_sign as spec_sign, AreDigits, IsNumeral, is_negative as spec_negative, magnitude, unsigned as spec_unsigned, before, behind, raised as spec_raised, lowered as spec_lowered, digits_value, amount_limit, is_over, units_of};
 ghost use Rattle.asl_json.specs.Places.{AreZeros, EndsAboveZero, IsStripped, IsShifted, IsUnshiftable, IsAmount, IsBeyond};
 
@@ -207,6 +207,41 @@ fn stripped(integer: &[u8], fraction: &[u8]) -> (usize, usize)
     (significant_len(integer), 0)
 }
 
+/// 10 to the power of a small number.
+fn tens(zeros: usize) -> u128
+    requires { zeros ≤ 9 }
+    ensures { result ≡ 10 ^ zeros }
+{
+    match zeros {
+        0 => 1,
+        1 => 10,
+        2 => 100,
+        3 => 1_000,
+        4 => 10_000,
+        5 => 100_000,
+        6 => 1_000_000,
+        7 => 10_000_000,
+        8 => 100_000_000,
+        _ => 1_000_000_000,
+    }
+}
+
+/// The units of 10^-9 that digits before and a few behind a point mean without an exponent, where they are below the limit.
+fn plain_amount(integer: &[u8], fraction: &[u8]) -> Option<u128>
+    requires integer { AreDigits integer.now }
+    requires fraction { AreDigits fraction.now }
+    requires few { length fraction.now ≤ 9 }
+    ensures { MatchOption result (IsBeyond integer.now fraction.now []) (IsAmount integer.now fraction.now []) }
+{
+    let front = number_after(0, integer)?;
+    let number = number_after(front, fraction)?;
+    let amount = number * tens(DECIMALS - fraction.len());
+    if amount >= AMOUNT_LIMIT {
+        return None;
+    }
+    Some(amount)
+}
+
 /// The units of 10^-9 that digits before and behind a point mean with an exponent, where they are whole and below the limit.
 fn amount(integer: &[u8], fraction: &[u8], exponent: &[u8]) -> Option<u128>
     requires integer { AreDigits integer.now }
@@ -215,6 +250,9 @@ fn amount(integer: &[u8], fraction: &[u8], exponent: &[u8]) -> Option<u128>
     requires short { length integer.now + length fraction.now ≤ 40 }
     ensures { MatchOption result (IsBeyond integer.now fraction.now exponent.now) (IsAmount integer.now fraction.now exponent.now) }
 {
+    if exponent.len() == 0 && fraction.len() <= DECIMALS {
+        return plain_amount(integer, fraction);
+    }
     let (end, decimals) = stripped(integer, fraction);
     let front = number_after(0, &integer[..end])?;
     let number = number_after(front, &fraction[..decimals])?;

@@ -6,6 +6,7 @@ ghost use Rattle.asl_json.specs.Number.{units_of, IsNumber};
 ghost use Rattle.asl_json.specs.Meaning.{value_in};
 ghost use Rattle.asl_json.specs.Access.{is_list, is_dict};
 
+use arrayvec::ArrayString;
 use std::alloc::{AllocError, Global};
 use std::marker::Model;
 
@@ -33,7 +34,7 @@ impl Model for Txt {
 /// which is always a number in the limits: at most 40 bytes, an amount below 10^18, and a whole number of units.
 pub struct Dec {
     pub(crate) units: i128,
-    pub(crate) spelled: Txt,
+    spelled: ArrayString<40>,
 }
 
 impl Drop for Dec {
@@ -51,9 +52,9 @@ impl Model for Dec {
 
     ghost Value = { List ℕ };
 
-    ghost view = { λ a. a.spelled };
+    ghost view = { λ a. a.spelled.bytes };
 
-    ghost invariant = { λ a. IsNumber a.spelled × (a.units ≡ units_of a.spelled) };
+    ghost invariant = { λ a. IsNumber a.spelled.bytes × (a.units ≡ units_of a.spelled.bytes) };
 }
 
 /// A JSON value (RFC 8259, section 3). Numbers keep their spelling, objects the order of their members.
@@ -238,15 +239,35 @@ impl Dec {
         let _spelled = &self.spelled;
     }
 
-    /// An equal number with the same spelling. The error is that memory ran out.
-    pub fn try_clone(&self, alloc: Global) -> Result<Dec, AllocError>
-        ensures { IfOk result (λ d. d ≡ self.now) }
+    /// The number that a text spells, of this value. It takes no memory.
+    #[tactic(auto, using(crate::proofs::Fitting::number_fits))]
+    pub(crate) fn of_units(units: i128, text: &str) -> Dec
+        requires number { IsNumber text.now }
+        requires units { units ≡ units_of text.now }
+        ensures { result ≡ text.now }
+    {
+        let Ok(spelled) = ArrayString::from(text) else {
+            unreachable!();
+        };
+        Dec { units, spelled }
+    }
+
+    /// An equal number with the same spelling. It takes no memory, and can't fail.
+    pub fn copy(&self) -> Dec
+        ensures { result ≡ self.now }
     {
         let Dec { units, spelled } = self;
-        Ok(Dec {
+        Dec {
             units: *units,
-            spelled: spelled.try_clone(alloc)?,
-        })
+            spelled: *spelled,
+        }
+    }
+
+    /// The same as `copy`, for callers that expect a refusal. It takes no memory, and so never fails.
+    pub fn try_clone(&self, _alloc: Global) -> Result<Dec, AllocError>
+        ensures { IfOk result (λ d. d ≡ self.now) }
+    {
+        Ok(self.copy())
     }
 }
 
@@ -291,7 +312,7 @@ impl Json {
         match self {
             Json::Null => Ok(Json::Null),
             Json::Bool(b) => Ok(Json::Bool(*b)),
-            Json::Num(d) => Ok(Json::Num(d.try_clone(alloc)?)),
+            Json::Num(d) => Ok(Json::Num(d.copy())),
             Json::Text(t) => Ok(Json::Text(t.try_clone(alloc)?)),
             Json::List(items) => Ok(Json::List(items.try_clone(alloc)?)),
             Json::Dict(members) => Ok(Json::Dict(members.try_clone(alloc)?)),

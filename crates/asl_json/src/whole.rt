@@ -3,7 +3,7 @@ ghost use Rattle.std.specs.Prelude.{◌≡◌, ◌<◌, ◌^◌, ◌*ℤ◌, IfO
 ghost use Rattle.std.specs.Fmt.{signed_decimal};
 ghost use Rattle.asl_json.specs.Whole.{one, whole_of};
 
-use crate::value::{Dec, Txt};
+use crate::value::Dec;
 use std::alloc::{AllocError, Global};
 
 /// How many units of 10^-9 there are in 1.
@@ -46,9 +46,6 @@ impl Dec {
         ensures { IfOk result (λ d. d ≡ signed_decimal amount) }
     {
         let text = decimal(alloc, amount)?;
-        Ok(Dec {
-            units: units_of_whole(amount),
-            spelled: Txt::new(text),
-        })
+        Ok(Dec::of_units(units_of_whole(amount), text.as_str()))
     }
 }

@@ -8,11 +8,11 @@ use Rattle.asl_json.proofs.number.number.Goals as goal
 pub returns-in_default-clause-run : goal.returns-in_default-clause-run
 returns-in_default-clause-run c = λ st. front_over c.args.bytes.now c.in_ok-end.end st c.in_ok-end.ensures.found c.in_default.ensures
 
-pub txt-requires : goal.txt-requires
-txt-requires c = number_utf8 (take c.in_ok-end.end c.args.bytes.now) c.in_ok-end.ensures.found.number_is
+pub as_text-text-requires : goal.as_text-text-requires
+as_text-text-requires c = number_utf8 (take c.in_ok-end.end c.args.bytes.now) c.in_ok-end.ensures.found.number_is
 
 pub returns-clause-run : goal.returns-clause-run
-returns-clause-run c = λ st. rw (take_rest, c.in_ok-spelled.ensures.found) (front_fits c.args.bytes.now c.in_ok-end.end st c.in_ok-end.ensures.found c.in-Some.ensures.1)
+returns-clause-run c = λ st. rw (take_rest, c.of_units.ensures, c.as_text-text.ensures) (front_fits c.args.bytes.now c.in_ok-end.end st c.in_ok-end.ensures.found c.in-Some.ensures.1)
 
 pub returns-clause-utf8 : goal.returns-clause-utf8
 returns-clause-utf8 c =

@@ -7,9 +7,13 @@ use Rattle.asl_json.specs.Whole.{one}
 use Rattle.asl_json.proofs.Wholes.{decimal_number, amount_fits}
 use Rattle.asl_json.proofs.value.Dec.of_whole.Goals as goal
 
-pub invariant_of-result : goal.invariant_of-result
-invariant_of-result c =
-    let fits = decimal_number c.args.amount c.requires in
+pub of_units-requires-clause-number : goal.of_units-requires-clause-number
+of_units-requires-clause-number c =
     let amount = to_z-of_z w128 c.args.amount (amount_fits c.args.amount c.requires) in
-    let text = c.new.ensures ∙ c.in_ok-text.ensures ∙ ap signed_decimal amount in
-    (subst IsNumber (sym text) fits.0, to_z-of_z w128 c.units_of_whole.result (search rules) ∙ c.units_of_whole.ensures ∙ ap (λ (z : ℤ). z *ℤ one) amount ∙ fits.1 ∙ ap units_of (sym text))
+    subst IsNumber (sym (c.as_str.ensures.value ∙ c.in_ok-text.ensures ∙ ap signed_decimal amount)) (decimal_number c.args.amount c.requires).0
+
+pub of_units-requires-clause-units : goal.of_units-requires-clause-units
+of_units-requires-clause-units c =
+    let amount = to_z-of_z w128 c.args.amount (amount_fits c.args.amount c.requires) in
+    let text = c.as_str.ensures.value ∙ c.in_ok-text.ensures ∙ ap signed_decimal amount in
+    to_z-of_z w128 c.units_of_whole.result (search rules) ∙ c.units_of_whole.ensures ∙ ap (λ (z : ℤ). z *ℤ one) amount ∙ (decimal_number c.args.amount c.requires).1 ∙ ap units_of (sym text)
