@@ -1,0 +1,6 @@
+mod Each
+mod Below
+mod Numerals
+mod Spots
+mod Giving
+mod Overlapping
