@@ -36,8 +36,8 @@ pub found_below : (s r : Shape) (ns : Members) (ms : List Member) (i : ℕ) (m :
     → in_each (part_misfits s) (members_of (take i ms)) ≡ [] → Some q ≡ first_of (misfits_below s (pairs ns))
 found_below s r ns ms i m k o p q all lt at key shape is found place so_far =
     sym (ap first_of (each_below s ns) ∙ ap (λ (z : Members). first_of (in_each (part_misfits s) z)) (sym all)
-      ∙ found_there (part_misfits s) ms i m p lt at (part_first s r m k o key shape is ∙ found) so_far
-      ∙ ap (λ (z : List ℕ). Some (z ∷ p)) (sym key) ∙ ap Some (sym place))
+    ∙ found_there (part_misfits s) ms i m p lt at (part_first s r m k o key shape is ∙ found) so_far
+    ∙ ap (λ (z : List ℕ). Some (z ∷ p)) (sym key) ∙ ap Some (sym place))
 
 pub none_below : (s r : Shape) (ms : List Member) (i : ℕ) (m : Member) (k : List ℕ) (o : Option Place) → i < length ms → m ≡ get_or ms i m → k ≡ m.key → r ≡ part_shape s k → o ≡ first_of (misfits r (data_of m.value)) → o ≡ None
     → in_each (part_misfits s) (members_of (take i ms)) ≡ [] → in_each (part_misfits s) (members_of (take (i + 1) ms)) ≡ []

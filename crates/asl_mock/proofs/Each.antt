@@ -16,7 +16,7 @@ pub first-under : (k : List ℕ) (ps : List Place) (p : Place) → first_of ps �
 first-under k [] p e = absurd (cc e)
 first-under k (q ∷ ps) p e = ap (λ (o : Option Place). Rattle.std.specs.Prelude.option_map (λ (r : Place). k ∷ r) o) e
 
-first-append : {A : Type 0} (xs ys : List A) (x : A) → first_of xs ≡ Some x → first_of (xs ++ ys) ≡ Some x
+pub first-append : {A : Type 0} (xs ys : List A) (x : A) → first_of xs ≡ Some x → first_of (xs ++ ys) ≡ Some x
 first-append [] ys x e = absurd (cc e)
 first-append (z ∷ xs) ys x e = e
 

@@ -4,3 +4,4 @@ mod Numerals
 mod Spots
 mod Giving
 mod Overlapping
+mod Judging

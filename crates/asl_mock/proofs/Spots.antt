@@ -88,12 +88,12 @@ pub apart_there : (r : Ranged) (rs : List Ranged) (i : ℕ) → AreApart rs → 
 apart_there r rs zero h le order below above = (order, (each_from (λ (x : Ranged). r.span.high < x.span.low) rs (λ k d lt. above k d (omega arith) lt), h))
 apart_there r [] (suc i) h le order below above = absurd (omega (arith, le))
 apart_there r (x ∷ rs) (suc i) h le order below above = (
-    h.0,
-    (
-      each_insert (λ (y : Ranged). x.span.high < y.span.low) rs i r h.1.0 (below 0 x (omega arith)),
-      apart_there r rs i h.1.1 (omega (arith, le)) order (λ k d lt. below (suc k) d (omega (arith, lt))) (λ k d l lt. above (suc k) d (omega (arith, l)) (omega (arith, lt))),
-    ),
-  )
+  h.0,
+  (
+    each_insert (λ (y : Ranged). x.span.high < y.span.low) rs i r h.1.0 (below 0 x (omega arith)),
+    apart_there r rs i h.1.1 (omega (arith, le)) order (λ k d lt. below (suc k) d (omega (arith, lt))) (λ k d l lt. above (suc k) d (omega (arith, l)) (omega (arith, lt))),
+  ),
+)
 
 pub none_has : (s : Span) (rs : List Ranged) → ((k : ℕ) (d : Ranged) → k < length rs → have_a_number s (get_or rs k d).span ≡ false) → any_has (Some s) rs ≡ false
 none_has s [] h = refl

@@ -7,3 +7,4 @@ pub mod Faults
 pub mod Apart
 pub mod Gives
 pub mod Shared
+pub mod Told

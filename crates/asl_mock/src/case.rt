@@ -95,7 +95,7 @@ pub fn answer<'a>(case: &'a Case, state: &str, n: u32) -> Option<&'a Answer>
 
 /// The cases of a machine by name.
 pub(crate) struct Cases {
-    pub(crate) cases: Vec<Named<Case>>,
+    cases: Vec<Named<Case>>,
 }
 
 impl Drop for Cases {
@@ -117,6 +117,15 @@ impl Model for Cases {
     ghost coded = { Prim.hlevel (codes, json.the_row.coded) };
 
     ghost view = { λ a. a.cases.items };
+}
+
+impl Cases {
+    /// The cases by their names.
+    pub(crate) fn list(&self) -> &[Named<Case>]
+        ensures { result.now ≡ self.now }
+    {
+        &self.cases
+    }
 }
 
 /// Its text; of any other value an empty one.

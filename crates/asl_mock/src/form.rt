@@ -22,11 +22,7 @@ fn unless(alloc: Global, fits: bool) -> Option<Place>
 
 /// The first value of these that doesn't fit. The error is that memory ran out.
 #[cycle(misfit)]
-pub(crate) fn misfit(
-    alloc: Global,
-    shape: Shape,
-    value: &Json,
-) -> Result<Option<Place>, AllocError>
+pub(crate) fn misfit(alloc: Global, shape: Shape, value: &Json) -> Result<Option<Place>, AllocError>
     ensures { IfOk result (λ found. found ≡ first_of (misfits shape (data_of value.now))) }
 {
     match value {
@@ -43,11 +39,7 @@ pub(crate) fn misfit(
 
 /// The first that doesn't fit in an object.
 #[cycle(misfit)]
-fn misfit_below(
-    alloc: Global,
-    shape: Shape,
-    members: &Members,
-) -> Result<Option<Place>, AllocError>
+fn misfit_below(alloc: Global, shape: Shape, members: &Members) -> Result<Option<Place>, AllocError>
     ensures { IfOk result (λ found. found ≡ first_of (misfits_below shape (pairs members.now))) }
 {
     let members = members.members();

@@ -42,7 +42,10 @@ pub(crate) fn answer_at(answers: &[Ranged], number: u32) -> Option<&Answer>
     requires { AreApart answers.now }
     ensures { option_map (λ a. a.now) result ≡ first_with number answers.now }
 {
-    let only = Span { low: number, high: number };
+    let only = Span {
+        low: number,
+        high: number,
+    };
     match spot(answers, only) {
         Ok(at) => Some(&answers[at].answer),
         Err(_) => None,

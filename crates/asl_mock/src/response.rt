@@ -19,7 +19,10 @@ impl Drop for Answer {
     fn drop(self) {
         match self {
             Answer::Returns(_value) => {}
-            Answer::Throws { error: _error, cause: _cause } => {}
+            Answer::Throws {
+                error: _error,
+                cause: _cause,
+            } => {}
         }
     }
 }
