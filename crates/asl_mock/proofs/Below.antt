@@ -1,6 +1,6 @@
 -- The members of an object as they are gone through.
 use Rattle.std.proofs.Common.{◌≡◌, ◌<◌, ◌≤◌, ◌+◌, ℕ, zero, suc, List, [], ◌∷◌, ◌++◌, length, get_or, take, refl, ap, sym, ◌∙◌, arith}
-use Rattle.std.specs.Prelude.{map, Option, Some, None}
+use Rattle.std.specs.Prelude.{Option, Some, None}
 use Rattle.std.proofs.lemmas.List.{length-map, take_all}
 use Rattle.asl_json.specs.Data.{Data, depth, members_depth, pairs}
 use Rattle.asl_json.specs.Distinct.{Members}

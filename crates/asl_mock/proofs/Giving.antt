@@ -1,6 +1,6 @@
 -- What a part of a file gives, as a loop takes it.
 use Rattle.std.proofs.Common.{◌≡◌, ℕ, List, [], ap, subst, ◌∙◌}
-use Rattle.std.specs.Prelude.{Option, Some, None, Bool, true, false, Result, Ok, Err}
+use Rattle.std.specs.Prelude.{Option, Some, None, true, false, Result, Ok, Err}
 use Rattle.asl_mock.specs.Places.{Place, first_of}
 use Rattle.asl_mock.specs.Gives.{Gives}
 use Rattle.asl_json.specs.Data.{Data}

@@ -1,5 +1,5 @@
 -- The first fault of a value, part by part.
-use Rattle.std.proofs.Common.{◌≡◌, ℕ, List, [], ◌∷◌, ◌++◌, refl, sym, ap, subst, ◌∙◌}
+use Rattle.std.proofs.Common.{◌≡◌, ℕ, List, [], ◌∷◌, ◌++◌, refl, sym, ap, ◌∙◌}
 use Rattle.std.specs.Prelude.{Option, Some, None, Result, Ok, Err, IfOk, IfErr, codes}
 use Rattle.asl_json.specs.Data.{Data}
 use Rattle.asl_json.specs.Distinct.{Members}
@@ -13,7 +13,7 @@ use Rattle.asl_mock.specs.Form.{misfits}
 use Rattle.asl_mock.specs.Tables.{members_at}
 use Rattle.asl_mock.specs.Answers.{Machine, Response, responses_of, machines_of, mocks_of}
 use Rattle.asl_mock.specs.Faults.{bad_keys, bad_keys_in, overlaps, overlaps_in, lost_names, lost_in_machine, numbered, faults}
-use Rattle.asl_mock.specs.Told.{IsMockFile, IsFirstFault, IsFaultIn, IsJudged, IsFault, IsAnswer, unread}
+use Rattle.asl_mock.specs.Told.{IsMockFile, IsFirstFault, IsFaultIn, IsJudged, IsAnswer, unread}
 use Rattle.asl_mock.specs.declared.shape.Shape.TheVariants.{Top}
 use Rattle.asl_mock.specs.declared.table.Named.{Named}
 use Rattle.asl_mock.specs.declared.fault.MockFault.{MockFault}

@@ -1,8 +1,8 @@
 -- The first key that meets an earlier one.
-use Rattle.std.proofs.Common.{◌≡◌, ◌<◌, ◌≤◌, ◌+◌, ℕ, List, [], ◌∷◌, ◌++◌, Bool, true, false, length, get_or, take, drop, refl, sym, ap, subst, ◌∙◌, append_assoc, arith}
-use Rattle.std.specs.Prelude.{nat_lt, ◌||◌, Option, Some, None, if◌then◌else◌, map}
+use Rattle.std.proofs.Common.{◌≡◌, ◌<◌, ◌+◌, ℕ, List, [], ◌∷◌, ◌++◌, Bool, true, false, length, get_or, take, drop, refl, sym, ap, ◌∙◌, append_assoc}
+use Rattle.std.specs.Prelude.{nat_lt, ◌||◌, Option, Some, None, if◌then◌else◌}
 use Rattle.std.specs.List.{list_any}
-use Rattle.std.proofs.lemmas.List.{append-nil, map_more, map-append, take-append-drop, drop_more, take_all}
+use Rattle.std.proofs.lemmas.List.{append-nil, map_more, map-append, take-append-drop, drop_more}
 use Rattle.asl_json.specs.Data.{Data}
 use Rattle.asl_json.specs.Distinct.{Members}
 use Rattle.asl_json.specs.View.{data_of, member_of, members_of}

@@ -1,12 +1,12 @@
 -- Answers in the order of their numbers, by number.
-use Rattle.std.proofs.Common.{◌≡◌, ◌<◌, ◌≤◌, ◌+◌, ◌-◌, ℕ, zero, suc, List, [], ◌∷◌, ◌++◌, Bool, true, false, length, get_or, take, drop, refl, sym, ap, subst, ◌∙◌, arith}
-use Rattle.std.specs.Prelude.{nat_lt, nat_le, ◌||◌, ◌&&◌, Option, Some, None, if◌then◌else◌}
+use Rattle.std.proofs.Common.{◌≡◌, ◌<◌, ◌≤◌, ◌-◌, ℕ, zero, suc, List, [], ◌∷◌, Bool, true, false, length, get_or, refl, sym, ap, subst, ◌∙◌, arith}
+use Rattle.std.specs.Prelude.{nat_lt, ◌||◌, Option, Some, None, if◌then◌else◌}
 use Rattle.std.specs.List.{list_any, insert}
 use Rattle.std.specs.List.Sorted.{IsNonDecreasingBy}
 use Rattle.std.proofs.lemmas.Bool.Decides.{nat_tests}
 use Rattle.std.proofs.lemmas.List.{get_or_default}
 use Rattle.asl_json.specs.Data.{Data}
-use Rattle.asl_mock.specs.Answers.{Response, placed, with_answer, answer_of, has_number, first_with}
+use Rattle.asl_mock.specs.Answers.{placed, with_answer, answer_of, has_number, first_with}
 use Rattle.asl_mock.specs.Faults.{have_a_number}
 use Rattle.asl_mock.specs.Apart.{EachRanged, AreApart, Meets, IsGap, any_has}
 use Rattle.asl_mock.specs.declared.key.Span.{Span}

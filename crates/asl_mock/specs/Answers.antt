@@ -1,5 +1,5 @@
 -- What the answers of a mock file are, and which one is given.
-use Rattle.std.specs.Prelude.{ℕ, List, [], ◌∷◌, Bool, ◌&&◌, nat_le, nat_lt, Option, Some, None, if◌then◌else◌, codes, map, option_map}
+use Rattle.std.specs.Prelude.{ℕ, List, [], ◌∷◌, Bool, ◌&&◌, nat_le, nat_lt, Option, Some, None, if◌then◌else◌, codes, map}
 use Rattle.asl_json.specs.Data.{Data, null, boolean, number, text, list, dict}
 use Rattle.asl_json.specs.View.{json_of}
 use Rattle.asl_json.specs.Distinct.{Members}

@@ -1,6 +1,6 @@
 -- What a mock file is made of, value by value. (AWS Step Functions, "Mocked service integrations", the file MockConfigFile.json.)
 use Rattle.std.specs.Prelude.{ℕ, List, [], ◌∷◌, ◌++◌, Bool, true, false, ◌&&◌, ◌||◌, ◌==◌, if◌then◌else◌, codes, is_some}
-use Rattle.asl_json.specs.Data.{Data, null, boolean, number, text, list, dict, Chain, Pairs, no_members, member}
+use Rattle.asl_json.specs.Data.{Data, null, boolean, number, text, list, dict, Pairs, no_members, member}
 use Rattle.asl_json.specs.Same.{bytes_eq}
 use Rattle.asl_json.specs.Meaning.{value_in, count}
 use Rattle.asl_mock.specs.Places.{Place, under}

@@ -1,4 +1,4 @@
-use Rattle.std.proofs.Common.{◌≡◌, ◌∙◌, [], sym, ap}
+use Rattle.std.proofs.Common.{◌≡◌, ◌∙◌, sym, ap}
 use Rattle.std.specs.Prelude.{Some, None, is_some}
 use Rattle.asl_mock.specs.Key.{span_in as spec_span_in}
 use Rattle.asl_mock.specs.Places.{first_of}

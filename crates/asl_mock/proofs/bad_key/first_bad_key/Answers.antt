@@ -1,4 +1,4 @@
-use Rattle.std.proofs.Common.{◌≡◌, ◌∙◌, sym, ap}
+use Rattle.std.proofs.Common.{◌∙◌, sym, ap}
 use Rattle.asl_mock.specs.Places.{first_of, in_each}
 use Rattle.asl_mock.specs.Faults.{bad_key, bad_keys_in}
 use Rattle.asl_mock.proofs.Each.{found_at, none_more}

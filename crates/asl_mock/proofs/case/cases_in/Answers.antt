@@ -1,4 +1,4 @@
-use Rattle.std.proofs.Common.{◌≡◌, ◌∙◌, sym, ap}
+use Rattle.std.proofs.Common.{◌∙◌, sym, ap}
 use Rattle.asl_json.specs.View.{members_of}
 use Rattle.asl_mock.specs.Places.{first_of, in_each}
 use Rattle.asl_mock.specs.Answers.{case_of, named_case}
