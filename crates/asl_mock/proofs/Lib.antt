@@ -1,0 +1,7 @@
+mod Each
+mod Below
+mod Numerals
+mod Spots
+mod Giving
+mod Overlapping
+mod Judging

@@ -1,0 +1,117 @@
+-- What the answers of a mock file are, and which one is given.
+use Rattle.std.specs.Prelude.{ℕ, List, [], ◌∷◌, Bool, ◌&&◌, nat_le, nat_lt, Option, Some, None, if◌then◌else◌, codes, map}
+use Rattle.asl_json.specs.Data.{Data, null, boolean, number, text, list, dict}
+use Rattle.asl_json.specs.View.{json_of}
+use Rattle.asl_json.specs.Distinct.{Members}
+use Rattle.asl_json.specs.Meaning.{value_in}
+use Rattle.asl_mock.specs.Key.{span_in}
+use Rattle.asl_mock.specs.Tables.{value_for, members_in, members_at}
+use Rattle.asl_mock.specs.declared.key.Span.{Span}
+use Rattle.asl_mock.specs.declared.table.Named.{Named}
+use Rattle.asl_mock.specs.declared.response.Answer.{Answer}
+use Rattle.asl_mock.specs.declared.response.Answer.TheVariants.{Returns, Throws}
+use Rattle.asl_mock.specs.declared.response.Ranged.{Ranged}
+
+-- ---- what the file spells
+
+abbrev pub text_of : Option Data → List ℕ
+text_of (Some (text t)) = t
+text_of (Some null) = []
+text_of (Some (boolean b)) = []
+text_of (Some (number n)) = []
+text_of (Some (list ds)) = []
+text_of (Some (dict ms)) = []
+text_of None = []
+
+abbrev pub cause_of : Option Data → Option (List ℕ)
+cause_of None = None
+cause_of (Some d) = Some (text_of (Some d))
+
+abbrev pub thrown : Option Data → Answer
+thrown None = Throws [] None
+thrown (Some d) = Throws (text_of (value_in (codes "Error") d)) (cause_of (value_in (codes "Cause") d))
+
+abbrev pub answer_by : Option Data → Option Data → Answer
+answer_by (Some v) t = Returns (json_of v)
+answer_by None t = thrown t
+
+-- an object with one member: `Return` and any value, or `Throw` and an object with `Error` and at most `Cause`
+abbrev pub answer_of : Data → Answer
+answer_of d = answer_by (value_in (codes "Return") d) (value_in (codes "Throw") d)
+
+-- an answer among those in the order of their numbers
+abbrev pub placed : Ranged → List Ranged → List Ranged
+placed a [] = a ∷ []
+placed a (b ∷ bs) = if nat_lt a.span.low b.span.low then a ∷ b ∷ bs else b ∷ placed a bs
+
+abbrev pub with_answer : Option Span → Data → List Ranged → List Ranged
+with_answer None d rs = rs
+with_answer (Some s) d rs = placed (record { span = s; answer = answer_of d }) rs
+
+-- the answers of the members behind these
+abbrev pub answers_on : List Ranged → Members → List Ranged
+answers_on rs [] = rs
+answers_on rs (m ∷ ms) = answers_on (with_answer (span_in m.0) m.1 rs) ms
+
+-- the answers of a response, in the order of their numbers
+abbrev pub Response : Type 0
+Response = List Ranged
+
+abbrev pub response_of : Members → Response
+response_of ms = answers_on [] ms
+
+abbrev pub named_response : List ℕ × Data → Named Response
+named_response m = record { name = m.0; value = response_of (members_in m.1) }
+
+abbrev pub responses_of : Members → List (Named Response)
+responses_of ms = map named_response ms
+
+-- a case: the response of each state that it names
+abbrev pub Case : Type 0
+Case = List (Named Response)
+
+abbrev pub or_nothing : Option Response → Response
+or_nothing None = []
+or_nothing (Some r) = r
+
+abbrev pub named_state : List (Named Response) → List ℕ × Data → Named Response
+named_state rs m = record { name = m.0; value = or_nothing (value_for (text_of (Some m.1)) rs) }
+
+abbrev pub case_of : List (Named Response) → Members → Case
+case_of rs ms = map (named_state rs) ms
+
+abbrev pub named_case : List (Named Response) → List ℕ × Data → Named Case
+named_case rs m = record { name = m.0; value = case_of rs (members_in m.1) }
+
+abbrev pub Machine : Type 0
+Machine = List (Named Case)
+
+abbrev pub machine_of : List (Named Response) → Members → Machine
+machine_of rs ms = map (named_case rs) ms
+
+abbrev pub named_machine : List (Named Response) → List ℕ × Data → Named Machine
+named_machine rs m = record { name = m.0; value = machine_of rs (members_at (codes "TestCases") m.1) }
+
+abbrev pub machines_of : List (Named Response) → Members → List (Named Machine)
+machines_of rs ms = map (named_machine rs) ms
+
+-- the cases of each machine of a file
+abbrev pub mocks_of : Data → List (Named Machine)
+mocks_of d = machines_of (responses_of (members_at (codes "MockedResponses") d)) (members_at (codes "StateMachines") d)
+
+-- ---- which answer is given
+
+abbrev pub has_number : ℕ → Ranged → Bool
+has_number n a = nat_le a.span.low n && nat_le n a.span.high
+
+abbrev pub first_with : ℕ → List Ranged → Option Answer
+first_with n [] = None
+first_with n (a ∷ rs) = if has_number n a then Some a.answer else first_with n rs
+
+abbrev pub answer_in : ℕ → Option Response → Option Answer
+answer_in n None = None
+answer_in n (Some r) = first_with n r
+
+-- the answer of number n to the state of this name, where the case names a response for it that has one
+abbrev pub answer_to : Case → List ℕ → ℕ → Option Answer
+answer_to c state n = answer_in n (value_for state c)

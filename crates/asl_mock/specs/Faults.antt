@@ -1,0 +1,71 @@
+-- What is wrong with a mock file, and which fault is answered.
+use Rattle.std.specs.Prelude.{ℕ, List, [], ◌∷◌, ◌++◌, Bool, true, false, ◌&&◌, nat_le, Option, Some, None, if◌then◌else◌, codes, is_some, map}
+use Rattle.std.specs.List.{list_any}
+use Rattle.asl_json.specs.Data.{Data}
+use Rattle.asl_json.specs.Distinct.{Members}
+use Rattle.asl_mock.specs.Key.{span_in}
+use Rattle.asl_mock.specs.Places.{Place, under, in_each}
+use Rattle.asl_mock.specs.Form.{misfits, unless}
+use Rattle.asl_mock.specs.Tables.{value_for, members_in, members_at}
+use Rattle.asl_mock.specs.Answers.{Response, text_of, responses_of}
+use Rattle.asl_mock.specs.declared.key.Span.{Span}
+use Rattle.asl_mock.specs.declared.table.Named.{Named}
+use Rattle.asl_mock.specs.declared.shape.Shape.TheVariants.{Top}
+
+-- M3: a key that stands for no numbers
+
+abbrev pub bad_key : List ℕ × Data → List Place
+bad_key m = unless (is_some (span_in m.0))
+
+abbrev pub bad_keys_in : List ℕ × Data → List Place
+bad_keys_in r = in_each bad_key (members_in r.1)
+
+abbrev pub bad_keys : Data → List Place
+bad_keys d = under (codes "MockedResponses") (in_each bad_keys_in (members_at (codes "MockedResponses") d))
+
+-- M4: a key with a number of an earlier key of the same response
+
+abbrev pub have_a_number : Span → Span → Bool
+have_a_number a b = nat_le a.low b.high && nat_le b.low a.high
+
+abbrev pub overlap : Span → Option Span → Bool
+overlap a None = false
+overlap a (Some b) = have_a_number a b
+
+abbrev pub meets : Span → List ℕ × Data → Bool
+meets s m = overlap s (span_in m.0)
+
+abbrev pub is_apart : Option Span → Members → Bool
+is_apart None ms = true
+is_apart (Some s) ms = if list_any (meets s) ms then false else true
+
+abbrev pub overlaps_behind : Members → Members → List Place
+overlaps_behind seen [] = []
+overlaps_behind seen (m ∷ ms) = under m.0 (unless (is_apart (span_in m.0) seen)) ++ overlaps_behind (seen ++ m ∷ []) ms
+
+abbrev pub overlaps_in : List ℕ × Data → List Place
+overlaps_in r = overlaps_behind [] (members_in r.1)
+
+abbrev pub overlaps : Data → List Place
+overlaps d = under (codes "MockedResponses") (in_each overlaps_in (members_at (codes "MockedResponses") d))
+
+-- M5: the name of a response that isn't there
+
+abbrev pub lost_name : List (Named Response) → List ℕ × Data → List Place
+lost_name rs s = unless (is_some (value_for (text_of (Some s.1)) rs))
+
+abbrev pub lost_in_case : List (Named Response) → List ℕ × Data → List Place
+lost_in_case rs c = in_each (lost_name rs) (members_in c.1)
+
+abbrev pub lost_in_machine : List (Named Response) → List ℕ × Data → List Place
+lost_in_machine rs m = under (codes "TestCases") (in_each (lost_in_case rs) (members_at (codes "TestCases") m.1))
+
+abbrev pub lost_names : Data → List Place
+lost_names d = under (codes "StateMachines") (in_each (lost_in_machine (responses_of (members_at (codes "MockedResponses") d))) (members_at (codes "StateMachines") d))
+
+-- all faults, a number and a place each: the lowest number first, and of one number in document order
+abbrev pub numbered : ℕ → List Place → List (ℕ × Place)
+numbered n ps = map (λ (p : Place). (n, p)) ps
+
+abbrev pub faults : Data → List (ℕ × Place)
+faults d = numbered 2 (misfits Top d) ++ (numbered 3 (bad_keys d) ++ (numbered 4 (overlaps d) ++ numbered 5 (lost_names d)))

@@ -1,0 +1,10 @@
+pub mod Key
+pub mod Places
+pub mod Form
+pub mod Tables
+pub mod Answers
+pub mod Faults
+pub mod Apart
+pub mod Gives
+pub mod Shared
+pub mod Told

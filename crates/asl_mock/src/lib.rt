@@ -1,0 +1,32 @@
+//! Mock files: what tasks answer in the cases of a test. (AWS Step Functions, "Mocked service integrations", the file
+//! MockConfigFile.json.)
+//!
+//! Modules in reading order: `fault` is why a file is refused, `key` the numbers that an answer is for, `shape` what a file is
+//! made of, and `place` where a fault is. `form` finds the first value that doesn't fit, and `bad_key` the first bad key. `table`
+//! is values under names, `response` an answer, `ranges` the answers in the order of their numbers, `responses` and `case` what
+//! is built of them, and `mocks` the whole file.
+//!
+//! `specs/Form.antt` says which values fit, `specs/Key.antt` what a key stands for, `specs/Faults.antt` which fault is answered,
+//! and `specs/Answers.antt` what a file spells and which answer is given.
+#![tactic(auto)]
+
+mod bad_key;
+mod case;
+mod fault;
+mod form;
+mod key;
+mod mocks;
+mod place;
+mod ranges;
+mod response;
+mod responses;
+mod shape;
+mod table;
+
+pub use case::{Case, answer};
+pub use fault::{CaseFault, MockFault};
+pub use key::Span;
+pub use mocks::Mocks;
+pub use response::{Answer, Ranged};
+pub use responses::Response;
+pub use table::Named;

@@ -1,0 +1,71 @@
+// Responses: the answers to a state by number.
+ghost use Rattle.std.specs.Prelude.{◌≡◌, IfOk, option_map};
+ghost use Rattle.asl_json.specs.View.{data_of};
+ghost use Rattle.asl_mock.specs.Answers.{text_of as spec_text_of, thrown as spec_thrown, answer_of as spec_answer_of};
+
+use crate::key::Span;
+use asl_json::{Json, Txt};
+use std::alloc::{AllocError, Global};
+
+/// What a task answers.
+pub enum Answer {
+    /// It succeeds with this value.
+    Returns(Json),
+    /// It fails with this error.
+    Throws { error: Txt, cause: Option<Txt> },
+}
+
+impl Drop for Answer {
+    fn drop(self) {
+        match self {
+            Answer::Returns(_value) => {}
+            Answer::Throws {
+                error: _error,
+                cause: _cause,
+            } => {}
+        }
+    }
+}
+
+/// An answer and the numbers that it is for.
+#[derive(Drop)]
+pub struct Ranged {
+    pub span: Span,
+    pub answer: Answer,
+}
+
+/// A copy of a text; of any other value an empty one. The error is that memory ran out.
+fn text_of(alloc: Global, value: Option<&Json>) -> Result<Txt, AllocError>
+    ensures { IfOk result (λ t. t ≡ spec_text_of (option_map (λ v. data_of v.now) value.entry)) }
+{
+    match value {
+        Some(Json::Text(text)) => text.try_clone(alloc),
+        _ => Ok(Txt::new(String::new(alloc))),
+    }
+}
+
+/// The error of a `Throw`. The error of this call is that memory ran out.
+fn thrown(alloc: Global, value: Option<&Json>) -> Result<Answer, AllocError>
+    ensures { IfOk result (λ a. a ≡ spec_thrown (option_map (λ v. data_of v.now) value.entry)) }
+{
+    let Some(value) = value else {
+        let error = Txt::new(String::new(alloc));
+        return Ok(Answer::Throws { error, cause: None });
+    };
+    let error = text_of(alloc, value.get("Error"))?;
+    let cause = match value.get("Cause") {
+        Some(cause) => Some(text_of(alloc, Some(cause))?),
+        None => None,
+    };
+    Ok(Answer::Throws { error, cause })
+}
+
+/// The answer that a value spells. The error is that memory ran out.
+pub(crate) fn answer_of(alloc: Global, value: &Json) -> Result<Answer, AllocError>
+    ensures { IfOk result (λ a. a ≡ spec_answer_of (data_of value.now)) }
+{
+    match value.get("Return") {
+        Some(value) => Ok(Answer::Returns(value.try_clone(alloc)?)),
+        None => thrown(alloc, value.get("Throw")),
+    }
+}

@@ -1,0 +1,105 @@
+// The responses of a mock file.
+ghost use Rattle.std.specs.Prelude.{◌≡◌, [], IfOk, option_map};
+ghost use Rattle.asl_json.specs.View.{members_of};
+ghost use Rattle.asl_mock.specs.Places.{in_each};
+ghost use Rattle.asl_mock.specs.Answers.{first_with, response_of, responses_of};
+ghost use Rattle.asl_mock.specs.Faults.{overlaps_behind, overlaps_in};
+ghost use Rattle.asl_mock.specs.Apart.{AreApart};
+ghost use Rattle.asl_mock.specs.Gives.{Gives};
+
+use crate::place::Place;
+use crate::ranges::{added, answer_at};
+use crate::response::{Answer, Ranged};
+use crate::table::{Named, members_in};
+use asl_json::Member;
+use std::alloc::{AllocError, Global};
+use std::marker::Model;
+use std::sync::Arc;
+
+/// A response: answers in the order of their numbers, none for a number of another. Copies share them.
+pub struct Response {
+    answers: Arc<Vec<Ranged>>,
+}
+
+// Written out, so that a caller's proof sees one call and not the drop of each part.
+impl Drop for Response {
+    fn drop(self) {
+        let Response { answers: _answers } = self;
+    }
+}
+
+impl Model for Response {
+    ghost use Rattle.std.specs.Prelude.{List};
+    ghost use Rattle.std.specs.Arc.{arc_value};
+    ghost use Rattle.asl_mock.specs.Apart.{AreApart};
+    ghost use Rattle.asl_mock.specs.declared.response.Ranged.{Ranged};
+
+    ghost Value = { List Ranged };
+
+    ghost use Rattle.std.specs.Coded.{codes};
+    ghost use Rattle.asl_json.specs.contracts.value.Json as json;
+
+    ghost coded = { Prim.hlevel (codes, json.the_row.coded) };
+
+    ghost view = { λ a. (arc_value a.answers).items };
+
+    ghost invariant = { λ a. AreApart (arc_value a.answers).items };
+}
+
+impl Response {
+    fn of_answers(alloc: Global, answers: Vec<Ranged>) -> Result<Response, AllocError>
+        requires { AreApart answers.items }
+        ensures { IfOk result (λ r. r ≡ answers.items) }
+    {
+        let answers = Arc::new(alloc, answers)?;
+        Ok(Response { answers })
+    }
+
+    /// One more owner of the same answers. The error is that there are too many.
+    pub(crate) fn try_clone(&self) -> Result<Response, AllocError>
+        ensures { IfOk result (λ r. r ≡ self.now) }
+    {
+        let answers = Arc::try_clone(&self.answers)?;
+        Ok(Response { answers })
+    }
+
+    /// The answer of this number.
+    pub(crate) fn answer(&self, number: u32) -> Option<&Answer>
+        ensures { option_map (λ a. a.now) result ≡ first_with number self.now }
+    {
+        answer_at(&self.answers, number)
+    }
+}
+
+/// The response of these answers, or the first key that has a number of one before it. The error is that memory ran out.
+fn response_in(alloc: Global, members: &[Member]) -> Result<Result<Response, Place>, AllocError>
+    ensures { IfOk result (Gives (λ r. r) (response_of (members_of members.now)) (overlaps_behind [] (members_of members.now))) }
+{
+    let mut answers = Vec::new(alloc);
+    for member in members {
+        let Some(more) = added(alloc, answers, member)? else {
+            return Ok(Err(Place::here(alloc).under(alloc, member.key.as_str())?));
+        };
+        answers = more;
+    }
+    Ok(Ok(Response::of_answers(alloc, answers)?))
+}
+
+/// All responses, or the first such key. The error is that memory ran out.
+pub(crate) fn responses(
+    alloc: Global,
+    members: &[Member],
+) -> Result<Result<Vec<Named<Response>>, Place>, AllocError>
+    ensures { IfOk result (Gives (λ v. v.items) (responses_of (members_of members.now)) (in_each overlaps_in (members_of members.now))) }
+{
+    let mut responses = Vec::new(alloc);
+    for member in members {
+        let value = match response_in(alloc, members_in(&member.value))? {
+            Ok(response) => response,
+            Err(place) => return Ok(Err(place.under(alloc, member.key.as_str())?)),
+        };
+        let name = member.key.try_clone(alloc)?;
+        responses.push(Named { name, value })?;
+    }
+    Ok(Ok(responses))
+}
