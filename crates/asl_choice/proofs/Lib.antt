@@ -5,3 +5,4 @@ pub mod Decided
 pub mod Shows
 pub mod Apart
 pub mod Within
+pub mod Taken

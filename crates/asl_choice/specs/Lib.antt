@@ -1,2 +1,4 @@
 pub mod Rules
 pub mod Falls
+pub mod Patterns
+pub mod Taking
