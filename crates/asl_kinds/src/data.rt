@@ -37,12 +37,7 @@ fn empty_object(alloc: Global) -> Result<Shared, AllocError>
 }
 
 /// What a field's path takes of a value: where that is the whole of it, the value itself.
-pub fn taken(
-    alloc: Global,
-    field: &str,
-    path: &PathField,
-    value: &Shared,
-) -> Result<Shared, Fault>
+pub fn taken(alloc: Global, field: &str, path: &PathField, value: &Shared) -> Result<Shared, Fault>
     ensures { Gives (spec_taken field.now (path_shown path.now) value.now) result }
 {
     match path {
@@ -53,12 +48,7 @@ pub fn taken(
 }
 
 /// A result put where a path leads in a value.
-fn put_at(
-    alloc: Global,
-    path: &RefPath,
-    base: Json,
-    result_value: Json,
-) -> Result<Json, Fault>
+fn put_at(alloc: Global, path: &RefPath, base: Json, result_value: Json) -> Result<Json, Fault>
     ensures { Gives (given_or no_place (with_part path.now (data_of base) (data_of result_value))) result }
 {
     match path.put(alloc, base, result_value) {

@@ -101,21 +101,10 @@ impl Record {
         ensures { IfOk result (λ r. r ≡ self.now) }
     {
         Ok(match self {
-            Record::New(state, input) => Record::New(
-                state.try_clone()?,
-                input.try_clone()?,
-            ),
-            Record::Ready(state, input) => Record::Ready(
-                state.try_clone()?,
-                input.try_clone()?,
-            ),
+            Record::New(state, input) => Record::New(state.try_clone()?, input.try_clone()?),
+            Record::Ready(state, input) => Record::Ready(state.try_clone()?, input.try_clone()?),
             Record::Pausing(state, input, since, until) => {
-                Record::Pausing(
-                    state.try_clone()?,
-                    input.try_clone()?,
-                    *since,
-                    *until,
-                )
+                Record::Pausing(state.try_clone()?, input.try_clone()?, *since, *until)
             }
             Record::Again(state, input, since, uses, until) => Record::Again(
                 state.try_clone()?,

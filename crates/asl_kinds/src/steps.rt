@@ -34,10 +34,7 @@ fn moved(alloc: Global, next: &Next, output: Shared) -> Result<Record, AllocErro
 {
     match next {
         Next::End => Ok(Record::Done(output)),
-        Next::To(target) => Ok(Record::Ready(
-            Name::new(alloc, target.name.as_str())?,
-            output,
-        )),
+        Next::To(target) => Ok(Record::Ready(Name::new(alloc, target.name.as_str())?, output)),
     }
 }
 
@@ -71,11 +68,7 @@ pub fn leaving(
         });
     }
     let nameless = Name::new(alloc, "")?;
-    let events = events.and(
-        EventKind::ExecutionSucceeded,
-        nameless,
-        output.try_clone()?,
-    )?;
+    let events = events.and(EventKind::ExecutionSucceeded, nameless, output.try_clone()?)?;
     let outcome = Some(Ended::Succeeded(output.try_clone()?));
     Ok(Effect {
         after: Record::Done(output),

@@ -75,11 +75,7 @@ fn put_reply(out: &mut String, reply: Option<Refusal>) -> Result<(), AllocError>
 }
 
 /// Appends the line of a step: `step`, the place, and `ok` or why it was refused. The error is that memory ran out.
-pub fn put_step(
-    out: &mut String,
-    place: &Place,
-    reply: Option<Refusal>,
-) -> Result<(), AllocError>
+pub fn put_step(out: &mut String, place: &Place, reply: Option<Refusal>) -> Result<(), AllocError>
     ensures { OnOk result (string_bytes out.new ≡ string_bytes out.old ++ step_line place.now reply) }
 {
     out.push_str("step ")?;

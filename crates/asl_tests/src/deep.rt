@@ -92,7 +92,10 @@ fn go_through(alloc: Global) -> Option<bool> {
 fn values_of_fifty_thousand_levels(rt: HostRuntime) -> Result<(), Fail> {
     let alloc = rt.alloc();
     let roomy = Builder::new().stack_size(ROOM);
-    let right = match roomy.spawn(&rt, move || Some(are_right(alloc)? && is_shared(alloc)? && go_through(alloc)?)) {
+    let right = match roomy.spawn(
+        &rt,
+        move || Some(are_right(alloc)? && is_shared(alloc)? && go_through(alloc)?),
+    ) {
         Ok(thread) => thread.join(&rt),
         Err(_) => None,
     };

@@ -1,5 +1,7 @@
 // What no clause says: which values and faults texts from outside give, and that calls succeed with ample memory.
-use asl_json::{Dec, Items, Json, JsonFault, Members, Name, Shared, put, put_quoted, read, same, write};
+use asl_json::{
+    Dec, Items, Json, JsonFault, Members, Name, Shared, put, put_quoted, read, same, write,
+};
 use std::alloc::Global;
 use std::test::Fail;
 
