@@ -1,0 +1,162 @@
+// Mock files: what they hold, and which fault is answered.
+use asl_json::write;
+use asl_mock::{Answer, CaseFault, MockFault, Mocks, answer};
+use std::alloc::Global;
+use std::test::Fail;
+
+/// The text of a fault: its number and its place.
+fn refused(alloc: Global, fault: &MockFault) -> Option<String> {
+    match fault {
+        MockFault::Json(fault) => {
+            let text = fault.text(alloc).ok()?;
+            format!(in alloc; "M1 {}", text.as_str()).ok()
+        }
+        MockFault::Shape(place) => format!(in alloc; "M2 {}", place.as_str()).ok(),
+        MockFault::Key(place) => format!(in alloc; "M3 {}", place.as_str()).ok(),
+        MockFault::Overlap(place) => format!(in alloc; "M4 {}", place.as_str()).ok(),
+        MockFault::NoResponse(place) => format!(in alloc; "M5 {}", place.as_str()).ok(),
+        MockFault::OutOfMemory => None,
+    }
+}
+
+fn thrown(alloc: Global, error: &str, cause: Option<&str>) -> Option<String> {
+    match cause {
+        Some(cause) => format!(in alloc; "throws {error} {cause}").ok(),
+        None => format!(in alloc; "throws {error}").ok(),
+    }
+}
+
+/// The text of an answer.
+fn told(alloc: Global, answer: Option<&Answer>) -> Option<String> {
+    match answer {
+        None => String::from_str(alloc, "none").ok(),
+        Some(Answer::Returns(value)) => write(alloc, value).ok(),
+        Some(Answer::Throws { error, cause }) => match cause {
+            Some(cause) => thrown(alloc, error.as_str(), Some(cause.as_str())),
+            None => thrown(alloc, error.as_str(), None),
+        },
+    }
+}
+
+/// What a file answers at a state of a case, or why not.
+fn answered(alloc: Global, file: &str, names: (&str, &str, &str), number: u32) -> Option<String> {
+    match Mocks::read(alloc, file.as_bytes()) {
+        Ok(mocks) => match mocks.case(names.0, names.1) {
+            Ok(case) => told(alloc, answer(case, names.2, number)),
+            Err(CaseFault::NoMachine) => String::from_str(alloc, "M7").ok(),
+            Err(CaseFault::NoCase) => String::from_str(alloc, "M8").ok(),
+        },
+        Err(fault) => refused(alloc, &fault),
+    }
+}
+
+fn is(given: &Option<String>, wanted: &str) -> bool {
+    match given {
+        Some(text) => text.as_str() == wanted,
+        None => false,
+    }
+}
+
+const FILE: &str = r#"{"Note":1,
+ "StateMachines":{
+  "Orders":{"TestCases":{"paid":{"Charge":"Ok","Ship":"Slow"},"refused":{"Charge":"No"}},"Other":[]},
+  "Mail":{"TestCases":{"sent":{"Send":"Ok"}}}},
+ "MockedResponses":{
+  "Ok":{"0":{"Return":{"done":true}}},
+  "Slow":{"3-999999999":{"Return":1.50},"0":{"Throw":{"Error":"Timeout"}},"01-2":{"Throw":{"Cause":"late","Error":"E"}}},
+  "No":{"0-1":{"Return":null}},
+  "Unused":{"7":{"Return":[]}}}}"#;
+
+#[test]
+fn a_file_of_two_machines(rt: HostRuntime) -> Result<(), Fail> {
+    let alloc = rt.alloc();
+    let rows = [
+        ("Orders", "paid", "Charge", 0, r#"{"done":true}"#),
+        ("Orders", "paid", "Charge", 1, "none"),
+        ("Orders", "paid", "Ship", 0, "throws Timeout"),
+        ("Orders", "paid", "Ship", 1, "throws E late"),
+        ("Orders", "paid", "Ship", 2, "throws E late"),
+        ("Orders", "paid", "Ship", 3, "1.50"),
+        ("Orders", "paid", "Ship", 999999999, "1.50"),
+        ("Orders", "paid", "Ship", 1000000000, "none"),
+        ("Orders", "paid", "Send", 0, "none"),
+        ("Orders", "refused", "Charge", 1, "null"),
+        ("Mail", "sent", "Send", 0, r#"{"done":true}"#),
+        ("Mail", "paid", "Send", 0, "M8"),
+        ("Letters", "paid", "Send", 0, "M7"),
+    ];
+    for (machine, case, state, number, wanted) in rows {
+        let given = answered(alloc, FILE, (machine, case, state), number);
+        assert!(rt; is(&given, wanted));
+    }
+    Ok(())
+}
+
+#[test]
+fn faults_at_their_places(rt: HostRuntime) -> Result<(), Fail> {
+    let alloc = rt.alloc();
+    let rows = [
+        ("{}", "M7"),
+        ("{", "M1 J1 Syntax 1"),
+        ("[]", "M2 "),
+        (r#"{"MockedResponses":1}"#, "M2 /MockedResponses"),
+        (r#"{"StateMachines":{"M":{}}}"#, "M2 /StateMachines/M"),
+        (
+            r#"{"StateMachines":{"M":{"TestCases":{"c":{"A/~":1}}}}}"#,
+            "M2 /StateMachines/M/TestCases/c/A~1~0",
+        ),
+        (
+            r#"{"MockedResponses":{"R":{"0":{"Return":1,"Throw":{"Error":"E"}}}}}"#,
+            "M2 /MockedResponses/R/0",
+        ),
+        (
+            r#"{"MockedResponses":{"R":{"0":{}}}}"#,
+            "M2 /MockedResponses/R/0",
+        ),
+        (
+            r#"{"MockedResponses":{"R":{"0":{"Throw":{}}}}}"#,
+            "M2 /MockedResponses/R/0/Throw",
+        ),
+        (
+            r#"{"MockedResponses":{"R":{"0":{"Throw":{"Error":1,"Why":2}}}}}"#,
+            "M2 /MockedResponses/R/0/Throw",
+        ),
+        (
+            r#"{"MockedResponses":{"R":{"0":{"Throw":{"Error":"E","Cause":2}}}}}"#,
+            "M2 /MockedResponses/R/0/Throw/Cause",
+        ),
+        (
+            r#"{"MockedResponses":{"R":{"2-1":{"Return":1}}}}"#,
+            "M3 /MockedResponses/R/2-1",
+        ),
+        (
+            r#"{"MockedResponses":{"R":{"1234567890":{"Return":1}}}}"#,
+            "M3 /MockedResponses/R/1234567890",
+        ),
+        (
+            r#"{"MockedResponses":{"R":{"":{"Return":1}}}}"#,
+            "M3 /MockedResponses/R/",
+        ),
+        (
+            r#"{"MockedResponses":{"R":{"1-2-3":{"Return":1}}}}"#,
+            "M3 /MockedResponses/R/1-2-3",
+        ),
+        (
+            r#"{"MockedResponses":{"R":{"0-2":{"Return":1},"02":{"Return":2},"1":{"Return":3}}}}"#,
+            "M4 /MockedResponses/R/02",
+        ),
+        (
+            r#"{"StateMachines":{"M":{"TestCases":{"c":{"A":"R"}}}}}"#,
+            "M5 /StateMachines/M/TestCases/c/A",
+        ),
+        (
+            r#"{"StateMachines":{"M":{"TestCases":{"c":{"A":"S"}}}},"MockedResponses":{"R":{"1":{"Return":1},"1-2":{"Return":2}},"S":{"x":{"Return":1}}}}"#,
+            "M3 /MockedResponses/S/x",
+        ),
+    ];
+    for (file, wanted) in rows {
+        let given = answered(alloc, file, ("M", "c", "A"), 0);
+        assert!(rt; is(&given, wanted));
+    }
+    Ok(())
+}
