@@ -230,7 +230,7 @@ parts_length s = omega (arith, split_length is_point (significand s), split_leng
 
 -- ---- numbers are ASCII
 
-ascii_more : (c : ℕ) (s : List ℕ) → c < 128 → IsAscii s → IsAscii (c ∷ s)
+pub ascii_more : (c : ℕ) (s : List ℕ) → c < 128 → IsAscii s → IsAscii (c ∷ s)
 ascii_more c s small h zero = small
 ascii_more c s small h (suc i) = h i
 

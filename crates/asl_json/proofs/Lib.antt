@@ -29,3 +29,4 @@ pub mod Pointing
 pub mod Sounding
 pub mod Fitting
 pub mod Plainly
+pub mod Buffers

@@ -12,6 +12,7 @@ pub mod Open
 pub mod Reads
 pub mod Wrong
 pub mod Compact
+pub mod Buffers
 pub mod Room
 pub mod Same
 pub mod SameLaws

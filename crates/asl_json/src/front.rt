@@ -1,5 +1,5 @@
 // What stands in front of bytes.
-ghost use Rattle.std.specs.Prelude.{◌≡◌, ◌<◌, ◌≤◌, ◌∷◌, ◌++◌, [], true, false, length, take, slice_index, IfOk, IfErr, IfSome, IfNone, OnOk, string_bytes};
+ghost use Rattle.std.specs.Prelude.{◌≡◌, ◌<◌, ◌≤◌, ◌∷◌, ◌++◌, [], true, false, length, take, slice_index, IfOk, IfErr, IfSome, IfNone, OnOk, OnErr, string_bytes};
 ghost use Rattle.std.specs.Str.{IsUtf8};
 ghost use Rattle.asl_json.specs.Grammar.{is_space as spec_space, AreSpaces};
 ghost use Rattle.asl_json.specs.Text.{is_plain as spec_plain, ArePlain};
@@ -89,12 +89,14 @@ fn are_plain(bytes: &[u8]) -> bool
     all
 }
 
-/// How many bytes at the front are whole blocks that may stand in a text as they are.
-fn plain_blocks_len(bytes: &[u8]) -> usize
+/// Where the whole blocks that may stand in a text as they are end, from a place on.
+fn plain_blocks_end(bytes: &[u8], from: usize) -> usize
+    requires plain { ArePlain (take from bytes.now) }
+    requires within { from ≤ length bytes.now }
     ensures plain { ArePlain (take result bytes.now) }
     ensures within { result ≤ length bytes.now }
 {
-    let mut end = 0;
+    let mut end = from;
     while bytes.len() - end >= BLOCK {
         if !are_plain(&bytes[end..end + BLOCK]) {
             return end;
@@ -104,20 +106,38 @@ fn plain_blocks_len(bytes: &[u8]) -> usize
     end
 }
 
-/// How many bytes at the front may stand in a text as they are.
-fn plain_len(bytes: &[u8]) -> usize
+/// Where the bytes that may stand in a text as they are end, between two places.
+fn plain_end(bytes: &[u8], from: usize, to: usize) -> usize
+    requires plain { ArePlain (take from bytes.now) }
+    requires order { from ≤ to }
+    requires within { to ≤ length bytes.now }
     ensures plain { ArePlain (take result bytes.now) }
-    ensures within { result ≤ length bytes.now }
-    ensures stops { result < length bytes.now → spec_plain (slice_index bytes.now result) ≡ false }
+    ensures within { result ≤ to }
+    ensures stops { result < to → spec_plain (slice_index bytes.now result) ≡ false }
 {
-    let mut end = plain_blocks_len(bytes);
-    while end < bytes.len() {
+    let mut end = from;
+    while end < to {
         if !is_plain(bytes[end]) {
             return end;
         }
         end += 1;
     }
     end
+}
+
+/// How many bytes at the front may stand in a text as they are. Most runs are short, so blocks begin behind the first bytes.
+fn plain_len(bytes: &[u8]) -> usize
+    ensures plain { ArePlain (take result bytes.now) }
+    ensures within { result ≤ length bytes.now }
+    ensures stops { result < length bytes.now → spec_plain (slice_index bytes.now result) ≡ false }
+{
+    let near = bytes.len().min(BLOCK);
+    let end = plain_end(bytes, 0, near);
+    if end < near {
+        return end;
+    }
+    let blocks = plain_blocks_end(bytes, end);
+    plain_end(bytes, blocks, bytes.len())
 }
 
 /// The bytes at the front that may stand in a text as they are, and what follows them.
@@ -160,7 +180,8 @@ pub(crate) fn txt(alloc: Global, bytes: &[u8]) -> Result<Txt, AllocError>
 /// Appends bytes to a text.
 pub(crate) fn append(text: &mut String, bytes: &[u8]) -> Result<(), AllocError>
     requires { IsUtf8 bytes.now }
-    ensures { OnOk result (string_bytes text.new ≡ string_bytes text.old ++ bytes.now) }
+    ensures ok { OnOk result (string_bytes text.new ≡ string_bytes text.old ++ bytes.now) }
+    ensures err { OnErr result (string_bytes text.new ≡ string_bytes text.old) }
 {
     text.push_str(as_text(bytes))
 }

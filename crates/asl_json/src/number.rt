@@ -95,6 +95,10 @@ fn next_part(part: Part, byte: u8) -> Option<Part>
     ensures { result ≡ spec_next part byte }
 {
     let digit = is_digit(byte);
+    // Most bytes of a number are digits behind digits.
+    if digit && matches!(part, Part::Whole | Part::Fraction | Part::Exponent) {
+        return Some(part);
+    }
     match part {
         Part::Start if byte == b'-' => Some(Part::Minus),
         Part::Start | Part::Minus => leading(byte),

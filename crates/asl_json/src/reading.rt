@@ -24,15 +24,19 @@ use std::alloc::Global;
 /// How many lists and objects may stand open at once.
 const MAX_DEPTH: usize = 64;
 
-/// What the bytes up to the closing quote mean where escapes are among them, and what follows it.
-fn escaped_text(alloc: Global, bytes: &[u8]) -> Result<(Txt, &[u8]), Stop>
+/// How much room there is at first for a text with escapes, beside what stands before the first of them.
+const ROOM: usize = 32;
+
+/// What the bytes up to the closing quote mean where escapes are among them, and what follows it. So many of them stand
+/// before the first escape.
+fn escaped_text(alloc: Global, bytes: &[u8], plain: usize) -> Result<(Txt, &[u8]), Stop>
     requires { IsUtf8 bytes.now }
     ensures found { IfOk result (λ x. text_run bare [] bytes.now ≡ closed x.0 x.1.now) }
     ensures shorter { IfOk result (λ x. length x.1.now < length bytes.now) }
     ensures utf8 { IfOk result (λ x. IsUtf8 x.1.now) }
     ensures broken { IfErr result (λ e. Breaks e (text_run bare [] bytes.now)) }
 {
-    let mut content = String::new(alloc);
+    let mut content = String::with_capacity(alloc, plain.saturating_add(ROOM))?;
     let mut rest = bytes;
     loop {
         let (plain, behind) = split_plain(rest);
@@ -61,7 +65,7 @@ fn text(alloc: Global, bytes: &[u8]) -> Result<(Txt, &[u8]), Stop>
     if let Some(closed) = after_byte(behind, b'"') {
         return Ok((txt(alloc, plain)?, closed));
     }
-    escaped_text(alloc, bytes)
+    escaped_text(alloc, bytes, plain.len())
 }
 
 /// A key that these members lack, and what follows its colon.

@@ -1,5 +1,5 @@
 // What numbers mean, in units of 10^-9.
-ghost use Rattle.std.specs.Prelude.{◌≡◌, ℕ, ◌+◌, ◌*◌, ◌-◌, ◌^◌, ◌<◌, ◌≤◌, ◌++◌, [], min, true, false, cond, pos, neg_ℤ, length, take, drop, slice_index, MatchOption};
+ghost use Rattle.std.specs.Prelude.{◌≡◌, ℕ, ◌+◌, ◌*◌, ◌-◌, ◌^◌, ◌<◌, ◌≤◌, ◌++◌, [], min, true, false, cond, pos, neg_ℤ, length, take, drop, slice_index, IfSome, MatchOption};
 ghost use Rattle.asl_json.specs.Number.{is_digit as spec_digit, is_point as spec_point, is_mark as spec_mark, is_sign as spec_sign, AreDigits, IsNumeral, is_negative as spec_negative, magnitude, unsigned as spec_unsigned, before, behind, raised as spec_raised, lowered as spec_lowered, digits_value, amount_limit, is_over, units_of};
 ghost use Rattle.asl_json.specs.Places.{AreZeros, EndsAboveZero, IsStripped, IsShifted, IsUnshiftable, IsAmount, IsBeyond};
 
@@ -123,6 +123,39 @@ fn number_after(front: u128, digits: &[u8]) -> Option<u128>
     Some(number)
 }
 
+/// No number as large is worked with in 64 bits.
+const SHORT_LIMIT: u64 = 1_000_000_000_000_000_000;
+
+/// The number that digits spell behind those of another, where 64 bits are enough for working it out.
+fn short_number(front: u64, digits: &[u8]) -> Option<u64>
+    requires { AreDigits digits.now }
+    ensures { IfSome result (λ n. n ≡ digits_value front digits.now) }
+{
+    let mut number = front;
+    for digit in digits {
+        if number >= SHORT_LIMIT {
+            return None;
+        }
+        number = number * 10 + u64::from(digit_value(*digit));
+    }
+    Some(number)
+}
+
+/// The number that digits before and behind a point spell together, where it is below the limit.
+fn digits_number(integer: &[u8], fraction: &[u8]) -> Option<u128>
+    requires integer { AreDigits integer.now }
+    requires fraction { AreDigits fraction.now }
+    ensures { let value = digits_value (digits_value 0 integer.now) fraction.now in MatchOption result (amount_limit ≤ value) (λ n. (n ≡ value) × (n < amount_limit)) }
+{
+    if let Some(front) = short_number(0, integer) {
+        if let Some(number) = short_number(front, fraction) {
+            return Some(u128::from(number));
+        }
+    }
+    let front = number_after(0, integer)?;
+    number_after(front, fraction)
+}
+
 /// The number that an exponent's digits spell, or the largest one that matters where it is larger.
 fn exponent_size(digits: &[u8]) -> usize
     requires { AreDigits digits.now }
@@ -233,8 +266,7 @@ fn plain_amount(integer: &[u8], fraction: &[u8]) -> Option<u128>
     requires few { length fraction.now ≤ 9 }
     ensures { MatchOption result (IsBeyond integer.now fraction.now []) (IsAmount integer.now fraction.now []) }
 {
-    let front = number_after(0, integer)?;
-    let number = number_after(front, fraction)?;
+    let number = digits_number(integer, fraction)?;
     let amount = number * tens(DECIMALS - fraction.len());
     if amount >= AMOUNT_LIMIT {
         return None;

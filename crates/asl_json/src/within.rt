@@ -21,10 +21,13 @@ fn escape_len(byte: u8) -> usize
     }
 }
 
-/// What bytes of a text, with their escapes, leave of some room.
+/// What bytes of a text, with their escapes, leave of some room. More bytes than there is room for aren't looked at.
 fn room_behind_escaped(bytes: &[u8], room: usize) -> Option<usize>
     ensures { Leaves (escaped bytes.now) room result }
 {
+    if bytes.len() > room {
+        return None;
+    }
     let mut rest = bytes;
     let mut left = room;
     loop {

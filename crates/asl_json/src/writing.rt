@@ -1,11 +1,13 @@
 // Writing the compact text.
-ghost use Rattle.std.specs.Prelude.{◌≡◌, ◌<◌, ◌≤◌, ◌∷◌, None, false, ◌++◌, [], ℕ, List, length, IfOk, OnOk, MatchOption, string_bytes};
+ghost use Rattle.std.specs.Prelude.{◌≡◌, ◌<◌, ◌≤◌, ◌∷◌, None, false, ◌++◌, [], ℕ, List, length, take, IfOk, OnOk, OnErr, MatchOption, string_bytes};
 ghost use Rattle.asl_json.specs.View.{data_of};
 ghost use Rattle.asl_json.specs.Data.{pairs, chain};
 ghost use Rattle.asl_json.specs.Grammar.{IsText};
 ghost use Rattle.asl_json.specs.Text.{backslash, is_plain};
 ghost use Rattle.std.specs.Char.{digit_char};
 ghost use Rattle.std.specs.Str.{IsUtf8};
+ghost use Rattle.std.specs.String.Boundary.{IsSplitPoint};
+ghost use Rattle.asl_json.specs.Buffers.{Keeps};
 ghost use Rattle.asl_json.specs.Wrong.{ReadsAs};
 ghost use Rattle.asl_json.specs.Compact.{separator, escaped_control, escaped_byte, escaped, quoted, compact, compact_items, compact_members, IsReadable};
 
@@ -14,39 +16,41 @@ use crate::value::{Items, Json, Members};
 use std::alloc::{AllocError, Global};
 
 /// The lower-case hexadecimal digit of this value.
-fn digit(value: u8) -> char
+fn digit(value: u8) -> u8
     requires { value < 16 }
-    ensures { result ≡ digit_char value }
+    ensures value { result ≡ digit_char value }
+    ensures ascii { result < 128 }
 {
-    match char::from_digit(u32::from(value), 16) {
-        Some(digit) => digit,
-        None => unreachable!(),
+    if value < 10 {
+        b'0' + value
+    } else {
+        b'a' + (value - 10)
     }
 }
 
 /// A control in four digits.
 fn put_digits(out: &mut String, byte: u8) -> Result<(), AllocError>
     requires { byte < 32 }
-    ensures { OnOk result (string_bytes out.new ≡ string_bytes out.old ++ escaped_control byte None) }
+    ensures ok { OnOk result (string_bytes out.new ≡ string_bytes out.old ++ escaped_control byte None) }
+    ensures err { OnErr result (string_bytes out.new ≡ string_bytes out.old) }
 {
-    out.push_str("\\u00")?;
-    out.push(digit(byte / 16))?;
-    out.push(digit(byte % 16))
+    let escape = [b'\\', b'u', b'0', b'0', digit(byte / 16), digit(byte % 16)];
+    append(out, &escape)
 }
 
 /// The letter by which a byte is escaped, where there is one.
 #[tactic(auto, unfolding(crate::specs::Compact::escaped_byte, crate::specs::Compact::control_letter, crate::specs::Text::is_plain))]
-pub(crate) fn letter(byte: u8) -> Option<char>
+pub(crate) fn letter(byte: u8) -> Option<u8>
     requires { is_plain byte ≡ false }
     ensures { MatchOption result ((byte < 32) × (escaped_byte byte ≡ escaped_control byte None)) (λ l. (l < 128) × (escaped_byte byte ≡ backslash ∷ l ∷ [])) }
 {
     match byte {
-        b'"' | b'\\' => Some(char::from(byte)),
-        8 => Some('b'),
-        9 => Some('t'),
-        10 => Some('n'),
-        12 => Some('f'),
-        13 => Some('r'),
+        b'"' | b'\\' => Some(byte),
+        8 => Some(b'b'),
+        9 => Some(b't'),
+        10 => Some(b'n'),
+        12 => Some(b'f'),
+        13 => Some(b'r'),
         _ => None,
     }
 }
@@ -54,19 +58,20 @@ pub(crate) fn letter(byte: u8) -> Option<char>
 /// The escape of a byte that can't stand in a text as it is.
 fn put_escape(out: &mut String, byte: u8) -> Result<(), AllocError>
     requires { is_plain byte ≡ false }
-    ensures { OnOk result (string_bytes out.new ≡ string_bytes out.old ++ escaped_byte byte) }
+    ensures ok { OnOk result (string_bytes out.new ≡ string_bytes out.old ++ escaped_byte byte) }
+    ensures err { OnErr result (string_bytes out.new ≡ string_bytes out.old) }
 {
     let Some(letter) = letter(byte) else {
         return put_digits(out, byte);
     };
-    out.push('\\')?;
-    out.push(letter)
+    append(out, &[b'\\', letter])
 }
 
-/// Appends bytes of a text, with their escapes.
+/// Appends bytes of a text, with their escapes. Where memory runs out, some of them may be there.
 fn put_escaped(out: &mut String, bytes: &[u8]) -> Result<(), AllocError>
     requires { IsUtf8 bytes.now }
-    ensures { OnOk result (string_bytes out.new ≡ string_bytes out.old ++ escaped bytes.now) }
+    ensures ok { OnOk result (string_bytes out.new ≡ string_bytes out.old ++ escaped bytes.now) }
+    ensures kept { Keeps (string_bytes out.old) (string_bytes out.new) }
 {
     let mut rest = bytes;
     loop {
@@ -80,18 +85,48 @@ fn put_escaped(out: &mut String, bytes: &[u8]) -> Result<(), AllocError>
     }
 }
 
-/// Appends the compact JSON text of a text: in quotes, with its escapes. The error is that memory ran out.
-pub fn put_quoted(out: &mut String, text: &str) -> Result<(), AllocError>
-    ensures { OnOk result (string_bytes out.new ≡ string_bytes out.old ++ quoted text.now) }
+/// Appends a text in quotes, with its escapes. Where memory runs out, a part of it may be there.
+fn put_text(out: &mut String, text: &str) -> Result<(), AllocError>
+    ensures ok { OnOk result (string_bytes out.new ≡ string_bytes out.old ++ quoted text.now) }
+    ensures kept { Keeps (string_bytes out.old) (string_bytes out.new) }
 {
     out.push('"')?;
     put_escaped(out, text.as_bytes())?;
     out.push('"')
 }
 
+/// Takes back what was appended to a buffer of this length, where memory ran out before it was whole.
+fn whole_or_none(
+    out: &mut String,
+    len: usize,
+    appended: Result<(), AllocError>,
+) -> Result<(), AllocError>
+    requires { IsSplitPoint (string_bytes out.old) len }
+    ensures same { result ≡ appended }
+    ensures ok { OnOk appended (string_bytes out.new ≡ string_bytes out.old) }
+    ensures err { OnErr appended (string_bytes out.new ≡ take len (string_bytes out.old)) }
+{
+    if appended.is_err() {
+        out.truncate(len);
+    }
+    appended
+}
+
+/// Appends the compact JSON text of a text: in quotes, with its escapes. The error is that memory ran out, and then nothing
+/// is appended.
+pub fn put_quoted(out: &mut String, text: &str) -> Result<(), AllocError>
+    ensures ok { OnOk result (string_bytes out.new ≡ string_bytes out.old ++ quoted text.now) }
+    ensures err { OnErr result (string_bytes out.new ≡ string_bytes out.old) }
+{
+    let len = out.as_str().len();
+    let appended = put_text(out, text);
+    whole_or_none(out, len, appended)
+}
+
 /// A comma before each part but the first.
 fn separate(out: &mut String, i: usize) -> Result<(), AllocError>
-    ensures { OnOk result (string_bytes out.new ≡ string_bytes out.old ++ separator i) }
+    ensures ok { OnOk result (string_bytes out.new ≡ string_bytes out.old ++ separator i) }
+    ensures err { OnErr result (string_bytes out.new ≡ string_bytes out.old) }
 {
     if i > 0 {
         out.push(',')?;
@@ -99,17 +134,28 @@ fn separate(out: &mut String, i: usize) -> Result<(), AllocError>
     Ok(())
 }
 
-/// Appends the compact text of a value, as `write` gives it. The error is that memory ran out.
-#[cycle(put)]
+/// Appends the compact text of a value, as `write` gives it. The error is that memory ran out, and then nothing is appended.
 pub fn put(out: &mut String, value: &Json) -> Result<(), AllocError>
-    ensures { OnOk result (string_bytes out.new ≡ string_bytes out.old ++ compact (data_of value.now)) }
+    ensures ok { OnOk result (string_bytes out.new ≡ string_bytes out.old ++ compact (data_of value.now)) }
+    ensures err { OnErr result (string_bytes out.new ≡ string_bytes out.old) }
+{
+    let len = out.as_str().len();
+    let appended = put_value(out, value);
+    whole_or_none(out, len, appended)
+}
+
+/// Appends the compact text of a value. Where memory runs out, a part of it may be there.
+#[cycle(put)]
+fn put_value(out: &mut String, value: &Json) -> Result<(), AllocError>
+    ensures ok { OnOk result (string_bytes out.new ≡ string_bytes out.old ++ compact (data_of value.now)) }
+    ensures kept { Keeps (string_bytes out.old) (string_bytes out.new) }
 {
     match value {
         Json::Null => out.push_str("null"),
         Json::Bool(true) => out.push_str("true"),
         Json::Bool(false) => out.push_str("false"),
         Json::Num(number) => out.push_str(number.spelling()),
-        Json::Text(text) => put_quoted(out, text.as_str()),
+        Json::Text(text) => put_text(out, text.as_str()),
         Json::List(items) => put_items(out, items),
         Json::Dict(members) => put_members(out, members),
     }
@@ -117,12 +163,13 @@ pub fn put(out: &mut String, value: &Json) -> Result<(), AllocError>
 
 #[cycle(put)]
 fn put_items(out: &mut String, items: &Items) -> Result<(), AllocError>
-    ensures { OnOk result (string_bytes out.new ≡ string_bytes out.old ++ 91 ∷ compact_items (chain items.now)) }
+    ensures ok { OnOk result (string_bytes out.new ≡ string_bytes out.old ++ 91 ∷ compact_items (chain items.now)) }
+    ensures kept { Keeps (string_bytes out.old) (string_bytes out.new) }
 {
     out.push('[')?;
     for (i, item) in items.values.iter().enumerate() {
         separate(out, i)?;
-        put(out, item)?;
+        put_value(out, item)?;
     }
     out.push(']')?;
     Ok(())
@@ -130,14 +177,15 @@ fn put_items(out: &mut String, items: &Items) -> Result<(), AllocError>
 
 #[cycle(put)]
 fn put_members(out: &mut String, members: &Members) -> Result<(), AllocError>
-    ensures { OnOk result (string_bytes out.new ≡ string_bytes out.old ++ 123 ∷ compact_members (pairs members.now)) }
+    ensures ok { OnOk result (string_bytes out.new ≡ string_bytes out.old ++ 123 ∷ compact_members (pairs members.now)) }
+    ensures kept { Keeps (string_bytes out.old) (string_bytes out.new) }
 {
     out.push('{')?;
     for (i, member) in members.members.iter().enumerate() {
         separate(out, i)?;
-        put_quoted(out, member.key.as_str())?;
+        put_text(out, member.key.as_str())?;
         out.push(':')?;
-        put(out, &member.value)?;
+        put_value(out, &member.value)?;
     }
     out.push('}')?;
     Ok(())
@@ -153,6 +201,6 @@ pub fn write(alloc: Global, value: &Json) -> Result<String, AllocError>
     ensures shortest { IfOk result (λ t. (b : List ℕ) → IsText b (data_of value.now) → length (string_bytes t) ≤ length b) }
 {
     let mut out = String::new(alloc);
-    put(&mut out, value)?;
+    put_value(&mut out, value)?;
     Ok(out)
 }

@@ -1,7 +1,10 @@
 use Rattle.std.proofs.Common.{arith, ap, length}
 use Rattle.asl_json.specs.Compact.{escaped}
-use Rattle.asl_json.proofs.Rooms.{behind_plains, behind_byte}
+use Rattle.asl_json.proofs.Rooms.{behind_plains, behind_byte, no_shorter}
 use Rattle.asl_json.proofs.within.room_behind_escaped.Goals as goal
+
+pub returns-then-bytes-room : goal.returns-then-bytes-room
+returns-then-bytes-room c = omega (arith, no_shorter c.args.bytes.now)
 
 pub returns-in_err-left : goal.returns-in_err-left
 returns-in_err-left c = rw c.from_residual.ensures (omega (arith, c.loop-left.invariant, c.in_err-left.ensures, behind_plains c.loop-left.rest.now _ _ c.split_plain.ensures.parts c.split_plain.ensures.plain))

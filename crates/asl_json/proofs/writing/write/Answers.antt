@@ -11,12 +11,12 @@ use Rattle.asl_json.proofs.writing.write.Goals as goal
 pub returns-clause-round : goal.returns-clause-round
 returns-clause-round c = λ h.
     let v = data_of c.args.value.now in
-    let text : string_bytes c.put.new.out ≡ compact v = rw c.new-out.ensures.bytes at c.in_ok-put.ensures in
+    let text : string_bytes c.put_value.new.out ≡ compact v = rw c.new-out.ensures.bytes at c.in_ok-put_value.ensures.ok in
     record {
       fits = subst (λ (t : List ℕ). length t ≤ max_len) (sym text) h.fits;
-      utf8 = IsUtf8-string_bytes c.put.new.out;
+      utf8 = IsUtf8-string_bytes c.put_value.new.out;
       reads = subst (λ (t : List ℕ). Reads t v) (sym text) (compact_is_text v h.spellable, h.allowed);
     }
 
 pub returns-clause-shortest : goal.returns-clause-shortest
-returns-clause-shortest c = λ b h. rw (c.in_ok-put.ensures, c.new-out.ensures.bytes) (no_text_is_shorter (data_of c.args.value.now) b h)
+returns-clause-shortest c = λ b h. rw (c.in_ok-put_value.ensures.ok, c.new-out.ensures.bytes) (no_text_is_shorter (data_of c.args.value.now) b h)

@@ -1,7 +1,7 @@
 use Rattle.std.proofs.Common.{◌≡◌, ◌+◌, ◌-◌, take, drop, subst, arith}
 use Rattle.asl_json.specs.Text.{ArePlain}
 use Rattle.asl_json.proofs.Fronts.{plain_block}
-use Rattle.asl_json.proofs.front.plain_blocks_len.Goals as goal
+use Rattle.asl_json.proofs.front.plain_blocks_end.Goals as goal
 
 pub loop-end-preserved : goal.loop-end-preserved
 loop-end-preserved c =
