@@ -35,7 +35,7 @@ digits_digits (suc k) n =
     push_digit (digits k (n / 10)) (48 + n % 10) (digits_digits k (n / 10)) (rw v (omega arith))
 
 -- so many digits spell their number
-digits_value_digits : (k n : ℕ) → n < 10 ^ k → digits_value 10 (digits k n) ≡ n
+pub digits_value_digits : (k n : ℕ) → n < 10 ^ k → digits_value 10 (digits k n) ≡ n
 unfolding digits
 digits_value_digits zero n l = omega arith
 digits_value_digits (suc k) n l =

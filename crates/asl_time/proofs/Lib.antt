@@ -10,3 +10,6 @@ pub mod Moments
 pub mod Delays
 pub mod StampTexts
 pub mod Forms
+pub mod Fielded
+pub mod FieldMoments
+pub mod Examples

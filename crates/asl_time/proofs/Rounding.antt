@@ -13,7 +13,7 @@ use Rattle.asl_time.specs.Timestamp.{IsRoundedUp}
 power_up : (n : ℕ) → 10 ^ suc n ≡ 10 * 10 ^ n
 power_up n = simp unary_clauses (omega arith)
 
-power_positive : (n : ℕ) → 0 < 10 ^ n
+pub power_positive : (n : ℕ) → 0 < 10 ^ n
 power_positive zero = omega arith
 power_positive (suc n) = omega (arith, power_positive n, power_up n)
 

@@ -14,4 +14,4 @@ mod read;
 pub use moment::{Moment, add};
 pub use print::{print_stamp, put_stamp, stamps_show_their_moments};
 pub use rate::{Rate, delay};
-pub use read::read_stamp;
+pub use read::{a_text_has_the_moment_of_its_fields, read_stamp};

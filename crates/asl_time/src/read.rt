@@ -1,7 +1,8 @@
 // The moment of a timestamp.
-ghost use Rattle.std.specs.Prelude.{◌≡◌, ◌≤◌, ◌<◌, ℕ, IfSome, pos, ◌+ℤ◌, ◌-ℤ◌, ◌*ℤ◌};
+ghost use Rattle.std.specs.Prelude.{◌≡◌, ◌≤◌, ◌<◌, ◌↔◌, ℕ, List, IfSome, pos, ◌+ℤ◌, ◌-ℤ◌, ◌*ℤ◌};
 ghost use Rattle.jiff_core.specs.Calendar.{IsWithin};
 ghost use Rattle.asl_time.specs.Timestamp.{IsTimestamp};
+ghost use Rattle.asl_time.specs.Fields.{moment_in};
 
 use crate::calendar::{read_date, read_time};
 use crate::fraction::read_fraction;
@@ -37,6 +38,8 @@ pub fn read_stamp(text: &str) -> Option<Moment>
     ensures found { IfSome result (IsTimestamp text.now) }
     // No other moment, and `None` only where there is none.
     ensures only { (m : ℕ) → IsTimestamp text.now m → result ≡ Some m }
+    // It is the moment of the fields at their places.
+    ensures value { result ≡ moment_in text.now }
 {
     let (date, rest) = read_date(text.as_bytes())?;
     let (time, rest) = read_time(rest)?;
@@ -45,3 +48,8 @@ pub fn read_stamp(text: &str) -> Option<Moment>
     let local = DateTime { date, time };
     moment_at(local.to_second(), ahead, thousandths)
 }
+
+/// A text is a timestamp of the moment that the fields at their places come to, and of no other. The law has no code.
+pub fn a_text_has_the_moment_of_its_fields()
+    ensures { (t : List ℕ) (m : ℕ) → IsTimestamp t m ↔ (moment_in t ≡ Some m) }
+{}

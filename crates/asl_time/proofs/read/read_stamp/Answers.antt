@@ -1,5 +1,6 @@
 use Rattle.std.proofs.Common.{rules, FitsSigned, w64}
 use Rattle.std.proofs.lemmas.Int.{to_z-of_z}
+use Rattle.asl_time.proofs.FieldMoments.{read_is}
 use Rattle.asl_time.proofs.Moments.{both}
 use Rattle.asl_time.proofs.Readings.{behind_date, dated, timed, fractioned, read, timestamp}
 use Rattle.asl_time.proofs.read.read_stamp.Goals as goal
@@ -51,3 +52,18 @@ returns-clause-only c m h =
     let local : FitsSigned w64 c.to_second.result = search rules in
     let ahead : FitsSigned w64 c.in_ok-ahead.ahead = search rules in
     c.moment_at.ensures.only m h.in_range (rw (to_z-of_z w64 c.to_second.result local, to_z-of_z w64 c.in_ok-ahead.ahead ahead, c.to_second.ensures.value) moment)
+
+pub returns-in_err-date-clause-value : goal.returns-in_err-date-clause-value
+returns-in_err-date-clause-value c = read_is c.from_residual.result c.args.text.now (rw c.from_residual.ensures tt) (returns-in_err-date-clause-only c)
+
+pub returns-in_err-time-clause-value : goal.returns-in_err-time-clause-value
+returns-in_err-time-clause-value c = read_is c.from_residual-in_err-time.result c.args.text.now (rw c.from_residual-in_err-time.ensures tt) (returns-in_err-time-clause-only c)
+
+pub returns-in_err-thousandths-clause-value : goal.returns-in_err-thousandths-clause-value
+returns-in_err-thousandths-clause-value c = read_is c.from_residual-in_err-thousandths.result c.args.text.now (rw c.from_residual-in_err-thousandths.ensures tt) (returns-in_err-thousandths-clause-only c)
+
+pub returns-in_err-ahead-clause-value : goal.returns-in_err-ahead-clause-value
+returns-in_err-ahead-clause-value c = read_is c.from_residual-in_err-ahead.result c.args.text.now (rw c.from_residual-in_err-ahead.ensures tt) (returns-in_err-ahead-clause-only c)
+
+pub returns-clause-value : goal.returns-clause-value
+returns-clause-value c = read_is _ _ (returns-clause-found c) (returns-clause-only c)
