@@ -6,3 +6,5 @@ pub mod Shows
 pub mod Apart
 pub mod Within
 pub mod Taken
+mod Fitted
+mod Stamped

@@ -1,5 +1,5 @@
 -- Patterns of texts (Amazon States Language, "StringMatches"): a star stands for zero characters or more.
-use Rattle.std.specs.Prelude.{◌≡◌, ℕ, List, [], ◌∷◌, ◌++◌, Bool, true, false, ◌||◌, nat_eq, if◌then◌else◌}
+use Rattle.std.specs.Prelude.{◌≡◌, ℕ, List, [], ◌∷◌, ◌++◌, Bool, true, false, ◌&&◌, ◌||◌, nat_eq, if◌then◌else◌}
 use Rattle.asl_choice.specs.declared.pattern.Token.{Token}
 use Rattle.asl_choice.specs.declared.pattern.Token.TheVariants.{Byte, Star, OpenEscape}
 
@@ -44,3 +44,17 @@ Fits [] t = t ≡ []
 Fits (Byte b ∷ ts) t = (rest : List ℕ) × (t ≡ b ∷ rest) × Fits ts rest
 Fits (Star ∷ ts) t = (front : List ℕ) × (rest : List ℕ) × (t ≡ front ++ rest) × Fits ts rest
 Fits (OpenEscape ∷ ts) t = ⊥
+
+-- some end of a text, the whole and the empty one included, passes
+abbrev pub some_end : (List ℕ → Bool) → List ℕ → Bool
+some_end p [] = p []
+some_end p (c ∷ cs) = p (c ∷ cs) || some_end p cs
+
+-- the same as a truth value, trying each length of a star's text in turn
+abbrev pub fits : List Token → List ℕ → Bool
+fits [] [] = true
+fits [] (c ∷ cs) = false
+fits (Byte b ∷ ts) [] = false
+fits (Byte b ∷ ts) (c ∷ cs) = nat_eq b c && fits ts cs
+fits (Star ∷ ts) t = some_end (fits ts) t
+fits (OpenEscape ∷ ts) t = false

@@ -1,14 +1,20 @@
 //! The rules of Choice states, compiled from a definition without faults.
 //!
 //! Modules in reading order: `operator` has the comparisons by name, `comparison` is one with its operand, and `rule` a rule.
-//! `pattern` matches texts against the patterns of `StringMatches`. `specs/Rules.antt` says what each rule shows, and
-//! `specs/Patterns.antt` what a pattern says.
+//! `pattern` matches texts against the patterns of `StringMatches`; `lookup`, `judging` and `truth` say whether a rule holds.
+//! `specs/Rules.antt` says what each rule shows, `specs/Patterns.antt` what a pattern says, and `specs/Truth.antt` which rules
+//! hold.
 #![tactic(auto)]
 
 mod comparison;
+mod fault;
+mod judging;
+mod lookup;
 mod operator;
 mod pattern;
 mod rule;
+mod truth;
 
+pub use fault::RuleFault;
 pub use pattern::matches;
 pub use rule::Rule;

@@ -1,7 +1,7 @@
 // Patterns of texts.
 ghost use Rattle.std.specs.Prelude.{◌≡◌, ◌<◌, ◌≤◌, ◌↔◌, ◌∷◌, [], ℕ, List, true, false, length, IfSome, IsNone, IsTrue};
 ghost use Rattle.asl_choice.specs.declared.pattern.Token.TheVariants.{Byte, Star};
-ghost use Rattle.asl_choice.specs.Patterns.{tokens, escaped as escaped_tokens, has_open_escape as is_open, Fits};
+ghost use Rattle.asl_choice.specs.Patterns.{tokens, escaped as escaped_tokens, has_open_escape as is_open, Fits, fits as decided};
 ghost use Rattle.asl_choice.specs.Taking.{IsStopped, IsFront};
 
 /// What stands first in a pattern.
@@ -174,6 +174,8 @@ fn fits(pattern: &[u8], text: &[u8]) -> bool
 pub fn matches(pattern: &str, text: &str) -> Option<bool>
     ensures open { IsNone result ↔ (is_open (tokens pattern.now) ≡ true) }
     ensures fits { IfSome result (λ b. IsTrue b ↔ Fits (tokens pattern.now) text.now) }
+    // The same as a truth value.
+    ensures value { IfSome result (λ b. b ≡ decided (tokens pattern.now) text.now) }
 {
     let pattern = pattern.as_bytes();
     if has_open_escape(pattern) {

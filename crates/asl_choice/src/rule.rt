@@ -24,7 +24,7 @@ use std::marker::Model;
 #[derive(Drop)]
 pub struct Rule {
     comment: Option<Txt>,
-    condition: Condition,
+    pub(crate) condition: Condition,
 }
 
 /// What a rule asks.

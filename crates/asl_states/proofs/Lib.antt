@@ -1,3 +1,4 @@
 pub mod Canonical
 pub mod Ruling
 pub mod Begins
+mod Nexts

@@ -11,8 +11,11 @@ ghost use Rattle.asl_states.specs.Show.{choice_rule_object, choice_rule_objects}
 ghost use Rattle.asl_states.specs.Show.{choice_object};
 ghost use Rattle.asl_json.specs.Meaning.{value_in};
 ghost use Rattle.asl_members.specs.Shown.{path_shown};
+ghost use Rattle.asl_choice.specs.Truth.{holds as rule_holds};
+ghost use Rattle.asl_choice.specs.Seen.{seen};
+ghost use Rattle.asl_states.specs.Choosing.{chosen_next};
 
-use asl_choice::Rule;
+use asl_choice::{Rule, RuleFault};
 use asl_json::{Json, Members, Txt};
 use asl_members::{Compiled, PathField, json_all};
 use asl_parts::{Common, Target, and, with, with_path};
@@ -97,6 +100,13 @@ impl ChoiceRule {
             next: Target::read(alloc, members.find("Next"))?,
         })
     }
+
+    fn holds<'a>(&'a self, input: &Json, context: &Json) -> Result<bool, RuleFault<'a>>
+        ensures truth { seen (λ b. b) result ≡ rule_holds (choice_rule_object self.now) (data_of input.now) (data_of context.now) }
+        ensures next { value_in (codes "Next") (choice_rule_object self.now) ≡ Some (text self.now.next.name) }
+    {
+        self.rule.holds(input, context)
+    }
 }
 
 impl Compiled for ChoiceRule {
@@ -118,6 +128,23 @@ impl ChoiceRules {
         ensures { choice_rule_objects result.now ≡ self.now }
     {
         &self.rules
+    }
+
+    /// `Next` of the first rule that holds on an input and a Context Object, and `None` where no rule holds. A fault of a rule counts
+    /// where no rule before it holds. Takes no memory.
+    pub fn next<'a>(
+        &'a self,
+        input: &Json,
+        context: &Json,
+    ) -> Result<Option<&'a Target>, RuleFault<'a>>
+        ensures { seen (λ t. option_map (λ t. text t.now.name) t) result ≡ chosen_next self.now (data_of input.now) (data_of context.now) }
+    {
+        for rule in &self.rules {
+            if rule.holds(input, context)? {
+                return Ok(Some(&rule.next));
+            }
+        }
+        Ok(None)
     }
 
     fn read(alloc: Global, value: &Json) -> Result<ChoiceRules, AllocError>

@@ -1,0 +1,11 @@
+// Why it can't be said whether a rule holds.
+use std::fmt::Debug;
+
+/// Why it can't be said whether a rule holds.
+#[derive(Clone, Copy, Debug, PartialEq, Eq)]
+pub enum RuleFault<'a> {
+    /// G1: this path, of a variable or of what it is compared to, names nothing.
+    Missing(&'a str),
+    /// G2: a text is tested by a pattern with an open escape.
+    OpenEscape,
+}
