@@ -95,8 +95,11 @@ named_machine rs m = record { name = m.0; value = machine_of rs (members_at (cod
 abbrev pub machines_of : List (Named Response) → Members → List (Named Machine)
 machines_of rs ms = map (named_machine rs) ms
 
--- the cases of each machine of a file
-abbrev pub mocks_of : Data → List (Named Machine)
+-- a file: the cases of each machine
+abbrev pub Machines : Type 0
+Machines = List (Named Machine)
+
+abbrev pub mocks_of : Data → Machines
 mocks_of d = machines_of (responses_of (members_at (codes "MockedResponses") d)) (members_at (codes "StateMachines") d)
 
 -- ---- which answer is given

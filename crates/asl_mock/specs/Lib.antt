@@ -8,3 +8,4 @@ pub mod Apart
 pub mod Gives
 pub mod Shared
 pub mod Told
+pub mod Lines

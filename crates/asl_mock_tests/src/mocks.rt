@@ -160,3 +160,139 @@ fn faults_at_their_places(rt: HostRuntime) -> Result<(), Fail> {
     }
     Ok(())
 }
+
+/// The file that AWS shows for Step Functions Local, as it stands there.
+const AWS: &str = r#"{
+  "StateMachines":{
+    "LambdaSQSIntegration":{
+      "TestCases":{
+        "HappyPath":{
+          "LambdaState":"MockedLambdaSuccess",
+          "SQSState":"MockedSQSSuccess"
+        },
+        "RetryPath":{
+          "LambdaState":"MockedLambdaRetry",
+          "SQSState":"MockedSQSSuccess"
+        },
+        "HybridPath":{
+          "LambdaState":"MockedLambdaSuccess"
+        }
+      }
+    }
+  },
+  "MockedResponses":{
+    "MockedLambdaSuccess":{
+      "0":{
+        "Return":{
+          "StatusCode":200,
+          "Payload":{
+            "StatusCode":200,
+            "body":"Hello from Lambda!"
+          }
+        }
+      }
+    },
+    "LambdaMockedResourceNotReady":{
+      "0":{
+        "Throw":{
+          "Error":"Lambda.ResourceNotReadyException",
+          "Cause":"Lambda resource is not ready."
+        }
+      }
+    },
+    "MockedSQSSuccess":{
+      "0":{
+        "Return":{
+          "MD5OfMessageBody":"3bcb6e8e-7h85-4375-b0bc-1a59812c6e51",
+          "MessageId":"3bcb6e8e-8b51-4375-b0bc-1a59812c6e51"
+        }
+      }
+    },
+    "MockedLambdaRetry":{
+      "0":{
+        "Throw":{
+          "Error":"Lambda.ResourceNotReadyException",
+          "Cause":"Lambda resource is not ready."
+        }
+      },
+      "1-2":{
+        "Throw":{
+          "Error":"Lambda.TimeoutException",
+          "Cause":"Lambda timed out."
+        }
+      },
+      "3":{
+        "Return":{
+          "StatusCode":200,
+          "Payload":{
+            "StatusCode":200,
+            "body":"Hello from Lambda!"
+          }
+        }
+      }
+    }
+  }
+}"#;
+
+#[test]
+fn the_file_that_aws_shows(rt: HostRuntime) -> Result<(), Fail> {
+    let alloc = rt.alloc();
+    let hello = r#"{"StatusCode":200,"Payload":{"StatusCode":200,"body":"Hello from Lambda!"}}"#;
+    let not_ready = "throws Lambda.ResourceNotReadyException Lambda resource is not ready.";
+    let timed_out = "throws Lambda.TimeoutException Lambda timed out.";
+    let sent =
+        r#"{"MD5OfMessageBody":"3bcb6e8e-7h85-4375-b0bc-1a59812c6e51","MessageId":"3bcb6e8e-8b51-4375-b0bc-1a59812c6e51"}"#;
+    let rows = [
+        ("HappyPath", "LambdaState", 0, hello),
+        ("HappyPath", "LambdaState", 1, "none"),
+        ("HappyPath", "SQSState", 0, sent),
+        ("RetryPath", "LambdaState", 0, not_ready),
+        ("RetryPath", "LambdaState", 1, timed_out),
+        ("RetryPath", "LambdaState", 2, timed_out),
+        ("RetryPath", "LambdaState", 3, hello),
+        ("RetryPath", "LambdaState", 4, "none"),
+        ("HybridPath", "LambdaState", 0, hello),
+        ("HybridPath", "SQSState", 0, "none"),
+        ("SadPath", "LambdaState", 0, "M8"),
+    ];
+    for (case, state, number, wanted) in rows {
+        let given = answered(alloc, AWS, ("LambdaSQSIntegration", case, state), number);
+        assert!(rt; is(&given, wanted));
+    }
+    Ok(())
+}
+
+/// A fault's own text.
+fn fault_text(alloc: Global, file: &str) -> Option<String> {
+    Mocks::read(alloc, file.as_bytes()).err()?.text(alloc).ok()
+}
+
+#[test]
+fn faults_have_their_texts(rt: HostRuntime) {
+    let alloc = rt.alloc();
+    let rows = [
+        ("{", "M1 Json J1 Syntax 1"),
+        ("[]", "M2 Shape"),
+        (
+            r#"{"MockedResponses":{"R":{"0":{}}}}"#,
+            "M2 Shape /MockedResponses/R/0",
+        ),
+        (
+            r#"{"MockedResponses":{"r/s":{"2-1":{"Return":1}}}}"#,
+            "M3 Key /MockedResponses/r~1s/2-1",
+        ),
+        (
+            r#"{"MockedResponses":{"":{"0-2":{"Return":1},"2":{"Return":2}}}}"#,
+            "M4 Overlap /MockedResponses//2",
+        ),
+        (
+            r#"{"StateMachines":{"M":{"TestCases":{"c":{"A":"R"}}}}}"#,
+            "M5 NoResponse /StateMachines/M/TestCases/c/A",
+        ),
+    ];
+    for (file, wanted) in rows {
+        assert!(rt; is(&fault_text(alloc, file), wanted), "{wanted}");
+    }
+    assert_eq!(rt; CaseFault::NoMachine.text(), "M7 NoMachine");
+    assert_eq!(rt; CaseFault::NoCase.text(), "M8 NoCase");
+}
