@@ -33,6 +33,7 @@ const RUN: [&str; 8] = [
 #[derive(Drop)]
 struct Shelf {
     definition: &'static str,
+    mocks: &'static str,
     steps: &'static str,
     failing: &'static str,
     fault: ReadFault,
@@ -53,6 +54,7 @@ impl Files for Shelf {
         }
         let text = match name {
             "machine" => self.definition,
+            "mocks" => self.mocks,
             "steps" => self.steps,
             _ => "{}",
         };
@@ -66,6 +68,7 @@ impl Files for Shelf {
 fn make_shelf(alloc: Global, definition: &'static str, steps: &'static str) -> Shelf {
     Shelf {
         definition,
+        mocks: "{}",
         steps,
         failing: "",
         fault: ReadFault::Unreadable,
@@ -252,6 +255,64 @@ fn refusals_are_one_line(rt: HostRuntime) {
         assert_eq!(rt; text(&err), want);
         assert!(rt; out.bytes().is_empty());
     }
+}
+
+/// A mock file with the case `c` of `M`.
+const MOCKS: &str =
+    r#"{"StateMachines":{"M":{"TestCases":{"c":{"T":"r"}}}},"MockedResponses":{"r":{"0":{"Return":1}}}}"#;
+
+/// Mock files, what is chosen, and the line that is told.
+const NO_CASES: &[(&str, &str, &str)] = &[
+    ("[", "M", "fault: mocks: M1 Json J1 Syntax 1\n"),
+    ("[]", "M", "fault: mocks: M2 Shape\n"),
+    (
+        r#"{"MockedResponses":{"r":{"x":{"Return":1}}}}"#,
+        "M#c",
+        "fault: mocks: M3 Key /MockedResponses/r/x\n",
+    ),
+    (
+        r#"{"MockedResponses":{"r":{"0":{"Return":1},"00":{"Return":1}}}}"#,
+        "M#c",
+        "fault: mocks: M4 Overlap /MockedResponses/r/00\n",
+    ),
+    (
+        r#"{"StateMachines":{"M":{"TestCases":{"c":{"T":"r"}}}}}"#,
+        "M",
+        "fault: mocks: M5 NoResponse /StateMachines/M/TestCases/c/T\n",
+    ),
+    (MOCKS, "Other#None", "fault: case: M7 NoMachine\n"),
+    (MOCKS, "M#None", "fault: case: M8 NoCase\n"),
+    (MOCKS, "M#c#", "fault: case: M8 NoCase\n"),
+];
+
+#[test]
+fn mock_files_and_cases_are_refused(rt: HostRuntime) {
+    let alloc = rt.alloc();
+    for (mocks, chosen, want) in NO_CASES {
+        let mut words = RUN;
+        words[4] = chosen;
+        let mut files = make_shelf(alloc, DEFINITION, TWO_STEPS);
+        files.mocks = mocks;
+        let (mut out, mut err) = (Memory::new(alloc), Memory::new(alloc));
+        let status = run_words(alloc, words.as_slice(), &mut files, &mut out, &mut err);
+        assert_eq!(rt; status, 2);
+        assert_eq!(rt; text(&err), *want);
+        assert!(rt; out.bytes().is_empty());
+    }
+}
+
+#[test]
+fn a_case_is_chosen(rt: HostRuntime) {
+    let alloc = rt.alloc();
+    let mut words = RUN;
+    words[4] = "M#c";
+    let mut files = make_shelf(alloc, DEFINITION, TWO_STEPS);
+    files.mocks = MOCKS;
+    let (mut out, mut err) = (Memory::new(alloc), Memory::new(alloc));
+    let status = run_words(alloc, words.as_slice(), &mut files, &mut out, &mut err);
+    assert_eq!(rt; status, 0);
+    assert_eq!(rt; text(&out), PRINTED);
+    assert!(rt; text(&err).is_empty());
 }
 
 #[test]

@@ -1,33 +1,21 @@
-// Executions.
-ghost use Rattle.std.specs.Prelude.{◌≡◌, ◌++◌, ◌⊎◌, ◌≤◌, length, true, Some, None, option_map, IfOk, IfErr, OnOk, OnErr};
-ghost use Rattle.std.specs.Option.{option_copied};
-ghost use Rattle.asl_def.specs.Machines.{states_of};
-ghost use Rattle.asl_states.specs.Show.{state_of as state_shown};
-ghost use Rattle.asl_setup.specs.Ready.{is_ready};
-ghost use Rattle.asl_run.specs.World.{record_at};
-ghost use Rattle.asl_run.specs.Refusals.{refusal_of};
-ghost use Rattle.asl_exec.specs.Steps.{opening, step, effect_in, number_in, object_in, seen_at, start_in};
-ghost use Rattle.asl_exec.specs.Views.{setup_of, world_of};
+// What an execution is.
+ghost use Rattle.std.specs.Prelude.{◌≡◌};
+ghost use Rattle.std.specs.Coded.{Coded-set};
+ghost use Rattle.asl_steps.specs.contracts.facts.Facts as facts_row;
+ghost use Rattle.asl_exec.specs.Steps.{facts_of};
 
-use asl_def::Machine;
-use asl_history::{History, Place};
-use asl_json::Name;
-use asl_kinds::effect::Effect;
-use asl_kinds::kind::StateKind;
-use asl_kinds::record::Record;
-use asl_kinds::steps;
-use asl_kinds::visit::Visit;
-use asl_run::{Outcome, Refusal, Run, state_in};
+use asl_run::Run;
 use asl_setup::Setup;
-use asl_states::State;
-use asl_time::Moment;
-use std::alloc::{AllocError, Global};
+use asl_steps::Context;
+use std::alloc::Global;
 
 /// A setup, and the world of the steps so far. It keeps the allocator that it was opened with.
 pub struct Execution {
-    setup: Setup,
-    run: Run,
-    alloc: Global,
+    pub(crate) setup: Setup,
+    pub(crate) run: Run,
+    pub(crate) context: Context,
+    pub(crate) alloc: Global,
+    ghost about: { context.facts ≡ facts_of setup } by { Coded-set facts_row.the_row.coded context.facts (facts_of setup) },
 }
 
 // Written out, so that a caller's proof sees one call and not the drop of each part.
@@ -36,141 +24,8 @@ impl Drop for Execution {
         let Execution {
             setup: _setup,
             run: _run,
+            context: _context,
             alloc: _alloc,
         } = self;
-    }
-}
-
-/// The name of the state that a machine starts at.
-fn start_of(alloc: Global, machine: &Machine) -> Result<Name, AllocError>
-    ensures { IfOk result (λ n. n ≡ start_in machine.now) }
-{
-    Name::new(alloc, machine.start())
-}
-
-impl Execution {
-    /// The world before the first step: the branch at the root is about to enter the state that the machine starts at. Each state
-    /// of the machine can be run yet: ask `ready`.
-    pub fn open(alloc: Global, setup: Setup) -> Result<Execution, AllocError>
-        requires { is_ready setup.machine ≡ true }
-        ensures setup { IfOk result (λ x. setup_of x ≡ setup) }
-        ensures world { IfOk result (λ x. world_of x ≡ opening setup) }
-    {
-        let start = start_of(alloc, &setup.machine)?;
-        let run = Run::open(alloc, setup.machine.len(), start, &setup.input, setup.start)?;
-        Ok(Execution { setup, run, alloc })
-    }
-
-    /// What it began with.
-    pub fn setup(&self) -> &Setup
-        ensures { result.now ≡ setup_of self.now }
-    {
-        &self.setup
-    }
-
-    /// What the branch at a place is doing; none where no branch runs there.
-    pub fn view(&self, place: &Place) -> Option<&Record>
-        ensures { option_copied result ≡ record_at place.now (world_of self.now).branches }
-    {
-        self.run.record_at(place)
-    }
-
-    /// How far it is.
-    pub fn outcome(&self) -> &Outcome
-        ensures { result.now ≡ (world_of self.now).outcome }
-    {
-        self.run.outcome()
-    }
-
-    /// What was told so far.
-    pub fn history(&self) -> &History
-        ensures { result.now.events ≡ (world_of self.now).events }
-    {
-        self.run.history()
-    }
-
-    /// Why a step would be refused; none where only want of memory can refuse it.
-    pub fn refusal(&self, place: &Place, moment: Moment) -> Option<Refusal>
-        ensures { result ≡ refusal_of (world_of self.now) place.now moment }
-    {
-        self.run.refusal(place, moment)
-    }
-
-    /// One step of the branch at a place. Its moment is the greater of the one given and that of the last step. A refused
-    /// step changes nothing.
-    pub fn step(&mut self, place: &Place, moment: Moment) -> Result<(), Refusal>
-        ensures ok { OnOk result (world_of self.new ≡ step (setup_of self.old).machine (world_of self.old) place.now moment) }
-        ensures accepted { OnOk result (refusal_of (world_of self.old) place.now moment ≡ None) }
-        ensures err { OnErr result (world_of self.new ≡ world_of self.old) }
-        ensures why { IfErr result (λ e. (refusal_of (world_of self.old) place.now moment ≡ Some e)
-            ⊎ ((refusal_of (world_of self.old) place.now moment ≡ None) × (e ≡ Refusal.OutOfMemory))) }
-        ensures setup { setup_of self.new ≡ setup_of self.old }
-    {
-        if let Some(refusal) = self.run.refusal(place, moment) {
-            return Err(refusal);
-        }
-        let Some(current) = self.run.record_at(place) else {
-            return Err(Refusal::NoSuchPlace);
-        };
-        let now = self.run.present(moment);
-        let Ok((number, effect)) = self.planned(place, current, now) else {
-            return Err(Refusal::OutOfMemory);
-        };
-        match self.run.apply(self.alloc, place, number, now, effect) {
-            Ok(()) => Ok(()),
-            Err(AllocError) => Err(Refusal::OutOfMemory),
-        }
-    }
-
-    /// Its world.
-    pub(crate) fn run(&self) -> &Run
-        ensures { result.now ≡ world_of self.now }
-    {
-        &self.run
-    }
-
-    /// The allocator that it was opened with.
-    pub(crate) fn alloc(&self) -> Global {
-        self.alloc
-    }
-
-    /// The number of the state that a branch is in, and what a step of it does.
-    fn planned(
-        &self,
-        place: &Place,
-        current: &Record,
-        now: Moment,
-    ) -> Result<(Option<usize>, Effect), AllocError>
-        ensures number { IfOk result (λ r. r.0 ≡ number_in (setup_of self.now).machine current.now) }
-        ensures effect { IfOk result (λ r. r.1 ≡ effect_in (setup_of self.now).machine (seen_at (setup_of self.now).machine (world_of self.now) place.now now current.now)) }
-    {
-        let (number, state) = state_of(&self.setup.machine, current);
-        let children = self.run.children_at(self.alloc, place)?;
-        let visit = Visit {
-            place,
-            current,
-            children: &children,
-            count: self.run.count(number),
-            moment: now,
-        };
-        let effect = match state {
-            Some(state) => state.visit(self.alloc, &visit)?,
-            None => steps::idle(self.alloc, current)?,
-        };
-        Ok((number, effect))
-    }
-}
-
-/// The state that a branch is in, and its number; neither where the branch has ended.
-fn state_of<'a>(machine: &'a Machine, current: &Record) -> (Option<usize>, Option<&'a State>)
-    ensures number { result.0 ≡ number_in machine.now current.now }
-    ensures object { option_map (λ s. state_shown (states_of machine.now) s.now) result.1 ≡ object_in machine.now current.now }
-{
-    let Some(name) = state_in(current) else {
-        return (None, None);
-    };
-    match machine.find(name.as_str()) {
-        Some((number, state)) => (Some(number), Some(state)),
-        None => (None, None),
     }
 }

@@ -17,7 +17,7 @@ impl Execution {
     #[tactic(auto, using(crate::proofs::Accepting::step_refused))]
     fn reply(&mut self, at: &StepAt) -> Result<Option<Refusal>, AllocError>
         ensures reply { IfOk result (λ r. r ≡ refusal_of (world_of self.old) at.now.place at.now.moment) }
-        ensures world { OnOk result (world_of self.new ≡ step (setup_of self.old).machine (world_of self.old) at.now.place at.now.moment) }
+        ensures world { OnOk result (world_of self.new ≡ step (setup_of self.old) (world_of self.old) at.now.place at.now.moment) }
         ensures setup { setup_of self.new ≡ setup_of self.old }
     {
         match self.step(&at.place, at.moment) {
@@ -30,8 +30,8 @@ impl Execution {
     /// Takes steps in order, with a line for each. The error is that memory ran out.
     fn put_steps(&mut self, out: &mut String, steps: &[StepAt]) -> Result<(), AllocError>
         ensures text { OnOk result (string_bytes out.new
-            ≡ string_bytes out.old ++ step_lines (setup_of self.old).machine (world_of self.old) steps.now) }
-        ensures world { OnOk result (world_of self.new ≡ world_after (setup_of self.old).machine (world_of self.old) steps.now) }
+            ≡ string_bytes out.old ++ step_lines (setup_of self.old) (world_of self.old) steps.now) }
+        ensures world { OnOk result (world_of self.new ≡ world_after (setup_of self.old) (world_of self.old) steps.now) }
     {
         for at in steps {
             let reply = self.reply(at)?;
@@ -44,9 +44,9 @@ impl Execution {
     /// error is that memory ran out.
     fn print(&mut self, steps: &[StepAt]) -> Result<(String, bool), AllocError>
         ensures text { IfOk result (λ r. string_bytes r.0
-            ≡ step_lines (setup_of self.old).machine (world_of self.old) steps.now ++ end_text (world_after (setup_of self.old).machine (world_of self.old) steps.now)) }
-        ensures good { IfOk result (λ r. r.1 ≡ is_success (world_after (setup_of self.old).machine (world_of self.old) steps.now).outcome) }
-        ensures world { OnOk result (world_of self.new ≡ world_after (setup_of self.old).machine (world_of self.old) steps.now) }
+            ≡ step_lines (setup_of self.old) (world_of self.old) steps.now ++ end_text (world_after (setup_of self.old) (world_of self.old) steps.now)) }
+        ensures good { IfOk result (λ r. r.1 ≡ is_success (world_after (setup_of self.old) (world_of self.old) steps.now).outcome) }
+        ensures world { OnOk result (world_of self.new ≡ world_after (setup_of self.old) (world_of self.old) steps.now) }
     {
         let mut text = String::new(self.alloc());
         self.put_steps(&mut text, steps)?;
@@ -63,7 +63,7 @@ pub(crate) fn run(
 ) -> Result<(String, bool), AllocError>
     requires { is_ready setup.machine ≡ true }
     ensures text { IfOk result (λ r. string_bytes r.0 ≡ run_text setup steps.now) }
-    ensures good { IfOk result (λ r. r.1 ≡ is_success (world_after setup.machine (opening setup) steps.now).outcome) }
+    ensures good { IfOk result (λ r. r.1 ≡ is_success (world_after setup (opening setup) steps.now).outcome) }
 {
     let mut execution = Execution::open(alloc, setup)?;
     let printed = execution.print(steps);

@@ -1,9 +1,3 @@
-pub mod Paths
-pub mod Gives
 pub mod Members
-pub mod Kinds
-pub mod Seen
-pub mod Outputs
 pub mod Table
-pub mod Bounds
 pub mod Laws

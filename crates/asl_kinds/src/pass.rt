@@ -1,20 +1,19 @@
 // Pass (ASL, "Pass State").
-ghost use Rattle.asl_states.specs.Show.{pass_object};
 ghost use Rattle.std.specs.Prelude.{◌≡◌, IfOk, option_map};
 ghost use Rattle.asl_json.specs.View.{data_of};
-ghost use Rattle.asl_kinds.specs.Members.{pass_output, result_or as spec_result_or};
-ghost use Rattle.asl_kinds.specs.Gives.{Gives};
+ghost use Rattle.asl_states.specs.Show.{pass_object};
+ghost use Rattle.asl_steps.specs.Context.{context_of};
+ghost use Rattle.asl_steps.specs.Seen.{seen};
+ghost use Rattle.asl_data.specs.Gives.{Gives};
+ghost use Rattle.asl_kinds.specs.Members.{effective as spec_effective, pass_output, result_or as spec_result_or};
 
-use crate::data::{copied, put_into, taken};
-use crate::effect::Effect;
-use crate::fault::Fault;
 use crate::kind::StateKind;
-use crate::record::Record;
-use crate::steps::{entering, idle, passed};
-use crate::visit::Visit;
+use crate::passing::{passed, target};
+use asl_data::{Fault, copied, filled, put_into, taken};
 use asl_history::EventKind;
 use asl_json::{Json, Shared};
 use asl_states::Pass;
+use asl_steps::{Context, Effect, Visit, entering, idle};
 use std::alloc::{AllocError, Global};
 
 /// The result of a Pass that has one, else its effective input.
@@ -27,14 +26,43 @@ fn result_or(alloc: Global, given: Option<&Json>, effective: Shared) -> Result<S
     }
 }
 
-/// What a Pass gives for a raw input.
-fn output(alloc: Global, pass: &Pass, input: &Shared) -> Result<Shared, Fault>
-    ensures { Gives (pass_output (pass_object pass.now) input.now) result }
+/// The effective input of a Pass.
+fn effective(
+    alloc: Global,
+    pass: &Pass,
+    input: &Shared,
+    visit: &Visit,
+    context: &mut Context,
+) -> Result<Shared, Fault>
+    ensures given { Gives (spec_effective (pass_object pass.now) input.now (context_of context.old.facts (seen visit.now))) result }
+    ensures facts { context.new.facts ≡ context.old.facts }
 {
-    let effective = taken(alloc, "InputPath", pass.input_path(), input)?;
+    let value = taken(alloc, "InputPath", pass.input_path(), input, visit, context)?;
+    filled(alloc, pass.parameters(), value, visit, context)
+}
+
+/// What a Pass gives for a raw input.
+fn output(
+    alloc: Global,
+    pass: &Pass,
+    input: &Shared,
+    visit: &Visit,
+    context: &mut Context,
+) -> Result<Shared, Fault>
+    ensures given { Gives (pass_output (pass_object pass.now) input.now (context_of context.old.facts (seen visit.now))) result }
+    ensures facts { context.new.facts ≡ context.old.facts }
+{
+    let effective = effective(alloc, pass, input, visit, context)?;
     let given = result_or(alloc, pass.result(), effective)?;
     let placed = put_into(alloc, pass.result_path(), input, given)?;
-    taken(alloc, "OutputPath", pass.output_path(), &placed)
+    taken(
+        alloc,
+        "OutputPath",
+        pass.output_path(),
+        &placed,
+        visit,
+        context,
+    )
 }
 
 impl StateKind for Pass {
@@ -49,23 +77,19 @@ impl StateKind for Pass {
 
     ghost bounded = { λ k. pass-bounded (pass_object k) };
 
-    fn visit(&self, alloc: Global, visit: &Visit) -> Result<Effect, AllocError> {
-        match visit.current {
-            Record::Ready(name, input) => {
-                let events = entering(alloc, EventKind::PassStateEntered, name, input)?;
-                let given = output(alloc, self, input);
-                passed(
-                    alloc,
-                    visit.place,
-                    EventKind::PassStateExited,
-                    name,
-                    self.next(),
-                    events,
-                    given,
-                )
-            }
-            other => idle(alloc, other),
-        }
+    fn visit(
+        &self,
+        alloc: Global,
+        visit: &Visit,
+        context: &mut Context,
+    ) -> Result<Effect, AllocError> {
+        let Some(input) = visit.current.entering() else {
+            return idle(alloc, visit.current);
+        };
+        let done = entering(alloc, visit, EventKind::PassStateEntered, input)?;
+        let given = output(alloc, self, input, visit, context);
+        let next = target(self.next());
+        passed(alloc, visit, done, EventKind::PassStateExited, next, given)
     }
 
     fn invokes(&self) -> bool {

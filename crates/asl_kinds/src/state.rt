@@ -1,13 +1,11 @@
 // A state of any type.
-use crate::effect::Effect;
 use crate::kind::StateKind;
-use crate::steps::idle;
-use crate::visit::Visit;
 use asl_states::State;
+use asl_steps::{Context, Effect, Visit, idle};
 use std::alloc::{AllocError, Global};
 
-/// A Pass and a Succeed do what their kinds say; a state of any other type does nothing yet. What a state does doesn't depend on
-/// the machines inside it: the law `any_table` of `Laws`.
+/// A Pass, a Succeed and a Fail do what their kinds say; a state of any other type does nothing yet. What a state does doesn't depend
+/// on the machines inside it: the law `any_table` of `Laws`.
 impl StateKind for State {
     ghost use Rattle.std.specs.Prelude.{[], false};
     ghost use Rattle.asl_states.specs.Show.{state_of};
@@ -20,10 +18,16 @@ impl StateKind for State {
 
     ghost bounded = { λ k. state-bounded (state_of [] k) };
 
-    fn visit(&self, alloc: Global, visit: &Visit) -> Result<Effect, AllocError> {
+    fn visit(
+        &self,
+        alloc: Global,
+        visit: &Visit,
+        context: &mut Context,
+    ) -> Result<Effect, AllocError> {
         match self {
-            State::Pass(state) => state.visit(alloc, visit),
-            State::Succeed(state) => state.visit(alloc, visit),
+            State::Pass(state) => state.visit(alloc, visit, context),
+            State::Succeed(state) => state.visit(alloc, visit, context),
+            State::Fail(state) => state.visit(alloc, visit, context),
             _ => idle(alloc, visit.current),
         }
     }
@@ -32,6 +36,7 @@ impl StateKind for State {
         match self {
             State::Pass(state) => state.invokes(),
             State::Succeed(state) => state.invokes(),
+            State::Fail(state) => state.invokes(),
             _ => false,
         }
     }

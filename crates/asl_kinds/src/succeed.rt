@@ -1,26 +1,47 @@
 // Succeed (ASL, "Succeed State").
+ghost use Rattle.std.specs.Prelude.{◌≡◌};
 ghost use Rattle.asl_states.specs.Show.{succeed_object};
+ghost use Rattle.asl_steps.specs.Context.{context_of};
+ghost use Rattle.asl_steps.specs.Seen.{seen};
+ghost use Rattle.asl_data.specs.Gives.{Gives};
 ghost use Rattle.asl_kinds.specs.Members.{succeed_output};
-ghost use Rattle.asl_kinds.specs.Gives.{Gives};
 
-use crate::data::taken;
-use crate::effect::Effect;
-use crate::fault::Fault;
 use crate::kind::StateKind;
-use crate::record::Record;
-use crate::steps::{entering, idle, passed};
-use crate::visit::Visit;
+use crate::passing::passed;
+use asl_data::{Fault, taken};
 use asl_history::EventKind;
 use asl_json::Shared;
-use asl_states::{Next, Succeed};
+use asl_states::Succeed;
+use asl_steps::{Context, Effect, Visit, entering, idle};
 use std::alloc::{AllocError, Global};
 
 /// What a Succeed gives for a raw input.
-fn output(alloc: Global, succeed: &Succeed, input: &Shared) -> Result<Shared, Fault>
-    ensures { Gives (succeed_output (succeed_object succeed.now) input.now) result }
+fn output(
+    alloc: Global,
+    succeed: &Succeed,
+    input: &Shared,
+    visit: &Visit,
+    context: &mut Context,
+) -> Result<Shared, Fault>
+    ensures given { Gives (succeed_output (succeed_object succeed.now) input.now (context_of context.old.facts (seen visit.now))) result }
+    ensures facts { context.new.facts ≡ context.old.facts }
 {
-    let effective = taken(alloc, "InputPath", succeed.input_path(), input)?;
-    taken(alloc, "OutputPath", succeed.output_path(), &effective)
+    let effective = taken(
+        alloc,
+        "InputPath",
+        succeed.input_path(),
+        input,
+        visit,
+        context,
+    )?;
+    taken(
+        alloc,
+        "OutputPath",
+        succeed.output_path(),
+        &effective,
+        visit,
+        context,
+    )
 }
 
 impl StateKind for Succeed {
@@ -35,23 +56,25 @@ impl StateKind for Succeed {
 
     ghost bounded = { λ k. succeed-bounded (succeed_object k) };
 
-    fn visit(&self, alloc: Global, visit: &Visit) -> Result<Effect, AllocError> {
-        match visit.current {
-            Record::Ready(name, input) => {
-                let events = entering(alloc, EventKind::SucceedStateEntered, name, input)?;
-                let given = output(alloc, self, input);
-                passed(
-                    alloc,
-                    visit.place,
-                    EventKind::SucceedStateExited,
-                    name,
-                    &Next::End,
-                    events,
-                    given,
-                )
-            }
-            other => idle(alloc, other),
-        }
+    fn visit(
+        &self,
+        alloc: Global,
+        visit: &Visit,
+        context: &mut Context,
+    ) -> Result<Effect, AllocError> {
+        let Some(input) = visit.current.entering() else {
+            return idle(alloc, visit.current);
+        };
+        let done = entering(alloc, visit, EventKind::SucceedStateEntered, input)?;
+        let given = output(alloc, self, input, visit, context);
+        passed(
+            alloc,
+            visit,
+            done,
+            EventKind::SucceedStateExited,
+            None,
+            given,
+        )
     }
 
     fn invokes(&self) -> bool {

@@ -2,8 +2,8 @@
 use Rattle.std.proofs.Common.{ℕ, ◌≡◌, ◌≤◌, Bool, true, false, List, length, refl, arith, max, Option, Some, None, if◌then◌else◌}
 use Rattle.std.specs.Prelude.{nat_lt}
 use Rattle.std.proofs.lemmas.Bool.Decides.{nat_tests}
-use Rattle.asl_kinds.specs.declared.record.Record.{Record}
-use Rattle.asl_kinds.specs.declared.record.Record.TheVariants.{New, Ready, Pausing, Again, Forked, Done, Failed}
+use Rattle.asl_steps.specs.declared.record.Record.{Record}
+use Rattle.asl_steps.specs.declared.record.Record.TheVariants.{New, Ready, Pausing, Again, Forked, Done, Failed}
 use Rattle.asl_run.specs.declared.refusal.Refusal.{Refusal}
 use Rattle.asl_run.specs.World.{World, record_at, children_at, is_over}
 use Rattle.asl_run.specs.Refusals.{is_stopped, is_busy, refusal_if_full, refusal_by, refusal_at, refusal_of}

@@ -2,10 +2,10 @@
 use Rattle.std.proofs.Common.{ℕ, ◌≡◌, ◌+◌, true, List, [], ◌∷◌}
 use Rattle.std.specs.List.{AllByRecursion}
 use Rattle.asl_history.specs.Places.{is_prefix}
-use Rattle.asl_kinds.specs.declared.effect.Effect.{Effect}
-use Rattle.asl_kinds.specs.declared.effect.Children.{Children}
-use Rattle.asl_kinds.specs.declared.effect.Children.TheVariants.{Kept, Removed, Forked as Made}
-use Rattle.asl_kinds.specs.declared.record.Record.{Record}
+use Rattle.asl_steps.specs.declared.effect.Effect.{Effect}
+use Rattle.asl_steps.specs.declared.effect.Children.{Children}
+use Rattle.asl_steps.specs.declared.effect.Children.TheVariants.{Kept, Removed, Forked as Made}
+use Rattle.asl_steps.specs.declared.record.Record.{Record}
 use Rattle.asl_run.specs.declared.branch.Branch.{Branch}
 use Rattle.asl_run.specs.World.{numbered, made, family}
 use Rattle.asl_run.proofs.Places.{is_prefix-append, is_prefix-refl}

@@ -4,10 +4,10 @@ use Rattle.std.specs.Prelude.{nat_lt}
 use Rattle.std.proofs.lemmas.Bool.{eqb-true, eq-eqb}
 use Rattle.std.proofs.lemmas.Bool.Decides.{nat_tests}
 use Rattle.std.specs.List.{AllByRecursion}
-use Rattle.asl_kinds.specs.declared.effect.Effect.{Effect}
-use Rattle.asl_kinds.specs.declared.effect.Children.{Children}
-use Rattle.asl_kinds.specs.declared.effect.Children.TheVariants.{Kept, Removed, Forked as Made}
-use Rattle.asl_kinds.specs.declared.record.Record.{Record}
+use Rattle.asl_steps.specs.declared.effect.Effect.{Effect}
+use Rattle.asl_steps.specs.declared.effect.Children.{Children}
+use Rattle.asl_steps.specs.declared.effect.Children.TheVariants.{Kept, Removed, Forked as Made}
+use Rattle.asl_steps.specs.declared.record.Record.{Record}
 use Rattle.asl_history.specs.Places.{is_prefix}
 use Rattle.asl_run.specs.declared.branch.Branch.{Branch}
 use Rattle.asl_run.specs.World.{same_place, numbered, made, are_kept, family, branch_after, branches_after}

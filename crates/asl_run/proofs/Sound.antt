@@ -2,8 +2,8 @@
 use Rattle.std.proofs.Common.{ℕ, suc, zero, ◌≡◌, ◌+◌, ◌<◌, ◌≤◌, Bool, true, false, List, [], ◌∷◌, ◌++◌, refl, arith, length, get_or, set, length-append, Option, Some, None}
 use Rattle.asl_history.specs.declared.event.Event.{Event}
 use Rattle.asl_history.specs.Events.{event_after}
-use Rattle.asl_kinds.specs.declared.effect.Effect.{Effect}
-use Rattle.asl_kinds.specs.declared.effect.Draft.{Draft}
+use Rattle.asl_steps.specs.declared.effect.Effect.{Effect}
+use Rattle.asl_steps.specs.declared.effect.Draft.{Draft}
 use Rattle.asl_run.specs.declared.branch.Branch.{Branch}
 use Rattle.asl_run.specs.World.{branches_after, raised, counts_after, events_after}
 use Rattle.asl_run.specs.Order.{IsSound}

@@ -2,7 +2,7 @@
 use Rattle.std.proofs.Common.{ℕ, ◌≡◌, List, [], ◌∷◌, ◌++◌, refl}
 use Rattle.asl_history.specs.declared.event.Event.{Event}
 use Rattle.asl_history.specs.Events.{event_after}
-use Rattle.asl_kinds.specs.declared.effect.Draft.{Draft}
+use Rattle.asl_steps.specs.declared.effect.Draft.{Draft}
 use Rattle.asl_run.specs.World.{events_after}
 use Rattle.asl_run.specs.Rebuilds.{placed, told_after}
 

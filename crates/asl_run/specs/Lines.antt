@@ -5,7 +5,7 @@ use Rattle.asl_json.specs.Compact.{compact}
 use Rattle.asl_time.specs.StampText.{stamp_of}
 use Rattle.asl_history.specs.Places.{place_text}
 use Rattle.asl_history.specs.Lines.{history_text}
-use Rattle.asl_kinds.specs.Kinds.{error_output}
+use Rattle.asl_steps.specs.Rows.{error_output}
 use Rattle.asl_run.specs.declared.outcome.Outcome.{Outcome}
 use Rattle.asl_run.specs.declared.outcome.Outcome.TheVariants.{Running, Succeeded, Failed}
 use Rattle.asl_run.specs.declared.refusal.Refusal.{Refusal}

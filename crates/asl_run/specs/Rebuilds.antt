@@ -3,7 +3,7 @@ use Rattle.std.specs.Prelude.{ℕ, Bool, not, ◌&&◌, List, [], ◌∷◌, ◌
 use Rattle.asl_history.specs.Places.{is_prefix}
 use Rattle.asl_history.specs.declared.event.Event.{Event}
 use Rattle.asl_history.specs.Events.{event_after}
-use Rattle.asl_kinds.specs.declared.effect.Draft.{Draft}
+use Rattle.asl_steps.specs.declared.effect.Draft.{Draft}
 use Rattle.asl_run.specs.declared.branch.Branch.{Branch}
 use Rattle.asl_run.specs.World.{same_place}
 

@@ -5,13 +5,14 @@ use Rattle.asl_json.specs.declared.value.Json.{Json}
 use Rattle.asl_history.specs.Events.{event_after}
 use Rattle.asl_history.specs.Places.{is_beside}
 use Rattle.asl_history.specs.declared.kind.EventKind.TheVariants.{ExecutionStarted}
-use Rattle.asl_kinds.specs.declared.record.Record.{Record}
-use Rattle.asl_kinds.specs.declared.record.Record.TheVariants.{New, Ready, Pausing, Again, Forked, Done, Failed}
+use Rattle.asl_steps.specs.Records.{is_failed, is_done}
+use Rattle.asl_steps.specs.declared.record.Record.{Record}
+use Rattle.asl_steps.specs.declared.record.Record.TheVariants.{New, Ready, Pausing, Again, Forked, Done, Failed}
 use Rattle.asl_run.specs.declared.branch.Branch.{Branch}
 use Rattle.asl_run.specs.declared.outcome.Outcome.TheVariants.{Running}
 use Rattle.asl_run.specs.declared.refusal.Refusal.{Refusal}
 use Rattle.asl_run.specs.declared.refusal.Refusal.TheVariants.{Over, NoSuchPlace, Stopped, Finished, Busy, NotYet, HistoryFull}
-use Rattle.asl_run.specs.World.{World, record_at, children_at, is_failed, is_done, is_over}
+use Rattle.asl_run.specs.World.{World, record_at, children_at, is_over}
 
 -- ---- when a step is refused
 

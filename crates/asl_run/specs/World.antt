@@ -5,14 +5,14 @@ use Rattle.std.specs.List.{filter, flat_map}
 use Rattle.asl_history.specs.declared.event.Event.{Event}
 use Rattle.asl_history.specs.Events.{event_after}
 use Rattle.asl_history.specs.Places.{is_prefix, is_child}
-use Rattle.asl_kinds.specs.declared.effect.Effect.{Effect}
-use Rattle.asl_kinds.specs.declared.effect.Draft.{Draft}
-use Rattle.asl_kinds.specs.declared.effect.Children.{Children}
-use Rattle.asl_kinds.specs.declared.effect.Children.TheVariants.{Kept, Removed, Forked as Made}
-use Rattle.asl_kinds.specs.declared.effect.Ended.{Ended}
-use Rattle.asl_kinds.specs.declared.effect.Ended.TheVariants.{Succeeded as EndedWell, Failed as EndedBadly}
-use Rattle.asl_kinds.specs.declared.record.Record.{Record}
-use Rattle.asl_kinds.specs.declared.record.Record.TheVariants.{New, Ready, Pausing, Again, Forked, Done, Failed}
+use Rattle.asl_steps.specs.declared.effect.Effect.{Effect}
+use Rattle.asl_steps.specs.declared.effect.Draft.{Draft}
+use Rattle.asl_steps.specs.declared.effect.Children.{Children}
+use Rattle.asl_steps.specs.declared.effect.Children.TheVariants.{Kept, Removed, Forked as Made}
+use Rattle.asl_steps.specs.declared.effect.Ended.{Ended}
+use Rattle.asl_steps.specs.declared.effect.Ended.TheVariants.{Succeeded as EndedWell, Failed as EndedBadly}
+use Rattle.asl_steps.specs.declared.record.Record.{Record}
+use Rattle.asl_steps.specs.declared.record.Record.TheVariants.{New, Ready, Pausing, Again, Forked, Done, Failed}
 use Rattle.asl_run.specs.declared.branch.Branch.{Branch}
 use Rattle.asl_run.specs.declared.outcome.Outcome.{Outcome}
 use Rattle.asl_run.specs.declared.outcome.Outcome.TheVariants.{Running, Succeeded, Failed as Lost}
@@ -43,33 +43,24 @@ record_at p bs = first_of (filter (λ b. same_place p b.place) bs)
 abbrev pub children_at : List ℕ → List Branch → List Record
 children_at p bs = map (λ b. b.current) (filter (λ b. is_child p b.place) bs)
 
-abbrev pub is_failed : Record → Bool
-is_failed (New n x) = false
-is_failed (Ready n x) = false
-is_failed (Pausing n x since until) = false
-is_failed (Again n x since uses until) = false
-is_failed (Forked n x since uses items) = false
-is_failed (Done x) = false
-is_failed (Failed e) = true
+-- the name of the Map, where a branch waits for its iterations
+abbrev pub map_in : Record → Option (List ℕ)
+map_in (New n x) = None
+map_in (Ready n x) = None
+map_in (Pausing n x since until) = None
+map_in (Again n x since uses until) = None
+map_in (Forked n x since uses []) = None
+map_in (Forked n x since uses (i ∷ items)) = Some n
+map_in (Done x) = None
+map_in (Failed e) = None
 
-abbrev pub is_done : Record → Bool
-is_done (New n x) = false
-is_done (Ready n x) = false
-is_done (Pausing n x since until) = false
-is_done (Again n x since uses until) = false
-is_done (Forked n x since uses items) = false
-is_done (Done x) = true
-is_done (Failed e) = false
+abbrev pub map_of : Option Record → Option (List ℕ)
+map_of None = None
+map_of (Some r) = map_in r
 
--- the state that a branch is in; none where it has ended
-abbrev pub state_in : Record → Option (List ℕ)
-state_in (New n x) = Some n
-state_in (Ready n x) = Some n
-state_in (Pausing n x since until) = Some n
-state_in (Again n x since uses until) = Some n
-state_in (Forked n x since uses items) = Some n
-state_in (Done x) = None
-state_in (Failed e) = None
+-- the name of the Map of which the branch at a place is an iteration: the one directly above it, where that is a Map
+abbrev pub forker_at : List ℕ → List Branch → Option (List ℕ)
+forker_at p bs = map_of (first_of (filter (λ b. is_child b.place p) bs))
 
 -- how often the state of a number was invoked
 abbrev pub count_of : List ℕ → Option ℕ → ℕ

@@ -1,7 +1,7 @@
 // Running branches.
 
 use asl_history::Place;
-use asl_kinds::record::Record;
+use asl_steps::Record;
 
 /// A running branch.
 pub struct Branch {

@@ -1,13 +1,13 @@
 // What is read of branches.
 ghost use Rattle.std.specs.Prelude.{◌≡◌, ◌++◌, map, option_map, IfOk};
 ghost use Rattle.std.specs.Option.{option_copied};
-ghost use Rattle.asl_run.specs.World.{record_at, children_at, is_failed, is_done, state_in};
+ghost use Rattle.asl_run.specs.World.{record_at, children_at, map_in, forker_at};
 ghost use Rattle.asl_run.specs.Refusals.{is_stopped, is_busy};
 
 use crate::branch::Branch;
 use asl_history::Place;
 use asl_json::Name;
-use asl_kinds::record::Record;
+use asl_steps::Record;
 use std::alloc::{AllocError, Global};
 
 /// What the branch at a place is doing.
@@ -39,30 +39,26 @@ pub(crate) fn children_at<'a>(
     Ok(children)
 }
 
-fn is_failed(current: &Record) -> bool
-    ensures { result ≡ is_failed current.now }
-{
-    matches!(current, Record::Failed(_))
-}
-
-fn is_done(current: &Record) -> bool
-    ensures { result ≡ is_done current.now }
-{
-    matches!(current, Record::Done(_))
-}
-
-/// The name of the state that a branch is in; none where it has ended.
-pub fn state_in(current: &Record) -> Option<&Name>
-    ensures { option_map (λ n. n.now) result ≡ state_in current.now }
+/// The name of the Map, where a branch waits for its iterations.
+fn map_in(current: &Record) -> Option<&Name>
+    ensures { option_map (λ n. n.now) result ≡ map_in current.now }
 {
     match current {
-        Record::New(state, _)
-        | Record::Ready(state, _)
-        | Record::Pausing(state, ..)
-        | Record::Again(state, ..)
-        | Record::Forked(state, ..) => Some(state),
-        Record::Done(_) | Record::Failed(_) => None,
+        Record::Forked(state, _, _, _, items) if items.len() > 0 => Some(state),
+        _ => None,
     }
+}
+
+/// The name of the Map of which the branch at a place is an iteration.
+pub(crate) fn forker_at<'a>(branches: &'a [Branch], place: &Place) -> Option<&'a Name>
+    ensures { option_map (λ n. n.now) result ≡ forker_at place.now branches.now }
+{
+    for branch in branches {
+        if branch.place.is_parent_of(place) {
+            return map_in(&branch.current);
+        }
+    }
+    None
 }
 
 /// Whether a sibling of the place, or of a place above it, has failed.
@@ -70,7 +66,7 @@ pub(crate) fn is_stopped(branches: &[Branch], place: &Place) -> bool
     ensures { result ≡ is_stopped place.now branches.now }
 {
     for branch in branches {
-        if is_failed(&branch.current) && place.is_beside(&branch.place) {
+        if branch.current.is_failed() && place.is_beside(&branch.place) {
             return true;
         }
     }
@@ -84,10 +80,10 @@ pub(crate) fn is_busy(branches: &[Branch], place: &Place) -> bool
     let mut waits = false;
     for branch in branches {
         if place.is_parent_of(&branch.place) {
-            if is_failed(&branch.current) {
+            if branch.current.is_failed() {
                 return false;
             }
-            if !is_done(&branch.current) {
+            if !branch.current.is_done() {
                 waits = true;
             }
         }

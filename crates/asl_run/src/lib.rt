@@ -12,7 +12,6 @@ mod refusal;
 mod run;
 
 pub use branch::Branch;
-pub use branches::state_in;
 pub use lines::{is_success, put_end, put_step};
 pub use outcome::Outcome;
 pub use refusal::Refusal;

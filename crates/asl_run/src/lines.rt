@@ -11,8 +11,7 @@ use crate::refusal::Refusal;
 use crate::run::Run;
 use asl_history::{History, Place, put_line};
 use asl_json::{Json, put};
-use asl_kinds::record::ErrorOut;
-use asl_kinds::steps::error_output;
+use asl_steps::{ErrorOut, error_output};
 use asl_time::{Moment, put_stamp};
 use std::alloc::{AllocError, Global};
 

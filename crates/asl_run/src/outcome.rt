@@ -1,7 +1,7 @@
 // Outcomes of executions.
 
 use asl_json::Shared;
-use asl_kinds::record::ErrorOut;
+use asl_steps::ErrorOut;
 
 /// How far an execution is. (Step Functions Developer Guide, DescribeExecution, `status`.)
 pub enum Outcome {

@@ -1,8 +1,8 @@
 // What changes as an execution goes on.
-ghost use Rattle.std.specs.Prelude.{◌≡◌, ◌≤◌, ◌+◌, ◌<◌, [], ◌∷◌, ◌++◌, map, length, IfOk, IfSome, OnOk, OnErr, true, vec_len, vec_capacity, slice_index, max, ◌^◌};
+ghost use Rattle.std.specs.Prelude.{◌≡◌, ◌≤◌, ◌+◌, ◌<◌, [], ◌∷◌, ◌++◌, map, length, IfOk, IfSome, OnOk, OnErr, true, vec_len, vec_capacity, slice_index, max, option_map, ◌^◌};
 ghost use Rattle.std.specs.Option.{option_copied};
-ghost use Rattle.asl_kinds.specs.Bounds.{AreFew};
-ghost use Rattle.asl_run.specs.World.{numbered, made, family, are_kept, world_with, record_at, children_at, counts_after, outcome_after, count_of};
+ghost use Rattle.asl_steps.specs.Bounds.{AreFew};
+ghost use Rattle.asl_run.specs.World.{numbered, made, family, are_kept, world_with, record_at, children_at, forker_at, counts_after, outcome_after, count_of};
 ghost use Rattle.asl_run.specs.Rebuilds.{rebuilt, told_after, placed};
 ghost use Rattle.asl_run.specs.Refusals.{refusal_of, opening_at};
 
@@ -12,8 +12,7 @@ use crate::outcome::Outcome;
 use crate::refusal::Refusal;
 use asl_history::{EventKind, History, Place};
 use asl_json::{Json, Name, Shared};
-use asl_kinds::effect::{Children, Draft, Drafts, Effect, Ended, Records};
-use asl_kinds::record::Record;
+use asl_steps::{Children, Draft, Drafts, Effect, Ended, Record, Records};
 use asl_time::Moment;
 use std::alloc::{AllocError, Global};
 use std::marker::Model;
@@ -25,7 +24,7 @@ const FULL: usize = 24_992;
 /// What changes as an execution goes on. Contracts see its world.
 pub struct Run {
     branches: Vec<Branch>,
-    counts: Vec<u64>,
+    counts: Vec<u32>,
     history: History,
     last: Moment,
     outcome: Outcome,
@@ -160,8 +159,8 @@ fn rebuilt(
 }
 
 /// Raises the count of a state, where it is to be raised.
-fn raise(counts: &mut Vec<u64>, state: Option<usize>, raises: bool)
-    requires { IfSome state (λ n. slice_index counts.old.items n < 2 ^ 63) }
+fn raise(counts: &mut Vec<u32>, state: Option<usize>, raises: bool)
+    requires { IfSome state (λ n. slice_index counts.old.items n < 2 ^ 31) }
     ensures { counts.new.items ≡ counts_after state raises counts.old.items }
 {
     if !raises {
@@ -266,7 +265,7 @@ fn started(alloc: Global, input: Shared, moment: Moment) -> Result<History, Allo
 }
 
 /// As many counts as there are states, each 0.
-fn zeros(alloc: Global, states: usize) -> Result<Vec<u64>, AllocError>
+fn zeros(alloc: Global, states: usize) -> Result<Vec<u32>, AllocError>
     ensures { IfOk result (λ v. v.items ≡ (opening_at states [] Json.Null 0).counts) }
 {
     let mut counts = Vec::new(alloc);
@@ -317,8 +316,15 @@ impl Run {
         branches::children_at(alloc, &self.branches, place)
     }
 
+    /// The name of the Map of which the branch at a place is an iteration.
+    pub fn forker_at(&self, place: &Place) -> Option<&Name>
+        ensures { option_map (λ n. n.now) result ≡ forker_at place.now self.now.branches }
+    {
+        branches::forker_at(&self.branches, place)
+    }
+
     /// How often the state of a number was invoked.
-    pub fn count(&self, state: Option<usize>) -> u64
+    pub fn count(&self, state: Option<usize>) -> u32
         ensures { result ≡ count_of self.now.counts state }
     {
         match state {

@@ -4,8 +4,9 @@ use asl_def::Machine;
 use asl_exec::{Emulated, Execution, Refusal, emulate};
 use asl_history::Place;
 use asl_json::{Json, Shared, Txt, read as read_json, write};
-use asl_kinds::record::Record;
-use asl_setup::{EmulateFault, Setup, StepAt, StepsFault, read_steps, ready};
+use asl_mock::{Answer, Case, answer};
+use asl_setup::{Emulation, Setup, StepAt, StepsFault, read_steps, ready};
+use asl_steps::Record;
 use asl_time::Moment;
 use std::alloc::Global;
 use std::test::Fail;
@@ -160,14 +161,19 @@ fn faults_of_data_end_an_execution(rt: HostRuntime) -> Result<(), Fail> {
 }
 
 // Definitions without faults that can't be run yet.
-const PASS_WITH_PARAMETERS: &str =
-    r#"{"StartAt":"S","States":{"S":{"Type":"Succeed"},"P":{"Type":"Pass","Parameters":{"k":1},"End":true}}}"#;
+const TASK_BEHIND_A_SUCCEED: &str =
+    r#"{"StartAt":"S","States":{"S":{"Type":"Succeed"},"P":{"Type":"Task","Resource":"r","End":true}}}"#;
 
-const PATHS_INTO_THE_CONTEXT: &str =
-    r#"{"StartAt":"a/b","States":{"a/b":{"Type":"Pass","InputPath":"$$.x","Next":"S"},"S":{"Type":"Succeed","OutputPath":"$$"}}}"#;
+const WAIT_BEFORE_A_CHOICE: &str =
+    r#"{"StartAt":"a/b","States":{"a/b":{"Type":"Wait","Seconds":1,"Next":"C"},"C":{"Type":"Choice","Choices":[{"Variable":"$","IsNull":true,"Next":"a/b"}]}}}"#;
 
 const WAIT_BEHIND_A_PARALLEL: &str =
     r#"{"StartAt":"L","States":{"L":{"Type":"Parallel","Branches":[{"StartAt":"F","States":{"F":{"Type":"Fail"}}}],"Next":"W"},"W":{"Type":"Wait","Seconds":1,"End":true}}}"#;
+
+/// A mock file with the cases `c`, `a#b`, and, of another machine, `c`.
+const MOCKS: &str =
+    r#"{"StateMachines":{"M":{"TestCases":{"c":{"T":"r"},"a#b":{"T":"s"}}},"N":{"TestCases":{"c":{"T":"s"}}}},
+"MockedResponses":{"r":{"0":{"Return":1}},"s":{"0":{"Throw":{"Error":"E"}}}}}"#;
 
 /// The texts of a run (definition, mocks, what is chosen, input, steps), and the line of the first fault.
 const REFUSED: &[([&str; 5], &str)] = &[
@@ -180,11 +186,11 @@ const REFUSED: &[([&str; 5], &str)] = &[
         "definition: F3 Missing /StartAt",
     ),
     (
-        [PASS_WITH_PARAMETERS, "[", "M#c", "{", "x"],
+        [TASK_BEHIND_A_SUCCEED, "[", "M#c", "{", "x"],
         "definition: F5 Unsupported /States/P/Type",
     ),
     (
-        [PATHS_INTO_THE_CONTEXT, "{}", "M", "{}", ""],
+        [WAIT_BEFORE_A_CHOICE, "{}", "M", "{}", ""],
         "definition: F5 Unsupported /States/a~1b/Type",
     ),
     (
@@ -196,7 +202,71 @@ const REFUSED: &[([&str; 5], &str)] = &[
         "mocks: M1 Json J1 Syntax 1",
     ),
     ([TWO_STATES, "[]", "M#c", "{", "x"], "mocks: M2 Shape"),
+    (
+        [
+            TWO_STATES,
+            r#"{"StateMachines":{"M":{}},"MockedResponses":{"r":{"x":{"Return":1}}}}"#,
+            "M#c",
+            "{",
+            "x",
+        ],
+        "mocks: M2 Shape /StateMachines/M",
+    ),
+    (
+        [
+            TWO_STATES,
+            r#"{"MockedResponses":{"r":{"x":{"Return":1}}}}"#,
+            "M#c",
+            "{",
+            "x",
+        ],
+        "mocks: M3 Key /MockedResponses/r/x",
+    ),
+    (
+        [
+            TWO_STATES,
+            r#"{"MockedResponses":{"r":{"2-1":{"Return":1}}}}"#,
+            "M",
+            "{}",
+            "",
+        ],
+        "mocks: M3 Key /MockedResponses/r/2-1",
+    ),
+    (
+        [
+            TWO_STATES,
+            r#"{"MockedResponses":{"r":{"0-2":{"Return":1},"2":{"Return":2}}}}"#,
+            "M",
+            "{}",
+            "",
+        ],
+        "mocks: M4 Overlap /MockedResponses/r/2",
+    ),
+    (
+        [
+            TWO_STATES,
+            r#"{"StateMachines":{"M":{"TestCases":{"a/b":{"T":"r"}}}}}"#,
+            "M#a/b",
+            "{",
+            "x",
+        ],
+        "mocks: M5 NoResponse /StateMachines/M/TestCases/a~1b/T",
+    ),
     ([TWO_STATES, "{}", "M#c", "{", "x"], "case: M7 NoMachine"),
+    (
+        [TWO_STATES, MOCKS, "Other#None", "{", "x"],
+        "case: M7 NoMachine",
+    ),
+    ([TWO_STATES, MOCKS, "#c", "{", "x"], "case: M7 NoMachine"),
+    ([TWO_STATES, MOCKS, "M#None", "{", "x"], "case: M8 NoCase"),
+    ([TWO_STATES, MOCKS, "M#a", "{", "x"], "case: M8 NoCase"),
+    ([TWO_STATES, MOCKS, "M#a#b#", "{", "x"], "case: M8 NoCase"),
+    ([TWO_STATES, MOCKS, "M#a#b", "{", "x"], "input: J1 Syntax 1"),
+    (
+        [TWO_STATES, MOCKS, "Other#", "{", "x"],
+        "input: J1 Syntax 1",
+    ),
+    ([TWO_STATES, MOCKS, "Other", "{", "x"], "input: J1 Syntax 1"),
     ([TWO_STATES, "{}", "M#", "{", "x"], "input: J1 Syntax 1"),
     (
         [
@@ -217,6 +287,65 @@ fn texts_are_refused_in_their_order(rt: HostRuntime) {
     }
 }
 
+/// What is read where this is chosen.
+fn chosen(rt: &HostRuntime, chosen: &str) -> Option<Setup> {
+    let emulation = Emulation::read(
+        rt.alloc(),
+        TWO_STATES.as_bytes(),
+        MOCKS.as_bytes(),
+        chosen,
+        b"{}",
+        b"",
+    );
+    Some(emulation.ok()?.setup)
+}
+
+/// The first answer to the state `T`: `1`, `E`, or none.
+fn first_answer(case: &Case) -> &str {
+    match answer(case, "T", 0) {
+        Some(Answer::Returns(_)) => "1",
+        Some(Answer::Throws { error, .. }) => error.as_str(),
+        None => "none",
+    }
+}
+
+#[test]
+fn what_is_chosen_is_cut_at_the_first_number_sign(rt: HostRuntime) -> Result<(), Fail> {
+    let rows = [
+        ("M", "M", "run", "none"),
+        ("M#", "M", "run", "none"),
+        ("", "", "run", "none"),
+        ("#", "", "run", "none"),
+        ("Other", "Other", "run", "none"),
+        ("M#c", "M", "c", "1"),
+        ("M#a#b", "M", "a#b", "E"),
+        ("N#c", "N", "c", "E"),
+    ];
+    for (words, machine, name, first) in rows {
+        let setup = chosen(&rt, words).ok_or("refused")?;
+        assert_eq!(rt; setup.name_of_machine.as_str(), machine, "{words}");
+        assert_eq!(rt; setup.name.as_str(), name, "{words}");
+        assert_eq!(rt; first_answer(&setup.case), first, "{words}");
+    }
+    Ok(())
+}
+
+#[test]
+fn a_test_case_changes_nothing_of_a_run_without_tasks(rt: HostRuntime) -> Result<(), Fail> {
+    let plain = run(&rt, TWO_STATES, "{}", ONE_STEP)?;
+    let with_case = emulate(
+        rt.alloc(),
+        TWO_STATES.as_bytes(),
+        MOCKS.as_bytes(),
+        "M#a#b",
+        b"{}",
+        ONE_STEP.as_bytes(),
+    )
+    .map_err(|_| "refused")?;
+    assert_eq!(rt; with_case.text.as_str(), plain.text.as_str());
+    Ok(())
+}
+
 fn text(alloc: Global, text: &str) -> Option<Txt> {
     Some(Txt::new(String::from_str(alloc, text).ok()?))
 }
@@ -234,6 +363,7 @@ fn setup(alloc: Global) -> Option<Setup> {
     Some(Setup {
         machine,
         name_of_machine,
+        case: Case::empty(),
         input,
         name,
         start: Moment::FIRST,

@@ -1,23 +1,48 @@
 -- A fault of one text is that of a run, where the texts before it are good.
-use Rattle.std.proofs.Common.{◌≡◌, ℕ, true, List, []}
+use Rattle.std.proofs.Common.{◌≡◌, ℕ, true, List}
+use Rattle.std.specs.Prelude.{Ok}
 use Rattle.asl_json.specs.Data.{Data}
 use Rattle.asl_json.specs.declared.value.Json.{Json}
 use Rattle.asl_check.specs.Judged.{IsMachineOf}
+use Rattle.asl_mock.specs.Answers as mocks
+use Rattle.asl_mock.specs.Told.{IsMockFile}
 use Rattle.asl_setup.specs.declared.fault.EmulateFault.{EmulateFault}
-use Rattle.asl_setup.specs.declared.fault.EmulateFault.TheVariants.{Definition, MockText, MockShape, Case, Input, StepLine, OutOfMemory}
-use Rattle.asl_setup.specs.Emulations.{IsRefused, by_steps}
+use Rattle.asl_setup.specs.declared.fault.EmulateFault.TheVariants.{Definition, Mocks, Case, Input, StepLine, OutOfMemory}
+use Rattle.asl_setup.specs.Chosen.{case_chosen, IsCase}
+use Rattle.asl_setup.specs.Emulations.{IsRefused, by_case, by_input, by_steps}
 use Rattle.asl_setup.specs.Ready.{is_ready}
-use Rattle.asl_setup.specs.Texts.{AreNoMocks, case_name, IsInputOf, AreBadSteps, Unless}
+use Rattle.asl_setup.specs.Texts.{IsReadyDefinition, IsInputOf, IsNoCase, IsBadCase, IsBadInput, AreBadSteps, Unless}
 
 carried : (P Q : EmulateFault → Type 0) → ((f : EmulateFault) → P f → Q f) → (f : EmulateFault) → Unless P f → Unless Q f
 carried P Q h (Definition e) p = h (Definition e) p
-carried P Q h (MockText e) p = h (MockText e) p
-carried P Q h MockShape p = h MockShape p
-carried P Q h Case p = h Case p
+carried P Q h (Mocks e) p = h (Mocks e) p
+carried P Q h (Case e) p = h (Case e) p
 carried P Q h (Input e) p = h (Input e) p
 carried P Q h (StepLine n) p = h (StepLine n) p
 carried P Q h OutOfMemory p = tt
 
-pub steps_refused : (d m c x s : List ℕ) (v : Data) (j : Json) (f : EmulateFault) → IsMachineOf d v → is_ready v ≡ true → AreNoMocks m → case_name c ≡ [] → IsInputOf x j → Unless (AreBadSteps s) f → Unless (IsRefused d m c x s) f
-steps_refused d m c x s v j f of ready none no_case input bad =
-    carried (AreBadSteps s) (IsRefused d m c x s) (λ g b. by_steps (record { machine = v; is_of = of; ready = ready }) none no_case (record { value = j; is_of = input }) b) f bad
+ready_definition : (d : List ℕ) (v : Data) → IsMachineOf d v → is_ready v ≡ true → IsReadyDefinition d
+ready_definition d v of ready = record { machine = v; is_of = of; ready = ready }
+
+a_case : (m c : List ℕ) (ms : mocks.Machines) (found : mocks.Case) → IsMockFile m ms → case_chosen ms c ≡ Ok found → IsCase m c
+a_case m c ms found file chosen = record { found = found; is_of = record { machines = ms; mocks_are = file; chosen_is = chosen } }
+
+lost : (m c : List ℕ) (ms : mocks.Machines) (f : EmulateFault) → IsMockFile m ms → IsNoCase ms c f → IsBadCase m c f
+lost m c ms (Case e) file bad = record { machines = ms; mocks_are = file; fault = bad }
+lost m c ms (Definition e) file bad = bad
+lost m c ms (Mocks e) file bad = bad
+lost m c ms (Input e) file bad = bad
+lost m c ms (StepLine n) file bad = bad
+lost m c ms OutOfMemory file bad = bad
+
+pub case_refused : (d m c x s : List ℕ) (v : Data) (ms : mocks.Machines) (f : EmulateFault) → IsMachineOf d v → is_ready v ≡ true → IsMockFile m ms → Unless (IsNoCase ms c) f → Unless (IsRefused d m c x s) f
+case_refused d m c x s v ms f of ready file bad =
+    carried (IsNoCase ms c) (IsRefused d m c x s) (λ g b. by_case (ready_definition d v of ready) (lost m c ms g file b)) f bad
+
+pub input_refused : (d m c x s : List ℕ) (v : Data) (ms : mocks.Machines) (found : mocks.Case) (f : EmulateFault) → IsMachineOf d v → is_ready v ≡ true → IsMockFile m ms → case_chosen ms c ≡ Ok found → Unless (IsBadInput x) f → Unless (IsRefused d m c x s) f
+input_refused d m c x s v ms found f of ready file chosen bad =
+    carried (IsBadInput x) (IsRefused d m c x s) (λ g b. by_input (ready_definition d v of ready) (a_case m c ms found file chosen) b) f bad
+
+pub steps_refused : (d m c x s : List ℕ) (v : Data) (ms : mocks.Machines) (found : mocks.Case) (j : Json) (f : EmulateFault) → IsMachineOf d v → is_ready v ≡ true → IsMockFile m ms → case_chosen ms c ≡ Ok found → IsInputOf x j → Unless (AreBadSteps s) f → Unless (IsRefused d m c x s) f
+steps_refused d m c x s v ms found j f of ready file chosen input bad =
+    carried (AreBadSteps s) (IsRefused d m c x s) (λ g b. by_steps (ready_definition d v of ready) (a_case m c ms found file chosen) (record { value = j; is_of = input }) b) f bad

@@ -1,4 +1,5 @@
 pub mod StepsFile
 pub mod Ready
+pub mod Chosen
 pub mod Texts
 pub mod Emulations

@@ -1,8 +1,7 @@
 -- What the texts of a run spell, and which fault of them is answered.
-use Rattle.std.specs.Prelude.{◌≡◌, ◌⊎◌, ℕ, ◌==◌, List, [], ◌∷◌, ◌++◌, true, Some, codes}
+use Rattle.std.specs.Prelude.{◌≡◌, ◌⊎◌, ℕ, List, [], ◌∷◌, ◌++◌, true, Some, Err, codes}
 use Rattle.std.specs.Fmt.{decimal}
-use Rattle.std.specs.List.{before_first, after_first}
-use Rattle.asl_json.specs.Data.{Data, dict, no_members}
+use Rattle.asl_json.specs.Data.{Data}
 use Rattle.asl_json.specs.View.{data_of}
 use Rattle.asl_json.specs.Pointers.{name_part}
 use Rattle.asl_json.specs.Wrong.{ReadsAs}
@@ -14,10 +13,16 @@ use Rattle.asl_check.specs.Judged.{IsMachineOf, IsTextFault, IsFaultOf}
 use Rattle.asl_check.specs.Lines.{fault_line}
 use Rattle.asl_check.specs.declared.fault.Fault.{Fault}
 use Rattle.asl_check.specs.declared.fault.Fault.TheVariants as check
+use Rattle.asl_mock.specs.Answers as mocks
+use Rattle.asl_mock.specs.Lines.{mock_line, case_line}
+use Rattle.asl_mock.specs.Told.{IsAnswer}
+use Rattle.asl_mock.specs.declared.fault.MockFault.{MockFault}
+use Rattle.asl_mock.specs.declared.fault.MockFault.TheVariants as mock
 use Rattle.asl_setup.specs.declared.fault.EmulateFault.{EmulateFault}
-use Rattle.asl_setup.specs.declared.fault.EmulateFault.TheVariants.{Definition, MockText, MockShape, Case, Input, StepLine, OutOfMemory}
+use Rattle.asl_setup.specs.declared.fault.EmulateFault.TheVariants.{Definition, Mocks, Case, Input, StepLine, OutOfMemory}
 use Rattle.asl_setup.specs.declared.setup.Setup.{Setup}
 use Rattle.asl_setup.specs.declared.step_at.StepAt.{StepAt}
+use Rattle.asl_setup.specs.Chosen.{machine_name, execution_name, case_chosen, IsLost}
 use Rattle.asl_setup.specs.Ready.{is_ready, first_unready}
 use Rattle.asl_setup.specs.StepsFile.{IsFirstBadLine}
 
@@ -28,18 +33,6 @@ pub record IsReadyDefinition (b : List ℕ) : Type 0 where
   pub machine : Data
   pub is_of : IsMachineOf b machine
   pub ready : is_ready machine ≡ true
-
--- the mock file has nothing in it
-abbrev pub AreNoMocks : List ℕ → Type 0
-AreNoMocks b = ReadsAs b (dict no_members)
-
--- the machine's name: what stands before the first `#`
-abbrev pub machine_name : List ℕ → List ℕ
-machine_name chosen = before_first (λ b. b == 35) chosen
-
--- the test case's name: what stands behind the first `#`
-abbrev pub case_name : List ℕ → List ℕ
-case_name chosen = after_first (λ b. b == 35) chosen
 
 abbrev pub IsInputOf : List ℕ → Json → Type 0
 IsInputOf b x = ReadsAs b (data_of x)
@@ -54,9 +47,16 @@ abbrev pub start_at : List StepAt → ℕ
 start_at [] = 0
 start_at (s ∷ ss) = s.moment
 
--- the setup of a run without a test case
-abbrev pub setup_for : Data → List ℕ → Json → List StepAt → Setup
-setup_for m chosen x ss = record { machine = m; name_of_machine = machine_name chosen; input = x; name = codes "run"; start = start_at ss }
+-- the setup of a run
+abbrev pub setup_for : Data → List ℕ → mocks.Case → Json → List StepAt → Setup
+setup_for m chosen c x ss = record {
+  machine = m;
+  name_of_machine = machine_name chosen;
+  case = c;
+  input = x;
+  name = execution_name chosen;
+  start = start_at ss;
+}
 
 -- ---- why they are refused
 
@@ -81,20 +81,23 @@ abbrev pub IsBadDefinition : List ℕ → EmulateFault → Type 0
 IsBadDefinition b (Definition e) = IsDefinitionFault b e ⊎ IsNotReady b e
 IsBadDefinition b _ = ⊥
 
--- a JSON value that is no object without members
-pub record AreOtherMocks (b : List ℕ) : Type 0 where
-  pub value : Data
-  pub reads : ReadsAs b value
-  pub other : value ≡ dict no_members → ⊥
+-- the first fault of a mock file
+pub record IsMockFault (b : List ℕ) (e : MockFault) : Type 0 where
+  pub is_fault : IsAnswer b e
+  pub told : e ≡ mock.OutOfMemory → ⊥
 
 abbrev pub AreBadMocks : List ℕ → EmulateFault → Type 0
-AreBadMocks b (MockText f) = IsTextFault b f
-AreBadMocks b MockShape = AreOtherMocks b
+AreBadMocks b (Mocks e) = IsMockFault b e
 AreBadMocks b _ = ⊥
 
-abbrev pub IsBadCase : List ℕ → EmulateFault → Type 0
-IsBadCase chosen Case = case_name chosen ≡ [] → ⊥
-IsBadCase chosen _ = ⊥
+-- the test case that is chosen isn't among those of these machines
+abbrev pub IsNoCase : mocks.Machines → List ℕ → EmulateFault → Type 0
+IsNoCase ms chosen (Case e) = case_chosen ms chosen ≡ Err e
+IsNoCase ms chosen _ = ⊥
+
+abbrev pub IsBadCase : List ℕ → List ℕ → EmulateFault → Type 0
+IsBadCase mocks chosen (Case e) = IsLost mocks chosen e
+IsBadCase mocks chosen _ = ⊥
 
 abbrev pub IsBadInput : List ℕ → EmulateFault → Type 0
 IsBadInput b (Input f) = IsTextFault b f
@@ -113,9 +116,8 @@ Unless P f = P f
 
 abbrev pub refusal_line : EmulateFault → List ℕ
 refusal_line (Definition e) = codes "definition: " ++ fault_line e
-refusal_line (MockText f) = codes "mocks: M1 Json " ++ fault_text f
-refusal_line MockShape = codes "mocks: M2 Shape"
-refusal_line Case = codes "case: M7 NoMachine"
+refusal_line (Mocks e) = codes "mocks: " ++ mock_line e
+refusal_line (Case e) = codes "case: " ++ case_line e
 refusal_line (Input f) = codes "input: " ++ fault_text f
 refusal_line (StepLine n) = codes "steps: E1 StepLine " ++ decimal n
 refusal_line OutOfMemory = codes "OutOfMemory"

@@ -4,6 +4,7 @@ ghost use Rattle.asl_setup.specs.Texts.{refusal_line};
 
 use asl_check::Fault;
 use asl_json::JsonFault;
+use asl_mock::{CaseFault, MockFault};
 use std::alloc::{AllocError, Global};
 
 /// Why the texts of a run are refused: the first fault of the first text that has one, in this order.
@@ -12,12 +13,10 @@ pub enum EmulateFault {
     /// F1 to F15: the first fault of the definition; or, where it has none, F5 at the `Type` of the first of its states that can't
     /// be run yet.
     Definition(Fault),
-    /// M1: the mock file isn't a JSON text.
-    MockText(JsonFault),
-    /// M2: the mock file isn't an object without members, which alone is supported yet.
-    MockShape,
-    /// M7: a test case is chosen, and the mock file has no machines.
-    Case,
+    /// M1 to M5: the first fault of the mock file.
+    Mocks(MockFault),
+    /// M7 and M8: the test case that is chosen isn't in the mock file.
+    Case(CaseFault),
     /// The input isn't a JSON text.
     Input(JsonFault),
     /// E1: the number, from 1, of the first line of the steps file that is no step.
@@ -46,6 +45,15 @@ fn joined(alloc: Global, front: &str, back: String) -> Result<String, AllocError
     Ok(text)
 }
 
+/// The fault of a test case that isn't found.
+fn case_text(alloc: Global, fault: CaseFault) -> Result<String, AllocError>
+    ensures { IfOk result (λ t. string_bytes t ≡ refusal_line (EmulateFault.Case fault)) }
+{
+    let mut text = String::from_str(alloc, "case: ")?;
+    text.push_str(fault.text())?;
+    Ok(text)
+}
+
 /// The fault of a step's line.
 fn step_line(alloc: Global, number: usize) -> Result<String, AllocError>
     ensures { IfOk result (λ t. string_bytes t ≡ refusal_line (EmulateFault.StepLine number)) }
@@ -63,11 +71,8 @@ impl EmulateFault {
     {
         match self {
             EmulateFault::Definition(fault) => joined(alloc, "definition: ", fault.text(alloc)?),
-            EmulateFault::MockText(fault) => {
-                joined(alloc, "mocks: M1 Json ", fault.text(alloc)?)
-            }
-            EmulateFault::MockShape => String::from_str(alloc, "mocks: M2 Shape"),
-            EmulateFault::Case => String::from_str(alloc, "case: M7 NoMachine"),
+            EmulateFault::Mocks(fault) => joined(alloc, "mocks: ", fault.text(alloc)?),
+            EmulateFault::Case(fault) => case_text(alloc, *fault),
             EmulateFault::Input(fault) => joined(alloc, "input: ", fault.text(alloc)?),
             EmulateFault::StepLine(number) => step_line(alloc, *number),
             EmulateFault::OutOfMemory => String::from_str(alloc, "OutOfMemory"),

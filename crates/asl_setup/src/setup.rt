@@ -2,6 +2,7 @@
 
 use asl_def::Machine;
 use asl_json::{Shared, Txt};
+use asl_mock::Case;
 use asl_time::Moment;
 
 /// What an execution begins with.
@@ -10,9 +11,11 @@ pub struct Setup {
     pub machine: Machine,
     /// The name of the state machine.
     pub name_of_machine: Txt,
+    /// What its tasks answer: the test case that was chosen, which has an owner more for each setup.
+    pub case: Case,
     /// The execution's input, which records and events share.
     pub input: Shared,
-    /// The execution's name.
+    /// The execution's name: that of the test case, or `run` where none was chosen.
     pub name: Txt,
     /// When the execution starts.
     pub start: Moment,
@@ -24,6 +27,7 @@ impl Drop for Setup {
         let Setup {
             machine: _machine,
             name_of_machine: _name_of_machine,
+            case: _case,
             input: _input,
             name: _name,
             start: _start,

@@ -1,10 +1,10 @@
 // What the texts of a run spell.
-ghost use Rattle.std.specs.Prelude.{◌≡◌, ◌↔◌, [], true, IfOk, IfErr, IsTrue, OnOk};
-ghost use Rattle.asl_json.specs.Data.{dict, no_members};
-ghost use Rattle.asl_json.specs.View.{data_of};
+ghost use Rattle.std.specs.Prelude.{◌≡◌, true, Ok, IfOk, IfErr};
 ghost use Rattle.asl_check.specs.Judged.{IsMachineOf};
+ghost use Rattle.asl_mock.specs.Told.{IsMockFile};
 ghost use Rattle.asl_setup.specs.Ready.{is_ready};
-ghost use Rattle.asl_setup.specs.Texts.{AreNoMocks, case_name, machine_name, IsInputOf, start_at, setup_for, IsBadDefinition, AreBadMocks, IsBadCase, IsBadInput, AreBadSteps, Unless, unsupported_type};
+ghost use Rattle.asl_setup.specs.Chosen.{case_name, machine_name, execution_name, case_chosen};
+ghost use Rattle.asl_setup.specs.Texts.{IsInputOf, start_at, setup_for, IsBadDefinition, AreBadMocks, IsNoCase, IsBadInput, AreBadSteps, Unless, unsupported_type};
 ghost use Rattle.asl_setup.specs.StepsFile.{IsStepsFile};
 
 use crate::fault::EmulateFault;
@@ -15,6 +15,7 @@ use crate::steps_file::{StepsFault, read_steps};
 use asl_check::{Fault, accept};
 use asl_def::Machine;
 use asl_json::{Json, JsonFault, Pointer, Shared, Txt, read};
+use asl_mock::{Case, MockFault, Mocks};
 use asl_schema::FaultKind;
 use asl_time::Moment;
 use std::alloc::{AllocError, Global};
@@ -53,26 +54,15 @@ pub(crate) fn machine_of(alloc: Global, definition: &[u8]) -> Result<Machine, Em
     Ok(machine)
 }
 
-/// Whether a value is an object without members.
-fn is_empty_object(value: &Json) -> bool
-    ensures { IsTrue result ↔ (data_of value.now ≡ dict no_members) }
-{
-    match value {
-        Json::Dict(members) => members.len() == 0,
-        _ => false,
-    }
-}
-
-/// Judges a mock file: it has nothing in it.
-pub(crate) fn check_mocks(alloc: Global, mocks: &[u8]) -> Result<(), EmulateFault>
-    ensures none { OnOk result (AreNoMocks mocks.now) }
+/// The machines and cases of a mock file.
+pub(crate) fn mocks_of(alloc: Global, mocks: &[u8]) -> Result<Mocks, EmulateFault>
+    ensures found { IfOk result (IsMockFile mocks.now) }
     ensures fault { IfErr result (Unless (AreBadMocks mocks.now)) }
 {
-    match read(alloc, mocks) {
-        Ok(value) if is_empty_object(&value) => Ok(()),
-        Ok(_) => Err(EmulateFault::MockShape),
-        Err(JsonFault::OutOfMemory) => Err(EmulateFault::OutOfMemory),
-        Err(fault) => Err(EmulateFault::MockText(fault)),
+    match Mocks::read(alloc, mocks) {
+        Ok(mocks) => Ok(mocks),
+        Err(MockFault::OutOfMemory) => Err(EmulateFault::OutOfMemory),
+        Err(fault) => Err(EmulateFault::Mocks(fault)),
     }
 }
 
@@ -87,16 +77,18 @@ fn names_in(chosen: &str) -> (&str, &str)
     }
 }
 
-/// Judges what was chosen, by a mock file that has no machines: no test case.
-pub(crate) fn check_case(chosen: &str) -> Result<(), EmulateFault>
-    ensures none { OnOk result (case_name chosen.now ≡ []) }
-    ensures fault { IfErr result (IsBadCase chosen.now) }
+/// The test case that was chosen; where none is named, the empty one, whatever the machine's name.
+pub(crate) fn case_of(mocks: &Mocks, chosen: &str) -> Result<Case, EmulateFault>
+    ensures found { IfOk result (λ c. case_chosen mocks.now chosen.now ≡ Ok c) }
+    ensures fault { IfErr result (Unless (IsNoCase mocks.now chosen.now)) }
 {
-    let (_, case) = names_in(chosen);
+    let (machine, case) = names_in(chosen);
     if case.is_empty() {
-        Ok(())
-    } else {
-        Err(EmulateFault::Case)
+        return Ok(Case::empty());
+    }
+    match mocks.case(machine, case) {
+        Ok(case) => Ok(case.try_clone()?),
+        Err(fault) => Err(EmulateFault::Case(fault)),
     }
 }
 
@@ -134,22 +126,34 @@ fn start_of(steps: &[StepAt]) -> Moment
     }
 }
 
-/// The setup of a run without a test case.
+/// The name of the execution of what was chosen: the test case's, and `run` where none is named.
+fn execution_name(chosen: &str) -> &str
+    ensures { result.now ≡ execution_name chosen.now }
+{
+    match names_in(chosen) {
+        (_, "") => "run",
+        (_, case) => case,
+    }
+}
+
+/// The setup of a run.
 pub(crate) fn setup_for(
     alloc: Global,
     machine: Machine,
     chosen: &str,
+    case: Case,
     input: Json,
     steps: &[StepAt],
 ) -> Result<Setup, AllocError>
-    ensures { IfOk result (λ s. s ≡ setup_for machine chosen.now input steps.now) }
+    ensures { IfOk result (λ s. s ≡ setup_for machine chosen.now case input steps.now) }
 {
     let (name_of_machine, _) = names_in(chosen);
     Ok(Setup {
         machine,
         name_of_machine: Txt::new(String::from_str(alloc, name_of_machine)?),
+        case,
         input: Shared::new(alloc, input)?,
-        name: Txt::new(String::from_str(alloc, "run")?),
+        name: Txt::new(String::from_str(alloc, execution_name(chosen))?),
         start: start_of(steps),
     })
 }

@@ -1,6 +1,7 @@
 use Rattle.std.proofs.Common.{◌≡◌, ◌&&◌, ◌||◌, not, drop}
 use Rattle.std.specs.List.{list_any, list_all}
-use Rattle.asl_run.specs.World.{children_at, is_failed, is_done}
+use Rattle.asl_steps.specs.Records.{is_failed, is_done}
+use Rattle.asl_run.specs.World.{children_at}
 use Rattle.asl_run.specs.Refusals.{is_busy}
 use Rattle.asl_run.proofs.branches.is_busy.Given as goal
 

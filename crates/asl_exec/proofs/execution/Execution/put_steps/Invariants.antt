@@ -8,7 +8,7 @@ use Rattle.asl_exec.proofs.execution.Execution.put_steps.Given as goal
 -- the lines so far and those of what is left are those of all
 abbrev pub invariant-loop-at : goal.invariant-loop-at
 invariant-loop-at l = record {
-  told : string_bytes l.out ++ step_lines (setup_of l.self).machine (world_of l.self) (drop l.at-index l.steps) ≡ string_bytes l.fn.out ++ step_lines (setup_of l.fn.self).machine (world_of l.fn.self) l.steps;
-  left : world_after (setup_of l.self).machine (world_of l.self) (drop l.at-index l.steps) ≡ world_after (setup_of l.fn.self).machine (world_of l.fn.self) l.steps;
+  told : string_bytes l.out ++ step_lines (setup_of l.self) (world_of l.self) (drop l.at-index l.steps) ≡ string_bytes l.fn.out ++ step_lines (setup_of l.fn.self) (world_of l.fn.self) l.steps;
+  left : world_after (setup_of l.self) (world_of l.self) (drop l.at-index l.steps) ≡ world_after (setup_of l.fn.self) (world_of l.fn.self) l.steps;
   same : setup_of l.self ≡ setup_of l.fn.self;
 }

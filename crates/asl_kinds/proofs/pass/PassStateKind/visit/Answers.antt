@@ -1,10 +1,13 @@
+use Rattle.std.proofs.Common.{sym}
 use Rattle.asl_states.specs.Show.{pass_object}
+use Rattle.asl_steps.specs.Context.{context_of}
+use Rattle.asl_steps.specs.Seen.{seen}
 use Rattle.asl_kinds.specs.Members.{pass_output}
 use Rattle.asl_kinds.proofs.pass.PassStateKind.visit.Goals as goal
 
-pub returns-in_ok-events-in-Ready : goal.returns-in_ok-events-in-Ready
-returns-in_ok-events-in-Ready c =
-    let gives = c.passed.ensures (pass_output (pass_object c.args.self.now) c.in-Ready.input) c.output-given.ensures in
-    let told = rw c.in_ok-events-in-Ready.ensures at gives in
-    let moved = rw c.next.ensures.next at told in
-    rw c.in-Ready.is moved
+pub returns-clause-effect : goal.returns-clause-effect
+returns-clause-effect c =
+    let gives = c.passed.ensures (pass_output (pass_object c.args.self.now) c.in-Some.input.now (context_of c.args.context.now.facts (seen c.args.visit.now))) c.output-given.ensures.given in
+    let told = rw c.in_ok-done.ensures at gives in
+    let moved = rw (c.target-next.ensures, c.next.ensures.next) at told in
+    rw (sym c.in-Some.ensures) moved

@@ -1,0 +1,16 @@
+-- What a call that makes data answers, by what is given.
+use Rattle.std.specs.Prelude.{◌≡◌, Result, Ok, Err}
+use Rattle.asl_data.specs.declared.fault.Fault.{Fault}
+use Rattle.asl_data.specs.declared.fault.Fault.TheVariants.{Memory, Raised}
+use Rattle.asl_steps.specs.declared.record.ErrorOut.{ErrorOut}
+
+-- this error, unless memory ran out
+abbrev pub IsRaised : ErrorOut → Fault → Type 0
+IsRaised e Memory = Unit {0}
+IsRaised e (Raised f) = f ≡ e
+
+-- what is given, unless memory ran out
+abbrev pub Gives : {A : Type 0} → Result A ErrorOut → Result A Fault → Type 0
+Gives g (Ok v) = g ≡ Ok v
+Gives g (Err Memory) = Unit {0}
+Gives g (Err (Raised e)) = g ≡ Err e

@@ -1,0 +1,4 @@
+pub mod Paths
+pub mod Payload
+pub mod Reason
+pub mod Gives

@@ -1,0 +1,82 @@
+// Why a step's data isn't made: memory ran out, or an error is raised.
+ghost use Rattle.std.specs.Prelude.{◌≡◌, ◌++◌, IfOk, codes};
+ghost use Rattle.asl_data.specs.Paths.{failure as spec_failure, no_value as spec_no_value, no_place as spec_no_place};
+ghost use Rattle.asl_data.specs.Gives.{IsRaised};
+
+use asl_json::Txt;
+use asl_steps::ErrorOut;
+use std::alloc::{AllocError, Global};
+
+/// Why data isn't made.
+#[derive(Drop)]
+pub enum Fault {
+    Memory,
+    Raised(ErrorOut),
+}
+
+impl From<AllocError> for Fault {
+    ghost use Rattle.std.specs.Prelude.{◌≡◌};
+    ghost use Rattle.asl_data.specs.declared.fault.Fault.TheVariants.{Memory};
+
+    ghost from_gives = { λ _ e. e ≡ Memory };
+
+    fn from(_: AllocError) -> Fault {
+        Fault::Memory
+    }
+}
+
+pub(crate) fn text(alloc: Global, text: &str) -> Result<Txt, AllocError>
+    ensures { IfOk result (λ t. t ≡ text.now) }
+{
+    Ok(Txt::new(String::from_str(alloc, text)?))
+}
+
+/// An error with its cause.
+pub(crate) fn failure(alloc: Global, error: &str, cause: Txt) -> Result<ErrorOut, AllocError>
+    ensures { IfOk result (λ e. e ≡ spec_failure error.now cause) }
+{
+    Ok(ErrorOut {
+        error: Some(text(alloc, error)?),
+        cause: Some(cause),
+    })
+}
+
+/// That a field's path has no value.
+fn no_value(alloc: Global, field: &str) -> Result<ErrorOut, AllocError>
+    ensures { IfOk result (λ e. e ≡ spec_no_value field.now) }
+{
+    let mut cause = String::from_str(alloc, field)?;
+    cause.push_str(": no value")?;
+    failure(alloc, "States.Runtime", Txt::new(cause))
+}
+
+/// That ResultPath has no place.
+fn no_place(alloc: Global) -> Result<ErrorOut, AllocError>
+    ensures { IfOk result (λ e. e ≡ spec_no_place) }
+{
+    failure(
+        alloc,
+        "States.ResultPathMatchFailure",
+        text(alloc, "ResultPath: no place")?,
+    )
+}
+
+/// The fault that a field's path has no value.
+pub fn missing(alloc: Global, field: &str) -> Fault
+    ensures { IsRaised (spec_no_value field.now) result }
+{
+    match no_value(alloc, field) {
+        Ok(error) => Fault::Raised(error),
+        Err(_) => Fault::Memory,
+    }
+}
+
+/// The fault that ResultPath has no place.
+pub fn placeless(alloc: Global) -> Fault
+    ensures { IsRaised spec_no_place result }
+{
+    match no_place(alloc) {
+        Ok(error) => Fault::Raised(error),
+        Err(_) => Fault::Memory,
+    }
+}

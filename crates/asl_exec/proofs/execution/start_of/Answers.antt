@@ -1,8 +1,0 @@
-use Rattle.std.proofs.Common.{ap, ◌∙◌}
-use Rattle.std.proofs.lemmas.Result.{IfOk-weaker}
-use Rattle.asl_parts.specs.Texts.{text_in}
-use Rattle.asl_exec.specs.Steps.{name_or_none}
-use Rattle.asl_exec.proofs.execution.start_of.Goals as goal
-
-pub returns : goal.returns
-returns c = IfOk-weaker c.new.result _ _ (λ n e. e ∙ ap (λ v. name_or_none (text_in v)) c.start.ensures) c.new.ensures

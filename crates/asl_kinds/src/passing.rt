@@ -1,0 +1,43 @@
+// States that are left in the step that enters them.
+ghost use Rattle.std.specs.Prelude.{◌≡◌, IfOk, option_map};
+ghost use Rattle.asl_parts.specs.Parts.{next_shown};
+ghost use Rattle.asl_parts.specs.Texts.{text_in};
+ghost use Rattle.asl_steps.specs.Seen.{seen};
+ghost use Rattle.asl_data.specs.Paths.{Given};
+ghost use Rattle.asl_data.specs.Gives.{Gives};
+ghost use Rattle.asl_kinds.specs.Table.{passed as spec_passed};
+
+use asl_data::Fault;
+use asl_history::EventKind;
+use asl_json::Shared;
+use asl_states::Next;
+use asl_steps::{Effect, Progress, Visit, failing, leaving};
+use std::alloc::{AllocError, Global};
+
+/// The name of the state that comes next; none where the state ends its branch.
+pub(crate) fn target(next: &Next) -> Option<&str>
+    ensures { option_map (λ n. n.now) result ≡ text_in (next_shown next.now) }
+{
+    match next {
+        Next::End => None,
+        Next::To(target) => Some(target.name.as_str()),
+    }
+}
+
+/// A state that was entered is left with what it gives, or fails with the error that it raises.
+pub(crate) fn passed(
+    alloc: Global,
+    visit: &Visit,
+    done: Progress,
+    exited: EventKind,
+    next: Option<&str>,
+    given: Result<Shared, Fault>,
+) -> Result<Effect, AllocError>
+    ensures { (g : Given) → Gives g given → IfOk result (λ e. e ≡ spec_passed (seen visit.now) done exited (option_map (λ n. n.now) next.entry) g) }
+{
+    match given {
+        Ok(output) => leaving(alloc, visit, done, exited, next, output),
+        Err(Fault::Raised(error)) => failing(alloc, visit, done, error),
+        Err(Fault::Memory) => Err(AllocError),
+    }
+}

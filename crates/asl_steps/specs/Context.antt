@@ -1,0 +1,52 @@
+-- The Context Object (Step Functions Developer Guide, "Accessing execution data from the Context object").
+use Rattle.std.specs.Prelude.{ℕ, pos, List, [], ◌∷◌, ◌++◌, ◌≡◌, codes, min, sum, ◌^◌, ◌-◌}
+use Rattle.std.specs.Fmt.{signed_decimal}
+use Rattle.asl_json.specs.Data.{Data, number, text, dict, pairs}
+use Rattle.asl_json.specs.View.{data_of}
+use Rattle.asl_json.specs.declared.value.Json.{Json}
+use Rattle.asl_json.specs.declared.value.Json.TheVariants.{Dict}
+use Rattle.asl_time.specs.StampText.{stamp_of}
+use Rattle.asl_steps.specs.declared.facts.Facts.{Facts}
+use Rattle.asl_steps.specs.declared.record.Record.{Record}
+use Rattle.asl_steps.specs.Records.{name_in, entered_at, uses_in}
+use Rattle.asl_steps.specs.Seen.{Seen}
+
+-- ---- what is fixed
+
+abbrev pub execution_id : Facts → List ℕ
+execution_id f = codes "execution:" ++ (f.machine ++ (codes ":" ++ f.name))
+
+abbrev pub execution_of : Facts → Data
+execution_of f = dict (pairs ((codes "Id", text (execution_id f)) ∷ (codes "Name", text f.name) ∷ (codes "Input", data_of f.input) ∷ (codes "StartTime", text (stamp_of f.start)) ∷ []))
+
+abbrev pub state_machine_of : Facts → Data
+state_machine_of f = dict (pairs ((codes "Id", text (codes "stateMachine:" ++ f.machine)) ∷ (codes "Name", text f.machine) ∷ []))
+
+-- ---- what each step changes
+
+-- how often the state's retriers were used, up to the greatest number that JSON spells here
+abbrev pub retry_count : List ℕ → ℕ
+retry_count uses = min (sum uses) (10 ^ 18 - 1)
+
+abbrev pub state_of : ℕ → Record → Data
+state_of now r = dict (pairs ((codes "Name", text (name_in r)) ∷ (codes "EnteredTime", text (stamp_of (entered_at now r))) ∷ (codes "RetryCount", number (signed_decimal (pos (retry_count (uses_in r))))) ∷ []))
+
+-- ---- the object
+
+abbrev pub members_with : Facts → Data → List (List ℕ × Data)
+members_with f state = (codes "Execution", execution_of f) ∷ (codes "StateMachine", state_machine_of f) ∷ (codes "State", state) ∷ []
+
+unfoldable pub context_of : Facts → Seen → Data
+context_of f v = dict (pairs (members_with f (state_of v.moment v.current)))
+
+-- ---- and as it is kept
+
+-- the facts of an execution, and the object that was made last
+pub record Scene : Type 0 where
+  pub facts : Facts
+  pub shown : Json
+
+-- only the state's part is another
+pub record IsAbout (f : Facts) (v : Json) : Type 0 where
+  pub state : Data
+  pub value : v ≡ Dict (members_with f state)

@@ -1,0 +1,6 @@
+pub mod Records
+pub mod Seen
+pub mod Context
+pub mod Rows
+pub mod Bounds
+pub mod Laws

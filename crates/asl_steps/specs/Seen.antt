@@ -1,0 +1,23 @@
+-- What a step may read, with no reference in it.
+use Rattle.std.specs.Prelude.{ℕ, List, map, Option, option_map}
+use Rattle.asl_steps.specs.declared.record.Record.{Record}
+use Rattle.asl_steps.specs.declared.visit.Visit.{Visit}
+
+pub record Seen : Type 0 where
+  pub place : List ℕ
+  pub current : Record
+  pub children : List Record
+  -- the name of the Map of which the branch is an iteration
+  pub forker : Option (List ℕ)
+  pub count : ℕ
+  pub moment : ℕ
+
+abbrev pub seen : Visit → Seen
+seen v = record {
+  place = v.place.now;
+  current = v.current.now;
+  children = map (λ r. r.now) v.children.now;
+  forker = option_map (λ n. n.now) v.forker;
+  count = v.count;
+  moment = v.moment;
+}

@@ -1,0 +1,250 @@
+// The Context Object.
+ghost use Rattle.std.specs.Prelude.{◌≡◌, ◌≤◌, ◌<◌, ◌++◌, ◌∷◌, ◌^◌, [], false, true, pos, length, IfOk, OnOk, sum, codes};
+ghost use Rattle.std.specs.Fmt.{signed_decimal};
+ghost use Rattle.asl_json.specs.Data.{Data, text, number, dict, pairs};
+ghost use Rattle.asl_json.specs.Access.{with_value};
+ghost use Rattle.asl_json.specs.Distinct.{has_key};
+ghost use Rattle.asl_json.specs.View.{data_of};
+ghost use Rattle.asl_time.specs.StampText.{stamp_of};
+ghost use Rattle.asl_steps.specs.Records.{name_in, entered_at, uses_in};
+ghost use Rattle.asl_steps.specs.Seen.{seen};
+ghost use Rattle.asl_steps.specs.Context.{execution_id as spec_execution_id, execution_of, state_machine_of, retry_count as spec_retry_count, state_of as spec_state_of, members_with, context_of, IsAbout};
+
+use crate::facts::Facts;
+use crate::record::{Record, Uses};
+use crate::visit::Visit;
+use asl_json::{Dec, Json, Members, Txt};
+use asl_time::{Moment, put_stamp};
+use std::alloc::{AllocError, Global};
+use std::marker::Model;
+use std::mem;
+
+/// The greatest whole number that JSON spells here.
+const MOST: u128 = 999_999_999_999_999_999;
+
+/// The Context Object of an execution. Its fixed members, the input among them, are made once; what each step changes is
+/// put in its place when a state asks for it. Contracts see the facts of the execution and the object that was made last.
+pub struct Context {
+    facts: Facts,
+    value: Json,
+}
+
+// Written out, so that a caller's proof sees one call and not the drop of each part.
+impl Drop for Context {
+    fn drop(self) {
+        let Context {
+            facts: _facts,
+            value: _value,
+        } = self;
+    }
+}
+
+impl Model for Context {
+    ghost use Rattle.asl_steps.specs.Context.{Scene, IsAbout};
+
+    ghost Value = { Scene };
+
+    ghost use Rattle.std.specs.Coded.{codes as coded_codes};
+    ghost use Rattle.asl_json.specs.Code.{coded_data};
+    ghost use Rattle.asl_json.specs.contracts.value.Json as json;
+
+    ghost coded = { Prim.hlevel (coded_codes, coded_data, json.the_row.coded) };
+
+    ghost view = { λ c. record { facts = c.facts; shown = c.value } };
+
+    ghost invariant = { λ c. IsAbout c.facts c.value };
+}
+
+/// These members and one more behind them.
+fn with(alloc: Global, members: Members, key: &str, value: Json) -> Result<Members, AllocError>
+    requires { has_key key.now members ≡ false }
+    ensures { IfOk result (λ ms. ms ≡ members ++ (key.now, data_of value) ∷ []) }
+{
+    let mut members = members;
+    members.push(Txt::new(String::from_str(alloc, key)?), value)?;
+    Ok(members)
+}
+
+/// A text as a value.
+fn told(alloc: Global, told: &str) -> Result<Json, AllocError>
+    ensures { IfOk result (λ v. data_of v ≡ text told.now) }
+{
+    Ok(Json::Text(Txt::new(String::from_str(alloc, told)?)))
+}
+
+/// The stamp of a moment as a value.
+fn stamp(alloc: Global, moment: Moment) -> Result<Json, AllocError>
+    ensures { IfOk result (λ v. data_of v ≡ text (stamp_of moment)) }
+{
+    let mut stamp = String::new(alloc);
+    put_stamp(&mut stamp, moment)?;
+    Ok(Json::Text(Txt::new(stamp)))
+}
+
+/// The id of an execution, as a value.
+fn execution_id(alloc: Global, facts: &Facts) -> Result<Json, AllocError>
+    ensures { IfOk result (λ v. data_of v ≡ text (spec_execution_id facts.now)) }
+{
+    let mut id = String::from_str(alloc, "execution:")?;
+    id.push_str(facts.machine.as_str())?;
+    id.push(':')?;
+    id.push_str(facts.name.as_str())?;
+    Ok(Json::Text(Txt::new(id)))
+}
+
+/// `Execution`.
+fn execution(alloc: Global, facts: &Facts) -> Result<Json, AllocError>
+    ensures { IfOk result (λ v. data_of v ≡ execution_of facts.now) }
+{
+    let members = with(
+        alloc,
+        Members::new(alloc),
+        "Id",
+        execution_id(alloc, facts)?,
+    )?;
+    let members = with(alloc, members, "Name", told(alloc, facts.name.as_str())?)?;
+    let members = with(alloc, members, "Input", facts.input.get().try_clone(alloc)?)?;
+    let members = with(alloc, members, "StartTime", stamp(alloc, facts.start)?)?;
+    Ok(Json::Dict(members))
+}
+
+/// `StateMachine`.
+fn state_machine(alloc: Global, facts: &Facts) -> Result<Json, AllocError>
+    ensures { IfOk result (λ v. data_of v ≡ state_machine_of facts.now) }
+{
+    let mut id = String::from_str(alloc, "stateMachine:")?;
+    id.push_str(facts.machine.as_str())?;
+    let members = with(alloc, Members::new(alloc), "Id", Json::Text(Txt::new(id)))?;
+    let members = with(alloc, members, "Name", told(alloc, facts.machine.as_str())?)?;
+    Ok(Json::Dict(members))
+}
+
+/// How often retriers were used.
+fn sum_of(uses: &Uses) -> u128
+    ensures { result ≡ sum uses.now }
+{
+    let mut total = 0u128;
+    for count in &uses.counts {
+        total += u128::from(*count);
+    }
+    total
+}
+
+/// `RetryCount`, where a branch is doing this.
+fn retry_count(current: &Record) -> i128
+    ensures { pos (spec_retry_count (uses_in current.now)) ≡ result }
+{
+    match current {
+        Record::Again(_, _, _, uses, _) | Record::Forked(_, _, _, uses, _) => {
+            let total = sum_of(uses);
+            if total < MOST {
+                total as i128
+            } else {
+                MOST as i128
+            }
+        }
+        _ => 0,
+    }
+}
+
+/// When the state of a branch was entered.
+fn entered_at(current: &Record, now: Moment) -> Moment
+    ensures { result ≡ entered_at now current.now }
+{
+    match current {
+        Record::Pausing(_, _, since, _)
+        | Record::Again(_, _, since, _, _)
+        | Record::Forked(_, _, since, _, _) => *since,
+        _ => now,
+    }
+}
+
+/// The name of the state of a branch.
+fn name_of(current: &Record) -> &str
+    ensures { result.now ≡ name_in current.now }
+{
+    match current.state() {
+        Some(name) => name.as_str(),
+        None => "",
+    }
+}
+
+/// `State`, where a branch is doing this.
+fn state_of(alloc: Global, current: &Record, now: Moment) -> Result<Json, AllocError>
+    ensures { IfOk result (λ v. data_of v ≡ spec_state_of now current.now) }
+{
+    let count = Json::Num(Dec::of_whole(alloc, retry_count(current))?);
+    let members = with(
+        alloc,
+        Members::new(alloc),
+        "Name",
+        told(alloc, name_of(current))?,
+    )?;
+    let entered = stamp(alloc, entered_at(current, now))?;
+    let members = with(alloc, members, "EnteredTime", entered)?;
+    let members = with(alloc, members, "RetryCount", count)?;
+    Ok(Json::Dict(members))
+}
+
+/// The members of a Context Object with another state's part.
+fn with_state(members: Members, state: Json) -> Members
+    requires { 2 < length members }
+    ensures { result ≡ with_value members 2 (data_of state) }
+{
+    let mut members = members;
+    *members.value_mut(2) = state;
+    members
+}
+
+impl Context {
+    /// The Context Object of an execution with these facts. The error is that memory ran out.
+    pub fn new(alloc: Global, facts: Facts) -> Result<Context, AllocError>
+        ensures { IfOk result (λ c. c.facts ≡ facts) }
+    {
+        let members = with(
+            alloc,
+            Members::new(alloc),
+            "Execution",
+            execution(alloc, &facts)?,
+        )?;
+        let members = with(
+            alloc,
+            members,
+            "StateMachine",
+            state_machine(alloc, &facts)?,
+        )?;
+        let members = with(alloc, members, "State", Json::Null)?;
+        Ok(Context {
+            facts,
+            value: Json::Dict(members),
+        })
+    }
+
+    /// What stays the same as the execution goes on.
+    pub fn facts(&self) -> &Facts
+        ensures { result.now ≡ self.now.facts }
+    {
+        &self.facts
+    }
+
+    /// Makes the object that a step sees. The error is that memory ran out.
+    #[tactic(auto, unfolding(crate::specs::Context::context_of))]
+    pub fn show(&mut self, alloc: Global, visit: &Visit) -> Result<(), AllocError>
+        ensures shown { OnOk result (data_of self.new.shown ≡ context_of self.old.facts (seen visit.now)) }
+        ensures facts { self.new.facts ≡ self.old.facts }
+    {
+        let state = state_of(alloc, visit.current, visit.moment)?;
+        let Ok(members) = mem::replace(&mut self.value, Json::Null).into_members() else {
+            unreachable!();
+        };
+        self.value = Json::Dict(with_state(members, state));
+        Ok(())
+    }
+
+    /// The object that was made last.
+    pub fn shown(&self) -> &Json
+        ensures { result.now ≡ self.now.shown }
+    {
+        &self.value
+    }
+}

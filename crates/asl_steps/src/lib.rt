@@ -1,0 +1,20 @@
+//! Steps of branches: what a step may read, what it does, and the pieces that the rows of several kinds of states share.
+//!
+//! Modules in reading order: `record` says what a branch is doing; `facts` is what stays the same as an execution goes on, `visit`
+//! what a step may read, `context` the Context Object, `effect` what a step does, and `rows` has the pieces: a state is entered, left,
+//! or fails. `specs/Bounds.antt` says what holds of each effect.
+#![tactic(auto)]
+
+mod context;
+mod effect;
+mod facts;
+mod record;
+mod rows;
+mod visit;
+
+pub use context::Context;
+pub use effect::{Children, Draft, Drafts, Effect, Ended, Progress, Records};
+pub use facts::Facts;
+pub use record::{ErrorOut, Record, Uses};
+pub use rows::{entering, error_output, failing, idle, leaving};
+pub use visit::Visit;

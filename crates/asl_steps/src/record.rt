@@ -1,0 +1,164 @@
+// What a branch is doing.
+ghost use Rattle.std.specs.Prelude.{◌≡◌, IfOk, option_map};
+ghost use Rattle.asl_steps.specs.Records.{is_failed as spec_is_failed, is_done as spec_is_done, state_in, entering_with};
+
+use asl_json::{Items, Name, Shared, Txt, clone_text};
+use asl_time::Moment;
+use std::alloc::{AllocError, Global};
+use std::marker::Model;
+
+/// Why a branch failed: an error's name and its cause, each where there is one. (ASL, "Errors".)
+pub struct ErrorOut {
+    pub error: Option<Txt>,
+    pub cause: Option<Txt>,
+}
+
+// Written out, so that a caller's proof sees one call and not the drop of each part.
+impl Drop for ErrorOut {
+    fn drop(self) {
+        let ErrorOut {
+            error: _error,
+            cause: _cause,
+        } = self;
+    }
+}
+
+/// How often each retrier of a state was used since the state was entered.
+pub struct Uses {
+    pub counts: Vec<u32>,
+}
+
+impl Drop for Uses {
+    fn drop(self) {
+        let Uses { counts: _counts } = self;
+    }
+}
+
+impl Model for Uses {
+    ghost use Rattle.std.specs.Prelude.{List, ℕ};
+
+    ghost Value = { List ℕ };
+
+    ghost view = { λ u. u.counts.items };
+}
+
+/// What a branch is doing. The name is its state's, the value the state's raw input, `since` the moment of the
+/// state's first step.
+pub enum Record {
+    /// An iteration of a Map that hasn't begun.
+    New(Name, Shared),
+    /// About to enter its state.
+    Ready(Name, Shared),
+    /// Waiting until a moment: `since`, then until when.
+    Pausing(Name, Shared, Moment, Moment),
+    /// About to be retried: `since`, the uses, then until when it waits.
+    Again(Name, Shared, Moment, Uses, Moment),
+    /// Waiting for its children: `since`, the uses, and a Map's items.
+    Forked(Name, Shared, Moment, Uses, Items),
+    /// Ended with this output.
+    Done(Shared),
+    /// Failed with this error.
+    Failed(ErrorOut),
+}
+
+impl Drop for Record {
+    fn drop(self) {
+        match self {
+            Record::New(_a, _b) => {}
+            Record::Ready(_a, _b) => {}
+            Record::Pausing(_a, _b, _c, _d) => {}
+            Record::Again(_a, _b, _c, _d, _e) => {}
+            Record::Forked(_a, _b, _c, _d, _e) => {}
+            Record::Done(_part) => {}
+            Record::Failed(_part) => {}
+        }
+    }
+}
+
+impl ErrorOut {
+    /// An equal error. What fails is memory.
+    pub fn try_clone(&self, alloc: Global) -> Result<ErrorOut, AllocError>
+        ensures { IfOk result (λ e. e ≡ self.now) }
+    {
+        let error = clone_text(alloc, &self.error)?;
+        let cause = clone_text(alloc, &self.cause)?;
+        Ok(ErrorOut { error, cause })
+    }
+}
+
+impl Uses {
+    fn try_clone(&self, alloc: Global) -> Result<Uses, AllocError>
+        ensures { IfOk result (λ u. u ≡ self.now) }
+    {
+        Ok(Uses {
+            counts: Vec::from_slice(alloc, &self.counts)?,
+        })
+    }
+}
+
+impl Record {
+    /// An equal record, of the same name and value. What fails is memory.
+    pub fn try_clone(&self, alloc: Global) -> Result<Record, AllocError>
+        ensures { IfOk result (λ r. r ≡ self.now) }
+    {
+        Ok(match self {
+            Record::New(state, input) => Record::New(state.try_clone()?, input.try_clone()?),
+            Record::Ready(state, input) => Record::Ready(state.try_clone()?, input.try_clone()?),
+            Record::Pausing(state, input, since, until) => {
+                Record::Pausing(state.try_clone()?, input.try_clone()?, *since, *until)
+            }
+            Record::Again(state, input, since, uses, until) => Record::Again(
+                state.try_clone()?,
+                input.try_clone()?,
+                *since,
+                uses.try_clone(alloc)?,
+                *until,
+            ),
+            Record::Forked(state, input, since, uses, items) => Record::Forked(
+                state.try_clone()?,
+                input.try_clone()?,
+                *since,
+                uses.try_clone(alloc)?,
+                items.try_clone(alloc)?,
+            ),
+            Record::Done(output) => Record::Done(output.try_clone()?),
+            Record::Failed(error) => Record::Failed(error.try_clone(alloc)?),
+        })
+    }
+
+    /// The name of the state that a branch is in; none where it has ended.
+    pub fn state(&self) -> Option<&Name>
+        ensures { option_map (λ n. n.now) result ≡ state_in self.now }
+    {
+        match self {
+            Record::New(state, _)
+            | Record::Ready(state, _)
+            | Record::Pausing(state, ..)
+            | Record::Again(state, ..)
+            | Record::Forked(state, ..) => Some(state),
+            Record::Done(_) | Record::Failed(_) => None,
+        }
+    }
+
+    /// The raw input of a state that is about to be entered.
+    pub fn entering(&self) -> Option<&Shared>
+        ensures { option_map (λ x. x.now) result ≡ entering_with self.now }
+    {
+        match self {
+            Record::New(_, input) | Record::Ready(_, input) => Some(input),
+            _ => None,
+        }
+    }
+
+    pub fn is_failed(&self) -> bool
+        ensures { result ≡ spec_is_failed self.now }
+    {
+        matches!(self, Record::Failed(_))
+    }
+
+    pub fn is_done(&self) -> bool
+        ensures { result ≡ spec_is_done self.now }
+    {
+        matches!(self, Record::Done(_))
+    }
+}

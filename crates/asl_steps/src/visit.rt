@@ -1,0 +1,22 @@
+// What a step may read.
+use crate::record::Record;
+use asl_history::Place;
+use asl_json::Name;
+use asl_time::Moment;
+
+/// What a step may read.
+#[derive(Drop)]
+pub struct Visit<'a> {
+    /// The place of the branch.
+    pub place: &'a Place,
+    /// What the branch is doing.
+    pub current: &'a Record,
+    /// What the branches right under it are doing, in order.
+    pub children: &'a [&'a Record],
+    /// The name of the Map of which the branch is an iteration.
+    pub forker: Option<&'a Name>,
+    /// How often the state was invoked before, in the whole execution.
+    pub count: u32,
+    /// The present moment.
+    pub moment: Moment,
+}
