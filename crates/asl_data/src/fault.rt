@@ -61,6 +61,20 @@ fn no_place(alloc: Global) -> Result<ErrorOut, AllocError>
     )
 }
 
+/// The fault of an error with its cause.
+pub fn raised(alloc: Global, error: &str, cause: &str) -> Fault
+    ensures { IsRaised (spec_failure error.now cause.now) result }
+{
+    let cause = match text(alloc, cause) {
+        Ok(cause) => cause,
+        Err(_) => return Fault::Memory,
+    };
+    match failure(alloc, error, cause) {
+        Ok(error) => Fault::Raised(error),
+        Err(_) => Fault::Memory,
+    }
+}
+
 /// The fault that a field's path has no value.
 pub fn missing(alloc: Global, field: &str) -> Fault
     ensures { IsRaised (spec_no_value field.now) result }

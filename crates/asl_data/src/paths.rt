@@ -61,7 +61,7 @@ fn part_of(
 }
 
 /// The object without members.
-fn empty_object(alloc: Global) -> Result<Shared, AllocError>
+pub fn empty_object(alloc: Global) -> Result<Shared, AllocError>
     ensures { IfOk result (λ s. s ≡ Json.Dict []) }
 {
     Ok(Shared::new(alloc, Json::Dict(Members::new(alloc)))?)

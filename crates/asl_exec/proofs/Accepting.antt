@@ -11,7 +11,7 @@ use Rattle.asl_kinds.specs.Laws.{state-bounded}
 use Rattle.asl_run.specs.World.{World, record_at, world_with}
 use Rattle.asl_run.specs.Refusals.{refusal_of}
 use Rattle.asl_setup.specs.declared.setup.Setup.{Setup}
-use Rattle.asl_exec.specs.Steps.{facts_of, object_in, effect_by, effect_in, number_in, seen_at, step}
+use Rattle.asl_exec.specs.Steps.{facts_of, object_in, invokes_by, effect_by, effect_in, number_in, seen_at, step}
 
 -- ---- the world after a step, by its reply
 
@@ -20,15 +20,15 @@ unfolding step
 step_refused s w p t e = rw e refl
 
 pub step_taken : (s : Setup) (w : World) (p : List ℕ) (t : ℕ) (r : Record) → refusal_of w p t ≡ None → record_at p w.branches ≡ Some r
-    → step s w p t ≡ world_with p (number_in s.machine r) (max w.last t) (effect_in s.machine (facts_of s) (seen_at s.machine w p (max w.last t) r)) w
+    → step s w p t ≡ world_with p (number_in s.machine r) (max w.last t) (effect_in s.machine (facts_of s) (seen_at s.machine s.case w p (max w.last t) r)) w
 unfolding step
 step_taken s w p t r e f = rw (e, f) refl
 
 -- ---- its effect has the bounds that all kinds have
 
-by-bounded : (o : Option Data) (f : Facts) (v : Seen) → IsBounded v false (effect_by o f v)
+by-bounded : (o : Option Data) (f : Facts) (v : Seen) → IsBounded v (invokes_by o) (effect_by o f v)
 by-bounded None f v = idle-bounded v false v.current refl
 by-bounded (Some d) f v = state-bounded d f v
 
-pub effect-bounded : (d : Data) (f : Facts) (v : Seen) → IsBounded v false (effect_in d f v)
+pub effect-bounded : (d : Data) (f : Facts) (v : Seen) → IsBounded v (invokes_by (object_in d v.current)) (effect_in d f v)
 effect-bounded d f v = by-bounded (object_in d v.current) f v

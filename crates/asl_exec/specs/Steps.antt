@@ -1,5 +1,5 @@
 -- The steps of an execution: the world that each leaves.
-use Rattle.std.specs.Prelude.{ℕ, List, [], ◌∷◌, max, if◌then◌else◌, is_none, Option, Some, None, codes}
+use Rattle.std.specs.Prelude.{ℕ, Bool, false, List, [], ◌∷◌, max, if◌then◌else◌, is_none, Option, Some, None, codes}
 use Rattle.std.specs.Option.{option_and_then}
 use Rattle.asl_json.specs.Data.{Data}
 use Rattle.asl_json.specs.Meaning.{value_in}
@@ -9,7 +9,8 @@ use Rattle.asl_steps.specs.declared.record.Record.{Record}
 use Rattle.asl_steps.specs.declared.facts.Facts.{Facts}
 use Rattle.asl_steps.specs.Rows.{idle}
 use Rattle.asl_steps.specs.Seen.{Seen}
-use Rattle.asl_kinds.specs.Table.{state_effect}
+use Rattle.asl_kinds.specs.Table.{state_effect, invokes}
+use Rattle.asl_mock.specs.Answers.{Case}
 use Rattle.asl_parts.specs.Texts.{text_in}
 use Rattle.asl_steps.specs.Records.{state_in, name_or_none}
 use Rattle.asl_run.specs.World.{World, record_at, children_at, forker_at, count_of, world_with}
@@ -31,14 +32,21 @@ number_in d r = option_and_then (λ n. state_number n d) (state_in r)
 abbrev pub object_in : Data → Record → Option Data
 object_in d r = option_and_then (λ n. state_object n d) (state_in r)
 
+-- whether the state of this object invokes a service
+abbrev pub invokes_by : Option Data → Bool
+invokes_by None = false
+invokes_by (Some o) = invokes o
+
 -- what a step may read
-abbrev pub seen_at : Data → World → List ℕ → ℕ → Record → Seen
-seen_at d w p now r = record {
+abbrev pub seen_at : Data → Case → World → List ℕ → ℕ → Record → Seen
+seen_at d cs w p now r = record {
   place = p;
   current = r;
   children = children_at p w.branches;
   forker = forker_at p w.branches;
+  invokes = invokes_by (object_in d r);
   count = count_of w.counts (number_in d r);
+  case = cs;
   moment = now;
 }
 
@@ -52,7 +60,7 @@ effect_in d f v = effect_by (object_in d v.current) f v
 
 abbrev pub moved_on : Setup → World → List ℕ → ℕ → Option Record → World
 moved_on s w p now None = w
-moved_on s w p now (Some r) = world_with p (number_in s.machine r) now (effect_in s.machine (facts_of s) (seen_at s.machine w p now r)) w
+moved_on s w p now (Some r) = world_with p (number_in s.machine r) now (effect_in s.machine (facts_of s) (seen_at s.machine s.case w p now r)) w
 
 -- the world after a step at a place, handed this moment: its moment is the greater of this and the last one; a refused step
 -- changes nothing

@@ -14,6 +14,7 @@ use asl_def::Machine;
 use asl_history::{History, Place};
 use asl_json::Name;
 use asl_kinds::StateKind;
+use asl_mock::Case;
 use asl_run::{Outcome, Refusal, Run};
 use asl_setup::Setup;
 use asl_states::State;
@@ -114,6 +115,7 @@ impl Execution {
         let Ok((number, effect)) = planned(
             self.alloc,
             &self.setup.machine,
+            &self.setup.case,
             &self.run,
             &mut self.context,
             place,
@@ -145,6 +147,7 @@ impl Execution {
 fn planned(
     alloc: Global,
     machine: &Machine,
+    case: &Case,
     run: &Run,
     context: &mut Context,
     place: &Place,
@@ -152,7 +155,7 @@ fn planned(
     now: Moment,
 ) -> Result<(Option<usize>, Effect), AllocError>
     ensures number { IfOk result (λ r. r.0 ≡ number_in machine.now current.now) }
-    ensures effect { IfOk result (λ r. r.1 ≡ effect_in machine.now context.old.facts (seen_at machine.now run.now place.now now current.now)) }
+    ensures effect { IfOk result (λ r. r.1 ≡ effect_in machine.now context.old.facts (seen_at machine.now case.now run.now place.now now current.now)) }
     ensures facts { context.new.facts ≡ context.old.facts }
 {
     let (number, state) = state_of(machine, current);
@@ -162,7 +165,9 @@ fn planned(
         current,
         children: &children,
         forker: run.forker_at(place),
+        invokes: state.is_some_and(|state| state.invokes()),
         count: run.count(number),
+        case,
         moment: now,
     };
     let effect = match state {

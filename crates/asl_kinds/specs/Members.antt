@@ -1,18 +1,38 @@
 -- What a state gives and where it goes on, by the members of its object.
-use Rattle.std.specs.Prelude.{ℕ, List, Option, Some, None, Result, Ok, Err, codes}
-use Rattle.asl_json.specs.Data.{Data}
-use Rattle.asl_json.specs.View.{data_of, json_of}
+use Rattle.std.specs.Prelude.{ℕ, ◌+◌, ◌*◌, min, List, [], Option, Some, None, option_map, Result, Ok, Err, codes}
+use Rattle.asl_json.specs.Data.{Data, null, boolean, number, text, list, dict}
+use Rattle.asl_json.specs.View.{data_of, json_of, unchained}
 use Rattle.asl_json.specs.Meaning.{value_in}
 use Rattle.asl_json.specs.declared.value.Json.{Json}
 use Rattle.asl_parts.specs.Texts.{text_in}
 use Rattle.asl_steps.specs.declared.record.ErrorOut.{ErrorOut}
-use Rattle.asl_data.specs.Paths.{Given, taken, put_into, and_then}
+use Rattle.asl_choice.specs.Truth.{Fault, missing, open_escape}
+use Rattle.asl_states.specs.Choosing.{chosen_next}
+use Rattle.asl_data.specs.Paths.{Given, taken, put_into, and_then, failure, no_value}
+use Rattle.asl_data.specs.Delay.{seconds_of, moment_of, seconds_at, moment_at}
 use Rattle.asl_data.specs.Payload.{filled}
-use Rattle.asl_data.specs.Reason.{GivenText, text_at}
+use Rattle.asl_data.specs.Reason.{GivenText, text_or, text_at}
 
 -- the state that comes next, none where the state ends its branch
 abbrev pub next_in : Data → Option (List ℕ)
 next_in d = text_in (value_in (codes "Next") d)
+
+-- ---- what several kinds make, of the raw input x, with the Context Object c
+
+-- what InputPath takes, then what Parameters makes of it
+abbrev pub effective_by : Option Data → Option Data → Json → Data → Given
+effective_by path parameters x c = and_then (taken (codes "InputPath") path x c) (λ y. filled parameters y c)
+
+-- the effective input
+abbrev pub effective : Data → Json → Data → Given
+effective d x c = effective_by (value_in (codes "InputPath") d) (value_in (codes "Parameters") d) x c
+
+-- a result put into the raw input, and what OutputPath takes of that
+abbrev pub placed_by : Option Data → Option Data → Json → Data → Json → Given
+placed_by path output x c r = and_then (put_into path x r) (λ z. taken (codes "OutputPath") output z c)
+
+abbrev pub placed : Data → Json → Data → Json → Given
+placed d x c r = placed_by (value_in (codes "ResultPath") d) (value_in (codes "OutputPath") d) x c r
 
 -- ---- Pass
 
@@ -21,26 +41,109 @@ abbrev pub result_or : Option Data → Json → Json
 result_or None y = y
 result_or (Some r) y = json_of r
 
--- the effective input of the raw input x, with the Context Object c: what InputPath takes, then what Parameters makes of it
-abbrev pub effective : Data → Json → Data → Given
-effective d x c =
-    and_then (taken (codes "InputPath") (value_in (codes "InputPath") d) x c) (λ y.
-    filled (value_in (codes "Parameters") d) y c)
-
--- the effective input; the result, put into the raw input; what OutputPath takes of that
+-- the effective input; the result, and where it is placed
 abbrev pub pass_output : Data → Json → Data → Given
-pass_output d x c =
-    and_then (effective d x c) (λ y.
-    and_then (put_into (value_in (codes "ResultPath") d) x (result_or (value_in (codes "Result") d) y)) (λ z.
-    taken (codes "OutputPath") (value_in (codes "OutputPath") d) z c))
+pass_output d x c = and_then (effective d x c) (λ y. placed d x c (result_or (value_in (codes "Result") d) y))
 
--- ---- Succeed
+-- ---- Task
+
+-- what ResultSelector makes of a result, and where it is placed
+abbrev pub selected_by : Option Data → Option Data → Option Data → Json → Data → Json → Given
+selected_by selector path output x c r = and_then (filled selector r c) (λ s. placed_by path output x c s)
+
+abbrev pub selected : Data → Json → Data → Json → Given
+selected d x c r = selected_by (value_in (codes "ResultSelector") d) (value_in (codes "ResultPath") d) (value_in (codes "OutputPath") d) x c r
+
+-- no answer of the test case is for this invocation
+abbrev pub no_answer : ErrorOut
+no_answer = failure (codes "States.Runtime") (codes "no mocked answer")
+
+-- ---- Succeed, and a Wait that is over
 
 -- what OutputPath takes of the effective input
-abbrev pub succeed_output : Data → Json → Data → Given
-succeed_output d x c =
+abbrev pub passed_on : Data → Json → Data → Given
+passed_on d x c =
     and_then (taken (codes "InputPath") (value_in (codes "InputPath") d) x c) (λ y.
     taken (codes "OutputPath") (value_in (codes "OutputPath") d) y c)
+
+-- ---- Choice
+
+-- why it can't be said which rule holds
+abbrev pub undecided : Fault → ErrorOut
+undecided (missing path) = no_value path
+undecided open_escape = failure (codes "States.Runtime") (codes "StringMatches: open escape")
+
+abbrev pub no_choice : ErrorOut
+no_choice = failure (codes "States.NoChoiceMatched") (codes "no rule holds")
+
+abbrev pub rules_in : Option Data → List Data
+rules_in None = []
+rules_in (Some (list ds)) = unchained ds
+rules_in (Some null) = []
+rules_in (Some (boolean b)) = []
+rules_in (Some (number n)) = []
+rules_in (Some (text t)) = []
+rules_in (Some (dict ms)) = []
+
+-- the state of Next where a rule holds, else of Default
+abbrev pub target_by : Option Data → Result (Option Data) Fault → GivenText
+target_by default (Err f) = Err (undecided f)
+target_by default (Ok None) = text_or no_choice (text_in default)
+target_by default (Ok (Some next)) = text_or no_choice (text_in (Some next))
+
+abbrev pub chosen_target : Data → Data → Data → GivenText
+chosen_target d y c = target_by (value_in (codes "Default") d) (chosen_next (rules_in (value_in (codes "Choices") d)) y c)
+
+-- where a Choice goes on, and with what
+abbrev pub GivenTarget : Type 0
+GivenTarget = Result (List ℕ × Json) ErrorOut
+
+abbrev pub target_with : GivenText → Given → GivenTarget
+target_with (Err e) g = Err e
+target_with (Ok t) (Err e) = Err e
+target_with (Ok t) (Ok z) = Ok (t, z)
+
+abbrev pub choice_by : Data → Data → Given → GivenTarget
+choice_by d c (Err e) = Err e
+choice_by d c (Ok y) = target_with (chosen_target d (data_of y) c) (taken (codes "OutputPath") (value_in (codes "OutputPath") d) y c)
+
+-- the target by the effective input, then what OutputPath takes of that
+abbrev pub choice_output : Data → Json → Data → GivenTarget
+choice_output d x c = choice_by d c (taken (codes "InputPath") (value_in (codes "InputPath") d) x c)
+
+-- ---- Wait
+
+-- a moment, or the error that is raised
+abbrev pub GivenMoment : Type 0
+GivenMoment = Result ℕ ErrorOut
+
+abbrev pub moment_or : ErrorOut → Option ℕ → GivenMoment
+moment_or e None = Err e
+moment_or e (Some m) = Ok m
+
+-- so many seconds later, or the last moment
+abbrev pub later : ℕ → ℕ → ℕ
+later now seconds = min (now + seconds * 1000) 253_402_300_799_999
+
+-- until when a Wait waits that was entered now: by the one of the four members that is there
+abbrev pub until_by : Option Data → Option (List ℕ) → Option Data → Option (List ℕ) → ℕ → Data → Data → GivenMoment
+until_by (Some s) sp t tp now y c = moment_or (no_value (codes "Seconds")) (option_map (later now) (seconds_of s))
+until_by None (Some p) t tp now y c = moment_or (no_value (codes "SecondsPath")) (option_map (later now) (seconds_at p y c))
+until_by None None (Some t) tp now y c = moment_or (no_value (codes "Timestamp")) (moment_of t)
+until_by None None None (Some p) now y c = moment_or (no_value (codes "TimestampPath")) (moment_at p y c)
+until_by None None None None now y c = Err (no_value (codes "Seconds"))
+
+abbrev pub until_in : Data → ℕ → Data → Data → GivenMoment
+until_in d now y c =
+    until_by (value_in (codes "Seconds") d) (text_in (value_in (codes "SecondsPath") d)) (value_in (codes "Timestamp") d) (text_in (value_in (codes "TimestampPath") d)) now y c
+
+abbrev pub wait_by : Data → ℕ → Data → Given → GivenMoment
+wait_by d now c (Err e) = Err e
+wait_by d now c (Ok y) = until_in d now (data_of y) c
+
+-- the same by the raw input
+abbrev pub wait_until : Data → ℕ → Json → Data → GivenMoment
+wait_until d now x c = wait_by d now c (taken (codes "InputPath") (value_in (codes "InputPath") d) x c)
 
 -- ---- Fail
 

@@ -1,24 +1,31 @@
 -- The state table: what a step of each kind does, by what the branch is doing (ASL, "State Types"; Developer Guide, "HistoryEvent").
-use Rattle.std.specs.Prelude.{ℕ, List, Option, Some, None, if◌then◌else◌, Ok, Err, codes}
+use Rattle.std.specs.Prelude.{ℕ, Bool, true, false, List, [], Option, Some, None, if◌then◌else◌, Ok, Err, codes}
 use Rattle.std.specs.Str.{bytes_eq}
 use Rattle.asl_json.specs.Data.{Data}
 use Rattle.asl_json.specs.View.{data_of}
 use Rattle.asl_json.specs.Meaning.{value_in}
 use Rattle.asl_json.specs.declared.value.Json.{Json}
+use Rattle.asl_json.specs.declared.value.Json.TheVariants.{Dict}
+use Rattle.asl_schema.specs.Claims.{item_count}
 use Rattle.asl_history.specs.declared.kind.EventKind.{EventKind}
-use Rattle.asl_history.specs.declared.kind.EventKind.TheVariants.{PassStateEntered, PassStateExited, SucceedStateEntered, SucceedStateExited, FailStateEntered}
+use Rattle.asl_history.specs.declared.kind.EventKind.TheVariants.{PassStateEntered, PassStateExited, SucceedStateEntered, SucceedStateExited, FailStateEntered, ChoiceStateEntered, ChoiceStateExited, WaitStateEntered, WaitStateExited, TaskStateEntered, TaskStateExited, TaskScheduled, TaskStarted, TaskSucceeded, TaskFailed}
 use Rattle.asl_parts.specs.Texts.{text_in}
 use Rattle.asl_steps.specs.declared.effect.Effect.{Effect}
 use Rattle.asl_steps.specs.declared.effect.Progress.{Progress}
 use Rattle.asl_steps.specs.declared.facts.Facts.{Facts}
-use Rattle.asl_steps.specs.Records.{entering_with}
+use Rattle.asl_steps.specs.declared.record.ErrorOut.{ErrorOut}
+use Rattle.asl_steps.specs.Records.{name_or_none, name_in, uses_in, entering_with, beginning_with, pausing_with}
 use Rattle.asl_steps.specs.Seen.{Seen}
 use Rattle.asl_steps.specs.Context.{context_of}
-use Rattle.asl_steps.specs.Rows.{idle, entering, leaving, failing}
-use Rattle.asl_data.specs.Paths.{Given}
-use Rattle.asl_kinds.specs.Members.{next_in, pass_output, succeed_output, fail_error}
+use Rattle.asl_steps.specs.Rows.{idle, entering, beginning, telling, unstarted, retrying, pausing, leaving, failing, error_output, is_within_limit, over_limit}
+use Rattle.asl_mock.specs.Answers.{answer_to}
+use Rattle.asl_mock.specs.declared.response.Answer.{Answer}
+use Rattle.asl_mock.specs.declared.response.Answer.TheVariants.{Returns, Throws}
+use Rattle.asl_handle.specs.Decisions.{Handling, again, caught, unhandled, items_in, decision}
+use Rattle.asl_data.specs.Paths.{Given, put_into}
+use Rattle.asl_kinds.specs.Members.{next_in, effective, pass_output, passed_on, selected, no_answer, fail_error, GivenTarget, choice_output, GivenMoment, wait_until}
 
--- a state that is left with what it gives, or fails with the error that it raises: nothing catches yet
+-- a state without Retry and Catch is left with what it gives, or fails with the error that it raises
 abbrev pub passed : Seen → Progress → EventKind → Option (List ℕ) → Given → Effect
 passed v done exited next (Ok z) = leaving v done exited next z
 passed v done exited next (Err e) = failing v done e
@@ -32,15 +39,94 @@ abbrev pub pass_effect : Data → Facts → Seen → Effect
 pass_effect d f v = in_one (λ x. pass_output d x (context_of f v)) PassStateEntered PassStateExited (next_in d) v (entering_with v.current)
 
 abbrev pub succeed_effect : Data → Facts → Seen → Effect
-succeed_effect d f v = in_one (λ x. succeed_output d x (context_of f v)) SucceedStateEntered SucceedStateExited None v (entering_with v.current)
+succeed_effect d f v = in_one (λ x. passed_on d x (context_of f v)) SucceedStateEntered SucceedStateExited None v (entering_with v.current)
 
--- a state that is entered with this input, and fails
-abbrev pub failing_with : (Json → Effect) → Seen → Option Json → Effect
-failing_with fails v (Some x) = fails x
-failing_with fails v None = idle v.current
+-- what is done with the input of a state that is to be entered
+abbrev pub begun : (Json → Effect) → Seen → Option Json → Effect
+begun does v (Some x) = does x
+begun does v None = idle v.current
 
 abbrev pub fail_effect : Data → Facts → Seen → Effect
-fail_effect d f v = failing_with (λ x. failing v (entering v FailStateEntered x) (fail_error d (data_of x) (context_of f v))) v (entering_with v.current)
+fail_effect d f v = begun (λ x. failing v (entering v FailStateEntered x) (fail_error d (data_of x) (context_of f v))) v (entering_with v.current)
+
+-- a Choice goes on to its target, or fails
+abbrev pub decided : Seen → Progress → GivenTarget → Effect
+decided v done (Ok g) = leaving v done ChoiceStateExited (Some g.0) g.1
+decided v done (Err e) = failing v done e
+
+abbrev pub choice_effect : Data → Facts → Seen → Effect
+choice_effect d f v = begun (λ x. decided v (entering v ChoiceStateEntered x) (choice_output d x (context_of f v))) v (entering_with v.current)
+
+-- a Wait pauses, or fails
+abbrev pub waits : Seen → Progress → Json → GivenMoment → Effect
+waits v done x (Ok until) = pausing v done x until
+waits v done x (Err e) = failing v done e
+
+-- a Wait that is over is left, or fails
+abbrev pub wait_over : Data → Facts → Seen → Option Json → Effect
+wait_over d f v (Some x) = passed v unstarted WaitStateExited (next_in d) (passed_on d x (context_of f v))
+wait_over d f v None = idle v.current
+
+abbrev pub wait_with : Data → Facts → Seen → Option Json → Effect
+wait_with d f v (Some x) = waits v (entering v WaitStateEntered x) x (wait_until d v.moment x (context_of f v))
+wait_with d f v None = wait_over d f v (pausing_with v.current)
+
+abbrev pub wait_effect : Data → Facts → Seen → Effect
+wait_effect d f v = wait_with d f v (entering_with v.current)
+
+-- ---- errors (ASL, "Retrying after error", "Fallback States")
+
+-- the name of an error; empty where it has none
+abbrev pub error_name : ErrorOut → List ℕ
+error_name e = name_or_none e.error
+
+-- the state is retried; or the catcher puts the error into the raw input and says where to go on; or the branch fails
+abbrev pub handled : Option Data → Seen → Progress → EventKind → Json → ErrorOut → Handling → Effect
+handled retry v done exited x e (again i until) = retrying v done x (item_count (items_in retry)) i until
+handled retry v done exited x e (caught c) = passed v done exited (next_in c) (put_into (value_in (codes "ResultPath") c) x (error_output e))
+handled retry v done exited x e unhandled = failing v done e
+
+-- what a state does with an error that it raises, by its Retry and its Catch
+abbrev pub raised : Option Data → Option Data → Seen → Progress → EventKind → Json → ErrorOut → Effect
+raised retry catch v done exited x e = handled retry v done exited x e (decision retry catch (error_name e) (uses_in v.current) v.moment)
+
+-- a state is left with what it gives, or raises an error; by its Retry, its Catch and its Next
+abbrev pub settled : Option Data → Option Data → Option (List ℕ) → Seen → Progress → EventKind → Json → Given → Effect
+settled retry catch next v done exited x (Ok z) = leaving v done exited next z
+settled retry catch next v done exited x (Err e) = raised retry catch v done exited x e
+
+-- ---- Task
+
+-- the service is invoked with this input: the count is raised
+abbrev pub invoked : Seen → Progress → Json → Progress
+invoked v done y = record {
+  children = done.children;
+  raises = true;
+  events = (telling v (telling v done TaskScheduled y) TaskStarted (Dict [])).events;
+}
+
+abbrev pub task_settled : Data → Seen → Progress → Json → Given → Effect
+task_settled d v done x g = settled (value_in (codes "Retry") d) (value_in (codes "Catch") d) (next_in d) v done TaskStateExited x g
+
+-- the service fails with this error
+abbrev pub task_fails : Data → Seen → Progress → Json → ErrorOut → Effect
+task_fails d v done x e = task_settled d v (telling v done TaskFailed (error_output e)) x (Err e)
+
+abbrev pub task_returns : Data → Data → Seen → Progress → Json → Json → Effect
+task_returns d c v done x r = task_settled d v (telling v done TaskSucceeded r) x (selected d x c r)
+
+-- the service answers by the test case
+abbrev pub task_answered : Data → Data → Seen → Progress → Json → Option Answer → Effect
+task_answered d c v done x (Some (Returns r)) = if is_within_limit r then task_returns d c v done x r else task_fails d v done x over_limit
+task_answered d c v done x (Some (Throws error cause)) = task_fails d v done x (record { error = Some error; cause = cause })
+task_answered d c v done x None = task_fails d v done x no_answer
+
+abbrev pub task_with : Data → Data → Seen → Progress → Json → Given → Effect
+task_with d c v done x (Ok y) = task_answered d c v (invoked v done y) x (answer_to v.case (name_in v.current) v.count)
+task_with d c v done x (Err e) = task_settled d v done x (Err e)
+
+abbrev pub task_effect : Data → Facts → Seen → Effect
+task_effect d f v = begun (λ x. task_with d (context_of f v) v (beginning v TaskStateEntered x) x (effective d x (context_of f v))) v (beginning_with v.current)
 
 -- by the type of the state; nothing where there is no such type
 abbrev pub effect_by_type : Option (List ℕ) → Data → Facts → Seen → Effect
@@ -48,9 +134,20 @@ effect_by_type (Some t) d f v =
     if bytes_eq t (codes "Pass") then pass_effect d f v
     else if bytes_eq t (codes "Succeed") then succeed_effect d f v
     else if bytes_eq t (codes "Fail") then fail_effect d f v
+    else if bytes_eq t (codes "Choice") then choice_effect d f v
+    else if bytes_eq t (codes "Wait") then wait_effect d f v
+    else if bytes_eq t (codes "Task") then task_effect d f v
     else idle v.current
 effect_by_type None d f v = idle v.current
 
 -- what a step of the state of this object does
 abbrev pub state_effect : Data → Facts → Seen → Effect
 state_effect d f v = effect_by_type (text_in (value_in (codes "Type") d)) d f v
+
+-- whether the state of this object invokes a service
+abbrev pub is_invoking_type : Option (List ℕ) → Bool
+is_invoking_type (Some t) = bytes_eq t (codes "Task")
+is_invoking_type None = false
+
+abbrev pub invokes : Data → Bool
+invokes d = is_invoking_type (text_in (value_in (codes "Type") d))

@@ -1,14 +1,19 @@
 //! The kinds of states: what a step of each does, one row of the state table at a time.
 //!
-//! Modules in reading order: `kind` is what all kinds have in common, `passing` has what several share; then a module for each
-//! kind, and `state` for a state of any kind.
+//! Modules in reading order: `kind` is what all kinds have in common; `making`, `passing` and `raising` have what several share: data,
+//! how a state is left, what becomes of an error; then a module for each kind, and `state` for a state of any kind.
 #![tactic(auto)]
 
+mod choice;
 mod fail;
 mod kind;
+mod making;
 mod pass;
 mod passing;
+mod raising;
 mod state;
 mod succeed;
+mod task;
+mod wait;
 
 pub use kind::StateKind;

@@ -5,11 +5,12 @@ ghost use Rattle.asl_states.specs.Show.{pass_object};
 ghost use Rattle.asl_steps.specs.Context.{context_of};
 ghost use Rattle.asl_steps.specs.Seen.{seen};
 ghost use Rattle.asl_data.specs.Gives.{Gives};
-ghost use Rattle.asl_kinds.specs.Members.{effective as spec_effective, pass_output, result_or as spec_result_or};
+ghost use Rattle.asl_kinds.specs.Members.{pass_output, result_or as spec_result_or};
 
 use crate::kind::StateKind;
+use crate::making::{effective, placed};
 use crate::passing::{passed, target};
-use asl_data::{Fault, copied, filled, put_into, taken};
+use asl_data::{Fault, copied};
 use asl_history::EventKind;
 use asl_json::{Json, Shared};
 use asl_states::Pass;
@@ -26,21 +27,6 @@ fn result_or(alloc: Global, given: Option<&Json>, effective: Shared) -> Result<S
     }
 }
 
-/// The effective input of a Pass.
-fn effective(
-    alloc: Global,
-    pass: &Pass,
-    input: &Shared,
-    visit: &Visit,
-    context: &mut Context,
-) -> Result<Shared, Fault>
-    ensures given { Gives (spec_effective (pass_object pass.now) input.now (context_of context.old.facts (seen visit.now))) result }
-    ensures facts { context.new.facts ≡ context.old.facts }
-{
-    let value = taken(alloc, "InputPath", pass.input_path(), input, visit, context)?;
-    filled(alloc, pass.parameters(), value, visit, context)
-}
-
 /// What a Pass gives for a raw input.
 fn output(
     alloc: Global,
@@ -52,17 +38,11 @@ fn output(
     ensures given { Gives (pass_output (pass_object pass.now) input.now (context_of context.old.facts (seen visit.now))) result }
     ensures facts { context.new.facts ≡ context.old.facts }
 {
-    let effective = effective(alloc, pass, input, visit, context)?;
+    let (path, parameters) = (pass.input_path(), pass.parameters());
+    let effective = effective(alloc, path, parameters, input, visit, context)?;
     let given = result_or(alloc, pass.result(), effective)?;
-    let placed = put_into(alloc, pass.result_path(), input, given)?;
-    taken(
-        alloc,
-        "OutputPath",
-        pass.output_path(),
-        &placed,
-        visit,
-        context,
-    )
+    let (path, output) = (pass.result_path(), pass.output_path());
+    placed(alloc, path, output, input, given, visit, context)
 }
 
 impl StateKind for Pass {

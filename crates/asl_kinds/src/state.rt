@@ -4,17 +4,17 @@ use asl_states::State;
 use asl_steps::{Context, Effect, Visit, idle};
 use std::alloc::{AllocError, Global};
 
-/// A Pass, a Succeed and a Fail do what their kinds say; a state of any other type does nothing yet. What a state does doesn't depend
-/// on the machines inside it: the law `any_table` of `Laws`.
+/// A Parallel and a Map do nothing yet; a state of any other type does what its kind says. What a state does doesn't depend on
+/// the machines inside it: the law `any_table` of `Laws`.
 impl StateKind for State {
-    ghost use Rattle.std.specs.Prelude.{[], false};
+    ghost use Rattle.std.specs.Prelude.{[]};
     ghost use Rattle.asl_states.specs.Show.{state_of};
-    ghost use Rattle.asl_kinds.specs.Table.{state_effect};
+    ghost use Rattle.asl_kinds.specs.Table.{state_effect, invokes};
     ghost use Rattle.asl_kinds.specs.Laws.{state-bounded};
 
     ghost effect = { λ k. state_effect (state_of [] k) };
 
-    ghost is_invoking = { λ k. false };
+    ghost is_invoking = { λ k. invokes (state_of [] k) };
 
     ghost bounded = { λ k. state-bounded (state_of [] k) };
 
@@ -28,6 +28,9 @@ impl StateKind for State {
             State::Pass(state) => state.visit(alloc, visit, context),
             State::Succeed(state) => state.visit(alloc, visit, context),
             State::Fail(state) => state.visit(alloc, visit, context),
+            State::Choice(state) => state.visit(alloc, visit, context),
+            State::Wait(state) => state.visit(alloc, visit, context),
+            State::Task(state) => state.visit(alloc, visit, context),
             _ => idle(alloc, visit.current),
         }
     }
@@ -37,6 +40,9 @@ impl StateKind for State {
             State::Pass(state) => state.invokes(),
             State::Succeed(state) => state.invokes(),
             State::Fail(state) => state.invokes(),
+            State::Choice(state) => state.invokes(),
+            State::Wait(state) => state.invokes(),
+            State::Task(state) => state.invokes(),
             _ => false,
         }
     }

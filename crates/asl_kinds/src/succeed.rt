@@ -4,7 +4,7 @@ ghost use Rattle.asl_states.specs.Show.{succeed_object};
 ghost use Rattle.asl_steps.specs.Context.{context_of};
 ghost use Rattle.asl_steps.specs.Seen.{seen};
 ghost use Rattle.asl_data.specs.Gives.{Gives};
-ghost use Rattle.asl_kinds.specs.Members.{succeed_output};
+ghost use Rattle.asl_kinds.specs.Members.{passed_on};
 
 use crate::kind::StateKind;
 use crate::passing::passed;
@@ -23,7 +23,7 @@ fn output(
     visit: &Visit,
     context: &mut Context,
 ) -> Result<Shared, Fault>
-    ensures given { Gives (succeed_output (succeed_object succeed.now) input.now (context_of context.old.facts (seen visit.now))) result }
+    ensures given { Gives (passed_on (succeed_object succeed.now) input.now (context_of context.old.facts (seen visit.now))) result }
     ensures facts { context.new.facts ≡ context.old.facts }
 {
     let effective = taken(

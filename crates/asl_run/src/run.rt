@@ -12,7 +12,7 @@ use crate::outcome::Outcome;
 use crate::refusal::Refusal;
 use asl_history::{EventKind, History, Place};
 use asl_json::{Json, Name, Shared};
-use asl_steps::{Children, Draft, Drafts, Effect, Ended, Record, Records};
+use asl_steps::{Children, Draft, Drafts, Effect, Ended, Record, Records, raise_at, zeros};
 use asl_time::Moment;
 use std::alloc::{AllocError, Global};
 use std::marker::Model;
@@ -169,9 +169,7 @@ fn raise(counts: &mut Vec<u32>, state: Option<usize>, raises: bool)
     let Some(number) = state else {
         return;
     };
-    if number < counts.len() {
-        counts[number] += 1;
-    }
+    raise_at(counts, number);
 }
 
 /// The outcome after a step that may have ended the execution.
@@ -262,17 +260,6 @@ fn started(alloc: Global, input: Shared, moment: Moment) -> Result<History, Allo
         input,
     );
     Ok(history)
-}
-
-/// As many counts as there are states, each 0.
-fn zeros(alloc: Global, states: usize) -> Result<Vec<u32>, AllocError>
-    ensures { IfOk result (λ v. v.items ≡ (opening_at states [] Json.Null 0).counts) }
-{
-    let mut counts = Vec::new(alloc);
-    for _ in 0..states {
-        counts.push(0)?;
-    }
-    Ok(counts)
 }
 
 impl Run {

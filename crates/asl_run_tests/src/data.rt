@@ -18,8 +18,11 @@ fn told(rt: &HostRuntime, definition: &str, input: &str, chosen: &str) -> Result
     Ok(emulated.map_err(|_| "refused")?.text)
 }
 
-/// Members of the state A, the input, how many lines the run has (two of steps, the events, the status), and the line of the status.
-const ONE_STATE: &[(&str, &str, usize, &str)] = &[
+/// Members of the state A, the input, how many lines a run of two steps has (those of the steps, the events, the status), and the line
+/// of the status.
+pub(crate) type Row = (&'static str, &'static str, usize, &'static str);
+
+const ONE_STATE: &[Row] = &[
     (
         r#""Type":"Pass","Parameters":{"s.$":"$$.State.Name","t.$":"$$.Execution.StartTime"},"End":true"#,
         "{}",
@@ -101,16 +104,23 @@ const ONE_STATE: &[(&str, &str, usize, &str)] = &[
     ),
 ];
 
+/// The text of the run of a row, and whether it is as the row says. The state A has the row's members, and beside it are other states.
+pub(crate) fn row_told(rt: &HostRuntime, row: &Row, others: &str) -> Result<(String, bool), Fail> {
+    let (members, input, lines, status) = row;
+    let definition = format!(in rt.alloc();
+        "{{\"StartAt\":\"A\",\"States\":{{\"A\":{{{members}}}{others}}}}}"
+    )?;
+    let text = told(rt, &definition, input, "M")?;
+    let last = format!(in rt.alloc(); "\n{status}\n")?;
+    let right = text.ends_with(last.as_str()) && text.lines().count() == *lines;
+    Ok((text, right))
+}
+
 #[test]
 fn one_state_tells_what_it_makes(rt: HostRuntime) -> Result<(), Fail> {
-    for (members, input, lines, status) in ONE_STATE {
-        let definition = format!(in rt.alloc();
-            "{{\"StartAt\":\"A\",\"States\":{{\"A\":{{{members}}}}}}}"
-        )?;
-        let text = told(&rt, &definition, input, "M")?;
-        let last = format!(in rt.alloc(); "\n{status}\n")?;
-        assert!(rt; text.ends_with(last.as_str()), "{}", text.as_str());
-        assert_eq!(rt; text.lines().count(), *lines, "{}", text.as_str());
+    for row in ONE_STATE {
+        let (text, right) = row_told(&rt, row, "")?;
+        assert!(rt; right, "{}", text.as_str());
     }
     Ok(())
 }
@@ -126,5 +136,44 @@ fn each_state_sees_a_context_of_its_own(rt: HostRuntime) -> Result<(), Fail> {
         r#"status SUCCEEDED {"a":"2024-01-01T00:00:00.000Z","b":"2024-01-01T00:00:05.000Z","start":"2024-01-01T00:00:00.000Z","name":"c","state":"B"}"#;
     let last = format!(in rt.alloc(); "\n{status}\n")?;
     assert!(rt; text.ends_with(last.as_str()), "{}", text.as_str());
+    Ok(())
+}
+
+/// A definition of a Pass whose `Result` is a text of so many characters, or an object of 1 and that text, of which `OutputPath` takes
+/// the 1.
+fn wide(rt: &HostRuntime, characters: usize, in_object: bool) -> Result<String, Fail> {
+    let mut text = String::new(rt.alloc());
+    text.push_str(r#"{"StartAt":"A","States":{"A":{"Type":"Pass","Result":"#)?;
+    if in_object {
+        text.push_str(r#"{"k":1,"l":"#)?;
+    }
+    text.push('"')?;
+    for _ in 0..characters {
+        text.push('x')?;
+    }
+    text.push('"')?;
+    if in_object {
+        text.push_str(r#"},"OutputPath":"$.k""#)?;
+    }
+    text.push_str(r#","End":true}}}"#)?;
+    Ok(text)
+}
+
+#[test]
+fn an_output_has_at_most_262144_bytes(rt: HostRuntime) -> Result<(), Fail> {
+    let refused =
+        "\nstatus FAILED {\"Error\":\"States.DataLimitExceeded\",\"Cause\":\"data limit\"}\n";
+    let most = told(&rt, &wide(&rt, 262_142, false)?, "{}", "M")?;
+    assert_eq!(rt; most.lines().count(), 7);
+    assert!(rt; most.contains("\nstatus SUCCEEDED \"xxx"));
+    let over = told(&rt, &wide(&rt, 262_143, false)?, "{}", "M")?;
+    assert_eq!(rt; over.lines().count(), 6);
+    assert!(rt; over.ends_with(refused), "{}", over.as_str());
+    let part = told(&rt, &wide(&rt, 262_143, true)?, "{}", "M")?;
+    assert!(rt;
+        part.ends_with("\nstatus SUCCEEDED 1\n"),
+        "{}",
+        part.as_str()
+    );
     Ok(())
 }

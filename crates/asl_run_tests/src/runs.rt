@@ -76,7 +76,12 @@ const NO_INPUT: &str =
 
 const ONE_STEP: &str = "/ 2024-01-01T00:00:00.000Z\n";
 
-fn run(rt: &HostRuntime, definition: &str, input: &str, steps: &str) -> Result<Emulated, Fail> {
+pub(crate) fn run(
+    rt: &HostRuntime,
+    definition: &str,
+    input: &str,
+    steps: &str,
+) -> Result<Emulated, Fail> {
     Ok(emulate(
         rt.alloc(),
         definition.as_bytes(),
@@ -161,11 +166,11 @@ fn faults_of_data_end_an_execution(rt: HostRuntime) -> Result<(), Fail> {
 }
 
 // Definitions without faults that can't be run yet.
-const TASK_BEHIND_A_SUCCEED: &str =
-    r#"{"StartAt":"S","States":{"S":{"Type":"Succeed"},"P":{"Type":"Task","Resource":"r","End":true}}}"#;
+const MAP_BEHIND_A_SUCCEED: &str =
+    r#"{"StartAt":"S","States":{"S":{"Type":"Succeed"},"P":{"Type":"Map","Iterator":{"StartAt":"F","States":{"F":{"Type":"Fail"}}},"End":true}}}"#;
 
-const WAIT_BEFORE_A_CHOICE: &str =
-    r#"{"StartAt":"a/b","States":{"a/b":{"Type":"Wait","Seconds":1,"Next":"C"},"C":{"Type":"Choice","Choices":[{"Variable":"$","IsNull":true,"Next":"a/b"}]}}}"#;
+const PARALLEL_BEFORE_A_TASK: &str =
+    r#"{"StartAt":"a/b","States":{"a/b":{"Type":"Parallel","Branches":[{"StartAt":"F","States":{"F":{"Type":"Fail"}}}],"Next":"T"},"T":{"Type":"Task","Resource":"r","End":true}}}"#;
 
 const WAIT_BEHIND_A_PARALLEL: &str =
     r#"{"StartAt":"L","States":{"L":{"Type":"Parallel","Branches":[{"StartAt":"F","States":{"F":{"Type":"Fail"}}}],"Next":"W"},"W":{"Type":"Wait","Seconds":1,"End":true}}}"#;
@@ -186,11 +191,11 @@ const REFUSED: &[([&str; 5], &str)] = &[
         "definition: F3 Missing /StartAt",
     ),
     (
-        [TASK_BEHIND_A_SUCCEED, "[", "M#c", "{", "x"],
+        [MAP_BEHIND_A_SUCCEED, "[", "M#c", "{", "x"],
         "definition: F5 Unsupported /States/P/Type",
     ),
     (
-        [WAIT_BEFORE_A_CHOICE, "{}", "M", "{}", ""],
+        [PARALLEL_BEFORE_A_TASK, "{}", "M", "{}", ""],
         "definition: F5 Unsupported /States/a~1b/Type",
     ),
     (

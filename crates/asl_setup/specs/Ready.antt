@@ -9,7 +9,7 @@ use Rattle.asl_def.specs.Own.{own_states_in}
 use Rattle.asl_parts.specs.Texts.{text_in}
 
 abbrev pub is_ready_type : Option (List ℕ) → Bool
-is_ready_type (Some t) = bytes_eq t (codes "Pass") || (bytes_eq t (codes "Succeed") || bytes_eq t (codes "Fail"))
+is_ready_type (Some t) = bytes_eq t (codes "Task") || (bytes_eq t (codes "Pass") || (bytes_eq t (codes "Choice") || (bytes_eq t (codes "Wait") || (bytes_eq t (codes "Succeed") || bytes_eq t (codes "Fail")))))
 is_ready_type None = false
 
 -- the state of this object can be run yet

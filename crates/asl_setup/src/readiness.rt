@@ -12,7 +12,15 @@ use asl_states::State;
 fn is_ready_state(state: &State) -> bool
     ensures { (t : List Named) → result ≡ is_ready_state (state_of t state.now) }
 {
-    matches!(state, State::Pass(_) | State::Succeed(_) | State::Fail(_))
+    matches!(
+        state,
+        State::Task(_)
+            | State::Pass(_)
+            | State::Choice(_)
+            | State::Wait(_)
+            | State::Succeed(_)
+            | State::Fail(_)
+    )
 }
 
 /// The name of the first state, in document order, that can't be run yet.
@@ -28,7 +36,7 @@ pub(crate) fn first_unready(machine: &Machine) -> Option<&str>
     None
 }
 
-/// Whether each state of a machine can be run yet: it is a Pass, a Succeed or a Fail. Further types will follow, until each machine is
+/// Whether each state of a machine can be run yet: it is a Task, a Pass, a Choice, a Wait, a Succeed or a Fail. Further types will follow, until each machine is
 /// ready. It takes no memory.
 pub fn ready(machine: &Machine) -> bool
     ensures { result ≡ is_ready machine.now }

@@ -1,6 +1,6 @@
 -- The Context Object (Step Functions Developer Guide, "Accessing execution data from the Context object").
-use Rattle.std.specs.Prelude.{ℕ, pos, List, [], ◌∷◌, ◌++◌, ◌≡◌, codes, min, sum, ◌^◌, ◌-◌}
-use Rattle.std.specs.Fmt.{signed_decimal}
+use Rattle.std.specs.Prelude.{ℕ, if◌then◌else◌, pos, List, [], ◌∷◌, ◌++◌, ◌≡◌, codes, min, sum, ◌^◌, ◌-◌}
+use Rattle.std.specs.Fmt.{decimal, signed_decimal}
 use Rattle.asl_json.specs.Data.{Data, number, text, dict, pairs}
 use Rattle.asl_json.specs.View.{data_of}
 use Rattle.asl_json.specs.declared.value.Json.{Json}
@@ -31,13 +31,25 @@ retry_count uses = min (sum uses) (10 ^ 18 - 1)
 abbrev pub state_of : ℕ → Record → Data
 state_of now r = dict (pairs ((codes "Name", text (name_in r)) ∷ (codes "EnteredTime", text (stamp_of (entered_at now r))) ∷ (codes "RetryCount", number (signed_decimal (pos (retry_count (uses_in r))))) ∷ []))
 
+-- ---- what a Task has besides
+
+-- where a service would send its answer: the execution, the state, and how often the state was invoked before
+abbrev pub token_of : Facts → Seen → List ℕ
+token_of f v = codes "token:" ++ (f.name ++ (codes ":" ++ (name_in v.current ++ (codes ":" ++ decimal v.count))))
+
+abbrev pub task_of : Facts → Seen → Data
+task_of f v = dict (pairs ((codes "Token", text (token_of f v)) ∷ []))
+
+abbrev pub task_part : Facts → Seen → List (List ℕ × Data)
+task_part f v = if v.invokes then (codes "Task", task_of f v) ∷ [] else []
+
 -- ---- the object
 
-abbrev pub members_with : Facts → Data → List (List ℕ × Data)
-members_with f state = (codes "Execution", execution_of f) ∷ (codes "StateMachine", state_machine_of f) ∷ (codes "State", state) ∷ []
+abbrev pub members_with : Facts → List (List ℕ × Data) → List (List ℕ × Data)
+members_with f rest = (codes "Execution", execution_of f) ∷ (codes "StateMachine", state_machine_of f) ∷ rest
 
 unfoldable pub context_of : Facts → Seen → Data
-context_of f v = dict (pairs (members_with f (state_of v.moment v.current)))
+context_of f v = dict (pairs (members_with f ((codes "State", state_of v.moment v.current) ∷ task_part f v)))
 
 -- ---- and as it is kept
 
@@ -46,7 +58,7 @@ pub record Scene : Type 0 where
   pub facts : Facts
   pub shown : Json
 
--- only the state's part is another
+-- its fixed members stand first
 pub record IsAbout (f : Facts) (v : Json) : Type 0 where
-  pub state : Data
-  pub value : v ≡ Dict (members_with f state)
+  pub rest : List (List ℕ × Data)
+  pub value : v ≡ Dict (members_with f rest)

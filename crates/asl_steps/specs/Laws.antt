@@ -1,8 +1,9 @@
 -- The bounds of the pieces.
-use Rattle.std.specs.Prelude.{ℕ, Bool, true, false, List, [], ◌∷◌, ◌≡◌, ◌<◌, ◌≤◌, length, Option, IsSome, Some, None, refl}
+use Rattle.std.specs.Prelude.{ℕ, Bool, true, false, List, [], ◌∷◌, ◌≡◌, ◌<◌, ◌≤◌, length, Option, IsSome, Some, None, if◌then◌else◌, refl}
 use Rattle.std.proofs.Common.{arith, length-append, sym, ap, ◌∙◌}
 use Rattle.asl_json.specs.declared.value.Json.{Json}
 use Rattle.asl_history.specs.declared.kind.EventKind.{EventKind}
+use Rattle.asl_steps.specs.declared.effect.Effect.{Effect}
 use Rattle.asl_steps.specs.declared.effect.Children.{Children}
 use Rattle.asl_steps.specs.declared.effect.Children.TheVariants.{Kept, Removed, Forked}
 use Rattle.asl_steps.specs.declared.effect.Progress.{Progress}
@@ -13,7 +14,7 @@ use Rattle.asl_steps.specs.declared.record.ErrorOut.{ErrorOut}
 use Rattle.asl_steps.specs.Records.{is_finished}
 use Rattle.asl_steps.specs.Seen.{Seen}
 use Rattle.asl_steps.specs.Bounds.{is_forked, AreFew, IsBounded}
-use Rattle.asl_steps.specs.Rows.{idle, iteration_event, told_begin, entering, moved, ended, told_success, leaving, failed, told_failure, failing}
+use Rattle.asl_steps.specs.Rows.{idle, iteration_event, told_begin, entering, unstarted, beginning_by, beginning, retrying, pausing, moved, ended, told_success, left, failed, told_failure, failing, is_within_limit, over_limit, leaving}
 
 -- what a row may have done before the state is left or fails
 pub record IsSoFar (invoking : Bool) (done : Progress) : Type 0 where
@@ -62,8 +63,8 @@ failed-ends : (p : List ℕ) (e : ErrorOut) → p ≡ [] → IsSome (failed p e)
 failed-ends [] e root = refl
 failed-ends (i ∷ p) e root = (cc)
 
-pub leaving-bounded : (v : Seen) (invoking : Bool) (done : Progress) (exited : EventKind) (next : Option (List ℕ)) (x : Json) → IsSoFar invoking done → IsBounded v invoking (leaving v done exited next x)
-leaving-bounded v invoking done exited next x so = record {
+left-bounded : (v : Seen) (invoking : Bool) (done : Progress) (exited : EventKind) (next : Option (List ℕ)) (x : Json) → IsSoFar invoking done → IsBounded v invoking (left v done exited next x)
+left-bounded v invoking done exited next x so = record {
   few = omega (arith, length-append {A = Draft}, success-short next v.forker v.place x, so.short);
   fits = few-unforked done.children so.unforked;
   forks_tell = λ e. let h : true ≡ false = sym e ∙ so.unforked in (cc);
@@ -86,6 +87,46 @@ failing-bounded v invoking done e so = record {
   ends = λ root _ over. failed-ends v.place e root;
 }
 
+pub chosen-bounded : (b : Bool) (v : Seen) (invoking : Bool) (e f : Effect) → IsBounded v invoking e → IsBounded v invoking f → IsBounded v invoking (if b then e else f)
+chosen-bounded true v invoking e f h g = h
+chosen-bounded false v invoking e f h g = g
+
+pub leaving-bounded : (v : Seen) (invoking : Bool) (done : Progress) (exited : EventKind) (next : Option (List ℕ)) (x : Json) → IsSoFar invoking done → IsBounded v invoking (leaving v done exited next x)
+leaving-bounded v invoking done exited next x so =
+    chosen-bounded (is_within_limit x) v invoking _ _ (left-bounded v invoking done exited next x so) (failing-bounded v invoking done over_limit so)
+
+pub unstarted-so-far : (invoking : Bool) → IsSoFar invoking unstarted
+unstarted-so-far invoking = record {
+  short = omega arith;
+  unforked = refl;
+  raises = λ e. (cc);
+  tells = λ e. (cc);
+}
+
+pub retrying-bounded : (v : Seen) (invoking : Bool) (done : Progress) (x : Json) (n i until : ℕ) → IsSoFar invoking done → IsBounded v invoking (retrying v done x n i until)
+retrying-bounded v invoking done x n i until so = record {
+  few = omega (arith, so.short);
+  fits = few-unforked done.children so.unforked;
+  forks_tell = λ e. let h : true ≡ false = sym e ∙ so.unforked in (cc);
+  raises = so.raises;
+  tells = so.tells;
+  at_root = λ h. (cc);
+  only_ends = λ h. (cc);
+  ends = λ root _ over. (cc);
+}
+
+pub pausing-bounded : (v : Seen) (invoking : Bool) (done : Progress) (x : Json) (until : ℕ) → IsSoFar invoking done → IsBounded v invoking (pausing v done x until)
+pausing-bounded v invoking done x until so = record {
+  few = omega (arith, so.short);
+  fits = few-unforked done.children so.unforked;
+  forks_tell = λ e. let h : true ≡ false = sym e ∙ so.unforked in (cc);
+  raises = so.raises;
+  tells = so.tells;
+  at_root = λ h. (cc);
+  only_ends = λ h. (cc);
+  ends = λ root _ over. (cc);
+}
+
 begin-short : (r : Record) (forker : Option (List ℕ)) (p : List ℕ) → length (told_begin r forker p) ≤ 1
 begin-short (New n x) forker p = iteration-short _ forker p
 begin-short (Ready n x) forker p = omega arith
@@ -102,6 +143,34 @@ entering-so-far v invoking entered x = record {
   raises = λ e. (cc);
   tells = λ e. (cc);
 }
+
+-- a state that is entered or retried has told of two events at most
+pub beginning-short : (v : Seen) (entered : EventKind) (x : Json) (r : Record) → length (beginning_by v entered x r).events ≤ 2
+beginning-short v entered x (New n y) = omega (arith, length-append {A = Draft}, begin-short v.current v.forker v.place)
+beginning-short v entered x (Ready n y) = omega (arith, length-append {A = Draft}, begin-short v.current v.forker v.place)
+beginning-short v entered x (Pausing n y since until) = omega (arith, length-append {A = Draft}, begin-short v.current v.forker v.place)
+beginning-short v entered x (Again n y since uses until) = omega arith
+beginning-short v entered x (Waits n y since uses items) = omega (arith, length-append {A = Draft}, begin-short v.current v.forker v.place)
+beginning-short v entered x (Done y) = omega (arith, length-append {A = Draft}, begin-short v.current v.forker v.place)
+beginning-short v entered x (Failed e) = omega (arith, length-append {A = Draft}, begin-short v.current v.forker v.place)
+
+pub beginning-kept : (v : Seen) (entered : EventKind) (x : Json) (r : Record) → (beginning_by v entered x r).children ≡ Kept
+beginning-kept v entered x (New n y) = refl
+beginning-kept v entered x (Ready n y) = refl
+beginning-kept v entered x (Pausing n y since until) = refl
+beginning-kept v entered x (Again n y since uses until) = refl
+beginning-kept v entered x (Waits n y since uses items) = refl
+beginning-kept v entered x (Done y) = refl
+beginning-kept v entered x (Failed e) = refl
+
+pub beginning-so-far : (v : Seen) (invoking : Bool) (entered : EventKind) (x : Json) (r : Record) → IsSoFar invoking (beginning_by v entered x r)
+beginning-so-far v invoking entered x (New n y) = entering-so-far v invoking entered x
+beginning-so-far v invoking entered x (Ready n y) = entering-so-far v invoking entered x
+beginning-so-far v invoking entered x (Pausing n y since until) = entering-so-far v invoking entered x
+beginning-so-far v invoking entered x (Again n y since uses until) = unstarted-so-far invoking
+beginning-so-far v invoking entered x (Waits n y since uses items) = entering-so-far v invoking entered x
+beginning-so-far v invoking entered x (Done y) = entering-so-far v invoking entered x
+beginning-so-far v invoking entered x (Failed e) = entering-so-far v invoking entered x
 
 pub idle-bounded : (v : Seen) (invoking : Bool) (r : Record) → v.current ≡ r → IsBounded v invoking (idle r)
 idle-bounded v invoking r e = record {

@@ -1,5 +1,5 @@
 -- What a record says of its branch.
-use Rattle.std.specs.Prelude.{ℕ, Bool, true, false, List, [], Option, Some, None}
+use Rattle.std.specs.Prelude.{ℕ, Bool, true, false, ◌+◌, List, [], ◌∷◌, replicate, slice_index, slice_set, Option, Some, None}
 use Rattle.asl_json.specs.declared.value.Json.{Json}
 use Rattle.asl_steps.specs.declared.record.Record.{Record}
 use Rattle.asl_steps.specs.declared.record.Record.TheVariants.{New, Ready, Pausing, Again, Forked, Done, Failed}
@@ -59,6 +59,26 @@ entering_with (Forked n x since uses items) = None
 entering_with (Done x) = None
 entering_with (Failed e) = None
 
+-- the raw input of a state that is about to be entered, or to be retried
+abbrev pub beginning_with : Record → Option Json
+beginning_with (New n x) = Some x
+beginning_with (Ready n x) = Some x
+beginning_with (Pausing n x since until) = None
+beginning_with (Again n x since uses until) = Some x
+beginning_with (Forked n x since uses items) = None
+beginning_with (Done x) = None
+beginning_with (Failed e) = None
+
+-- the raw input of a state that pauses
+abbrev pub pausing_with : Record → Option Json
+pausing_with (New n x) = None
+pausing_with (Ready n x) = None
+pausing_with (Pausing n x since until) = Some x
+pausing_with (Again n x since uses until) = None
+pausing_with (Forked n x since uses items) = None
+pausing_with (Done x) = None
+pausing_with (Failed e) = None
+
 -- the moment of the state's first step, where a step is taken at this moment
 abbrev pub entered_at : ℕ → Record → ℕ
 entered_at now (New n x) = now
@@ -78,3 +98,12 @@ uses_in (Again n x since uses until) = uses
 uses_in (Forked n x since uses items) = uses
 uses_in (Done x) = []
 uses_in (Failed e) = []
+
+-- how often each of so many retriers was used: never, where nothing was counted yet
+abbrev pub uses_from : ℕ → List ℕ → List ℕ
+uses_from n [] = replicate n 0
+uses_from n (u ∷ us) = u ∷ us
+
+-- one more use of the retrier of this number
+abbrev pub uses_after : ℕ → ℕ → List ℕ → List ℕ
+uses_after n i us = slice_set (uses_from n us) i (slice_index (uses_from n us) i + 1)

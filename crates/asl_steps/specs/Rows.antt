@@ -1,7 +1,9 @@
 -- The pieces of which the rows of the state table are made (Step Functions Developer Guide, "HistoryEvent").
-use Rattle.std.specs.Prelude.{ℕ, pos, ◌-◌, false, List, [], ◌∷◌, ◌++◌, Option, Some, None, codes, length, slice_index}
+use Rattle.std.specs.Prelude.{ℕ, pos, ◌-◌, nat_le, Bool, false, if◌then◌else◌, List, [], ◌∷◌, ◌++◌, Option, Some, None, codes, length, slice_index}
 use Rattle.std.specs.Fmt.{signed_decimal}
 use Rattle.asl_json.specs.Data.{Data, text, number}
+use Rattle.asl_json.specs.View.{data_of}
+use Rattle.asl_json.specs.Compact.{compact}
 use Rattle.asl_json.specs.declared.value.Json.{Json}
 use Rattle.asl_json.specs.declared.value.Json.TheVariants.{Dict}
 use Rattle.asl_history.specs.declared.kind.EventKind.{EventKind}
@@ -15,7 +17,7 @@ use Rattle.asl_steps.specs.declared.effect.Ended.TheVariants.{Succeeded, Failed 
 use Rattle.asl_steps.specs.declared.record.Record.{Record}
 use Rattle.asl_steps.specs.declared.record.Record.TheVariants.{New, Ready, Pausing, Again, Forked, Done, Failed}
 use Rattle.asl_steps.specs.declared.record.ErrorOut.{ErrorOut}
-use Rattle.asl_steps.specs.Records.{name_in}
+use Rattle.asl_steps.specs.Records.{name_in, entered_at, uses_in, uses_after}
 use Rattle.asl_steps.specs.Seen.{Seen}
 
 abbrev pub draft : EventKind → List ℕ → Json → Draft
@@ -58,6 +60,51 @@ entering v entered x = record {
   events = told_begin v.current v.forker v.place ++ draft entered (name_in v.current) x ∷ [];
 }
 
+-- nothing was done yet
+abbrev pub unstarted : Progress
+unstarted = record { children = Kept; raises = false; events = [] }
+
+-- a state that is retried isn't entered anew
+abbrev pub beginning_by : Seen → EventKind → Json → Record → Progress
+beginning_by v entered x (New n y) = entering v entered x
+beginning_by v entered x (Ready n y) = entering v entered x
+beginning_by v entered x (Pausing n y since until) = entering v entered x
+beginning_by v entered x (Again n y since uses until) = unstarted
+beginning_by v entered x (Forked n y since uses items) = entering v entered x
+beginning_by v entered x (Done y) = entering v entered x
+beginning_by v entered x (Failed e) = entering v entered x
+
+abbrev pub beginning : Seen → EventKind → Json → Progress
+beginning v entered x = beginning_by v entered x v.current
+
+-- one more event of the state
+abbrev pub telling : Seen → Progress → EventKind → Json → Progress
+telling v done kind body = record { children = done.children; raises = done.raises; events = done.events ++ draft kind (name_in v.current) body ∷ [] }
+
+-- ---- a state is retried
+
+-- the branch waits until a moment, and one of so many retriers was used once more
+abbrev pub retrying : Seen → Progress → Json → ℕ → ℕ → ℕ → Effect
+retrying v done x n i until = record {
+  after = Again (name_in v.current) x (entered_at v.moment v.current) (uses_after n i (uses_in v.current)) until;
+  children = done.children;
+  raises = done.raises;
+  events = done.events;
+  outcome = None;
+}
+
+-- ---- a state pauses
+
+-- the branch waits until a moment, with the state's raw input
+abbrev pub pausing : Seen → Progress → Json → ℕ → Effect
+pausing v done x until = record {
+  after = Pausing (name_in v.current) x v.moment until;
+  children = done.children;
+  raises = done.raises;
+  events = done.events;
+  outcome = None;
+}
+
 -- ---- a state is left
 
 -- the branch goes on to the next state with this data, or ends with it
@@ -77,8 +124,9 @@ told_success None forker [] x = draft ExecutionSucceeded [] x ∷ []
 told_success None forker (i ∷ p) x = iteration_event MapIterationSucceeded forker (i ∷ p)
 told_success (Some n) forker p x = []
 
-abbrev pub leaving : Seen → Progress → EventKind → Option (List ℕ) → Json → Effect
-leaving v done exited next x = record {
+-- whatever the output's size
+abbrev pub left : Seen → Progress → EventKind → Option (List ℕ) → Json → Effect
+left v done exited next x = record {
   after = moved next x;
   children = done.children;
   raises = done.raises;
@@ -112,3 +160,19 @@ failing v done e = record {
   events = done.events ++ told_failure v.forker v.place e;
   outcome = failed v.place e;
 }
+
+-- ---- the data limit (Step Functions Developer Guide, "Quotas": the size of a state's output, and of what a service answers)
+
+-- the most bytes of its compact text
+abbrev pub data_limit : ℕ
+data_limit = 262_144
+
+abbrev pub is_within_limit : Json → Bool
+is_within_limit x = nat_le (length (compact (data_of x))) data_limit
+
+abbrev pub over_limit : ErrorOut
+over_limit = record { error = Some (codes "States.DataLimitExceeded"); cause = Some (codes "data limit") }
+
+-- a state is left with this output; one above the limit is an error, which nothing retries or catches
+abbrev pub leaving : Seen → Progress → EventKind → Option (List ℕ) → Json → Effect
+leaving v done exited next x = if is_within_limit x then left v done exited next x else failing v done over_limit

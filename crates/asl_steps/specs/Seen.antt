@@ -1,5 +1,6 @@
 -- What a step may read, with no reference in it.
-use Rattle.std.specs.Prelude.{ℕ, List, map, Option, option_map}
+use Rattle.std.specs.Prelude.{ℕ, Bool, List, map, Option, option_map}
+use Rattle.asl_mock.specs.Answers.{Case}
 use Rattle.asl_steps.specs.declared.record.Record.{Record}
 use Rattle.asl_steps.specs.declared.visit.Visit.{Visit}
 
@@ -9,7 +10,11 @@ pub record Seen : Type 0 where
   pub children : List Record
   -- the name of the Map of which the branch is an iteration
   pub forker : Option (List ℕ)
+  -- whether the state invokes a service, and how often it did before
+  pub invokes : Bool
   pub count : ℕ
+  -- the test case, which answers in the services' place
+  pub case : Case
   pub moment : ℕ
 
 abbrev pub seen : Visit → Seen
@@ -18,6 +23,8 @@ seen v = record {
   current = v.current.now;
   children = map (λ r. r.now) v.children.now;
   forker = option_map (λ n. n.now) v.forker;
+  invokes = v.invokes;
   count = v.count;
+  case = v.case.now;
   moment = v.moment;
 }

@@ -1,14 +1,14 @@
 // The Context Object.
-ghost use Rattle.std.specs.Prelude.{◌≡◌, ◌≤◌, ◌<◌, ◌++◌, ◌∷◌, ◌^◌, [], false, true, pos, length, IfOk, OnOk, sum, codes};
+ghost use Rattle.std.specs.Prelude.{◌≡◌, ◌≤◌, ◌<◌, ◌++◌, Some, option_map, slice_get, ◌∷◌, ◌^◌, [], false, true, pos, length, IfOk, OnOk, sum, codes};
 ghost use Rattle.std.specs.Fmt.{signed_decimal};
-ghost use Rattle.asl_json.specs.Data.{Data, text, number, dict, pairs};
+ghost use Rattle.asl_json.specs.Data.{Data, null, text, number, dict, pairs};
 ghost use Rattle.asl_json.specs.Access.{with_value};
 ghost use Rattle.asl_json.specs.Distinct.{has_key};
 ghost use Rattle.asl_json.specs.View.{data_of};
 ghost use Rattle.asl_time.specs.StampText.{stamp_of};
-ghost use Rattle.asl_steps.specs.Records.{name_in, entered_at, uses_in};
+ghost use Rattle.asl_steps.specs.Records.{entered_at, uses_in};
 ghost use Rattle.asl_steps.specs.Seen.{seen};
-ghost use Rattle.asl_steps.specs.Context.{execution_id as spec_execution_id, execution_of, state_machine_of, retry_count as spec_retry_count, state_of as spec_state_of, members_with, context_of, IsAbout};
+ghost use Rattle.asl_steps.specs.Context.{execution_id as spec_execution_id, execution_of, state_machine_of, retry_count as spec_retry_count, state_of as spec_state_of, token_of, task_part, members_with, context_of, IsAbout};
 
 use crate::facts::Facts;
 use crate::record::{Record, Uses};
@@ -22,8 +22,8 @@ use std::mem;
 /// The greatest whole number that JSON spells here.
 const MOST: u128 = 999_999_999_999_999_999;
 
-/// The Context Object of an execution. Its fixed members, the input among them, are made once; what each step changes is
-/// put in its place when a state asks for it. Contracts see the facts of the execution and the object that was made last.
+/// The Context Object of an execution. Its fixed members, the input among them, are made once; those that each step changes are
+/// made anew when a state asks for them. Contracts see the facts of the execution and the object that was made last.
 pub struct Context {
     facts: Facts,
     value: Json,
@@ -148,7 +148,7 @@ fn retry_count(current: &Record) -> i128
 }
 
 /// When the state of a branch was entered.
-fn entered_at(current: &Record, now: Moment) -> Moment
+pub(crate) fn entered_at(current: &Record, now: Moment) -> Moment
     ensures { result ≡ entered_at now current.now }
 {
     match current {
@@ -156,16 +156,6 @@ fn entered_at(current: &Record, now: Moment) -> Moment
         | Record::Again(_, _, since, _, _)
         | Record::Forked(_, _, since, _, _) => *since,
         _ => now,
-    }
-}
-
-/// The name of the state of a branch.
-fn name_of(current: &Record) -> &str
-    ensures { result.now ≡ name_in current.now }
-{
-    match current.state() {
-        Some(name) => name.as_str(),
-        None => "",
     }
 }
 
@@ -178,7 +168,7 @@ fn state_of(alloc: Global, current: &Record, now: Moment) -> Result<Json, AllocE
         alloc,
         Members::new(alloc),
         "Name",
-        told(alloc, name_of(current))?,
+        told(alloc, current.name())?,
     )?;
     let entered = stamp(alloc, entered_at(current, now))?;
     let members = with(alloc, members, "EnteredTime", entered)?;
@@ -186,14 +176,62 @@ fn state_of(alloc: Global, current: &Record, now: Moment) -> Result<Json, AllocE
     Ok(Json::Dict(members))
 }
 
-/// The members of a Context Object with another state's part.
-fn with_state(members: Members, state: Json) -> Members
-    requires { 2 < length members }
-    ensures { result ≡ with_value members 2 (data_of state) }
+/// The token of a Task, as a value.
+fn token(alloc: Global, facts: &Facts, visit: &Visit) -> Result<Json, AllocError>
+    ensures { IfOk result (λ v. data_of v ≡ text (token_of facts.now (seen visit.now))) }
+{
+    let mut token = String::from_str(alloc, "token:")?;
+    token.push_str(facts.name.as_str())?;
+    token.push(':')?;
+    token.push_str(visit.current.name())?;
+    token.push(':')?;
+    write!(token, "{}", visit.count)?;
+    Ok(Json::Text(Txt::new(token)))
+}
+
+/// These members, and `Task` where the state is one.
+fn with_task(
+    alloc: Global,
+    members: Members,
+    facts: &Facts,
+    visit: &Visit,
+) -> Result<Members, AllocError>
+    requires { has_key (codes "Task") members ≡ false }
+    ensures { IfOk result (λ ms. ms ≡ members ++ task_part facts.now (seen visit.now)) }
+{
+    if !visit.invokes {
+        return Ok(members);
+    }
+    let token = token(alloc, facts, visit)?;
+    let task = with(alloc, Members::new(alloc), "Token", token)?;
+    with(alloc, members, "Task", Json::Dict(task))
+}
+
+/// The members of a Context Object whose fixed parts aren't there yet.
+fn unfixed(alloc: Global) -> Result<Members, AllocError>
+    ensures { IfOk result (λ ms. ms ≡ (codes "Execution", null) ∷ (codes "StateMachine", null) ∷ []) }
+{
+    let members = with(alloc, Members::new(alloc), "Execution", Json::Null)?;
+    with(alloc, members, "StateMachine", Json::Null)
+}
+
+/// These members, the one of this number with another value.
+fn with_member(members: Members, number: usize, value: Json) -> Members
+    requires { number < length members }
+    ensures { result ≡ with_value members number (data_of value) }
 {
     let mut members = members;
-    *members.value_mut(2) = state;
+    *members.value_mut(number) = value;
     members
+}
+
+/// Takes the value of a member out, and leaves null.
+fn take_value(members: &mut Members, number: usize) -> Json
+    requires { number < length members.old }
+    ensures value { option_map (λ m. m.1) (slice_get members.old number) ≡ Some (data_of result) }
+    ensures left { members.new ≡ with_value members.old number null }
+{
+    mem::replace(members.value_mut(number), Json::Null)
 }
 
 impl Context {
@@ -213,7 +251,6 @@ impl Context {
             "StateMachine",
             state_machine(alloc, &facts)?,
         )?;
-        let members = with(alloc, members, "State", Json::Null)?;
         Ok(Context {
             facts,
             value: Json::Dict(members),
@@ -234,10 +271,16 @@ impl Context {
         ensures facts { self.new.facts ≡ self.old.facts }
     {
         let state = state_of(alloc, visit.current, visit.moment)?;
-        let Ok(members) = mem::replace(&mut self.value, Json::Null).into_members() else {
+        let members = with(alloc, unfixed(alloc)?, "State", state)?;
+        let members = with_task(alloc, members, &self.facts, visit)?;
+        let Ok(before) = mem::replace(&mut self.value, Json::Null).into_members() else {
             unreachable!();
         };
-        self.value = Json::Dict(with_state(members, state));
+        let mut before = before;
+        let execution = take_value(&mut before, 0);
+        let state_machine = take_value(&mut before, 1);
+        let members = with_member(members, 0, execution);
+        self.value = Json::Dict(with_member(members, 1, state_machine));
         Ok(())
     }
 

@@ -1,6 +1,6 @@
 // What a branch is doing.
 ghost use Rattle.std.specs.Prelude.{◌≡◌, IfOk, option_map};
-ghost use Rattle.asl_steps.specs.Records.{is_failed as spec_is_failed, is_done as spec_is_done, state_in, entering_with};
+ghost use Rattle.asl_steps.specs.Records.{is_failed as spec_is_failed, is_done as spec_is_done, state_in, name_in, entering_with, beginning_with, pausing_with, uses_in};
 
 use asl_json::{Items, Name, Shared, Txt, clone_text};
 use asl_time::Moment;
@@ -140,12 +140,54 @@ impl Record {
         }
     }
 
+    /// The name of the state that a branch is in; empty where it has ended.
+    pub fn name(&self) -> &str
+        ensures { result.now ≡ name_in self.now }
+    {
+        match self.state() {
+            Some(name) => name.as_str(),
+            None => "",
+        }
+    }
+
     /// The raw input of a state that is about to be entered.
     pub fn entering(&self) -> Option<&Shared>
         ensures { option_map (λ x. x.now) result ≡ entering_with self.now }
     {
         match self {
             Record::New(_, input) | Record::Ready(_, input) => Some(input),
+            _ => None,
+        }
+    }
+
+    /// The raw input of a state that is about to be entered, or to be retried.
+    pub fn beginning(&self) -> Option<&Shared>
+        ensures { option_map (λ x. x.now) result ≡ beginning_with self.now }
+    {
+        match self {
+            Record::New(_, input) | Record::Ready(_, input) | Record::Again(_, input, ..) => {
+                Some(input)
+            }
+            _ => None,
+        }
+    }
+
+    /// How often each retrier of the state was used; empty where nothing was counted yet.
+    pub fn uses(&self) -> &[u32]
+        ensures { result.now ≡ uses_in self.now }
+    {
+        match self {
+            Record::Again(_, _, _, uses, _) | Record::Forked(_, _, _, uses, _) => &uses.counts,
+            _ => &[],
+        }
+    }
+
+    /// The raw input of a state that pauses.
+    pub fn pausing(&self) -> Option<&Shared>
+        ensures { option_map (λ x. x.now) result ≡ pausing_with self.now }
+    {
+        match self {
+            Record::Pausing(_, input, _, _) => Some(input),
             _ => None,
         }
     }

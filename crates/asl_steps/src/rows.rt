@@ -1,14 +1,16 @@
 // The pieces of which the rows of the state table are made.
-ghost use Rattle.std.specs.Prelude.{◌≡◌, ◌↔◌, ◌<◌, ◌++◌, ◌∷◌, [], Some, None, List, ℕ, length, slice_index, IfOk, IsTrue, option_map, codes};
-ghost use Rattle.asl_steps.specs.Records.{name_in};
+ghost use Rattle.std.specs.Prelude.{◌≡◌, ◌↔◌, ◌<◌, ◌+◌, ◌^◌, ◌++◌, replicate, slice_set, ◌∷◌, [], Some, None, List, ℕ, length, slice_index, IfOk, IsTrue, option_map, codes};
+ghost use Rattle.asl_steps.specs.Records.{name_in, uses_in, uses_from};
 ghost use Rattle.asl_steps.specs.Seen.{seen};
-ghost use Rattle.asl_steps.specs.Rows.{idle as spec_idle, number_at, index_of, iteration_event as spec_iteration_event, told_begin, told_success, told_failure, leaving as spec_leaving, failing as spec_failing, error_output as spec_error_output, entering as spec_entering, moved as spec_moved, ended as spec_ended, failed as spec_failed};
+ghost use Rattle.asl_steps.specs.Rows.{idle as spec_idle, number_at, index_of, iteration_event as spec_iteration_event, told_begin, told_success, told_failure, left as spec_left, is_within_limit as spec_is_within_limit, over_limit as spec_over_limit, leaving as spec_leaving, failing as spec_failing, error_output as spec_error_output, entering as spec_entering, unstarted as spec_unstarted, beginning as spec_beginning, telling as spec_telling, retrying as spec_retrying, pausing as spec_pausing, moved as spec_moved, ended as spec_ended, failed as spec_failed};
 
+use crate::context::entered_at;
 use crate::effect::{Children, Drafts, Effect, Ended, Progress};
-use crate::record::{ErrorOut, Record};
+use crate::record::{ErrorOut, Record, Uses};
 use crate::visit::Visit;
 use asl_history::{EventKind, Place};
 use asl_json::{Dec, Json, Members, Name, Shared, Txt};
+use asl_time::Moment;
 use std::alloc::{AllocError, Global};
 
 /// Nothing happens.
@@ -24,10 +26,10 @@ pub fn idle(alloc: Global, current: &Record) -> Result<Effect, AllocError>
     })
 }
 
-fn key(alloc: Global, name: &str) -> Result<Txt, AllocError>
-    ensures { IfOk result (λ t. t ≡ name.now) }
+fn text(alloc: Global, text: &str) -> Result<Txt, AllocError>
+    ensures { IfOk result (λ t. t ≡ text.now) }
 {
-    Ok(Txt::new(String::from_str(alloc, name)?))
+    Ok(Txt::new(String::from_str(alloc, text)?))
 }
 
 /// The name of the state that a branch is in.
@@ -57,7 +59,7 @@ fn index_of(alloc: Global, place: &Place) -> Result<Shared, AllocError>
 {
     let mut members = Members::new(alloc);
     let number = Json::Num(Dec::of_whole(alloc, i128::from(number_of(place)))?);
-    members.push(key(alloc, "index")?, number)?;
+    members.push(text(alloc, "index")?, number)?;
     Ok(Shared::new(alloc, Json::Dict(members))?)
 }
 
@@ -114,6 +116,143 @@ pub fn entering(
     })
 }
 
+/// A state is entered with this input, or retried: then it isn't entered anew.
+pub fn beginning(
+    alloc: Global,
+    visit: &Visit,
+    entered: EventKind,
+    input: &Shared,
+) -> Result<Progress, AllocError>
+    ensures { IfOk result (λ d. d ≡ spec_beginning (seen visit.now) entered input.now) }
+{
+    match visit.current {
+        Record::Again(..) => Ok(unstarted(alloc)),
+        _ => entering(alloc, visit, entered, input),
+    }
+}
+
+/// One more event of the state.
+pub fn telling(
+    alloc: Global,
+    visit: &Visit,
+    done: Progress,
+    kind: EventKind,
+    body: Shared,
+) -> Result<Progress, AllocError>
+    ensures { IfOk result (λ d. d ≡ spec_telling (seen visit.now) done kind body) }
+{
+    let Progress {
+        children,
+        raises,
+        events,
+    } = done;
+    let name = name_of(alloc, visit.current)?;
+    Ok(Progress {
+        children,
+        raises,
+        events: events.and(kind, name, body)?,
+    })
+}
+
+/// So many zeros.
+pub fn zeros(alloc: Global, count: usize) -> Result<Vec<u32>, AllocError>
+    ensures { IfOk result (λ v. v.items ≡ replicate count 0) }
+{
+    let mut zeros = Vec::new(alloc);
+    for _ in 0..count {
+        zeros.push(0)?;
+    }
+    Ok(zeros)
+}
+
+/// Raises the count of this number, where there is one.
+pub fn raise_at(counts: &mut Vec<u32>, number: usize)
+    requires { slice_index counts.old.items number < 2 ^ 31 }
+    ensures { counts.new.items ≡ slice_set counts.old.items number (slice_index counts.old.items number + 1) }
+{
+    if number < counts.len() {
+        counts[number] += 1;
+    }
+}
+
+/// How often each of so many retriers was used: never, where nothing was counted yet.
+fn uses_from(alloc: Global, retriers: usize, uses: &[u32]) -> Result<Vec<u32>, AllocError>
+    ensures { IfOk result (λ v. v.items ≡ uses_from retriers uses.now) }
+{
+    if uses.is_empty() {
+        return zeros(alloc, retriers);
+    }
+    Vec::from_slice(alloc, uses)
+}
+
+/// The branch waits until a moment, and one of so many retriers was used once more.
+pub fn retrying(
+    alloc: Global,
+    visit: &Visit,
+    done: Progress,
+    input: &Shared,
+    retriers: usize,
+    retrier: usize,
+    until: Moment,
+) -> Result<Effect, AllocError>
+    requires { slice_index (uses_from retriers (uses_in visit.now.current.now)) retrier < 2 ^ 31 }
+    ensures { IfOk result (λ e. e ≡ spec_retrying (seen visit.now) done input.now retriers retrier until) }
+{
+    let Progress {
+        children,
+        raises,
+        events,
+    } = done;
+    let mut counts = uses_from(alloc, retriers, visit.current.uses())?;
+    raise_at(&mut counts, retrier);
+    let uses = Uses { counts };
+    let name = name_of(alloc, visit.current)?;
+    let since = entered_at(visit.current, visit.moment);
+    Ok(Effect {
+        after: Record::Again(name, input.try_clone()?, since, uses, until),
+        children,
+        raises,
+        events,
+        outcome: None,
+    })
+}
+
+/// Nothing was done yet.
+pub fn unstarted(alloc: Global) -> Progress
+    ensures { result ≡ spec_unstarted }
+{
+    Progress {
+        children: Children::Kept,
+        raises: false,
+        events: Drafts::new(alloc),
+    }
+}
+
+/// The branch waits until a moment, with the state's raw input.
+pub fn pausing(
+    alloc: Global,
+    visit: &Visit,
+    done: Progress,
+    input: &Shared,
+    until: Moment,
+) -> Result<Effect, AllocError>
+    ensures { IfOk result (λ e. e ≡ spec_pausing (seen visit.now) done input.now until) }
+{
+    let Progress {
+        children,
+        raises,
+        events,
+    } = done;
+    let name = name_of(alloc, visit.current)?;
+    Ok(Effect {
+        after: Record::Pausing(name, input.try_clone()?, visit.moment, until),
+        children,
+        raises,
+        events,
+        outcome: None,
+    })
+}
+
 /// What a branch does next: it goes on to the next state with this data, or ends with it.
 fn moved(alloc: Global, next: Option<&str>, output: &Shared) -> Result<Record, AllocError>
     ensures { IfOk result (λ r. r ≡ spec_moved (option_map (λ n. n.now) next.entry) output.now) }
@@ -161,8 +300,8 @@ fn ended(next: Option<&str>, place: &Place, output: &Shared) -> Result<Option<En
     Ok(None)
 }
 
-/// A state is left with this output.
-pub fn leaving(
+/// A state is left with this output, whatever its size.
+fn left(
     alloc: Global,
     visit: &Visit,
     done: Progress,
@@ -170,7 +309,7 @@ pub fn leaving(
     next: Option<&str>,
     output: Shared,
 ) -> Result<Effect, AllocError>
-    ensures { IfOk result (λ e. e ≡ spec_leaving (seen visit.now) done exited (option_map (λ n. n.now) next.entry) output) }
+    ensures { IfOk result (λ e. e ≡ spec_left (seen visit.now) done exited (option_map (λ n. n.now) next.entry) output) }
 {
     let Progress {
         children,
@@ -196,10 +335,10 @@ pub fn error_output(alloc: Global, error: &ErrorOut) -> Result<Json, AllocError>
 {
     let mut members = Members::new(alloc);
     if let Some(name) = &error.error {
-        members.push(key(alloc, "Error")?, Json::Text(name.try_clone(alloc)?))?;
+        members.push(text(alloc, "Error")?, Json::Text(name.try_clone(alloc)?))?;
     }
     if let Some(cause) = &error.cause {
-        members.push(key(alloc, "Cause")?, Json::Text(cause.try_clone(alloc)?))?;
+        members.push(text(alloc, "Cause")?, Json::Text(cause.try_clone(alloc)?))?;
     }
     Ok(Json::Dict(members))
 }
@@ -260,4 +399,42 @@ pub fn failing(
         events,
         outcome,
     })
+}
+
+/// The most bytes of the compact text of an output, and of what a service answers.
+const DATA_LIMIT: usize = 262_144;
+
+/// Whether the compact text of a value keeps the limit.
+pub fn is_within_limit(value: &Json) -> bool
+    ensures { result ≡ spec_is_within_limit value.now }
+{
+    value.text_within(DATA_LIMIT)
+}
+
+/// The error of a value above the limit.
+pub fn over_limit(alloc: Global) -> Result<ErrorOut, AllocError>
+    ensures { IfOk result (λ e. e ≡ spec_over_limit) }
+{
+    Ok(ErrorOut {
+        error: Some(text(alloc, "States.DataLimitExceeded")?),
+        cause: Some(text(alloc, "data limit")?),
+    })
+}
+
+/// A state is left with this output. One above the limit is an error, which nothing retries or catches.
+pub fn leaving(
+    alloc: Global,
+    visit: &Visit,
+    done: Progress,
+    exited: EventKind,
+    next: Option<&str>,
+    output: Shared,
+) -> Result<Effect, AllocError>
+    ensures { IfOk result (λ e. e ≡ spec_leaving (seen visit.now) done exited (option_map (λ n. n.now) next.entry) output) }
+{
+    if is_within_limit(&output) {
+        left(alloc, visit, done, exited, next, output)
+    } else {
+        failing(alloc, visit, done, over_limit(alloc)?)
+    }
 }

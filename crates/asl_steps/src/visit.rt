@@ -2,6 +2,7 @@
 use crate::record::Record;
 use asl_history::Place;
 use asl_json::Name;
+use asl_mock::Case;
 use asl_time::Moment;
 
 /// What a step may read.
@@ -15,8 +16,12 @@ pub struct Visit<'a> {
     pub children: &'a [&'a Record],
     /// The name of the Map of which the branch is an iteration.
     pub forker: Option<&'a Name>,
+    /// Whether the state invokes a service: it is a Task.
+    pub invokes: bool,
     /// How often the state was invoked before, in the whole execution.
     pub count: u32,
+    /// The test case, which answers in the services' place.
+    pub case: &'a Case,
     /// The present moment.
     pub moment: Moment,
 }

@@ -1,0 +1,47 @@
+// What several kinds of states make of their raw input, and where a result is placed.
+ghost use Rattle.std.specs.Prelude.{◌≡◌, option_map};
+ghost use Rattle.asl_members.specs.Shown.{path_shown};
+ghost use Rattle.asl_steps.specs.Context.{context_of};
+ghost use Rattle.asl_steps.specs.Seen.{seen};
+ghost use Rattle.asl_data.specs.Gives.{Gives};
+ghost use Rattle.asl_kinds.specs.Members.{effective_by, placed_by};
+
+use asl_data::{Fault, filled, put_into, taken};
+use asl_json::Shared;
+use asl_members::PathField;
+use asl_steps::{Context, Visit};
+use asl_template::Template;
+use std::alloc::Global;
+
+/// The effective input: what `InputPath` takes, then what `Parameters` makes of it.
+pub(crate) fn effective(
+    alloc: Global,
+    input_path: &PathField,
+    parameters: Option<&Template>,
+    input: &Shared,
+    visit: &Visit,
+    context: &mut Context,
+) -> Result<Shared, Fault>
+    ensures given { Gives (effective_by (path_shown input_path.now) (option_map (λ t. t.now) parameters.entry) input.now (context_of context.old.facts (seen visit.now))) result }
+    ensures facts { context.new.facts ≡ context.old.facts }
+{
+    let value = taken(alloc, "InputPath", input_path, input, visit, context)?;
+    filled(alloc, parameters, value, visit, context)
+}
+
+/// A result put into the raw input by `ResultPath`, and what `OutputPath` takes of that.
+pub(crate) fn placed(
+    alloc: Global,
+    result_path: &PathField,
+    output_path: &PathField,
+    input: &Shared,
+    given: Shared,
+    visit: &Visit,
+    context: &mut Context,
+) -> Result<Shared, Fault>
+    ensures given { Gives (placed_by (path_shown result_path.now) (path_shown output_path.now) input.now (context_of context.old.facts (seen visit.now)) given) result }
+    ensures facts { context.new.facts ≡ context.old.facts }
+{
+    let placed = put_into(alloc, result_path, input, given)?;
+    taken(alloc, "OutputPath", output_path, &placed, visit, context)
+}

@@ -1,0 +1,106 @@
+// What a state does with an error that it raises.
+ghost use Rattle.std.specs.Prelude.{◌≡◌, None, IfOk, codes, option_map};
+ghost use Rattle.asl_json.specs.Data.{list, chain};
+ghost use Rattle.asl_json.specs.Meaning.{value_in};
+ghost use Rattle.asl_parts.specs.Member.{outcome_object};
+ghost use Rattle.asl_schema.specs.Claims.{item_count};
+ghost use Rattle.asl_handle.specs.Decisions.{caught, items_in};
+ghost use Rattle.asl_steps.specs.Seen.{seen};
+ghost use Rattle.asl_parts.specs.Parts.{catcher_object};
+ghost use Rattle.asl_data.specs.Paths.{Given};
+ghost use Rattle.asl_data.specs.Gives.{Gives};
+ghost use Rattle.asl_kinds.specs.Members.{next_in};
+ghost use Rattle.asl_kinds.specs.Table.{error_name as spec_error_name, handled, raised, settled as spec_settled};
+
+use crate::passing::{passed, target};
+use asl_data::{Fault, put_into};
+use asl_handle::{Decision, Policy};
+use asl_history::EventKind;
+use asl_json::Shared;
+use asl_members::Retriers;
+use asl_parts::{Catcher, Outcome};
+use asl_steps::{Effect, ErrorOut, Progress, Visit, error_output, failing, leaving, retrying};
+use std::alloc::{AllocError, Global};
+
+/// The name of an error; empty where it has none.
+fn error_name(error: &ErrorOut) -> &str
+    ensures { result.now ≡ spec_error_name error.now }
+{
+    match &error.error {
+        Some(name) => name.as_str(),
+        None => "",
+    }
+}
+
+/// How many retriers there are.
+fn count_of(retriers: Option<&Retriers>) -> usize
+    ensures { result ≡ item_count (items_in (option_map (λ rs. list (chain rs.now)) retriers.entry)) }
+{
+    match retriers {
+        Some(retriers) => retriers.as_slice().len(),
+        None => 0,
+    }
+}
+
+/// The error is put into the raw input by the catcher's `ResultPath`, and the execution goes on at its `Next`.
+fn caught(
+    alloc: Global,
+    catcher: &Catcher,
+    visit: &Visit,
+    done: Progress,
+    exited: EventKind,
+    input: &Shared,
+    error: &ErrorOut,
+) -> Result<Effect, AllocError>
+    ensures { IfOk result (λ e. e ≡ handled None (seen visit.now) done exited input.now error.now (caught (catcher_object catcher.now))) }
+{
+    let output = Shared::new(alloc, error_output(alloc, error)?)?;
+    let given = put_into(alloc, catcher.result_path(), input, output);
+    let next = catcher.next().name.as_str();
+    passed(alloc, visit, done, exited, Some(next), given)
+}
+
+/// What a state does with an error that it raises, by its `Retry` and its `Catch`.
+pub(crate) fn raise(
+    alloc: Global,
+    outcome: &Outcome,
+    visit: &Visit,
+    done: Progress,
+    exited: EventKind,
+    input: &Shared,
+    error: ErrorOut,
+) -> Result<Effect, AllocError>
+    ensures { IfOk result (λ e. e ≡ raised (value_in (codes "Retry") (outcome_object outcome.now)) (value_in (codes "Catch") (outcome_object outcome.now)) (seen visit.now) done exited input.now error) }
+{
+    let policy = Policy {
+        retriers: outcome.retry(),
+        catchers: outcome.catch(),
+    };
+    match policy.decide(error_name(&error), visit.current.uses(), visit.moment) {
+        Decision::Again { retrier, until } => {
+            let retriers = count_of(outcome.retry());
+            retrying(alloc, visit, done, input, retriers, retrier, until)
+        }
+        Decision::Caught { catcher } => caught(alloc, catcher, visit, done, exited, input, &error),
+        Decision::Unhandled => failing(alloc, visit, done, error),
+    }
+}
+
+/// A state is left with what it gives, or raises an error.
+pub(crate) fn settled(
+    alloc: Global,
+    outcome: &Outcome,
+    visit: &Visit,
+    done: Progress,
+    exited: EventKind,
+    input: &Shared,
+    given: Result<Shared, Fault>,
+) -> Result<Effect, AllocError>
+    ensures { (g : Given) → Gives g given → IfOk result (λ e. e ≡ spec_settled (value_in (codes "Retry") (outcome_object outcome.now)) (value_in (codes "Catch") (outcome_object outcome.now)) (next_in (outcome_object outcome.now)) (seen visit.now) done exited input.now g) }
+{
+    match given {
+        Ok(output) => leaving(alloc, visit, done, exited, target(outcome.next()), output),
+        Err(Fault::Raised(error)) => raise(alloc, outcome, visit, done, exited, input, error),
+        Err(Fault::Memory) => Err(AllocError),
+    }
+}

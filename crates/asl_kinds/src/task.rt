@@ -1,0 +1,213 @@
+// Task (ASL, "Task State"): the test case answers in the service's place.
+ghost use Rattle.std.specs.Prelude.{◌≡◌, IfOk, codes, option_map};
+ghost use Rattle.asl_json.specs.Meaning.{value_in};
+ghost use Rattle.asl_parts.specs.Member.{outcome_object};
+ghost use Rattle.asl_states.specs.Show.{task_object};
+ghost use Rattle.asl_steps.specs.Context.{context_of};
+ghost use Rattle.asl_steps.specs.Seen.{seen};
+ghost use Rattle.asl_data.specs.Gives.{Gives};
+ghost use Rattle.asl_kinds.specs.Members.{selected_by, no_answer as spec_no_answer};
+ghost use Rattle.asl_kinds.specs.Table.{invoked as spec_invoked, task_fails, task_returns, task_answered};
+
+use crate::kind::StateKind;
+use crate::making::{effective, placed};
+use crate::raising::{raise, settled};
+use asl_data::{Fault, copied, empty_object, filled, raised};
+use asl_history::EventKind;
+use asl_json::{Json, Shared, clone_text};
+use asl_mock::{Answer, answer};
+use asl_parts::Outcome;
+use asl_states::Task;
+use asl_steps::{
+    Context, Effect, ErrorOut, Progress, Visit, beginning, error_output, idle, is_within_limit,
+    over_limit, telling,
+};
+use std::alloc::{AllocError, Global};
+
+/// What `ResultSelector` makes of a result, and where it is placed.
+fn selected(
+    alloc: Global,
+    outcome: &Outcome,
+    input: &Shared,
+    answered: Shared,
+    visit: &Visit,
+    context: &mut Context,
+) -> Result<Shared, Fault>
+    ensures given { Gives (selected_by (value_in (codes "ResultSelector") (outcome_object outcome.now)) (value_in (codes "ResultPath") (outcome_object outcome.now)) (value_in (codes "OutputPath") (outcome_object outcome.now)) input.now (context_of context.old.facts (seen visit.now)) answered) result }
+    ensures facts { context.new.facts ≡ context.old.facts }
+{
+    let selected = filled(alloc, outcome.result_selector(), answered, visit, context)?;
+    placed(
+        alloc,
+        outcome.result_path(),
+        outcome.output_path(),
+        input,
+        selected,
+        visit,
+        context,
+    )
+}
+
+/// The service is invoked with this input: the count is raised.
+fn invoked(
+    alloc: Global,
+    visit: &Visit,
+    done: Progress,
+    effective: Shared,
+) -> Result<Progress, AllocError>
+    ensures { IfOk result (λ d. d ≡ spec_invoked (seen visit.now) done effective) }
+{
+    let done = telling(alloc, visit, done, EventKind::TaskScheduled, effective)?;
+    let started = empty_object(alloc)?;
+    let Progress {
+        children,
+        events,
+        ..
+    } = telling(alloc, visit, done, EventKind::TaskStarted, started)?;
+    Ok(Progress {
+        children,
+        raises: true,
+        events,
+    })
+}
+
+/// No answer of the test case is for this invocation.
+fn no_answer(alloc: Global) -> Result<ErrorOut, AllocError>
+    ensures { IfOk result (λ e. e ≡ spec_no_answer) }
+{
+    match raised(alloc, "States.Runtime", "no mocked answer") {
+        Fault::Raised(error) => Ok(error),
+        Fault::Memory => Err(AllocError),
+    }
+}
+
+/// The service fails with this error.
+fn fails(
+    alloc: Global,
+    task: &Task,
+    visit: &Visit,
+    done: Progress,
+    input: &Shared,
+    error: ErrorOut,
+) -> Result<Effect, AllocError>
+    ensures { IfOk result (λ e. e ≡ task_fails (task_object task.now) (seen visit.now) done input.now error) }
+{
+    let told = Shared::new(alloc, error_output(alloc, &error)?)?;
+    let done = telling(alloc, visit, done, EventKind::TaskFailed, told)?;
+    let outcome = task.outcome();
+    raise(
+        alloc,
+        outcome,
+        visit,
+        done,
+        EventKind::TaskStateExited,
+        input,
+        error,
+    )
+}
+
+/// The service returns this value.
+fn returns(
+    alloc: Global,
+    task: &Task,
+    visit: &Visit,
+    context: &mut Context,
+    done: Progress,
+    input: &Shared,
+    value: &Json,
+) -> Result<Effect, AllocError>
+    ensures effect { IfOk result (λ e. e ≡ task_returns (task_object task.now) (context_of context.old.facts (seen visit.now)) (seen visit.now) done input.now value.now) }
+    ensures facts { context.new.facts ≡ context.old.facts }
+{
+    let value = copied(alloc, value)?;
+    let told = value.try_clone()?;
+    let done = telling(alloc, visit, done, EventKind::TaskSucceeded, told)?;
+    let outcome = task.outcome();
+    let given = selected(alloc, outcome, input, value, visit, context);
+    settled(
+        alloc,
+        outcome,
+        visit,
+        done,
+        EventKind::TaskStateExited,
+        input,
+        given,
+    )
+}
+
+/// What a Task does that was invoked and gets this answer.
+fn answered(
+    alloc: Global,
+    task: &Task,
+    visit: &Visit,
+    context: &mut Context,
+    done: Progress,
+    input: &Shared,
+    answer: Option<&Answer>,
+) -> Result<Effect, AllocError>
+    ensures effect { IfOk result (λ e. e ≡ task_answered (task_object task.now) (context_of context.old.facts (seen visit.now)) (seen visit.now) done input.now (option_map (λ a. a.now) answer.entry)) }
+    ensures facts { context.new.facts ≡ context.old.facts }
+{
+    match answer {
+        Some(Answer::Returns(value)) if is_within_limit(value) => {
+            returns(alloc, task, visit, context, done, input, value)
+        }
+        Some(Answer::Returns(_)) => fails(alloc, task, visit, done, input, over_limit(alloc)?),
+        Some(Answer::Throws { error, cause }) => {
+            let error = Some(error.try_clone(alloc)?);
+            let cause = clone_text(alloc, cause)?;
+            fails(alloc, task, visit, done, input, ErrorOut { error, cause })
+        }
+        None => fails(alloc, task, visit, done, input, no_answer(alloc)?),
+    }
+}
+
+impl StateKind for Task {
+    ghost use Rattle.std.specs.Prelude.{true};
+    ghost use Rattle.asl_states.specs.Show.{task_object};
+    ghost use Rattle.asl_kinds.specs.Table.{task_effect};
+    ghost use Rattle.asl_kinds.specs.Laws.{task-bounded};
+
+    ghost effect = { λ k. task_effect (task_object k) };
+
+    ghost is_invoking = { λ k. true };
+
+    ghost bounded = { λ k. task-bounded (task_object k) };
+
+    fn visit(
+        &self,
+        alloc: Global,
+        visit: &Visit,
+        context: &mut Context,
+    ) -> Result<Effect, AllocError> {
+        let Some(input) = visit.current.beginning() else {
+            return idle(alloc, visit.current);
+        };
+        let done = beginning(alloc, visit, EventKind::TaskStateEntered, input)?;
+        let (path, parameters) = (self.input_path(), self.parameters());
+        match effective(alloc, path, parameters, input, visit, context) {
+            Ok(value) => {
+                let done = invoked(alloc, visit, done, value)?;
+                let answer = answer(visit.case, visit.current.name(), visit.count);
+                answered(alloc, self, visit, context, done, input, answer)
+            }
+            Err(Fault::Raised(error)) => {
+                let outcome = self.outcome();
+                raise(
+                    alloc,
+                    outcome,
+                    visit,
+                    done,
+                    EventKind::TaskStateExited,
+                    input,
+                    error,
+                )
+            }
+            Err(Fault::Memory) => Err(AllocError),
+        }
+    }
+
+    fn invokes(&self) -> bool {
+        true
+    }
+}
