@@ -10,12 +10,11 @@ use Rattle.asl_json.specs.declared.fault.JsonFault.{JsonFault}
 use Rattle.asl_json.specs.declared.fault.JsonFault.TheVariants as json
 use Rattle.asl_mock.specs.Places.{Place, pointer_text, under, in_each, first_of}
 use Rattle.asl_mock.specs.Form.{misfits}
-use Rattle.asl_mock.specs.Tables.{members_at}
+use Rattle.asl_mock.specs.Tables.{Named, members_at}
 use Rattle.asl_mock.specs.Answers.{Machine, Response, responses_of, machines_of, mocks_of}
 use Rattle.asl_mock.specs.Faults.{bad_keys, bad_keys_in, overlaps, overlaps_in, lost_names, lost_in_machine, numbered, faults}
 use Rattle.asl_mock.specs.Told.{IsMockFile, IsFirstFault, IsFaultIn, IsJudged, IsAnswer, unread}
 use Rattle.asl_mock.specs.declared.shape.Shape.TheVariants.{Top}
-use Rattle.asl_mock.specs.declared.table.Named.{Named}
 use Rattle.asl_mock.specs.declared.fault.MockFault.{MockFault}
 use Rattle.asl_mock.specs.declared.fault.MockFault.TheVariants.{Json, Shape, Key, Overlap, NoResponse, OutOfMemory}
 use Rattle.asl_mock.proofs.Each.{none_there, first-under, first-append}

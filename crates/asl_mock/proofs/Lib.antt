@@ -3,5 +3,7 @@ mod Below
 mod Numerals
 mod Spots
 mod Giving
+mod Names
+mod Equals
 mod Overlapping
 mod Judging

@@ -5,9 +5,8 @@ use Rattle.asl_json.specs.View.{json_of}
 use Rattle.asl_json.specs.Distinct.{Members}
 use Rattle.asl_json.specs.Meaning.{value_in}
 use Rattle.asl_mock.specs.Key.{span_in}
-use Rattle.asl_mock.specs.Tables.{value_for, members_in, members_at}
+use Rattle.asl_mock.specs.Tables.{Named, value_for, members_in, members_at}
 use Rattle.asl_mock.specs.declared.key.Span.{Span}
-use Rattle.asl_mock.specs.declared.table.Named.{Named}
 use Rattle.asl_mock.specs.declared.response.Answer.{Answer}
 use Rattle.asl_mock.specs.declared.response.Answer.TheVariants.{Returns, Throws}
 use Rattle.asl_mock.specs.declared.response.Ranged.{Ranged}
@@ -61,7 +60,7 @@ abbrev pub response_of : Members → Response
 response_of ms = answers_on [] ms
 
 abbrev pub named_response : List ℕ × Data → Named Response
-named_response m = record { name = m.0; value = response_of (members_in m.1) }
+named_response m = (m.0, response_of (members_in m.1))
 
 abbrev pub responses_of : Members → List (Named Response)
 responses_of ms = map named_response ms
@@ -75,13 +74,13 @@ or_nothing None = []
 or_nothing (Some r) = r
 
 abbrev pub named_state : List (Named Response) → List ℕ × Data → Named Response
-named_state rs m = record { name = m.0; value = or_nothing (value_for (text_of (Some m.1)) rs) }
+named_state rs m = (m.0, or_nothing (value_for (text_of (Some m.1)) rs))
 
 abbrev pub case_of : List (Named Response) → Members → Case
 case_of rs ms = map (named_state rs) ms
 
 abbrev pub named_case : List (Named Response) → List ℕ × Data → Named Case
-named_case rs m = record { name = m.0; value = case_of rs (members_in m.1) }
+named_case rs m = (m.0, case_of rs (members_in m.1))
 
 abbrev pub Machine : Type 0
 Machine = List (Named Case)
@@ -90,7 +89,7 @@ abbrev pub machine_of : List (Named Response) → Members → Machine
 machine_of rs ms = map (named_case rs) ms
 
 abbrev pub named_machine : List (Named Response) → List ℕ × Data → Named Machine
-named_machine rs m = record { name = m.0; value = machine_of rs (members_at (codes "TestCases") m.1) }
+named_machine rs m = (m.0, machine_of rs (members_at (codes "TestCases") m.1))
 
 abbrev pub machines_of : List (Named Response) → Members → List (Named Machine)
 machines_of rs ms = map (named_machine rs) ms

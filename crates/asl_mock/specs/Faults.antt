@@ -6,10 +6,9 @@ use Rattle.asl_json.specs.Distinct.{Members}
 use Rattle.asl_mock.specs.Key.{span_in}
 use Rattle.asl_mock.specs.Places.{Place, under, in_each}
 use Rattle.asl_mock.specs.Form.{misfits, unless}
-use Rattle.asl_mock.specs.Tables.{value_for, members_in, members_at}
+use Rattle.asl_mock.specs.Tables.{Named, value_for, members_in, members_at}
 use Rattle.asl_mock.specs.Answers.{Response, text_of, responses_of}
 use Rattle.asl_mock.specs.declared.key.Span.{Span}
-use Rattle.asl_mock.specs.declared.table.Named.{Named}
 use Rattle.asl_mock.specs.declared.shape.Shape.TheVariants.{Top}
 
 -- M3: a key that stands for no numbers

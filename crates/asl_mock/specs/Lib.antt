@@ -9,3 +9,5 @@ pub mod Gives
 pub mod Shared
 pub mod Told
 pub mod Lines
+pub mod Equal
+pub mod EqualLaws

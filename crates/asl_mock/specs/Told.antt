@@ -5,10 +5,9 @@ use Rattle.asl_json.specs.Wrong.{ReadsAs, IsFaultOf, IsFirstOf}
 use Rattle.asl_json.specs.declared.fault.JsonFault.{JsonFault}
 use Rattle.asl_json.specs.declared.fault.JsonFault.TheVariants as json
 use Rattle.asl_mock.specs.Places.{Place, pointer_text, first_of}
-use Rattle.asl_mock.specs.Tables.{value_for}
+use Rattle.asl_mock.specs.Tables.{Named, value_for}
 use Rattle.asl_mock.specs.Answers.{Case, Machine, mocks_of}
 use Rattle.asl_mock.specs.Faults.{faults}
-use Rattle.asl_mock.specs.declared.table.Named.{Named}
 use Rattle.asl_mock.specs.declared.fault.CaseFault.{CaseFault}
 use Rattle.asl_mock.specs.declared.fault.CaseFault.TheVariants.{NoMachine, NoCase}
 use Rattle.asl_mock.specs.declared.fault.MockFault.{MockFault}

@@ -1,6 +1,8 @@
 // The cases of a mock file.
-ghost use Rattle.std.specs.Prelude.{◌≡◌, [], IfOk, Some, option_map};
+ghost use Rattle.std.specs.Prelude.{◌≡◌, ◌↔◌, [], IfOk, IsTrue, Some, option_map};
+ghost use Rattle.asl_json.specs.Distinct.{AreDistinct};
 ghost use Rattle.asl_json.specs.View.{data_of, members_of};
+ghost use Rattle.asl_mock.specs.Tables.{named, value_for};
 ghost use Rattle.asl_mock.specs.Places.{in_each};
 ghost use Rattle.asl_mock.specs.Answers.{text_of, case_of, machine_of, machines_of, answer_to};
 ghost use Rattle.asl_mock.specs.Faults.{lost_name, lost_in_case, lost_in_machine};
@@ -9,15 +11,16 @@ ghost use Rattle.asl_mock.specs.Gives.{Gives};
 use crate::place::Place;
 use crate::response::Answer;
 use crate::responses::Response;
-use crate::table::{Named, find, members_at, members_in};
+use crate::table::{add, find, members_at, members_in};
 use asl_json::{Json, Member};
+use indexmap::IndexMap;
 use std::alloc::{AllocError, Global};
 use std::marker::Model;
 use std::sync::Arc;
 
 /// A case of a mock file: the responses of the states that it names. It never changes, so that its copies share them.
 pub struct Case {
-    states: Option<Arc<Vec<Named<Response>>>>,
+    states: Option<Arc<IndexMap<String, Response>>>,
 }
 
 // Written out, so that a caller's proof sees one call and not the drop of each part.
@@ -30,7 +33,7 @@ impl Drop for Case {
 impl Model for Case {
     ghost use Rattle.std.specs.Prelude.{List};
     ghost use Rattle.asl_mock.specs.Answers.{Response};
-    ghost use Rattle.asl_mock.specs.declared.table.Named.{Named};
+    ghost use Rattle.asl_mock.specs.Tables.{Named};
 
     ghost Value = { List (Named Response) };
 
@@ -52,8 +55,8 @@ impl Case {
         Case { states: None }
     }
 
-    fn of_states(alloc: Global, states: Vec<Named<Response>>) -> Result<Case, AllocError>
-        ensures { IfOk result (λ c. c ≡ states.items) }
+    fn of_states(alloc: Global, states: IndexMap<String, Response>) -> Result<Case, AllocError>
+        ensures { IfOk result (λ c. c ≡ named states.entries) }
     {
         let states = Arc::new(alloc, states)?;
         Ok(Case {
@@ -73,29 +76,69 @@ impl Case {
         }
     }
 
-    /// The responses by the names of their states.
-    fn states(&self) -> &[Named<Response>]
-        ensures { result.now ≡ self.now }
+    /// Whether it names no state.
+    fn is_empty(&self) -> bool
+        ensures { IsTrue result ↔ (self.now ≡ []) }
     {
         match &self.states {
-            Some(states) => states,
-            None => &[],
+            Some(states) => states.is_empty(),
+            None => true,
+        }
+    }
+
+    /// The response of the state of this name.
+    fn response(&self, state: &str) -> Option<&Response>
+        ensures { option_map (λ r. r.now) result ≡ value_for state.now self.now }
+    {
+        match &self.states {
+            Some(states) => find(states, state),
+            None => None,
         }
     }
 }
 
+/// Two cases are equal if they are one as data: they name the same states in the same order, and each state has the same answers
+/// at the same ranges of numbers. The spelling of a value counts.
+impl PartialEq for Case {
+    ghost use Rattle.asl_mock.specs.Equal.{case_equal};
+    ghost use Rattle.asl_mock.specs.EqualLaws.{case_laws};
+
+    ghost eq = { case_equal };
+
+    ghost laws = { case_laws };
+
+    fn eq(&self, other: &Case) -> bool
+        ensures equal { result ≡ case_equal self.now other.now }
+        ensures same { IsTrue result ↔ (self.now ≡ other.now) }
+    {
+        match &self.states {
+            Some(states) => match &other.states {
+                Some(its) => states.as_slice() == its.as_slice(),
+                None => states.is_empty(),
+            },
+            None => other.is_empty(),
+        }
+    }
+}
+
+impl Eq for Case {
+    ghost use Rattle.asl_mock.specs.EqualLaws.{case_equivalence};
+
+    ghost laws = { case_equivalence };
+}
+
 /// The answer of number n, counted from 0, to the state of this name, where the case names a response for it that has one. Its
-/// cost is the logarithm of how many answers the response has, beside the search for the state.
+/// cost is one look-up of a hash, and the logarithm of how many answers the response has.
 pub fn answer<'a>(case: &'a Case, state: &str, n: u32) -> Option<&'a Answer>
     ensures { option_map (λ a. a.now) result ≡ answer_to case.now state.now n }
 {
-    let response = find(case.states(), state)?;
+    let response = case.response(state)?;
     response.answer(n)
 }
 
 /// The cases of a machine by name.
 pub(crate) struct Cases {
-    cases: Vec<Named<Case>>,
+    cases: IndexMap<String, Case>,
 }
 
 impl Drop for Cases {
@@ -107,7 +150,7 @@ impl Drop for Cases {
 impl Model for Cases {
     ghost use Rattle.std.specs.Prelude.{List};
     ghost use Rattle.asl_mock.specs.Answers.{Case};
-    ghost use Rattle.asl_mock.specs.declared.table.Named.{Named};
+    ghost use Rattle.asl_mock.specs.Tables.{Named, named};
 
     ghost Value = { List (Named Case) };
 
@@ -116,15 +159,15 @@ impl Model for Cases {
 
     ghost coded = { Prim.hlevel (codes, json.the_row.coded) };
 
-    ghost view = { λ a. a.cases.items };
+    ghost view = { λ a. named a.cases.entries };
 }
 
 impl Cases {
-    /// The cases by their names.
-    pub(crate) fn list(&self) -> &[Named<Case>]
-        ensures { result.now ≡ self.now }
+    /// The case of this name.
+    pub(crate) fn case(&self, name: &str) -> Option<&Case>
+        ensures { option_map (λ c. c.now) result ≡ value_for name.now self.now }
     {
-        &self.cases
+        find(&self.cases, name)
     }
 }
 
@@ -141,19 +184,19 @@ fn text_in(value: &Json) -> &str
 /// The responses of the states of a case, or the first name of a response that isn't there. The error is that memory ran out.
 fn states(
     alloc: Global,
-    responses: &[Named<Response>],
+    responses: &IndexMap<String, Response>,
     members: &[Member],
-) -> Result<Result<Vec<Named<Response>>, Place>, AllocError>
-    ensures { IfOk result (Gives (λ v. v.items) (case_of responses.now (members_of members.now)) (in_each (lost_name responses.now) (members_of members.now))) }
+) -> Result<Result<IndexMap<String, Response>, Place>, AllocError>
+    requires { AreDistinct [] (members_of members.now) }
+    ensures { IfOk result (Gives (λ v. named v.entries) (case_of (named responses.now.entries) (members_of members.now)) (in_each (lost_name (named responses.now.entries)) (members_of members.now))) }
 {
-    let mut states = Vec::new(alloc);
+    let mut states = IndexMap::new(alloc);
     for member in members {
         let Some(response) = find(responses, text_in(&member.value)) else {
             return Ok(Err(Place::here(alloc).under(alloc, member.key.as_str())?));
         };
         let value = response.try_clone()?;
-        let name = member.key.try_clone(alloc)?;
-        states.push(Named { name, value })?;
+        add(alloc, &mut states, &member.key, value)?;
     }
     Ok(Ok(states))
 }
@@ -161,20 +204,20 @@ fn states(
 /// The cases of a machine, or the first such name. The error is that memory ran out.
 fn cases_in(
     alloc: Global,
-    responses: &[Named<Response>],
+    responses: &IndexMap<String, Response>,
     members: &[Member],
-) -> Result<Result<Vec<Named<Case>>, Place>, AllocError>
-    ensures { IfOk result (Gives (λ v. v.items) (machine_of responses.now (members_of members.now)) (in_each (lost_in_case responses.now) (members_of members.now))) }
+) -> Result<Result<IndexMap<String, Case>, Place>, AllocError>
+    requires { AreDistinct [] (members_of members.now) }
+    ensures { IfOk result (Gives (λ v. named v.entries) (machine_of (named responses.now.entries) (members_of members.now)) (in_each (lost_in_case (named responses.now.entries)) (members_of members.now))) }
 {
-    let mut cases = Vec::new(alloc);
+    let mut cases = IndexMap::new(alloc);
     for member in members {
         let own = match states(alloc, responses, members_in(&member.value))? {
             Ok(own) => own,
             Err(place) => return Ok(Err(place.under(alloc, member.key.as_str())?)),
         };
         let value = Case::of_states(alloc, own)?;
-        let name = member.key.try_clone(alloc)?;
-        cases.push(Named { name, value })?;
+        add(alloc, &mut cases, &member.key, value)?;
     }
     Ok(Ok(cases))
 }
@@ -182,12 +225,13 @@ fn cases_in(
 /// The machines, or the first such name. The error is that memory ran out.
 pub(crate) fn machines(
     alloc: Global,
-    responses: &[Named<Response>],
+    responses: &IndexMap<String, Response>,
     members: &[Member],
-) -> Result<Result<Vec<Named<Cases>>, Place>, AllocError>
-    ensures { IfOk result (Gives (λ v. v.items) (machines_of responses.now (members_of members.now)) (in_each (lost_in_machine responses.now) (members_of members.now))) }
+) -> Result<Result<IndexMap<String, Cases>, Place>, AllocError>
+    requires { AreDistinct [] (members_of members.now) }
+    ensures { IfOk result (Gives (λ v. named v.entries) (machines_of (named responses.now.entries) (members_of members.now)) (in_each (lost_in_machine (named responses.now.entries)) (members_of members.now))) }
 {
-    let mut machines = Vec::new(alloc);
+    let mut machines = IndexMap::new(alloc);
     for member in members {
         let own = match cases_in(alloc, responses, members_at(&member.value, "TestCases"))? {
             Ok(own) => own,
@@ -197,8 +241,7 @@ pub(crate) fn machines(
             }
         };
         let value = Cases { cases: own };
-        let name = member.key.try_clone(alloc)?;
-        machines.push(Named { name, value })?;
+        add(alloc, &mut machines, &member.key, value)?;
     }
     Ok(Ok(machines))
 }

@@ -3,11 +3,11 @@
 //!
 //! Modules in reading order: `fault` is why a file is refused, `key` the numbers that an answer is for, `shape` what a file is
 //! made of, and `place` where a fault is. `form` finds the first value that doesn't fit, and `bad_key` the first bad key. `table`
-//! is values under names, `response` an answer, `ranges` the answers in the order of their numbers, `responses` and `case` what
-//! is built of them, and `mocks` the whole file.
+//! finds values by their names, `response` is an answer, `ranges` the answers in the order of their numbers, `responses` and
+//! `case` what is built of them, and `mocks` the whole file.
 //!
 //! `specs/Form.antt` says which values fit, `specs/Key.antt` what a key stands for, `specs/Faults.antt` which fault is answered,
-//! and `specs/Answers.antt` what a file spells and which answer is given.
+//! `specs/Answers.antt` what a file spells and which answer is given, and `specs/Equal.antt` which cases are equal.
 #![tactic(auto)]
 
 mod bad_key;
@@ -29,4 +29,3 @@ pub use key::Span;
 pub use mocks::Mocks;
 pub use response::{Answer, Ranged};
 pub use responses::Response;
-pub use table::Named;

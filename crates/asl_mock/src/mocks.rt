@@ -15,14 +15,15 @@ use crate::form::misfit;
 use crate::place::Place;
 use crate::responses::responses;
 use crate::shape::Shape;
-use crate::table::{Named, find, members_at};
+use crate::table::{find, members_at};
 use asl_json::{Json, Pointer, read};
+use indexmap::IndexMap;
 use std::alloc::{AllocError, Global};
 use std::marker::Model;
 
 /// A mock file that was read: the cases of each machine. Contracts see what the file spells.
 pub struct Mocks {
-    machines: Vec<Named<Cases>>,
+    machines: IndexMap<String, Cases>,
 }
 
 // Written out, so that a caller's proof sees one call and not the drop of each part.
@@ -37,7 +38,7 @@ impl Drop for Mocks {
 impl Model for Mocks {
     ghost use Rattle.std.specs.Prelude.{List};
     ghost use Rattle.asl_mock.specs.Answers.{Machine};
-    ghost use Rattle.asl_mock.specs.declared.table.Named.{Named};
+    ghost use Rattle.asl_mock.specs.Tables.{Named, named};
 
     ghost Value = { List (Named Machine) };
 
@@ -46,7 +47,7 @@ impl Model for Mocks {
 
     ghost coded = { Prim.hlevel (codes, json.the_row.coded) };
 
-    ghost view = { λ a. a.machines.items };
+    ghost view = { λ a. named a.machines.entries };
 }
 
 /// The text of a place under a key. The error is that memory ran out.
@@ -115,7 +116,7 @@ impl Mocks {
         let Some(cases) = find(&self.machines, machine) else {
             return Err(CaseFault::NoMachine);
         };
-        match find(cases.list(), case) {
+        match cases.case(case) {
             Some(case) => Ok(case),
             None => Err(CaseFault::NoCase),
         }

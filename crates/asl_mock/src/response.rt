@@ -27,11 +27,63 @@ impl Drop for Answer {
     }
 }
 
+impl PartialEq for Answer {
+    ghost use Rattle.asl_mock.specs.Equal.{answer_equal};
+    ghost use Rattle.asl_mock.specs.EqualLaws.{answer_laws};
+
+    ghost eq = { answer_equal };
+
+    ghost laws = { answer_laws };
+
+    fn eq(&self, other: &Answer) -> bool {
+        match self {
+            Answer::Returns(value) => match other {
+                Answer::Returns(its) => value == its,
+                Answer::Throws { .. } => false,
+            },
+            Answer::Throws { error, cause } => match other {
+                Answer::Returns(_) => false,
+                Answer::Throws {
+                    error: its,
+                    cause: its_cause,
+                } => error == its && cause == its_cause,
+            },
+        }
+    }
+}
+
+impl Eq for Answer {
+    ghost use Rattle.asl_mock.specs.EqualLaws.{answer_equivalence};
+
+    ghost laws = { answer_equivalence };
+}
+
 /// An answer and the numbers that it is for.
 #[derive(Drop)]
 pub struct Ranged {
     pub span: Span,
     pub answer: Answer,
+}
+
+impl PartialEq for Ranged {
+    ghost use Rattle.asl_mock.specs.Equal.{ranged_equal};
+    ghost use Rattle.asl_mock.specs.EqualLaws.{ranged_laws};
+
+    ghost eq = { ranged_equal };
+
+    ghost laws = { ranged_laws };
+
+    fn eq(&self, other: &Ranged) -> bool {
+        self.span.low == other.span.low
+            && self.span.high == other.span.high
+            && self.answer == other.answer
+    }
+}
+
+impl Eq for Ranged {
+    ghost use Rattle.asl_mock.specs.EqualLaws.{ranged_equivalence};
+
+    ghost laws = { ranged_equivalence };
 }
 
 /// A copy of a text; of any other value an empty one. The error is that memory ran out.

@@ -1,6 +1,8 @@
 // The responses of a mock file.
 ghost use Rattle.std.specs.Prelude.{◌≡◌, [], IfOk, option_map};
+ghost use Rattle.asl_json.specs.Distinct.{AreDistinct};
 ghost use Rattle.asl_json.specs.View.{members_of};
+ghost use Rattle.asl_mock.specs.Tables.{named};
 ghost use Rattle.asl_mock.specs.Places.{in_each};
 ghost use Rattle.asl_mock.specs.Answers.{first_with, response_of, responses_of};
 ghost use Rattle.asl_mock.specs.Faults.{overlaps_behind, overlaps_in};
@@ -10,8 +12,9 @@ ghost use Rattle.asl_mock.specs.Gives.{Gives};
 use crate::place::Place;
 use crate::ranges::{added, answer_at};
 use crate::response::{Answer, Ranged};
-use crate::table::{Named, members_in};
+use crate::table::{add, members_in};
 use asl_json::Member;
+use indexmap::IndexMap;
 use std::alloc::{AllocError, Global};
 use std::marker::Model;
 use std::sync::Arc;
@@ -71,6 +74,25 @@ impl Response {
     }
 }
 
+impl PartialEq for Response {
+    ghost use Rattle.asl_mock.specs.Equal.{response_equal};
+    ghost use Rattle.asl_mock.specs.EqualLaws.{response_laws};
+
+    ghost eq = { response_equal };
+
+    ghost laws = { response_laws };
+
+    fn eq(&self, other: &Response) -> bool {
+        self.answers.as_slice() == other.answers.as_slice()
+    }
+}
+
+impl Eq for Response {
+    ghost use Rattle.asl_mock.specs.EqualLaws.{response_equivalence};
+
+    ghost laws = { response_equivalence };
+}
+
 /// The response of these answers, or the first key that has a number of one before it. The error is that memory ran out.
 fn response_in(alloc: Global, members: &[Member]) -> Result<Result<Response, Place>, AllocError>
     ensures { IfOk result (Gives (λ r. r) (response_of (members_of members.now)) (overlaps_behind [] (members_of members.now))) }
@@ -89,17 +111,17 @@ fn response_in(alloc: Global, members: &[Member]) -> Result<Result<Response, Pla
 pub(crate) fn responses(
     alloc: Global,
     members: &[Member],
-) -> Result<Result<Vec<Named<Response>>, Place>, AllocError>
-    ensures { IfOk result (Gives (λ v. v.items) (responses_of (members_of members.now)) (in_each overlaps_in (members_of members.now))) }
+) -> Result<Result<IndexMap<String, Response>, Place>, AllocError>
+    requires { AreDistinct [] (members_of members.now) }
+    ensures { IfOk result (Gives (λ v. named v.entries) (responses_of (members_of members.now)) (in_each overlaps_in (members_of members.now))) }
 {
-    let mut responses = Vec::new(alloc);
+    let mut responses = IndexMap::new(alloc);
     for member in members {
         let value = match response_in(alloc, members_in(&member.value))? {
             Ok(response) => response,
             Err(place) => return Ok(Err(place.under(alloc, member.key.as_str())?)),
         };
-        let name = member.key.try_clone(alloc)?;
-        responses.push(Named { name, value })?;
+        add(alloc, &mut responses, &member.key, value)?;
     }
     Ok(Ok(responses))
 }

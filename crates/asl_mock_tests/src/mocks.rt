@@ -1,6 +1,6 @@
 // Mock files: what they hold, and which fault is answered.
 use asl_json::write;
-use asl_mock::{Answer, CaseFault, MockFault, Mocks, answer};
+use asl_mock::{Answer, Case, CaseFault, MockFault, Mocks, answer};
 use std::alloc::Global;
 use std::test::Fail;
 
@@ -295,4 +295,105 @@ fn faults_have_their_texts(rt: HostRuntime) {
     }
     assert_eq!(rt; CaseFault::NoMachine.text(), "M7 NoMachine");
     assert_eq!(rt; CaseFault::NoCase.text(), "M8 NoCase");
+}
+
+/// The cases of one machine: "whole" and those that are, or aren't, equal to it.
+const ALIKE: &str = r#"{
+ "StateMachines":{
+  "M":{"TestCases":{
+   "whole":{"A":"R","B":"E"},
+   "same":{"A":"R","B":"E"},
+   "copy":{"A":"Again","B":"E"},
+   "turned":{"B":"E","A":"R"},
+   "shorter":{"A":"R"},
+   "renamed":{"A":"R","C":"E"},
+   "spelled":{"A":"Spelled","B":"E"},
+   "wider":{"A":"Wider","B":"E"},
+   "split":{"A":"Split","B":"E"},
+   "error":{"A":"R","B":"Error"},
+   "cause":{"A":"R","B":"Cause"},
+   "returned":{"A":"R","B":"R"},
+   "none":{}}}},
+ "MockedResponses":{
+  "R":{"0-1":{"Return":{"a":1.5}},"3":{"Throw":{"Error":"E"}}},
+  "Again":{"03":{"Throw":{"Error":"E"}},"00-01":{"Return":{"a":1.5}}},
+  "Spelled":{"0-1":{"Return":{"a":1.50}},"3":{"Throw":{"Error":"E"}}},
+  "Wider":{"0-2":{"Return":{"a":1.5}},"3":{"Throw":{"Error":"E"}}},
+  "Split":{"0":{"Return":{"a":1.5}},"1":{"Return":{"a":1.5}},"3":{"Throw":{"Error":"E"}}},
+  "E":{"0":{"Throw":{"Error":"E","Cause":"late"}}},
+  "Error":{"0":{"Throw":{"Error":"F","Cause":"late"}}},
+  "Cause":{"0":{"Throw":{"Error":"E","Cause":"early"}}}}}"#;
+
+/// Whether a case is equal to the one that is named `whole`, and that one to it; none where the two answers differ.
+fn is_whole(one: &Mocks, other: &Mocks, name: &str) -> Option<bool> {
+    let whole = one.case("M", "whole").ok()?;
+    let case = other.case("M", name).ok()?;
+    let answer = *whole == *case;
+    if (*case == *whole) == answer {
+        Some(answer)
+    } else {
+        None
+    }
+}
+
+#[test]
+fn equal_cases(rt: HostRuntime) -> Result<(), Fail> {
+    let alloc = rt.alloc();
+    let rows = [
+        ("whole", true),
+        ("same", true),
+        ("copy", true),
+        ("turned", false),
+        ("shorter", false),
+        ("renamed", false),
+        ("spelled", false),
+        ("wider", false),
+        ("split", false),
+        ("error", false),
+        ("cause", false),
+        ("returned", false),
+        ("none", false),
+    ];
+    // Two readings share nothing.
+    match (
+        Mocks::read(alloc, ALIKE.as_bytes()),
+        Mocks::read(alloc, ALIKE.as_bytes()),
+    ) {
+        (Ok(one), Ok(other)) => {
+            for (name, wanted) in rows {
+                assert!(rt; is_whole(&one, &other, name) == Some(wanted), "{name}");
+            }
+        }
+        _ => assert!(rt; false),
+    }
+    Ok(())
+}
+
+/// Whether a case and its copy are equal.
+fn has_equal_copy(case: &Case) -> bool {
+    match case.try_clone() {
+        Ok(copy) => *case == copy,
+        Err(_) => false,
+    }
+}
+
+#[test]
+fn copies_and_empty_cases_are_equal(rt: HostRuntime) -> Result<(), Fail> {
+    let alloc = rt.alloc();
+    let empty = Case::empty();
+    assert!(rt; has_equal_copy(&empty));
+    match Mocks::read(alloc, ALIKE.as_bytes()) {
+        Ok(mocks) => match (mocks.case("M", "whole"), mocks.case("M", "none")) {
+            (Ok(whole), Ok(none)) => {
+                assert!(rt; has_equal_copy(whole));
+                assert!(rt; has_equal_copy(none));
+                // The case that names no state is the empty one.
+                assert!(rt; *none == empty && empty == *none);
+                assert!(rt; *whole != empty && empty != *whole);
+            }
+            _ => assert!(rt; false),
+        },
+        Err(_) => assert!(rt; false),
+    }
+    Ok(())
 }
