@@ -218,8 +218,24 @@ const STATES: &[(&str, &str)] = &[
         "F5 Unsupported /States/A/Retry/0/Label",
     ),
     (
-        r#""Type":"Task","Resource":"r","End":true,"Retry":[{"ErrorEquals":["E"],"MaxDelaySeconds":5}]"#,
-        "F4 UnknownField /States/A/Retry/0/MaxDelaySeconds",
+        r#""Type":"Task","Resource":"r","End":true,"Retry":[{"ErrorEquals":["E"],"MaxDelaySeconds":5,"JitterStrategy":"NONE"}]"#,
+        "ok",
+    ),
+    (
+        r#""Type":"Task","Resource":"r","End":true,"Retry":[{"ErrorEquals":["E"],"MaxDelaySeconds":31622400}]"#,
+        "F7 Range /States/A/Retry/0/MaxDelaySeconds",
+    ),
+    (
+        r#""Type":"Task","Resource":"r","End":true,"Retry":[{"ErrorEquals":["E"],"JitterStrategy":"HALF"}]"#,
+        "F7 Range /States/A/Retry/0/JitterStrategy",
+    ),
+    (
+        r#""Type":"Task","Resource":"r","End":true,"Retry":[{"ErrorEquals":["E"],"JitterStrategy":null}]"#,
+        "F6 WrongType /States/A/Retry/0/JitterStrategy",
+    ),
+    (
+        r#""Type":"Task","Resource":"r","End":true,"Catch":[{"ErrorEquals":["E"],"Next":"A","MaxDelaySeconds":5}]"#,
+        "F4 UnknownField /States/A/Catch/0/MaxDelaySeconds",
     ),
     (
         r#""Type":"Task","Resource":"r","End":true,"Catch":[{"ErrorEquals":["E"],"Next":"X"}]"#,

@@ -60,8 +60,8 @@ const STATES: &[(&str, &str)] = &[
         r#""Type":"Pass","Comment":"c","QueryLanguage":"JSONPath","InputPath":"$","Parameters":{"b":1,"a.$":"$.a"},"Result":{"End":false,"a":[]},"ResultPath":null,"OutputPath":"$.o","End":true"#,
     ),
     (
-        r#""Next":"A","Catch":[{"Next":"A","ResultPath":"$.e","ErrorEquals":["E"],"Comment":"c"}],"Retry":[{"BackoffRate":1.50,"MaxAttempts":2.0,"IntervalSeconds":3,"ErrorEquals":["E","F"],"Comment":"c"}],"OutputPath":"$","ResultPath":"$.r","ResultSelector":{"x":1},"HeartbeatSecondsPath":"$.h","TimeoutSeconds":9,"Credentials":{"z":1,"a":2},"Parameters":[],"InputPath":null,"Resource":"r","Comment":"c","Type":"Task""#,
-        r#""Type":"Task","Comment":"c","Resource":"r","InputPath":null,"Parameters":[],"Credentials":{"z":1,"a":2},"TimeoutSeconds":9,"HeartbeatSecondsPath":"$.h","ResultSelector":{"x":1},"ResultPath":"$.r","OutputPath":"$","Retry":[{"Comment":"c","ErrorEquals":["E","F"],"IntervalSeconds":3,"MaxAttempts":2.0,"BackoffRate":1.50}],"Catch":[{"Comment":"c","ErrorEquals":["E"],"ResultPath":"$.e","Next":"A"}],"Next":"A""#,
+        r#""Next":"A","Catch":[{"Next":"A","ResultPath":"$.e","ErrorEquals":["E"],"Comment":"c"}],"Retry":[{"JitterStrategy":"NONE","MaxDelaySeconds":6e1,"BackoffRate":1.50,"MaxAttempts":2.0,"IntervalSeconds":3,"ErrorEquals":["E","F"],"Comment":"c"}],"OutputPath":"$","ResultPath":"$.r","ResultSelector":{"x":1},"HeartbeatSecondsPath":"$.h","TimeoutSeconds":9,"Credentials":{"z":1,"a":2},"Parameters":[],"InputPath":null,"Resource":"r","Comment":"c","Type":"Task""#,
+        r#""Type":"Task","Comment":"c","Resource":"r","InputPath":null,"Parameters":[],"Credentials":{"z":1,"a":2},"TimeoutSeconds":9,"HeartbeatSecondsPath":"$.h","ResultSelector":{"x":1},"ResultPath":"$.r","OutputPath":"$","Retry":[{"Comment":"c","ErrorEquals":["E","F"],"IntervalSeconds":3,"MaxAttempts":2.0,"BackoffRate":1.50,"MaxDelaySeconds":6e1,"JitterStrategy":"NONE"}],"Catch":[{"Comment":"c","ErrorEquals":["E"],"ResultPath":"$.e","Next":"A"}],"Next":"A""#,
     ),
     (
         r#""HeartbeatSeconds":5,"TimeoutSecondsPath":"$.t","End":true,"Resource":"r","Type":"Task""#,

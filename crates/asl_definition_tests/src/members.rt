@@ -290,8 +290,6 @@ const UNKNOWN: &[&str] = &[
     "ItemProcessor",
     "ItemSelector",
     "ProcessorConfig",
-    "MaxDelaySeconds",
-    "JitterStrategy",
     "StringMatchesPath",
     "IsNullPath",
 ];

@@ -530,6 +530,8 @@ const RETRIER_PARTS: &[Part] = &[Part {
         ("IntervalSeconds", Kind::FromOne, "3"),
         ("MaxAttempts", Kind::FromZero, "2"),
         ("BackoffRate", Kind::Rate, "1.5"),
+        ("MaxDelaySeconds", Kind::DelayLimit, "60"),
+        ("JitterStrategy", Kind::Jitter, r#""FULL""#),
     ],
 }];
 

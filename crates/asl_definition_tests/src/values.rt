@@ -19,6 +19,8 @@ pub(crate) enum Kind {
     FromZero,
     FromOne,
     Rate,
+    DelayLimit,
+    Jitter,
     Template,
     Any,
     ErrorNames,
@@ -63,7 +65,9 @@ pub(crate) fn types_of(kind: Kind) -> &'static [Type] {
     match kind {
         Kind::PathOrNull | Kind::PlaceOrNull => &[Type::Null, Type::Text],
         Kind::Truth | Kind::End => &[Type::Truth],
-        Kind::Number | Kind::FromZero | Kind::FromOne | Kind::Rate => &[Type::Number],
+        Kind::Number | Kind::FromZero | Kind::FromOne | Kind::Rate | Kind::DelayLimit => {
+            &[Type::Number]
+        }
         Kind::Template | Kind::Any => &[
             Type::Null,
             Type::Truth,
@@ -277,6 +281,32 @@ const NOT_FROM_ZERO: &[&str] = &[
     "-99999999",
 ];
 
+/// Whole numbers from 1 to 31,622,399.
+const DELAY_LIMITS: &[&str] = &["1", "2.0", "20e-1", "60", "31622399", "3.1622399E7"];
+
+const NO_DELAY_LIMITS: &[&str] = &[
+    "0",
+    "-0",
+    "0.5",
+    "-1",
+    "1.5",
+    "31622399.5",
+    "31622400",
+    "99999999",
+];
+
+const JITTERS: &[&str] = &[r#""FULL""#, r#""NONE""#];
+
+const NO_JITTERS: &[&str] = &[
+    r#""HALF""#,
+    r#""""#,
+    r#""full""#,
+    r#""Full""#,
+    r#""FULL ""#,
+    r#""FUL""#,
+    r#""FULLNONE""#,
+];
+
 /// Numbers from 1 to 1000, also with a fraction.
 const RATES: &[&str] = &[
     "1",
@@ -445,6 +475,8 @@ fn other_answers_of(kind: Kind) -> &'static [Answers] {
         Kind::FromZero => &[("ok", FROM_ZERO), ("F7 Range", NOT_FROM_ZERO)],
         Kind::FromOne => &[("ok", FROM_ONE), ("F7 Range", NOT_FROM_ONE)],
         Kind::Rate => &[("ok", RATES), ("F7 Range", NO_RATES)],
+        Kind::DelayLimit => &[("ok", DELAY_LIMITS), ("F7 Range", NO_DELAY_LIMITS)],
+        Kind::Jitter => &[("ok", JITTERS), ("F7 Range", NO_JITTERS)],
         Kind::Template => TEMPLATE_ANSWERS,
         Kind::Any => &[("ok", ANYTHING)],
         _ => answers_of_parts(kind),

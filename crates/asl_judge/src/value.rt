@@ -6,7 +6,7 @@ ghost use Rattle.asl_json.specs.View.{data_of};
 ghost use Rattle.asl_json.specs.Data.{chain};
 ghost use Rattle.asl_judge.specs.Spots.{spot_of};
 ghost use Rattle.asl_schema.specs.Demands.{form_of as spec_form_of, is_of as spec_is_of, path, place, call, timestamp};
-ghost use Rattle.asl_schema.specs.Claims.{root_in, is_input as spec_is_input, is_name as spec_is_name, path_or_call, is_template as spec_is_template, is_nonempty as spec_is_nonempty, item_count, has_all as spec_has_all, is_last as spec_is_last, spot_demands, form_demand, text_demands, number_demands, list_demands, value_demands, demands, is_between_whole, is_between, is_list as spec_is_list, is_object as spec_is_object};
+ghost use Rattle.asl_schema.specs.Claims.{root_in, is_input as spec_is_input, is_name as spec_is_name, is_jitter as spec_is_jitter, path_or_call, is_template as spec_is_template, is_nonempty as spec_is_nonempty, item_count, has_all as spec_has_all, is_last as spec_is_last, spot_demands, form_demand, text_demands, number_demands, list_demands, value_demands, demands, is_between_whole, is_between, is_list as spec_is_list, is_object as spec_is_object};
 ghost use Rattle.asl_schema.specs.First.{Judges, sooner as spec_sooner, unless as spec_unless};
 
 use crate::spot::{MAX_MACHINES, Spot};
@@ -45,10 +45,13 @@ fn form_of(sort: Sort) -> Form
         | Sort::Path
         | Sort::PathOrCall
         | Sort::Computed
-        | Sort::Timestamp => Form::Text,
+        | Sort::Timestamp
+        | Sort::Jitter => Form::Text,
         Sort::PathOrNull | Sort::PlaceOrNull => Form::TextOrNull,
         Sort::Truth => Form::Truth,
-        Sort::Number | Sort::FromZero | Sort::FromOne | Sort::Rate => Form::Number,
+        Sort::Number | Sort::FromZero | Sort::FromOne | Sort::Rate | Sort::DelayLimit => {
+            Form::Number
+        }
         Sort::Template | Sort::Any | Sort::Unsupported | Sort::Unknown => Form::Value,
     }
 }
@@ -215,6 +218,13 @@ fn stamp_fault(text: &str) -> Option<FaultKind>
     }
 }
 
+/// Whether a text is one of a retrier's `JitterStrategy`.
+fn is_jitter(text: &str) -> bool
+    ensures { result ≡ spec_is_jitter text.now }
+{
+    text == "FULL" || text == "NONE"
+}
+
 fn text_fault(
     alloc: Global,
     spot: Spot,
@@ -233,16 +243,17 @@ fn text_fault(
         Sort::PathOrCall => path_or_call_fault(alloc, text),
         Sort::Computed => path_or_call_fault(alloc, text),
         Sort::Timestamp => Ok(stamp_fault(text)),
+        Sort::Jitter => Ok(unless(is_jitter(text), FaultKind::Range)),
         _ => Ok(None),
     }
 }
 
-/// Whether a number is a whole one from this one to 99,999,999.
-fn is_whole_from(low: i128, number: &Dec) -> bool
-    ensures { result ≡ is_between_whole low (pos 99999999) (whole_of number.now) }
+/// Whether a number is a whole one, neither below the first of these nor above the second.
+fn is_whole_between(low: i128, high: i128, number: &Dec) -> bool
+    ensures { result ≡ is_between_whole low high (whole_of number.now) }
 {
     match number.whole() {
-        Some(n) => low <= n && n <= 99_999_999,
+        Some(n) => low <= n && n <= high,
         None => false,
     }
 }
@@ -258,9 +269,10 @@ fn number_fault(sort: Sort, number: &Dec) -> Option<FaultKind>
     ensures { Judges (number_demands sort number.now) result }
 {
     match sort {
-        Sort::FromZero => unless(is_whole_from(0, number), FaultKind::Range),
-        Sort::FromOne => unless(is_whole_from(1, number), FaultKind::Range),
+        Sort::FromZero => unless(is_whole_between(0, 99_999_999, number), FaultKind::Range),
+        Sort::FromOne => unless(is_whole_between(1, 99_999_999, number), FaultKind::Range),
         Sort::Rate => unless(is_rate(number), FaultKind::Range),
+        Sort::DelayLimit => unless(is_whole_between(1, 31_622_399, number), FaultKind::Range),
         _ => None,
     }
 }

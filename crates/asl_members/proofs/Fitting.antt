@@ -12,8 +12,8 @@ use Rattle.asl_schema.specs.declared.sort.Form.TheVariants as form
 use Rattle.asl_schema.specs.Demands.{form_of, is_of}
 use Rattle.asl_schema.specs.Claims.{is_between, is_between_whole}
 use Rattle.asl_schema.specs.Clean.{IsClean, Fits}
-use Rattle.asl_schema.proofs.Kept.{unfit, path_text, path_or_null, place_or_null, from_zero, from_one, rate, has_moment}
-use Rattle.asl_members.specs.Readable.{IsText, IsTruth, IsNumeric, IsPathText, IsPathOrCall, IsPathOrNull, IsCount, IsRate, IsStamp}
+use Rattle.asl_schema.proofs.Kept.{unfit, path_text, path_or_null, place_or_null, from_zero, from_one, rate, delay_limit, jitter, has_moment}
+use Rattle.asl_members.specs.Readable.{IsText, IsTruth, IsNumeric, IsPathText, IsPathOrCall, IsPathOrNull, IsCount, IsRate, IsDelayLimit, IsJitter, IsStamp}
 
 -- where it is there
 pub fit : (s : Sort) (P : Data → Type 0) → ((d : Data) → IsClean s d → P d) → (o : Option Data) → Fits s o → IfSome o P
@@ -112,6 +112,22 @@ rate_fits (boolean b) c = unfit sort.Rate (boolean b) c refl
 rate_fits (text t) c = unfit sort.Rate (text t) c refl
 rate_fits (list ds) c = unfit sort.Rate (list ds) c refl
 rate_fits (dict ms) c = unfit sort.Rate (dict ms) c refl
+
+pub delay_limit_fits : (d : Data) → IsClean sort.DelayLimit d → IsDelayLimit d
+delay_limit_fits (number n) c = delay_limit n c
+delay_limit_fits null c = unfit sort.DelayLimit null c refl
+delay_limit_fits (boolean b) c = unfit sort.DelayLimit (boolean b) c refl
+delay_limit_fits (text t) c = unfit sort.DelayLimit (text t) c refl
+delay_limit_fits (list ds) c = unfit sort.DelayLimit (list ds) c refl
+delay_limit_fits (dict ms) c = unfit sort.DelayLimit (dict ms) c refl
+
+pub jitter_fits : (d : Data) → IsClean sort.Jitter d → IsJitter d
+jitter_fits (text t) c = jitter t c
+jitter_fits null c = unfit sort.Jitter null c refl
+jitter_fits (boolean b) c = unfit sort.Jitter (boolean b) c refl
+jitter_fits (number n) c = unfit sort.Jitter (number n) c refl
+jitter_fits (list ds) c = unfit sort.Jitter (list ds) c refl
+jitter_fits (dict ms) c = unfit sort.Jitter (dict ms) c refl
 
 pub stamp_fits : (d : Data) → IsClean sort.Timestamp d → IsStamp d
 stamp_fits (text t) c = has_moment t c

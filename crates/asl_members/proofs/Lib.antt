@@ -2,3 +2,4 @@ pub mod Making
 pub mod Fitting
 pub mod Items
 pub mod Retrying
+pub mod Names

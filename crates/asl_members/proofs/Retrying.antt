@@ -13,7 +13,7 @@ use Rattle.asl_schema.proofs.Inside.{clean, fits_at, object_inside}
 use Rattle.asl_schema.proofs.Required.{retrier_errors}
 use Rattle.asl_schema.proofs.Kept.{unfit}
 use Rattle.asl_members.specs.declared.retry.Retrier.{Retrier}
-use Rattle.asl_members.specs.Shown.{retrier_object, names_shown}
+use Rattle.asl_members.specs.Shown.{retrier_object, names_shown, jitter_shown}
 
 fits_in : (d : Data) (k : List ℕ) → IsClean sort.Retrier d → Fits (sort_at (shape_of sort.Retrier None) k) (value_in k d)
 fits_in null k c = tt
@@ -39,6 +39,14 @@ pub backoff_fits : (d : Data) → IsClean sort.Retrier d → Fits sort.Rate (val
 unfolding retrier_rows
 backoff_fits d c = fits_in d (codes "BackoffRate") c
 
+pub limit_fits : (d : Data) → IsClean sort.Retrier d → Fits sort.DelayLimit (value_in (codes "MaxDelaySeconds") d)
+unfolding retrier_rows
+limit_fits d c = fits_in d (codes "MaxDelaySeconds") c
+
+pub jitter_fits : (d : Data) → IsClean sort.Retrier d → Fits sort.Jitter (value_in (codes "JitterStrategy") d)
+unfolding retrier_rows
+jitter_fits d c = fits_in d (codes "JitterStrategy") c
+
 is_there : (names : List ℕ → Bool) (s : Sort) (o : Option Data) → IsThereAmong names s o → IsThere s o
 is_there names s None h = h
 is_there names s (Some d) h = clean h
@@ -60,20 +68,22 @@ value_there s o d e h = subst (IsThere s) (sym e) h
 canon_members_are : (ms : Pairs) → canon sort.Retrier (dict ms) ≡ dict (pairs (picked_at (shape_in sort.Retrier ms) retrier_rows ms))
 canon_members_are ms = ap (λ (xs : List Named). dict (pairs xs)) (picked-canon (shape_in sort.Retrier ms) retrier_rows ms)
 
-object_shows : (ms : Pairs) (r : Retrier) → option_map text r.comment ≡ value_at (codes "Comment") ms → Some (names_shown r.errors) ≡ value_at (codes "ErrorEquals") ms → option_map number r.interval ≡ value_at (codes "IntervalSeconds") ms → option_map number r.attempts ≡ value_at (codes "MaxAttempts") ms → option_map number r.rate ≡ value_at (codes "BackoffRate") ms → retrier_object r ≡ dict (pairs (picked_at (shape_of sort.Retrier None) retrier_rows ms))
+object_shows : (ms : Pairs) (r : Retrier) → option_map text r.comment ≡ value_at (codes "Comment") ms → Some (names_shown r.errors) ≡ value_at (codes "ErrorEquals") ms → option_map number r.interval ≡ value_at (codes "IntervalSeconds") ms → option_map number r.attempts ≡ value_at (codes "MaxAttempts") ms → option_map number r.rate ≡ value_at (codes "BackoffRate") ms → option_map number r.delay_limit ≡ value_at (codes "MaxDelaySeconds") ms → option_map jitter_shown r.jitter ≡ value_at (codes "JitterStrategy") ms → retrier_object r ≡ dict (pairs (picked_at (shape_of sort.Retrier None) retrier_rows ms))
 unfolding retrier_rows
-object_shows ms r e1 e2 e3 e4 e5 =
+object_shows ms r e1 e2 e3 e4 e5 e6 e7 =
     let p1 = e1 ∙ sym (plain_kept (codes "Comment") sort.Text ms refl refl) in
     let p2 = e2 ∙ sym (plain_kept (codes "ErrorEquals") sort.ErrorNames ms refl refl) in
     let p3 = e3 ∙ sym (plain_kept (codes "IntervalSeconds") sort.FromOne ms refl refl) in
     let p4 = e4 ∙ sym (plain_kept (codes "MaxAttempts") sort.FromZero ms refl refl) in
     let p5 = e5 ∙ sym (plain_kept (codes "BackoffRate") sort.Rate ms refl refl) in
-    λ i. dict (pairs (opt (codes "Comment") (p1 i) ++ (opt (codes "ErrorEquals") (p2 i) ++ (opt (codes "IntervalSeconds") (p3 i) ++ (opt (codes "MaxAttempts") (p4 i) ++ (opt (codes "BackoffRate") (p5 i) ++ []))))))
+    let p6 = e6 ∙ sym (plain_kept (codes "MaxDelaySeconds") sort.DelayLimit ms refl refl) in
+    let p7 = e7 ∙ sym (plain_kept (codes "JitterStrategy") sort.Jitter ms refl refl) in
+    λ i. dict (pairs (opt (codes "Comment") (p1 i) ++ (opt (codes "ErrorEquals") (p2 i) ++ (opt (codes "IntervalSeconds") (p3 i) ++ (opt (codes "MaxAttempts") (p4 i) ++ (opt (codes "BackoffRate") (p5 i) ++ (opt (codes "MaxDelaySeconds") (p6 i) ++ (opt (codes "JitterStrategy") (p7 i) ++ []))))))))
 
-pub retrier_shows : (d : Data) (r : Retrier) → IsClean sort.Retrier d → option_map text r.comment ≡ value_in (codes "Comment") d → Some (names_shown r.errors) ≡ value_in (codes "ErrorEquals") d → option_map number r.interval ≡ value_in (codes "IntervalSeconds") d → option_map number r.attempts ≡ value_in (codes "MaxAttempts") d → option_map number r.rate ≡ value_in (codes "BackoffRate") d → retrier_object r ≡ canon sort.Retrier d
-retrier_shows (dict ms) r c e1 e2 e3 e4 e5 = object_shows ms r e1 e2 e3 e4 e5 ∙ sym (canon_members_are ms)
-retrier_shows null r c e1 e2 e3 e4 e5 = absurd (unfit sort.Retrier null c refl)
-retrier_shows (boolean b) r c e1 e2 e3 e4 e5 = absurd (unfit sort.Retrier (boolean b) c refl)
-retrier_shows (number n) r c e1 e2 e3 e4 e5 = absurd (unfit sort.Retrier (number n) c refl)
-retrier_shows (text t) r c e1 e2 e3 e4 e5 = absurd (unfit sort.Retrier (text t) c refl)
-retrier_shows (list ds) r c e1 e2 e3 e4 e5 = absurd (unfit sort.Retrier (list ds) c refl)
+pub retrier_shows : (d : Data) (r : Retrier) → IsClean sort.Retrier d → option_map text r.comment ≡ value_in (codes "Comment") d → Some (names_shown r.errors) ≡ value_in (codes "ErrorEquals") d → option_map number r.interval ≡ value_in (codes "IntervalSeconds") d → option_map number r.attempts ≡ value_in (codes "MaxAttempts") d → option_map number r.rate ≡ value_in (codes "BackoffRate") d → option_map number r.delay_limit ≡ value_in (codes "MaxDelaySeconds") d → option_map jitter_shown r.jitter ≡ value_in (codes "JitterStrategy") d → retrier_object r ≡ canon sort.Retrier d
+retrier_shows (dict ms) r c e1 e2 e3 e4 e5 e6 e7 = object_shows ms r e1 e2 e3 e4 e5 e6 e7 ∙ sym (canon_members_are ms)
+retrier_shows null r c e1 e2 e3 e4 e5 e6 e7 = absurd (unfit sort.Retrier null c refl)
+retrier_shows (boolean b) r c e1 e2 e3 e4 e5 e6 e7 = absurd (unfit sort.Retrier (boolean b) c refl)
+retrier_shows (number n) r c e1 e2 e3 e4 e5 e6 e7 = absurd (unfit sort.Retrier (number n) c refl)
+retrier_shows (text t) r c e1 e2 e3 e4 e5 e6 e7 = absurd (unfit sort.Retrier (text t) c refl)
+retrier_shows (list ds) r c e1 e2 e3 e4 e5 e6 e7 = absurd (unfit sort.Retrier (list ds) c refl)

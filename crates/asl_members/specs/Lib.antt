@@ -1,3 +1,4 @@
 pub mod Shown
 pub mod Readable
 pub mod Entries
+pub mod Retries

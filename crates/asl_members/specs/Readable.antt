@@ -5,7 +5,7 @@ use Rattle.asl_json.specs.Number.{units_of}
 use Rattle.asl_json.specs.Whole.{whole_of}
 use Rattle.asl_path.specs.Grammar.{IsPath}
 use Rattle.asl_schema.specs.Demands.{Holds, HasMoment}
-use Rattle.asl_schema.specs.Claims.{path_or_call, is_between, is_between_whole}
+use Rattle.asl_schema.specs.Claims.{path_or_call, is_between, is_between_whole, is_jitter}
 
 abbrev pub IsText : Data → Type 0
 IsText (text t) = Unit {0}
@@ -41,6 +41,16 @@ IsCount d = ⊥
 abbrev pub IsRate : Data → Type 0
 IsRate (number n) = is_between (pos 1000000000) (pos 1000000000000) (units_of n) ≡ true
 IsRate d = ⊥
+
+-- a whole number from 1 to 31,622,399
+abbrev pub IsDelayLimit : Data → Type 0
+IsDelayLimit (number n) = is_between_whole (pos 1) (pos 31622399) (whole_of n) ≡ true
+IsDelayLimit d = ⊥
+
+-- FULL or NONE
+abbrev pub IsJitter : Data → Type 0
+IsJitter (text t) = is_jitter t ≡ true
+IsJitter d = ⊥
 
 abbrev pub IsStamp : Data → Type 0
 IsStamp (text t) = HasMoment t

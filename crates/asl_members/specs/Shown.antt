@@ -6,6 +6,8 @@ use Rattle.asl_members.specs.declared.path.PathField.{PathField}
 use Rattle.asl_members.specs.declared.path.PathField.TheVariants.{Whole, Nowhere, At}
 use Rattle.asl_members.specs.declared.path.PathOrCall.{PathOrCall}
 use Rattle.asl_members.specs.declared.path.PathOrCall.TheVariants.{Path, Call}
+use Rattle.asl_members.specs.declared.jitter.JitterStrategy.{JitterStrategy}
+use Rattle.asl_members.specs.declared.jitter.JitterStrategy.TheVariants as jitter
 use Rattle.asl_members.specs.declared.retry.Retrier.{Retrier}
 
 abbrev pub path_shown : PathField → Option Data
@@ -17,13 +19,17 @@ abbrev pub path_or_call_shown : PathOrCall → Data
 path_or_call_shown (Path p) = text p
 path_or_call_shown (Call c) = text c
 
+abbrev pub jitter_shown : JitterStrategy → Data
+jitter_shown jitter.Full = text (codes "FULL")
+jitter_shown jitter.None = text (codes "NONE")
+
 -- the names of errors
 abbrev pub names_shown : List (List ℕ) → Data
 names_shown ns = list (chain (map text ns))
 
 -- the canonical members of a retrier
 abbrev pub retrier_members : Retrier → List (List ℕ × Option Data)
-retrier_members r = (codes "Comment", option_map text r.comment) ∷ (codes "ErrorEquals", Some (names_shown r.errors)) ∷ (codes "IntervalSeconds", option_map number r.interval) ∷ (codes "MaxAttempts", option_map number r.attempts) ∷ (codes "BackoffRate", option_map number r.rate) ∷ []
+retrier_members r = (codes "Comment", option_map text r.comment) ∷ (codes "ErrorEquals", Some (names_shown r.errors)) ∷ (codes "IntervalSeconds", option_map number r.interval) ∷ (codes "MaxAttempts", option_map number r.attempts) ∷ (codes "BackoffRate", option_map number r.rate) ∷ (codes "MaxDelaySeconds", option_map number r.delay_limit) ∷ (codes "JitterStrategy", option_map jitter_shown r.jitter) ∷ []
 
 abbrev pub retrier_object : Retrier → Data
 retrier_object r = dict (pairs (present (retrier_members r)))

@@ -1,12 +1,13 @@
 //! What the members of states hold, compiled from a definition without faults.
 //!
 //! Modules in reading order: `compiled` is what all of it has in common, and `list` lists of it; `plain`, `path`, `number`,
-//! `stamp` and `retry` are the types; `entry` makes objects. `specs/Shown.antt` says what each shows, `specs/Readable.antt`
+//! `stamp`, `jitter` and `retry` are the types; `entry` makes objects. `specs/Shown.antt` says what each shows, `specs/Readable.antt`
 //! which values each is compiled from.
 #![tactic(auto)]
 
 mod compiled;
 mod entry;
+mod jitter;
 mod list;
 mod number;
 mod path;
@@ -16,8 +17,9 @@ mod stamp;
 
 pub use compiled::{Compile, Compiled, json_optional, read_optional};
 pub use entry::{Entry, object};
+pub use jitter::JitterStrategy;
 pub use list::{json_all, read_all};
-pub use number::{BackoffRate, Count};
+pub use number::{BackoffRate, Count, DelayLimit};
 pub use path::{PathField, PathOrCall};
 pub use retry::{ErrorNames, Retrier, Retriers};
 pub use stamp::Stamp;

@@ -63,6 +63,30 @@ impl Model for BackoffRate {
     ghost invariant = { λ a. pos a.rate ≡ units_of a.spelled };
 }
 
+/// The longest delay before a retry, in seconds: a whole number from 1 to 31,622,399. (Amazon States Language, "Retrying after
+/// error".) Contracts see it as its spelling.
+pub struct DelayLimit {
+    seconds: Count,
+}
+
+impl Drop for DelayLimit {
+    fn drop(self) {
+        let DelayLimit { seconds: _seconds } = self;
+    }
+}
+
+impl Model for DelayLimit {
+    ghost use Rattle.std.specs.Prelude.{List, ℕ};
+    ghost use Rattle.asl_json.specs.Data.{number};
+    ghost use Rattle.asl_members.specs.Readable.{IsDelayLimit};
+
+    ghost Value = { List ℕ };
+
+    ghost view = { λ a. a.seconds };
+
+    ghost invariant = { λ a. IsDelayLimit (number a.seconds) };
+}
+
 impl Count {
     /// The number.
     pub fn value(&self) -> u32
@@ -138,6 +162,39 @@ impl Compile for BackoffRate {
         Ok(BackoffRate {
             spelled: number.try_clone(alloc)?,
             rate,
+        })
+    }
+}
+
+impl DelayLimit {
+    /// The number of seconds.
+    pub fn seconds(&self) -> u32
+        ensures value { whole_of self.now ≡ Some (pos result) }
+        ensures bound { result ≤ 31_622_399 }
+    {
+        let DelayLimit { seconds } = self;
+        seconds.value()
+    }
+}
+
+impl Compiled for DelayLimit {
+    ghost use Rattle.asl_json.specs.Data.{number};
+
+    ghost shown = { number };
+
+    fn json(&self, alloc: Global) -> Result<Json, AllocError> {
+        self.seconds.json(alloc)
+    }
+}
+
+impl Compile for DelayLimit {
+    ghost use Rattle.asl_members.specs.Readable.{IsDelayLimit};
+
+    ghost Fits = { IsDelayLimit };
+
+    fn read(alloc: Global, value: &Json) -> Result<DelayLimit, AllocError> {
+        Ok(DelayLimit {
+            seconds: Count::read(alloc, value)?,
         })
     }
 }

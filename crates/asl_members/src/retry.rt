@@ -1,17 +1,21 @@
 // Retriers.
-ghost use Rattle.std.specs.Prelude.{◌≡◌, IfOk, option_map};
-ghost use Rattle.asl_json.specs.Data.{list, chain};
+ghost use Rattle.std.specs.Prelude.{◌≡◌, ◌≤◌, IfOk, IfSome, Some, codes, option_map};
+ghost use Rattle.asl_json.specs.Data.{number, list, chain};
+ghost use Rattle.asl_json.specs.Meaning.{value_in};
 ghost use Rattle.asl_json.specs.View.{data_of};
 ghost use Rattle.asl_schema.specs.declared.sort.Sort.TheVariants.{Retrier as retrier_sort, Retriers as retriers_sort};
 ghost use Rattle.asl_schema.specs.Canon.{canon};
 ghost use Rattle.asl_schema.specs.Clean.{IsClean, Fits};
-ghost use Rattle.asl_members.specs.Shown.{retrier_object};
+ghost use Rattle.asl_members.specs.Shown.{names_shown, retrier_object, retrier_objects};
+ghost use Rattle.asl_members.specs.Retries.{whole_or, interval_of, attempts_of, rate_of, delay_limit_of};
 
 use crate::compiled::{Compile, Compiled, json_optional, read_optional};
 use crate::entry::{Entry, object};
+use crate::jitter::JitterStrategy;
 use crate::list::{json_all, read_all};
-use crate::number::{BackoffRate, Count};
+use crate::number::{BackoffRate, Count, DelayLimit};
 use asl_json::{Json, Txt};
+use asl_time::Rate;
 use std::alloc::{AllocError, Global};
 use std::marker::Model;
 
@@ -43,6 +47,8 @@ pub struct Retrier {
     interval: Option<Count>,
     attempts: Option<Count>,
     rate: Option<BackoffRate>,
+    delay_limit: Option<DelayLimit>,
+    jitter: Option<JitterStrategy>,
 }
 
 impl Drop for Retrier {
@@ -53,6 +59,8 @@ impl Drop for Retrier {
             interval: _interval,
             attempts: _attempts,
             rate: _rate,
+            delay_limit: _delay_limit,
+            jitter: _jitter,
         } = self;
     }
 }
@@ -108,7 +116,82 @@ impl Compile for ErrorNames {
     }
 }
 
+/// The number, or this one where there is none.
+fn count_or(count: &Option<Count>, default: u32) -> u32
+    requires { default ≤ 99_999_999 }
+    ensures value { result ≡ whole_or default (option_map number count.now) }
+    ensures bound { result ≤ 99_999_999 }
+{
+    match count {
+        Some(count) => count.value(),
+        None => default,
+    }
+}
+
+/// The factor where none is given: 2.0.
+fn default_rate() -> Rate
+    ensures { result ≡ 2_000_000_000 }
+{
+    match Rate::of(2_000_000_000) {
+        Some(rate) => rate,
+        None => unreachable!(),
+    }
+}
+
+impl ErrorNames {
+    /// The names, as they stand in `ErrorEquals`.
+    pub fn as_slice(&self) -> &[Txt]
+        ensures { result.now ≡ self.now }
+    {
+        &self.names
+    }
+}
+
 impl Retrier {
+    /// The errors that it is for (`ErrorEquals`).
+    pub fn errors(&self) -> &ErrorNames
+        ensures { Some (names_shown result.now) ≡ value_in (codes "ErrorEquals") (retrier_object self.now) }
+    {
+        &self.errors
+    }
+
+    /// The seconds before the first retry (`IntervalSeconds`); 1 where nothing is said.
+    pub fn interval(&self) -> u32
+        ensures value { result ≡ interval_of (retrier_object self.now) }
+        ensures bound { result ≤ 99_999_999 }
+    {
+        count_or(&self.interval, 1)
+    }
+
+    /// How often the state is retried (`MaxAttempts`); 3 where nothing is said.
+    pub fn max_attempts(&self) -> u32
+        ensures value { result ≡ attempts_of (retrier_object self.now) }
+        ensures bound { result ≤ 99_999_999 }
+    {
+        count_or(&self.attempts, 3)
+    }
+
+    /// The factor by which each delay is longer than the one before (`BackoffRate`); 2.0 where nothing is said.
+    pub fn backoff_rate(&self) -> Rate
+        ensures { result ≡ rate_of (retrier_object self.now) }
+    {
+        match &self.rate {
+            Some(rate) => rate.rate(),
+            None => default_rate(),
+        }
+    }
+
+    /// The seconds of the longest delay (`MaxDelaySeconds`); `None` where nothing is said.
+    pub fn max_delay(&self) -> Option<u32>
+        ensures value { result ≡ delay_limit_of (retrier_object self.now) }
+        ensures bound { IfSome result (λ seconds. seconds ≤ 31_622_399) }
+    {
+        match &self.delay_limit {
+            Some(limit) => Some(limit.seconds()),
+            None => None,
+        }
+    }
+
     fn read(alloc: Global, value: &Json) -> Result<Retrier, AllocError>
         requires { IsClean retrier_sort (data_of value.now) }
         ensures { IfOk result (λ r. retrier_object r ≡ canon retrier_sort (data_of value.now)) }
@@ -122,6 +205,8 @@ impl Retrier {
             interval: read_optional(alloc, value.get("IntervalSeconds"))?,
             attempts: read_optional(alloc, value.get("MaxAttempts"))?,
             rate: read_optional(alloc, value.get("BackoffRate"))?,
+            delay_limit: read_optional(alloc, value.get("MaxDelaySeconds"))?,
+            jitter: read_optional(alloc, value.get("JitterStrategy"))?,
         })
     }
 }
@@ -137,6 +222,8 @@ impl Compiled for Retrier {
         let interval = json_optional(alloc, &self.interval)?;
         let attempts = json_optional(alloc, &self.attempts)?;
         let rate = json_optional(alloc, &self.rate)?;
+        let delay_limit = json_optional(alloc, &self.delay_limit)?;
+        let jitter = json_optional(alloc, &self.jitter)?;
         let entries = vec![in alloc;
             Entry {
                 name: "Comment",
@@ -158,12 +245,27 @@ impl Compiled for Retrier {
                 name: "BackoffRate",
                 value: rate,
             },
+            Entry {
+                name: "MaxDelaySeconds",
+                value: delay_limit,
+            },
+            Entry {
+                name: "JitterStrategy",
+                value: jitter,
+            },
         ]?;
         object(alloc, entries)
     }
 }
 
 impl Retriers {
+    /// The retriers.
+    pub fn as_slice(&self) -> &[Retrier]
+        ensures { retrier_objects result.now ≡ self.now }
+    {
+        &self.retriers
+    }
+
     /// Compiles the value of `Retry`. The error is that memory ran out.
     pub fn read(alloc: Global, value: &Json) -> Result<Retriers, AllocError>
         requires { IsClean retriers_sort (data_of value.now) }

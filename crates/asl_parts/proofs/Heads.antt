@@ -1,5 +1,5 @@
 -- Members of the outermost machine without faults are such as they are compiled from.
-use Rattle.std.proofs.Common.{◌≡◌, ℕ, List, refl}
+use Rattle.std.proofs.Common.{ℕ, List, refl}
 use Rattle.std.specs.Prelude.{codes}
 use Rattle.asl_json.specs.Data.{Pairs, dict}
 use Rattle.asl_json.specs.Meaning.{value_at}

@@ -1,5 +1,5 @@
 -- What the parts of states show.
-use Rattle.std.specs.Prelude.{ℕ, List, [], ◌∷◌, ◌++◌, true, Option, Some, None, codes, map, option_map}
+use Rattle.std.specs.Prelude.{ℕ, List, [], ◌∷◌, true, Option, Some, None, codes, map, option_map}
 use Rattle.asl_json.specs.Data.{Data, boolean, number, text, list, dict, chain, pairs}
 use Rattle.asl_schema.specs.Canon.{present}
 use Rattle.asl_members.specs.Shown.{path_shown, names_shown}

@@ -11,7 +11,7 @@ use Rattle.asl_template.specs.Filling.{is_path}
 use Rattle.asl_schema.specs.declared.sort.Sort.{Sort}
 use Rattle.asl_schema.specs.declared.sort.Sort.TheVariants as sort
 use Rattle.asl_schema.specs.Demands.{Demand, Holds, form_of, is_of, HasMoment}
-use Rattle.asl_schema.specs.Claims.{heres, spot_demands, form_demand, value_demands, is_between, is_between_whole, is_nonempty, item_count}
+use Rattle.asl_schema.specs.Claims.{heres, spot_demands, form_demand, value_demands, is_between, is_between_whole, is_jitter, is_nonempty, item_count}
 use Rattle.asl_schema.specs.First.{Each, Hold}
 use Rattle.asl_schema.specs.Clean.{IsCleanAmong, IsClean, Fits}
 use Rattle.asl_schema.proofs.Inside.{own_hold}
@@ -64,6 +64,12 @@ from_one n c = c.is.hold.1.1.0
 
 pub rate : (n : List ℕ) → IsClean sort.Rate (number n) → is_between (pos 1000000000) (pos 1000000000000) (units_of n) ≡ true
 rate n c = c.is.hold.1.1.0
+
+pub delay_limit : (n : List ℕ) → IsClean sort.DelayLimit (number n) → is_between_whole (pos 1) (pos 31622399) (whole_of n) ≡ true
+delay_limit n c = c.is.hold.1.1.0
+
+pub jitter : (t : List ℕ) → IsClean sort.Jitter (text t) → is_jitter t ≡ true
+jitter t c = c.is.hold.1.1.0
 
 pub target : (names : List ℕ → Bool) (t : List ℕ) → IsCleanAmong names sort.Target (text t) → names t ≡ true
 target names t c = let h = c.hold.1.1.0 in rw c.named at h

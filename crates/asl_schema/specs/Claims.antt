@@ -95,6 +95,10 @@ is_input None = false
 abbrev pub path_or_call : List ℕ → Demand
 path_or_call t = if is_path t then path t else call t
 
+-- whether delays are made random or kept as they are
+abbrev pub is_jitter : List ℕ → Bool
+is_jitter t = bytes_eq t (codes "FULL") || bytes_eq t (codes "NONE")
+
 abbrev pub text_demands : Spot → Sort → List ℕ → List Demand
 text_demands p sort.KindName t = supported (is_some (kind_of t)) ∷ []
 text_demands p sort.Version t = supported (bytes_eq t (codes "1.0")) ∷ []
@@ -106,12 +110,14 @@ text_demands p sort.PlaceOrNull t = place t ∷ []
 text_demands p sort.PathOrCall t = path_or_call t ∷ []
 text_demands p sort.Computed t = path_or_call t ∷ []
 text_demands p sort.Timestamp t = timestamp t ∷ []
+text_demands p sort.Jitter t = in_range (is_jitter t) ∷ []
 text_demands p s t = []
 
 abbrev pub number_demands : Sort → List ℕ → List Demand
 number_demands sort.FromZero n = in_range (is_between_whole (pos 0) (pos 99999999) (whole_of n)) ∷ []
 number_demands sort.FromOne n = in_range (is_between_whole (pos 1) (pos 99999999) (whole_of n)) ∷ []
 number_demands sort.Rate n = in_range (is_between (pos 1000000000) (pos 1000000000000) (units_of n)) ∷ []
+number_demands sort.DelayLimit n = in_range (is_between_whole (pos 1) (pos 31622399) (whole_of n)) ∷ []
 number_demands s n = []
 
 abbrev pub is_nonempty : Chain → Bool

@@ -6,7 +6,7 @@ use Rattle.asl_json.specs.Same.{bytes_eq}
 use Rattle.asl_json.specs.Meaning.{value_at}
 use Rattle.asl_template.specs.Names.{name_before}
 use Rattle.asl_schema.specs.declared.sort.Sort.{Sort}
-use Rattle.asl_schema.specs.declared.sort.Sort.TheVariants.{Definition, Machine, Machines, States, State, KindName, Version, QueryLanguage, Text, Truth, Target, Path, PathOrNull, PlaceOrNull, PathOrCall, Timestamp, Number, FromZero, FromOne, Rate, Rules, Rule, InnerRules, InnerRule, Retriers, Retrier, Catchers, Catcher, ErrorNames, Template, Computed, Any, Unsupported, Unknown}
+use Rattle.asl_schema.specs.declared.sort.Sort.TheVariants.{Definition, Machine, Machines, States, State, KindName, Version, QueryLanguage, Text, Truth, Target, Path, PathOrNull, PlaceOrNull, PathOrCall, Timestamp, Number, FromZero, FromOne, Rate, DelayLimit, Jitter, Rules, Rule, InnerRules, InnerRule, Retriers, Retrier, Catchers, Catcher, ErrorNames, Template, Computed, Any, Unsupported, Unknown}
 use Rattle.asl_schema.specs.declared.sort.Kind.{Kind}
 use Rattle.asl_schema.specs.declared.sort.Kind.TheVariants as kind
 
@@ -256,6 +256,8 @@ retrier_rows =
     ∷ optional (codes "IntervalSeconds") FromOne
     ∷ optional (codes "MaxAttempts") FromZero
     ∷ optional (codes "BackoffRate") Rate
+    ∷ optional (codes "MaxDelaySeconds") DelayLimit
+    ∷ optional (codes "JitterStrategy") Jitter
     ∷ []
 
 unfoldable pub catcher_rows : List Row

@@ -330,6 +330,8 @@ const RETRIER: &[Row] = &[
     Optional("IntervalSeconds", Sort::FromOne),
     Optional("MaxAttempts", Sort::FromZero),
     Optional("BackoffRate", Sort::Rate),
+    Optional("MaxDelaySeconds", Sort::DelayLimit),
+    Optional("JitterStrategy", Sort::Jitter),
 ];
 
 /// (Amazon States Language, "Fallback states".)

@@ -64,6 +64,10 @@ pub enum Sort {
     FromOne,
     /// A number from 1 to 1000.
     Rate,
+    /// A whole number from 1 to 31,622,399.
+    DelayLimit,
+    /// `FULL` or `NONE`.
+    Jitter,
     /// The rules of a Choice state.
     Rules,
     /// A rule of a Choice state.

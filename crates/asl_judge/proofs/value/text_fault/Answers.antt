@@ -3,7 +3,7 @@ use Rattle.std.specs.Prelude.{is_some}
 use Rattle.asl_judge.specs.Spots.{spot_of}
 use Rattle.asl_schema.specs.Claims.{text_demands}
 use Rattle.asl_schema.specs.First.{Judges}
-use Rattle.asl_judge.proofs.Answering.{supported_judged, named_judged}
+use Rattle.asl_judge.proofs.Answering.{supported_judged, named_judged, in_range_judged}
 use Rattle.asl_judge.proofs.value.text_fault.Goals as goal
 
 pub returns-in-KindName : goal.returns-in-KindName
@@ -17,3 +17,6 @@ returns-in-QueryLanguage c = subst (λ s. Judges (text_demands (spot_of c.args.s
 
 pub returns-in-Target : goal.returns-in-Target
 returns-in-Target c = subst (λ s. Judges (text_demands (spot_of c.args.spot) s c.args.text.now) c.unless-in-Target.result) (sym c.in-Target.is) (named_judged _ c.contains.result c.unless-in-Target.result c.contains.ensures c.unless-in-Target.ensures)
+
+pub returns-in-Jitter : goal.returns-in-Jitter
+returns-in-Jitter c = subst (λ s. Judges (text_demands (spot_of c.args.spot) s c.args.text.now) c.unless-in-Jitter.result) (sym c.in-Jitter.is) (in_range_judged _ c.is_jitter.result c.unless-in-Jitter.result c.is_jitter.ensures c.unless-in-Jitter.ensures)

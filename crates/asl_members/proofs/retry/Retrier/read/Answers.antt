@@ -2,11 +2,11 @@ use Rattle.std.proofs.Common.{◌∙◌, sym, subst, ap, refl}
 use Rattle.std.specs.Prelude.{Option, Some, IfSome}
 use Rattle.asl_json.specs.Data.{Data}
 use Rattle.asl_json.specs.View.{data_of}
-use Rattle.asl_schema.specs.declared.sort.Sort.TheVariants.{Text, FromOne, FromZero, Rate, ErrorNames}
-use Rattle.asl_members.specs.Readable.{IsText, IsCount, IsRate}
-use Rattle.asl_members.proofs.Fitting.{fit, text_fits, from_one_fits, from_zero_fits, rate_fits}
+use Rattle.asl_schema.specs.declared.sort.Sort.TheVariants.{Text, FromOne, FromZero, Rate, DelayLimit, Jitter, ErrorNames}
+use Rattle.asl_members.specs.Readable.{IsText, IsCount, IsRate, IsDelayLimit, IsJitter}
+use Rattle.asl_members.proofs.Fitting.{fit, text_fits, from_one_fits, from_zero_fits, rate_fits, delay_limit_fits, jitter_fits}
 use Rattle.asl_members.proofs.Items.{names_fit}
-use Rattle.asl_members.proofs.Retrying.{comment_fits, interval_fits, attempts_fit, backoff_fits, errors_there, not_none, value_there, retrier_shows}
+use Rattle.asl_members.proofs.Retrying.{comment_fits, interval_fits, attempts_fit, backoff_fits, limit_fits, jitter_fits as jitter_there, errors_there, not_none, value_there, retrier_shows}
 use Rattle.asl_members.proofs.retry.Retrier.read.Goals as goal
 
 pub unreachable-requires : goal.unreachable-requires
@@ -27,5 +27,11 @@ read_optional-requires-3 c = subst (λ (o : Option Data). IfSome o IsCount) (sym
 pub read_optional-requires-4 : goal.read_optional-requires-4
 read_optional-requires-4 c = subst (λ (o : Option Data). IfSome o IsRate) (sym c.get-5.ensures) (fit Rate IsRate rate_fits _ (backoff_fits (data_of c.args.value.now) c.requires))
 
+pub read_optional-requires-5 : goal.read_optional-requires-5
+read_optional-requires-5 c = subst (λ (o : Option Data). IfSome o IsDelayLimit) (sym c.get-6.ensures) (fit DelayLimit IsDelayLimit delay_limit_fits _ (limit_fits (data_of c.args.value.now) c.requires))
+
+pub read_optional-requires-6 : goal.read_optional-requires-6
+read_optional-requires-6 c = subst (λ (o : Option Data). IfSome o IsJitter) (sym c.get-7.ensures) (fit Jitter IsJitter jitter_fits _ (jitter_there (data_of c.args.value.now) c.requires))
+
 pub returns : goal.returns
-returns c = retrier_shows (data_of c.args.value.now) _ c.requires (c.in_ok-read_optional.ensures ∙ c.get-2.ensures) (ap Some c.in_ok-read.ensures ∙ rw c.in-Some.is at c.get.ensures) (c.in_ok-read_optional-2.ensures ∙ c.get-3.ensures) (c.in_ok-read_optional-3.ensures ∙ c.get-4.ensures) (c.in_ok-read_optional-4.ensures ∙ c.get-5.ensures)
+returns c = retrier_shows (data_of c.args.value.now) _ c.requires (c.in_ok-read_optional.ensures ∙ c.get-2.ensures) (ap Some c.in_ok-read.ensures ∙ rw c.in-Some.is at c.get.ensures) (c.in_ok-read_optional-2.ensures ∙ c.get-3.ensures) (c.in_ok-read_optional-3.ensures ∙ c.get-4.ensures) (c.in_ok-read_optional-4.ensures ∙ c.get-5.ensures) (c.in_ok-read_optional-5.ensures ∙ c.get-6.ensures) (c.in_ok-read_optional-6.ensures ∙ c.get-7.ensures)

@@ -1,4 +1,4 @@
-use Rattle.std.proofs.Common.{◌∙◌, refl}
+use Rattle.std.proofs.Common.{refl}
 use Rattle.std.specs.Prelude.{codes}
 use Rattle.asl_schema.specs.declared.sort.Sort.TheVariants.{FromOne, Path}
 use Rattle.asl_schema.specs.declared.sort.Kind.TheVariants.{Task as TaskKind}

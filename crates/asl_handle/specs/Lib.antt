@@ -1,0 +1,4 @@
+pub mod Names
+pub mod Decisions
+pub mod Seen
+pub mod Laws
