@@ -1,7 +1,7 @@
 // Retriers and catchers of a definition, asked what becomes of an error.
 use asl_check::accept;
 use asl_handle::{Decision, Policy};
-use asl_parts::Outcome;
+use asl_parts::{Catcher, Outcome};
 use asl_states::State;
 use asl_time::Moment;
 use std::alloc::Global;
@@ -13,32 +13,30 @@ fn definition(alloc: Global, members: &str) -> Option<String> {
     ).ok()
 }
 
-/// The text of a decision: the number of the retrier and the milliseconds of the moment, or the state that comes next.
-fn told(alloc: Global, decision: Decision<'_>) -> Option<String> {
-    match decision {
-        Decision::Again { retrier, until } => {
-            format!(in alloc; "again {retrier} {}", until.millis()).ok()
-        }
-        Decision::Caught { catcher } => {
-            format!(in alloc; "caught {}", catcher.next().name.as_str()).ok()
-        }
-        Decision::Unhandled => String::from_str(alloc, "unhandled").ok(),
-    }
+/// The name of the state at which the execution goes on.
+fn target(alloc: Global, catcher: &Catcher) -> Option<String> {
+    format!(in alloc; "caught {}", catcher.next().name.as_str()).ok()
 }
 
+/// The text of a decision: the number of the retrier and the milliseconds of the moment, or the state that comes next.
 fn decided(
     alloc: Global,
     outcome: &Outcome,
     error: &str,
     uses: &[u32],
-    now: u64,
+    now: Moment,
 ) -> Option<String> {
     let policy = Policy {
         retriers: outcome.retry(),
         catchers: outcome.catch(),
     };
-    let now = Moment::of_millis(now)?;
-    told(alloc, policy.decide(error, uses, now))
+    match policy.decide(error, uses, now) {
+        Decision::Again { retrier, until } => {
+            format!(in alloc; "again {retrier} {}", until.millis()).ok()
+        }
+        Decision::Caught { catcher } => target(alloc, catcher),
+        Decision::Unhandled => String::from_str(alloc, "unhandled").ok(),
+    }
 }
 
 /// What becomes of an error of the Task with these members.
@@ -50,6 +48,7 @@ pub(crate) fn asked(
     now: u64,
 ) -> Option<String> {
     let text = definition(alloc, members)?;
+    let now = Moment::of_millis(now)?;
     let machine = accept(alloc, text.as_bytes()).ok()?;
     match machine.state("T") {
         Some(State::Task(task)) => decided(alloc, task.outcome(), error, uses, now),
