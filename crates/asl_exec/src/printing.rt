@@ -1,8 +1,7 @@
 // The text of a run.
-ghost use Rattle.std.specs.Prelude.{◌≡◌, ◌++◌, true, OnOk, IfOk, string_bytes};
+ghost use Rattle.std.specs.Prelude.{◌≡◌, ◌++◌, OnOk, IfOk, string_bytes};
 ghost use Rattle.asl_run.specs.Lines.{end_text, is_success};
 ghost use Rattle.asl_run.specs.Refusals.{refusal_of};
-ghost use Rattle.asl_setup.specs.Ready.{is_ready};
 ghost use Rattle.asl_exec.specs.RunText.{step_lines, run_text};
 ghost use Rattle.asl_exec.specs.Steps.{opening, step, world_after};
 ghost use Rattle.asl_exec.specs.Views.{setup_of, world_of};
@@ -61,7 +60,6 @@ pub(crate) fn run(
     setup: Setup,
     steps: &[StepAt],
 ) -> Result<(String, bool), AllocError>
-    requires { is_ready setup.machine ≡ true }
     ensures text { IfOk result (λ r. string_bytes r.0 ≡ run_text setup steps.now) }
     ensures good { IfOk result (λ r. r.1 ≡ is_success (world_after setup (opening setup) steps.now).outcome) }
 {

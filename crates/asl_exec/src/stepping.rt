@@ -1,9 +1,8 @@
 // How an execution goes on, and what is seen of it.
-ghost use Rattle.std.specs.Prelude.{◌≡◌, ◌++◌, ◌⊎◌, ◌≤◌, length, true, Some, None, option_map, IfOk, IfErr, OnOk, OnErr};
+ghost use Rattle.std.specs.Prelude.{◌≡◌, ◌++◌, ◌⊎◌, ◌≤◌, length, Some, None, option_map, IfOk, IfErr, OnOk, OnErr};
 ghost use Rattle.std.specs.Option.{option_copied};
 ghost use Rattle.asl_def.specs.Machines.{states_of};
 ghost use Rattle.asl_states.specs.Show.{state_of as state_shown};
-ghost use Rattle.asl_setup.specs.Ready.{is_ready};
 ghost use Rattle.asl_run.specs.World.{record_at};
 ghost use Rattle.asl_run.specs.Refusals.{refusal_of};
 ghost use Rattle.asl_exec.specs.Steps.{opening, facts_of, step, effect_in, number_in, object_in, seen_at, start_in};
@@ -42,10 +41,9 @@ fn facts_of(alloc: Global, setup: &Setup) -> Result<Facts, AllocError>
 }
 
 impl Execution {
-    /// The world before the first step: the branch at the root is about to enter the state that the machine starts at. Each state
-    /// of the machine can be run yet: ask `ready`.
+    /// The world before the first step: the branch at the root is about to enter the state that the machine starts at. A state
+    /// that can't be run yet (`ready`) does nothing.
     pub fn open(alloc: Global, setup: Setup) -> Result<Execution, AllocError>
-        requires { is_ready setup.machine ≡ true }
         ensures setup { IfOk result (λ x. setup_of x ≡ setup) }
         ensures world { IfOk result (λ x. world_of x ≡ opening setup) }
     {

@@ -5,7 +5,7 @@ use asl_exec::{Emulated, Execution, Refusal, emulate};
 use asl_history::Place;
 use asl_json::{Json, Shared, Txt, read as read_json, write};
 use asl_mock::{Answer, Case, answer};
-use asl_setup::{Emulation, Setup, StepAt, StepsFault, read_steps, ready};
+use asl_setup::{Emulation, Setup, StepAt, StepsFault, read_steps};
 use asl_steps::Record;
 use asl_time::Moment;
 use std::alloc::Global;
@@ -378,9 +378,6 @@ fn setup(alloc: Global) -> Option<Setup> {
 /// An execution of the two states.
 fn opened(rt: &HostRuntime) -> Option<Execution> {
     let setup = setup(rt.alloc())?;
-    if !ready(&setup.machine) {
-        return None;
-    }
     Execution::open(rt.alloc(), setup).ok()
 }
 
