@@ -1,6 +1,7 @@
 -- The table of a definition is built state by state.
-use Rattle.std.proofs.Common.{◌≡◌, ℕ, ◌+◌, ◌<◌, ◌≤◌, List, [], ◌∷◌, ◌++◌, Bool, true, false, length, take, drop, get_or, refl, sym, subst, ◌∙◌, ap, arith, append_assoc, length-append}
-use Rattle.std.specs.Prelude.{Some, Result, Ok, Err, IfOk, OnOk, option_map, codes, string_bytes, max}
+use Rattle.std.proofs.Common.{◌≡◌, ℕ, ◌+◌, ◌<◌, ◌≤◌, List, [], ◌∷◌, ◌++◌, Bool, true, false, ◌&&◌, length, map, take, drop, get_or, refl, sym, subst, ◌∙◌, ap, arith, append_assoc, length-append}
+use Rattle.std.specs.Prelude.{Some, Result, Ok, Err, IfOk, OnOk, option_map, codes, string_bytes, max, nat_le}
+use Rattle.std.proofs.lemmas.Bool.Decides.{nat_tests}
 use Rattle.std.proofs.lemmas.List.{take_more, take_all, drop_at, append-nil, map-append, length-map}
 use Rattle.asl_json.specs.Data.{Data, Pairs, no_members, member, Chain, depth, members_depth, text, list, dict, chain, pairs}
 use Rattle.asl_json.specs.Same.{bytes_eq}
@@ -14,6 +15,7 @@ use Rattle.asl_schema.specs.declared.sort.Sort.TheVariants as sort
 use Rattle.asl_schema.specs.declared.sort.Kind.{Kind}
 use Rattle.asl_schema.specs.declared.sort.Kind.TheVariants as kind
 use Rattle.asl_schema.specs.Members.{Shape, shape_in, state_shape, sort_at, kind_named, machine_rows, parallel_rows, map_rows}
+use Rattle.asl_schema.specs.Claims.{item_count, is_nonempty}
 use Rattle.asl_schema.specs.States.{states_in, member_states}
 use Rattle.asl_schema.specs.Canon.{Named, canon, kept_at, opt}
 use Rattle.asl_schema.specs.Clean.{IsClean, Fits, IsThere}
@@ -350,3 +352,25 @@ value_depth k (member l v ms) d e = by (bytes_eq k l) refl (λ h. value_depth k 
     by : (b : Bool) → bytes_eq k l ≡ b → (value_at k ms ≡ Some d → depth d ≤ members_depth ms) → depth d ≤ max (depth v) (members_depth ms)
     by true h rest = let same : v ≡ d = let x = rw h at e in cc in rw (← same) (omega arith)
     by false h rest = let x = rw h at e in omega (arith, rest x)
+
+-- ---- a Parallel has at most 999,999,999 machines
+
+machine_count : (ds : List Data) → item_count (chain ds) ≡ length ds
+machine_count [] = refl
+machine_count (d ∷ ds) = let r = machine_count ds in omega (arith, r)
+
+and_right : (a b : Bool) → (a && b) ≡ true → b ≡ true
+and_right true b h = h
+and_right false b h = (cc)
+
+few_by : (n m : ℕ) → nat_le n m ≡ true → n ≤ m
+few_by n m h = grind (arith, nat_tests, h)
+
+few_machines : (ds : Chain) → IsClean sort.Machines (list ds) → nat_le (item_count ds) 999999999 ≡ true
+few_machines ds c = and_right (is_nonempty ds) (nat_le (item_count ds) 999999999) c.is.hold.1.1.0
+
+pub bodies_few : (t : List Named) (ds : List Data) (bs : List Body) → IsClean sort.Machines (list (chain ds)) → AreBodies t ds bs → length bs ≤ 999_999_999
+bodies_few t ds bs c b =
+    let few = few_by (item_count (chain ds)) 999999999 (few_machines (chain ds) c) in
+    let same = ap (length {A = Data}) b.shows in
+    omega (arith, few, machine_count ds, same, length-map bs (body_of t), length-map ds (canon sort.Machine))

@@ -1,5 +1,5 @@
 -- What holds of a step, by its reply.
-use Rattle.std.proofs.Common.{ℕ, ◌≡◌, false, List, refl, max, Option, Some, None}
+use Rattle.std.proofs.Common.{ℕ, ◌≡◌, ◌∙◌, ap, sym, false, List, refl, max, Option, Some, None}
 use Rattle.std.specs.Prelude.{is_none}
 use Rattle.asl_json.specs.Data.{Data}
 use Rattle.asl_steps.specs.declared.facts.Facts.{Facts}
@@ -8,7 +8,10 @@ use Rattle.asl_steps.specs.Bounds.{IsBounded}
 use Rattle.asl_steps.specs.Laws.{idle-bounded}
 use Rattle.asl_steps.specs.Seen.{Seen}
 use Rattle.asl_kinds.specs.Laws.{state-bounded}
-use Rattle.asl_run.specs.World.{World, record_at, world_with}
+use Rattle.asl_mock.specs.Answers.{Case}
+use Rattle.asl_steps.specs.declared.effect.Effect.{Effect}
+use Rattle.asl_frames.specs.Branches.{record_at, children_at, forker_at}
+use Rattle.asl_run.specs.World.{World, count_of, world_with}
 use Rattle.asl_run.specs.Refusals.{refusal_of}
 use Rattle.asl_setup.specs.declared.setup.Setup.{Setup}
 use Rattle.asl_exec.specs.Steps.{facts_of, object_in, invokes_by, effect_by, effect_in, number_in, seen_at, step}
@@ -32,3 +35,20 @@ by-bounded (Some d) f v = state-bounded d f v
 
 pub effect-bounded : (d : Data) (f : Facts) (v : Seen) → IsBounded v (invokes_by (object_in d v.current)) (effect_in d f v)
 effect-bounded d f v = by-bounded (object_in d v.current) f v
+
+-- ---- what a step may read is what its parts say
+
+pub seen-is : (d : Data) (cs : Case) (w : World) (p : List ℕ) (now : ℕ) (r : Record) (v : Seen) → v.place ≡ p → v.current ≡ r → v.children ≡ children_at p w.branches → v.forker ≡ forker_at p w.branches → v.invokes ≡ invokes_by (object_in d r) → v.count ≡ count_of w.counts (number_in d r) → v.case ≡ cs → v.moment ≡ now → v ≡ seen_at d cs w p now r
+seen-is d cs w p now r v place current children forker invokes count case moment = λ i. record {
+  place = place i;
+  current = current i;
+  children = children i;
+  forker = forker i;
+  invokes = invokes i;
+  count = count i;
+  case = case i;
+  moment = moment i;
+}
+
+pub effect-is : (d : Data) (f : Facts) (o : Option Data) (r : Record) (e : Effect) (v u : Seen) → e ≡ effect_by o f v → o ≡ object_in d r → v ≡ u → u.current ≡ r → e ≡ effect_in d f u
+effect-is d f o r e v u is object same current = is ∙ ap (λ (z : Option Data). effect_by z f v) (object ∙ ap (object_in d) (sym current)) ∙ ap (effect_by (object_in d u.current) f) same

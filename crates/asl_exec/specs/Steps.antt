@@ -13,7 +13,8 @@ use Rattle.asl_kinds.specs.Table.{state_effect, invokes}
 use Rattle.asl_mock.specs.Answers.{Case}
 use Rattle.asl_parts.specs.Texts.{text_in}
 use Rattle.asl_steps.specs.Records.{state_in, name_or_none}
-use Rattle.asl_run.specs.World.{World, record_at, children_at, forker_at, count_of, world_with}
+use Rattle.asl_frames.specs.Branches.{record_at, children_at, forker_at}
+use Rattle.asl_run.specs.World.{World, count_of, world_with}
 use Rattle.asl_run.specs.Refusals.{refusal_of, opening_at}
 use Rattle.asl_setup.specs.declared.setup.Setup.{Setup}
 use Rattle.asl_setup.specs.declared.step_at.StepAt.{StepAt}

@@ -10,7 +10,7 @@ mod execution;
 mod printing;
 mod stepping;
 
-pub use asl_run::{Branch, Outcome, Refusal};
+pub use asl_run::{Frame, Outcome, Refusal};
 pub use asl_setup::{EmulateFault, Setup, StepAt, ready};
 pub use emulation::{Emulated, emulate};
 pub use execution::Execution;

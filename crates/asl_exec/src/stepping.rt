@@ -1,15 +1,20 @@
 // How an execution goes on, and what is seen of it.
-ghost use Rattle.std.specs.Prelude.{◌≡◌, ◌++◌, ◌⊎◌, ◌≤◌, length, Some, None, option_map, IfOk, IfErr, OnOk, OnErr};
+ghost use Rattle.std.specs.Prelude.{◌≡◌, ◌⊎◌, [], List, Some, None, option_map, IfOk, IfErr, OnOk, OnErr};
 ghost use Rattle.std.specs.Option.{option_copied};
 ghost use Rattle.asl_def.specs.Machines.{states_of};
 ghost use Rattle.asl_states.specs.Show.{state_of as state_shown};
-ghost use Rattle.asl_run.specs.World.{record_at};
+ghost use Rattle.asl_schema.specs.Canon.{Named};
+ghost use Rattle.asl_steps.specs.Bounds.{AreFew};
+ghost use Rattle.asl_steps.specs.Seen.{seen};
+ghost use Rattle.asl_frames.specs.Branches.{record_at, children_at};
+ghost use Rattle.asl_frames.specs.Trees.{branches_of};
 ghost use Rattle.asl_run.specs.Refusals.{refusal_of};
-ghost use Rattle.asl_exec.specs.Steps.{opening, facts_of, step, effect_in, number_in, object_in, seen_at, start_in};
+ghost use Rattle.asl_exec.specs.Steps.{opening, facts_of, step, invokes_by, effect_by, effect_in, number_in, object_in, seen_at, start_in};
 ghost use Rattle.asl_exec.specs.Views.{setup_of, world_of};
 
 use crate::execution::Execution;
 use asl_def::Machine;
+use asl_frames::Frame;
 use asl_history::{History, Place};
 use asl_json::Name;
 use asl_kinds::StateKind;
@@ -69,7 +74,15 @@ impl Execution {
     pub fn view(&self, place: &Place) -> Option<&Record>
         ensures { option_copied result ≡ record_at place.now (world_of self.now).branches }
     {
-        self.run.record_at(place)
+        let frame = self.run.frame_at(place)?;
+        Some(frame.held())
+    }
+
+    /// The frame of the branch that it began with: the running branches are its tree.
+    pub fn root(&self) -> &Frame
+        ensures { branches_of result.now ≡ (world_of self.now).branches }
+    {
+        self.run.root()
     }
 
     /// How far it is.
@@ -106,7 +119,7 @@ impl Execution {
         if let Some(refusal) = self.run.refusal(place, moment) {
             return Err(refusal);
         }
-        let Some(current) = self.run.record_at(place) else {
+        let Some(frame) = self.run.frame_at(place) else {
             return Err(Refusal::NoSuchPlace);
         };
         let now = self.run.present(moment);
@@ -117,7 +130,7 @@ impl Execution {
             &self.run,
             &mut self.context,
             place,
-            current,
+            frame,
             now,
         ) else {
             return Err(Refusal::OutOfMemory);
@@ -141,7 +154,7 @@ impl Execution {
     }
 }
 
-/// The number of the state that a branch is in, and what a step of it does.
+/// The number of the state that the branch at a place is in, and what a step of it does.
 fn planned(
     alloc: Global,
     machine: &Machine,
@@ -149,30 +162,57 @@ fn planned(
     run: &Run,
     context: &mut Context,
     place: &Place,
-    current: &Record,
+    frame: &Frame,
     now: Moment,
 ) -> Result<(Option<usize>, Effect), AllocError>
-    ensures number { IfOk result (λ r. r.0 ≡ number_in machine.now current.now) }
-    ensures effect { IfOk result (λ r. r.1 ≡ effect_in machine.now context.old.facts (seen_at machine.now case.now run.now place.now now current.now)) }
+    requires { children_at [] (branches_of frame.now) ≡ children_at place.now run.now.branches }
+    ensures number { IfOk result (λ r. r.0 ≡ number_in machine.now frame.now.head.current) }
+    ensures effect { IfOk result (λ r. r.1 ≡ effect_in machine.now context.old.facts (seen_at machine.now case.now run.now place.now now frame.now.head.current)) }
+    ensures fits { IfOk result (λ r. AreFew r.1.children) }
     ensures facts { context.new.facts ≡ context.old.facts }
 {
+    let current = frame.held();
     let (number, state) = state_of(machine, current);
-    let children = run.children_at(alloc, place)?;
+    let children = frame.child_records(alloc)?;
     let visit = Visit {
         place,
         current,
         children: &children,
         forker: run.forker_at(place),
-        invokes: state.is_some_and(|state| state.invokes()),
+        invokes: invokes_in(state),
         count: run.count(number),
         case,
         moment: now,
     };
-    let effect = match state {
-        Some(state) => state.visit(alloc, &visit, context)?,
-        None => idle(alloc, current)?,
-    };
+    let effect = effect_of(alloc, state, &visit, context)?;
     Ok((number, effect))
+}
+
+/// Whether a state invokes a service, where there is one.
+fn invokes_in(state: Option<&State>) -> bool
+    ensures { (t : List Named) → result ≡ invokes_by (option_map (λ s. state_shown t s.now) state.entry) }
+{
+    match state {
+        Some(state) => state.invokes(),
+        None => false,
+    }
+}
+
+/// What a step does of a branch that is in this state; nothing, where there is none.
+fn effect_of(
+    alloc: Global,
+    state: Option<&State>,
+    visit: &Visit,
+    context: &mut Context,
+) -> Result<Effect, AllocError>
+    ensures effect { (t : List Named) → IfOk result (λ e. e ≡ effect_by (option_map (λ s. state_shown t s.now) state.entry) context.old.facts (seen visit.now)) }
+    ensures fits { IfOk result (λ e. AreFew e.children) }
+    ensures facts { context.new.facts ≡ context.old.facts }
+{
+    match state {
+        Some(state) => state.visit(alloc, visit, context),
+        None => idle(alloc, visit.current),
+    }
 }
 
 /// The state that a branch is in, and its number; neither where the branch has ended.

@@ -61,15 +61,35 @@ impl History {
         self.events.reserve(additional)
     }
 
-    /// Adds an event behind the others, with the next id and its link. It takes no memory.
+    /// Adds an event behind the others, with the next id and its link. It takes no memory. The link is found by a walk back over the
+    /// events; `append_linked` is for a caller that knows it.
     pub fn append(&mut self, at: Moment, kind: EventKind, place: Place, name: Name, body: Shared)
         requires { 0 < self.old.spare }
         ensures events { self.new.events
             ≡ self.old.events ++ event_after self.old.events at kind place name body ∷ [] }
         ensures spare { self.new.spare + 1 ≡ self.old.spare }
     {
-        let id = self.events.len() as u64 + 1;
         let previous = previous_id(&place, &self.events);
+        self.append_linked(at, kind, place, name, body, previous);
+    }
+
+    /// The same, with the id of the last event along the place, 0 for none.
+    pub fn append_linked(
+        &mut self,
+        at: Moment,
+        kind: EventKind,
+        place: Place,
+        name: Name,
+        body: Shared,
+        previous: u64,
+    )
+        requires room { 0 < self.old.spare }
+        requires link { previous ≡ previous_id place self.old.events }
+        ensures events { self.new.events
+            ≡ self.old.events ++ event_after self.old.events at kind place name body ∷ [] }
+        ensures spare { self.new.spare + 1 ≡ self.old.spare }
+    {
+        let id = self.events.len() as u64 + 1;
         self.events.push_reserved(Event {
             id,
             previous,

@@ -1,3 +1,4 @@
+mod Branching
 mod Choosing
 mod Counting
 mod Waiting

@@ -1,3 +1,4 @@
 pub mod Members
+pub mod Forks
 pub mod Table
 pub mod Laws

@@ -17,6 +17,16 @@ use Rattle.asl_data.specs.Reason.{GivenText, text_or, text_at}
 abbrev pub next_in : Data → Option (List ℕ)
 next_in d = text_in (value_in (codes "Next") d)
 
+-- the values of a list; none where it is absent
+abbrev pub values_in : Option Data → List Data
+values_in None = []
+values_in (Some (list ds)) = unchained ds
+values_in (Some null) = []
+values_in (Some (boolean b)) = []
+values_in (Some (number n)) = []
+values_in (Some (text t)) = []
+values_in (Some (dict ms)) = []
+
 -- ---- what several kinds make, of the raw input x, with the Context Object c
 
 -- what InputPath takes, then what Parameters makes of it
@@ -45,7 +55,7 @@ result_or (Some r) y = json_of r
 abbrev pub pass_output : Data → Json → Data → Given
 pass_output d x c = and_then (effective d x c) (λ y. placed d x c (result_or (value_in (codes "Result") d) y))
 
--- ---- Task
+-- ---- Task, and states that fork
 
 -- what ResultSelector makes of a result, and where it is placed
 abbrev pub selected_by : Option Data → Option Data → Option Data → Json → Data → Json → Given
@@ -76,15 +86,6 @@ undecided open_escape = failure (codes "States.Runtime") (codes "StringMatches: 
 abbrev pub no_choice : ErrorOut
 no_choice = failure (codes "States.NoChoiceMatched") (codes "no rule holds")
 
-abbrev pub rules_in : Option Data → List Data
-rules_in None = []
-rules_in (Some (list ds)) = unchained ds
-rules_in (Some null) = []
-rules_in (Some (boolean b)) = []
-rules_in (Some (number n)) = []
-rules_in (Some (text t)) = []
-rules_in (Some (dict ms)) = []
-
 -- the state of Next where a rule holds, else of Default
 abbrev pub target_by : Option Data → Result (Option Data) Fault → GivenText
 target_by default (Err f) = Err (undecided f)
@@ -92,7 +93,7 @@ target_by default (Ok None) = text_or no_choice (text_in default)
 target_by default (Ok (Some next)) = text_or no_choice (text_in (Some next))
 
 abbrev pub chosen_target : Data → Data → Data → GivenText
-chosen_target d y c = target_by (value_in (codes "Default") d) (chosen_next (rules_in (value_in (codes "Choices") d)) y c)
+chosen_target d y c = target_by (value_in (codes "Default") d) (chosen_next (values_in (value_in (codes "Choices") d)) y c)
 
 -- where a Choice goes on, and with what
 abbrev pub GivenTarget : Type 0

@@ -5,10 +5,10 @@ use Rattle.asl_json.specs.Data.{Data}
 use Rattle.asl_json.specs.View.{data_of}
 use Rattle.asl_json.specs.Meaning.{value_in}
 use Rattle.asl_json.specs.declared.value.Json.{Json}
-use Rattle.asl_json.specs.declared.value.Json.TheVariants.{Dict}
+use Rattle.asl_json.specs.declared.value.Json.TheVariants.{Dict, List as ListOf}
 use Rattle.asl_schema.specs.Claims.{item_count}
 use Rattle.asl_history.specs.declared.kind.EventKind.{EventKind}
-use Rattle.asl_history.specs.declared.kind.EventKind.TheVariants.{PassStateEntered, PassStateExited, SucceedStateEntered, SucceedStateExited, FailStateEntered, ChoiceStateEntered, ChoiceStateExited, WaitStateEntered, WaitStateExited, TaskStateEntered, TaskStateExited, TaskScheduled, TaskStarted, TaskSucceeded, TaskFailed}
+use Rattle.asl_history.specs.declared.kind.EventKind.TheVariants.{PassStateEntered, PassStateExited, SucceedStateEntered, SucceedStateExited, FailStateEntered, ChoiceStateEntered, ChoiceStateExited, WaitStateEntered, WaitStateExited, TaskStateEntered, TaskStateExited, TaskScheduled, TaskStarted, TaskSucceeded, TaskFailed, ParallelStateEntered, ParallelStateExited, ParallelStateStarted, ParallelStateSucceeded, ParallelStateFailed}
 use Rattle.asl_parts.specs.Texts.{text_in}
 use Rattle.asl_steps.specs.declared.effect.Effect.{Effect}
 use Rattle.asl_steps.specs.declared.effect.Progress.{Progress}
@@ -24,6 +24,7 @@ use Rattle.asl_mock.specs.declared.response.Answer.TheVariants.{Returns, Throws}
 use Rattle.asl_handle.specs.Decisions.{Handling, again, caught, unhandled, items_in, decision}
 use Rattle.asl_data.specs.Paths.{Given, put_into}
 use Rattle.asl_kinds.specs.Members.{next_in, effective, pass_output, passed_on, selected, no_answer, fail_error, GivenTarget, choice_output, GivenMoment, wait_until}
+use Rattle.asl_kinds.specs.Forks.{starts_in, ready_at, forking, forked_with, first_error, outputs, gathered}
 
 -- a state without Retry and Catch is left with what it gives, or fails with the error that it raises
 abbrev pub passed : Seen → Progress → EventKind → Option (List ℕ) → Given → Effect
@@ -128,6 +129,49 @@ task_with d c v done x (Err e) = task_settled d v done x (Err e)
 abbrev pub task_effect : Data → Facts → Seen → Effect
 task_effect d f v = begun (λ x. task_with d (context_of f v) v (beginning v TaskStateEntered x) x (effective d x (context_of f v))) v (beginning_with v.current)
 
+-- ---- states that fork. The kinds of events are parameters: what is told where the branches succeed, where one fails, and where
+-- the state is left
+
+abbrev pub fork_settled : EventKind → Data → Seen → Progress → Json → Given → Effect
+fork_settled exited d v done x g = settled (value_in (codes "Retry") d) (value_in (codes "Catch") d) (next_in d) v done exited x g
+
+-- a branch has failed: the state raises the branch's error
+abbrev pub branch_fails : EventKind → EventKind → Data → Seen → Json → ErrorOut → Effect
+branch_fails failed exited d v x e = fork_settled exited d v (telling v gathered failed (error_output e)) x (Err e)
+
+-- all branches have ended: the list of their outputs is the state's result
+abbrev pub branches_end : EventKind → EventKind → Data → Data → Seen → Json → List Data → Effect
+branches_end succeeded exited d c v x ds = fork_settled exited d v (telling v gathered succeeded (Dict [])) x (selected d x c (ListOf ds))
+
+-- by the error of the first branch that failed, and by the outputs of all that ended; else the branches go on
+abbrev pub joined_by : EventKind → EventKind → EventKind → Data → Data → Seen → Json → Option ErrorOut → Option (List Data) → Effect
+joined_by succeeded failed exited d c v x (Some e) ds = branch_fails failed exited d v x e
+joined_by succeeded failed exited d c v x None (Some ds) = branches_end succeeded exited d c v x ds
+joined_by succeeded failed exited d c v x None None = idle v.current
+
+abbrev pub joined : EventKind → EventKind → EventKind → Data → Data → Seen → Json → Effect
+joined succeeded failed exited d c v x = joined_by succeeded failed exited d c v x (first_error v.children) (outputs v.children)
+
+-- ---- Parallel
+
+-- each branch begins with the effective input; the Parallel keeps its raw input
+abbrev pub parallel_forks : Data → Seen → Progress → Json → Given → Effect
+parallel_forks d v done x (Ok y) = forking v (telling v done ParallelStateStarted (Dict [])) x (item_count (items_in (value_in (codes "Retry") d))) [] (ready_at (starts_in (value_in (codes "Branches") d)) y)
+parallel_forks d v done x (Err e) = fork_settled ParallelStateExited d v done x (Err e)
+
+abbrev pub parallel_joins : Data → Data → Seen → Option Json → Effect
+parallel_joins d c v (Some x) = joined ParallelStateSucceeded ParallelStateFailed ParallelStateExited d c v x
+parallel_joins d c v None = idle v.current
+
+abbrev pub parallel_with : Data → Data → Seen → Option Json → Effect
+parallel_with d c v (Some x) = parallel_forks d v (beginning v ParallelStateEntered x) x (effective d x c)
+parallel_with d c v None = parallel_joins d c v (forked_with v.current)
+
+abbrev pub parallel_effect : Data → Facts → Seen → Effect
+parallel_effect d f v = parallel_with d (context_of f v) v (beginning_with v.current)
+
+-- ---- a state of any type
+
 -- by the type of the state; nothing where there is no such type
 abbrev pub effect_by_type : Option (List ℕ) → Data → Facts → Seen → Effect
 effect_by_type (Some t) d f v =
@@ -137,6 +181,7 @@ effect_by_type (Some t) d f v =
     else if bytes_eq t (codes "Choice") then choice_effect d f v
     else if bytes_eq t (codes "Wait") then wait_effect d f v
     else if bytes_eq t (codes "Task") then task_effect d f v
+    else if bytes_eq t (codes "Parallel") then parallel_effect d f v
     else idle v.current
 effect_by_type None d f v = idle v.current
 

@@ -98,13 +98,13 @@ impl StateKind for Choice {
     ghost use Rattle.std.specs.Prelude.{false};
     ghost use Rattle.asl_states.specs.Show.{choice_object};
     ghost use Rattle.asl_kinds.specs.Table.{choice_effect};
-    ghost use Rattle.asl_kinds.specs.Laws.{choice-bounded};
+    ghost use Rattle.asl_kinds.specs.Laws.{choice-lawful};
 
     ghost effect = { λ k. choice_effect (choice_object k) };
 
     ghost is_invoking = { λ k. false };
 
-    ghost bounded = { λ k. choice-bounded (choice_object k) };
+    ghost bounded = { λ k f v. (choice-lawful (choice_object k) f v).bounds };
 
     fn visit(
         &self,

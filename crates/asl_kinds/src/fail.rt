@@ -76,13 +76,13 @@ impl StateKind for Fail {
     ghost use Rattle.std.specs.Prelude.{false};
     ghost use Rattle.asl_states.specs.Show.{fail_object};
     ghost use Rattle.asl_kinds.specs.Table.{fail_effect};
-    ghost use Rattle.asl_kinds.specs.Laws.{fail-bounded};
+    ghost use Rattle.asl_kinds.specs.Laws.{fail-lawful};
 
     ghost effect = { λ k. fail_effect (fail_object k) };
 
     ghost is_invoking = { λ k. false };
 
-    ghost bounded = { λ k. fail-bounded (fail_object k) };
+    ghost bounded = { λ k f v. (fail-lawful (fail_object k) f v).bounds };
 
     fn visit(
         &self,

@@ -3,7 +3,7 @@ ghost use Rattle.std.specs.Prelude.{◌≡◌, Bool, IfOk};
 ghost use Rattle.asl_steps.specs.declared.effect.Effect.{Effect};
 ghost use Rattle.asl_steps.specs.declared.facts.Facts.{Facts};
 ghost use Rattle.asl_steps.specs.Seen.{Seen, seen};
-ghost use Rattle.asl_steps.specs.Bounds.{IsBounded};
+ghost use Rattle.asl_steps.specs.Bounds.{AreFew, IsBounded};
 
 use asl_steps::{Context, Effect, Visit};
 use std::alloc::{AllocError, Global};
@@ -16,8 +16,8 @@ pub trait StateKind {
     /// Whether a step may raise the count of the state.
     ghost is_invoking: { Self → Bool };
 
-    /// What a step does. It is computed aside: the Context Object alone changes, and it stays that of its execution. What fails is
-    /// memory.
+    /// What a step does. It is computed aside: the Context Object alone changes, and it stays that of its execution. It makes no
+    /// more children than there are numbers for. What fails is memory.
     fn visit(
         &self,
         alloc: Global,
@@ -25,12 +25,14 @@ pub trait StateKind {
         context: &mut Context,
     ) -> Result<Effect, AllocError>
         ensures effect { IfOk result (λ e. e ≡ effect self.now context.old.facts (seen visit.now)) }
+        ensures fits { IfOk result (λ e. AreFew e.children) }
         ensures facts { context.new.facts ≡ context.old.facts };
 
     /// Whether a step may raise the count of the state.
     fn invokes(&self) -> bool
         ensures { result ≡ is_invoking self.now };
 
-    /// At most eight events, no more children than there are numbers for, a count only where the kind invokes, the outcome exactly where the branch at the root ends.
+    /// At most eight events, children made or removed only with an event, a count only where the kind invokes, the outcome exactly
+    /// where the branch at the root ends.
     ghost bounded: { (k : Self) (f : Facts) (v : Seen) → IsBounded v (is_invoking k) (effect k f v) };
 }

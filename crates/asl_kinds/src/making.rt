@@ -1,14 +1,17 @@
 // What several kinds of states make of their raw input, and where a result is placed.
-ghost use Rattle.std.specs.Prelude.{◌≡◌, option_map};
+ghost use Rattle.std.specs.Prelude.{◌≡◌, codes, option_map};
+ghost use Rattle.asl_json.specs.Meaning.{value_in};
 ghost use Rattle.asl_members.specs.Shown.{path_shown};
+ghost use Rattle.asl_parts.specs.Member.{outcome_object};
 ghost use Rattle.asl_steps.specs.Context.{context_of};
 ghost use Rattle.asl_steps.specs.Seen.{seen};
 ghost use Rattle.asl_data.specs.Gives.{Gives};
-ghost use Rattle.asl_kinds.specs.Members.{effective_by, placed_by};
+ghost use Rattle.asl_kinds.specs.Members.{effective_by, placed_by, selected_by};
 
 use asl_data::{Fault, filled, put_into, taken};
 use asl_json::Shared;
 use asl_members::PathField;
+use asl_parts::Outcome;
 use asl_steps::{Context, Visit};
 use asl_template::Template;
 use std::alloc::Global;
@@ -44,4 +47,28 @@ pub(crate) fn placed(
 {
     let placed = put_into(alloc, result_path, input, given)?;
     taken(alloc, "OutputPath", output_path, &placed, visit, context)
+}
+
+/// What `ResultSelector` makes of a result, and where it is placed.
+pub(crate) fn selected(
+    alloc: Global,
+    outcome: &Outcome,
+    input: &Shared,
+    answered: Shared,
+    visit: &Visit,
+    context: &mut Context,
+) -> Result<Shared, Fault>
+    ensures given { Gives (selected_by (value_in (codes "ResultSelector") (outcome_object outcome.now)) (value_in (codes "ResultPath") (outcome_object outcome.now)) (value_in (codes "OutputPath") (outcome_object outcome.now)) input.now (context_of context.old.facts (seen visit.now)) answered) result }
+    ensures facts { context.new.facts ≡ context.old.facts }
+{
+    let selected = filled(alloc, outcome.result_selector(), answered, visit, context)?;
+    placed(
+        alloc,
+        outcome.result_path(),
+        outcome.output_path(),
+        input,
+        selected,
+        visit,
+        context,
+    )
 }

@@ -49,13 +49,13 @@ impl StateKind for Pass {
     ghost use Rattle.std.specs.Prelude.{false};
     ghost use Rattle.asl_states.specs.Show.{pass_object};
     ghost use Rattle.asl_kinds.specs.Table.{pass_effect};
-    ghost use Rattle.asl_kinds.specs.Laws.{pass-bounded};
+    ghost use Rattle.asl_kinds.specs.Laws.{pass-lawful};
 
     ghost effect = { λ k. pass_effect (pass_object k) };
 
     ghost is_invoking = { λ k. false };
 
-    ghost bounded = { λ k. pass-bounded (pass_object k) };
+    ghost bounded = { λ k f v. (pass-lawful (pass_object k) f v).bounds };
 
     fn visit(
         &self,

@@ -33,7 +33,7 @@ fn error_name(error: &ErrorOut) -> &str
 }
 
 /// How many retriers there are.
-fn count_of(retriers: Option<&Retriers>) -> usize
+pub(crate) fn count_of(retriers: Option<&Retriers>) -> usize
     ensures { result ≡ item_count (items_in (option_map (λ rs. list (chain rs.now)) retriers.entry)) }
 {
     match retriers {

@@ -4,8 +4,8 @@ use asl_states::State;
 use asl_steps::{Context, Effect, Visit, idle};
 use std::alloc::{AllocError, Global};
 
-/// A Parallel and a Map do nothing yet; a state of any other type does what its kind says. What a state does doesn't depend on
-/// the machines inside it: the law `any_table` of `Laws`.
+/// A Map does nothing yet; a state of any other type does what its kind says. What a state does doesn't depend on the states of the
+/// machines inside it: the law `any_table` of `Laws`.
 impl StateKind for State {
     ghost use Rattle.std.specs.Prelude.{[]};
     ghost use Rattle.asl_states.specs.Show.{state_of};
@@ -31,6 +31,7 @@ impl StateKind for State {
             State::Choice(state) => state.visit(alloc, visit, context),
             State::Wait(state) => state.visit(alloc, visit, context),
             State::Task(state) => state.visit(alloc, visit, context),
+            State::Parallel(state) => state.visit(alloc, visit, context),
             _ => idle(alloc, visit.current),
         }
     }
@@ -43,6 +44,7 @@ impl StateKind for State {
             State::Choice(state) => state.invokes(),
             State::Wait(state) => state.invokes(),
             State::Task(state) => state.invokes(),
+            State::Parallel(state) => state.invokes(),
             _ => false,
         }
     }

@@ -48,13 +48,13 @@ impl StateKind for Succeed {
     ghost use Rattle.std.specs.Prelude.{false};
     ghost use Rattle.asl_states.specs.Show.{succeed_object};
     ghost use Rattle.asl_kinds.specs.Table.{succeed_effect};
-    ghost use Rattle.asl_kinds.specs.Laws.{succeed-bounded};
+    ghost use Rattle.asl_kinds.specs.Laws.{succeed-lawful};
 
     ghost effect = { λ k. succeed_effect (succeed_object k) };
 
     ghost is_invoking = { λ k. false };
 
-    ghost bounded = { λ k. succeed-bounded (succeed_object k) };
+    ghost bounded = { λ k f v. (succeed-lawful (succeed_object k) f v).bounds };
 
     fn visit(
         &self,

@@ -1,52 +1,24 @@
 // Task (ASL, "Task State"): the test case answers in the service's place.
-ghost use Rattle.std.specs.Prelude.{◌≡◌, IfOk, codes, option_map};
-ghost use Rattle.asl_json.specs.Meaning.{value_in};
-ghost use Rattle.asl_parts.specs.Member.{outcome_object};
+ghost use Rattle.std.specs.Prelude.{◌≡◌, IfOk, option_map};
 ghost use Rattle.asl_states.specs.Show.{task_object};
 ghost use Rattle.asl_steps.specs.Context.{context_of};
 ghost use Rattle.asl_steps.specs.Seen.{seen};
-ghost use Rattle.asl_data.specs.Gives.{Gives};
-ghost use Rattle.asl_kinds.specs.Members.{selected_by, no_answer as spec_no_answer};
+ghost use Rattle.asl_kinds.specs.Members.{no_answer as spec_no_answer};
 ghost use Rattle.asl_kinds.specs.Table.{invoked as spec_invoked, task_fails, task_returns, task_answered};
 
 use crate::kind::StateKind;
-use crate::making::{effective, placed};
+use crate::making::{effective, selected};
 use crate::raising::{raise, settled};
-use asl_data::{Fault, copied, empty_object, filled, raised};
+use asl_data::{Fault, copied, empty_object, raised};
 use asl_history::EventKind;
 use asl_json::{Json, Shared, clone_text};
 use asl_mock::{Answer, answer};
-use asl_parts::Outcome;
 use asl_states::Task;
 use asl_steps::{
     Context, Effect, ErrorOut, Progress, Visit, beginning, error_output, idle, is_within_limit,
     over_limit, telling,
 };
 use std::alloc::{AllocError, Global};
-
-/// What `ResultSelector` makes of a result, and where it is placed.
-fn selected(
-    alloc: Global,
-    outcome: &Outcome,
-    input: &Shared,
-    answered: Shared,
-    visit: &Visit,
-    context: &mut Context,
-) -> Result<Shared, Fault>
-    ensures given { Gives (selected_by (value_in (codes "ResultSelector") (outcome_object outcome.now)) (value_in (codes "ResultPath") (outcome_object outcome.now)) (value_in (codes "OutputPath") (outcome_object outcome.now)) input.now (context_of context.old.facts (seen visit.now)) answered) result }
-    ensures facts { context.new.facts ≡ context.old.facts }
-{
-    let selected = filled(alloc, outcome.result_selector(), answered, visit, context)?;
-    placed(
-        alloc,
-        outcome.result_path(),
-        outcome.output_path(),
-        input,
-        selected,
-        visit,
-        context,
-    )
-}
 
 /// The service is invoked with this input: the count is raised.
 fn invoked(
@@ -166,13 +138,13 @@ impl StateKind for Task {
     ghost use Rattle.std.specs.Prelude.{true};
     ghost use Rattle.asl_states.specs.Show.{task_object};
     ghost use Rattle.asl_kinds.specs.Table.{task_effect};
-    ghost use Rattle.asl_kinds.specs.Laws.{task-bounded};
+    ghost use Rattle.asl_kinds.specs.Laws.{task-lawful};
 
     ghost effect = { λ k. task_effect (task_object k) };
 
     ghost is_invoking = { λ k. true };
 
-    ghost bounded = { λ k. task-bounded (task_object k) };
+    ghost bounded = { λ k f v. (task-lawful (task_object k) f v).bounds };
 
     fn visit(
         &self,

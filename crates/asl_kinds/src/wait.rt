@@ -106,13 +106,13 @@ impl StateKind for Wait {
     ghost use Rattle.std.specs.Prelude.{false};
     ghost use Rattle.asl_states.specs.Show.{wait_object};
     ghost use Rattle.asl_kinds.specs.Table.{wait_effect};
-    ghost use Rattle.asl_kinds.specs.Laws.{wait-bounded};
+    ghost use Rattle.asl_kinds.specs.Laws.{wait-lawful};
 
     ghost effect = { λ k. wait_effect (wait_object k) };
 
     ghost is_invoking = { λ k. false };
 
-    ghost bounded = { λ k. wait-bounded (wait_object k) };
+    ghost bounded = { λ k f v. (wait-lawful (wait_object k) f v).bounds };
 
     fn visit(
         &self,

@@ -1,5 +1,5 @@
 // Machines inside states.
-ghost use Rattle.std.specs.Prelude.{◌≡◌};
+ghost use Rattle.std.specs.Prelude.{◌≡◌, ◌≤◌, length};
 
 use crate::target::Target;
 use asl_json::Txt;
@@ -29,7 +29,7 @@ impl Drop for Body {
     }
 }
 
-/// The machines of a Parallel state, in order.
+/// The machines of a Parallel state, in order: at most 999,999,999.
 pub struct Bodies {
     pub bodies: Vec<Body>,
 }
@@ -41,18 +41,21 @@ impl Drop for Bodies {
 }
 
 impl Model for Bodies {
-    ghost use Rattle.std.specs.Prelude.{List};
+    ghost use Rattle.std.specs.Prelude.{List, ◌≤◌, length};
     ghost use Rattle.asl_parts.specs.declared.body.Body.{Body};
 
     ghost Value = { List Body };
 
     ghost view = { λ a. a.bodies.items };
+
+    ghost invariant = { λ a. length a.bodies.items ≤ 999_999_999 };
 }
 
 impl Bodies {
     /// The machines.
     pub fn as_slice(&self) -> &[Body]
-        ensures { result.now ≡ self.now }
+        ensures value { result.now ≡ self.now }
+        ensures few { length result.now ≤ 999_999_999 }
     {
         &self.bodies
     }

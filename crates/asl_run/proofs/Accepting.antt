@@ -5,8 +5,9 @@ use Rattle.std.proofs.lemmas.Bool.Decides.{nat_tests}
 use Rattle.asl_steps.specs.declared.record.Record.{Record}
 use Rattle.asl_steps.specs.declared.record.Record.TheVariants.{New, Ready, Pausing, Again, Forked, Done, Failed}
 use Rattle.asl_run.specs.declared.refusal.Refusal.{Refusal}
-use Rattle.asl_run.specs.World.{World, record_at, children_at, is_over}
-use Rattle.asl_run.specs.Refusals.{is_stopped, is_busy, refusal_if_full, refusal_by, refusal_at, refusal_of}
+use Rattle.asl_frames.specs.Branches.{record_at, children_at, is_stopped, is_busy}
+use Rattle.asl_run.specs.World.{World, is_over}
+use Rattle.asl_run.specs.Refusals.{refusal_if_full, refusal_by, refusal_at, refusal_of}
 
 -- ---- there is room for its events
 

@@ -1,6 +1,3 @@
-pub mod Places
-pub mod Families
-pub mod Orders
-pub mod Sound
 pub mod Telling
+pub mod Sound
 pub mod Accepting

@@ -1,13 +1,25 @@
 -- What always holds of a run holds after a step.
-use Rattle.std.proofs.Common.{ℕ, suc, zero, ◌≡◌, ◌+◌, ◌<◌, ◌≤◌, Bool, true, false, List, [], ◌∷◌, ◌++◌, refl, arith, length, get_or, set, length-append, Option, Some, None}
+use Rattle.std.proofs.Common.{ℕ, suc, zero, ◌≡◌, ◌+◌, ◌<◌, ◌≤◌, Bool, true, false, List, [], ◌∷◌, refl, sym, ◌∙◌, ap, subst, arith, length, get_or, set, Option, Some, None}
+use Rattle.std.specs.Prelude.{is_some, nat_lt}
+use Rattle.std.proofs.lemmas.Bool.Decides.{nat_tests}
 use Rattle.asl_history.specs.declared.event.Event.{Event}
-use Rattle.asl_history.specs.Events.{event_after}
+use Rattle.asl_steps.specs.Bounds.{are_kept}
+use Rattle.asl_steps.specs.declared.effect.Children.{Children}
+use Rattle.asl_steps.specs.declared.effect.Children.TheVariants.{Kept, Removed, Forked as Made}
 use Rattle.asl_steps.specs.declared.effect.Effect.{Effect}
 use Rattle.asl_steps.specs.declared.effect.Draft.{Draft}
-use Rattle.asl_run.specs.declared.branch.Branch.{Branch}
-use Rattle.asl_run.specs.World.{branches_after, raised, counts_after, events_after}
-use Rattle.asl_run.specs.Order.{IsSound}
-use Rattle.asl_run.proofs.Orders.{in-order-after}
+use Rattle.asl_steps.specs.declared.record.Record.{Record}
+use Rattle.asl_frames.specs.Branches.{record_at}
+use Rattle.asl_frames.specs.Trees.{Node, Family, branches_of, nodes_of}
+use Rattle.asl_frames.specs.Changes.{Litter, litter_of, change, nodes_after}
+use Rattle.asl_frames.specs.Links.{is_there, IsLinked}
+use Rattle.asl_frames.proofs.Changing.{plain-nodes}
+use Rattle.asl_frames.proofs.Linking.{Tell, links-kept, links-still, there-is, kids-unknown}
+use Rattle.asl_frames.proofs.Placing.{placed-after}
+use Rattle.asl_run.specs.World.{raised, counts_after, events_after}
+use Rattle.asl_run.specs.Telling.{last_id}
+use Rattle.asl_run.specs.Sound.{IsSound}
+use Rattle.asl_run.proofs.Telling.{events-length, all-history, all-told}
 
 set-bound : (xs : List ℕ) (i v k m : ℕ) → v ≤ m → get_or xs k 0 ≤ m → get_or (set xs i v) k 0 ≤ m
 set-bound [] i v k m a b = b
@@ -24,15 +36,44 @@ counted-after : (o : Option ℕ) (m more : ℕ) (raises : Bool) (counts : List �
 counted-after o m more true counts tells h k = raised-bound o m more counts (tells refl) h k
 counted-after o m more false counts tells h k = omega (arith, h k)
 
-pub events-length : (p : List ℕ) (now : ℕ) (ds : List Draft) (es : List Event) → length (events_after p now ds es) ≡ length es + length ds
-events-length p now [] es = omega arith
-events-length p now (d ∷ ds) es = omega (arith, events-length p now ds (es ++ event_after es now d.kind p d.name d.body ∷ []), length-append {A = Event})
+-- ---- the branches know the latest events
 
-pub sound-after : (p : List ℕ) (o : Option ℕ) (now : ℕ) (e : Effect) (branches : List Branch) (counts : List ℕ) (events : List Event) → IsSound branches counts events
-    → length events ≤ 24992 → length e.events ≤ 8 → (e.raises ≡ true → 0 < length e.events)
-    → IsSound (branches_after p e branches) (counts_after o e.raises counts) (events_after p now e.events events)
-sound-after p o now e branches counts events s room few tells = record {
-  in_order = in-order-after p e branches s.in_order;
+-- a branch runs there
+pub there-node : (f : Family) (p : List ℕ) → is_some (record_at p (branches_of f)) ≡ true → is_there p (nodes_of f) ≡ true
+there-node f p e = sym (there-is p (nodes_of f)) ∙ ap (λ bs. is_some (record_at p bs)) (plain-nodes f) ∙ e
+
+silent-linked : (c : Children) (p : List ℕ) (r : Record) (ns : List Node) (es : List Event) → (are_kept c ≡ false → 0 < 0) → IsLinked ns es → IsLinked (nodes_after p (change r None (litter_of p c)) ns) es
+silent-linked Kept p r ns es h l = links-still p r ns es l
+silent-linked Removed p r ns es h l = absurd (let x = h refl in omega (arith, x))
+silent-linked (Made rs) p r ns es h l = absurd (let x = h refl in omega (arith, x))
+
+last-some : (n all : ℕ) → 0 < n → last_id n all ≡ Some all
+last-some n all h = let e : nat_lt 0 n ≡ true = grind (arith, nat_tests, h) in rw e refl
+
+linked-after : (ds : List Draft) (c : Children) (p : List ℕ) (now : ℕ) (r : Record) (ns : List Node) (es : List Event) → is_there p ns ≡ true → (are_kept c ≡ false → 0 < length ds) → IsLinked ns es → IsLinked (nodes_after p (change r (last_id (length ds) (length (events_after p now ds es))) (litter_of p c)) ns) (events_after p now ds es)
+linked-after [] c p now r ns es t h l = silent-linked c p r ns es h l
+linked-after (d ∷ ds) c p now r ns es t h l =
+    let all = events_after p now (d ∷ ds) es in
+    let tell : Tell = record { after = r; id = length all; keeps = (litter_of p c).keeps; made = (change r None (litter_of p c)).made } in
+    subst (λ (o : Option ℕ). IsLinked (nodes_after p (change r o (litter_of p c)) ns) all) (sym (last-some (length (d ∷ ds)) (length all) (omega arith)))
+    (links-kept p tell ns es all t (kids-unknown p c) (omega (arith, events-length p now (d ∷ ds) es)) refl (all-history p now (d ∷ ds) es l.told) (all-told p now d ds es l.told) l)
+
+-- ---- all together
+
+pub sound-after : (p : List ℕ) (o : Option ℕ) (now : ℕ) (e : Effect) (ns : List Node) (counts : List ℕ) (events : List Event) → IsSound ns counts events
+    → is_there p ns ≡ true → length events ≤ 24992 → length e.events ≤ 8 → (e.raises ≡ true → 0 < length e.events) → (are_kept e.children ≡ false → 0 < length e.events)
+    → IsSound (nodes_after p (change e.after (last_id (length e.events) (length (events_after p now e.events events))) (litter_of p e.children)) ns) (counts_after o e.raises counts) (events_after p now e.events events)
+sound-after p o now e ns counts events s t room few tells changes = record {
+  linked = linked-after e.events e.children p now e.after ns events t changes s.linked;
+  placed = placed-after p e.after (last_id (length e.events) (length (events_after p now e.events events))) e.children ns s.placed;
   few = omega (arith, events-length p now e.events events);
   counted = λ k. omega (arith, counted-after o (length events) (length e.events) e.raises counts tells s.counted k, events-length p now e.events events);
 }
+
+-- ---- the same change, by what its parts are
+
+pub nodes-same : (p : List ℕ) (r : Record) (told now : Option ℕ) (l m : Litter) (ns out : List Node) → out ≡ nodes_after p (change r told l) ns → told ≡ now → l ≡ m → out ≡ nodes_after p (change r now m) ns
+nodes-same p r told now l m ns out e a b = e ∙ ap (λ (o : Option ℕ). nodes_after p (change r o l) ns) a ∙ ap (λ (z : Litter). nodes_after p (change r now z) ns) b
+
+pub last-same : (o : Option ℕ) (n m a b : ℕ) → o ≡ last_id n a → n ≡ m → a ≡ b → o ≡ last_id m b
+last-same o n m a b e x y = e ∙ ap (λ z. last_id z a) x ∙ ap (λ z. last_id m z) y

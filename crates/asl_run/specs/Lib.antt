@@ -1,5 +1,5 @@
 pub mod World
 pub mod Refusals
-pub mod Order
-pub mod Rebuilds
+pub mod Sound
+pub mod Telling
 pub mod Lines

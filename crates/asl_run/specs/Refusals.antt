@@ -1,28 +1,17 @@
 -- When a step is refused, and the world before the first step.
-use Rattle.std.specs.Prelude.{ℕ, Bool, not, ◌&&◌, List, [], ◌∷◌, max, length, nat_lt, if◌then◌else◌, Option, Some, None, replicate}
-use Rattle.std.specs.List.{list_any, list_all}
+use Rattle.std.specs.Prelude.{ℕ, List, [], ◌∷◌, max, length, nat_lt, if◌then◌else◌, Option, Some, None, replicate}
 use Rattle.asl_json.specs.declared.value.Json.{Json}
 use Rattle.asl_history.specs.Events.{event_after}
-use Rattle.asl_history.specs.Places.{is_beside}
 use Rattle.asl_history.specs.declared.kind.EventKind.TheVariants.{ExecutionStarted}
-use Rattle.asl_steps.specs.Records.{is_failed, is_done}
 use Rattle.asl_steps.specs.declared.record.Record.{Record}
 use Rattle.asl_steps.specs.declared.record.Record.TheVariants.{New, Ready, Pausing, Again, Forked, Done, Failed}
-use Rattle.asl_run.specs.declared.branch.Branch.{Branch}
 use Rattle.asl_run.specs.declared.outcome.Outcome.TheVariants.{Running}
 use Rattle.asl_run.specs.declared.refusal.Refusal.{Refusal}
 use Rattle.asl_run.specs.declared.refusal.Refusal.TheVariants.{Over, NoSuchPlace, Stopped, Finished, Busy, NotYet, HistoryFull}
-use Rattle.asl_run.specs.World.{World, record_at, children_at, is_over}
+use Rattle.asl_frames.specs.Branches.{record_at, children_at, is_stopped, is_busy}
+use Rattle.asl_run.specs.World.{World, is_over}
 
 -- ---- when a step is refused
-
--- a sibling of the place, or of a place above it, has failed
-abbrev pub is_stopped : List ℕ → List Branch → Bool
-is_stopped p bs = list_any (λ b. is_failed b.current && is_beside p b.place) bs
-
--- no child has failed, and some child is not done
-abbrev pub is_busy : List Record → Bool
-is_busy rs = not (list_any is_failed rs) && not (list_all is_done rs)
 
 -- there is no room for a step's events
 abbrev pub refusal_if_full : World → Option Refusal

@@ -1,18 +1,20 @@
 // What changes as an execution goes on.
-ghost use Rattle.std.specs.Prelude.{◌≡◌, ◌≤◌, ◌+◌, ◌<◌, [], ◌∷◌, ◌++◌, map, length, IfOk, IfSome, OnOk, OnErr, true, vec_len, vec_capacity, slice_index, max, option_map, ◌^◌};
-ghost use Rattle.std.specs.Option.{option_copied};
-ghost use Rattle.asl_steps.specs.Bounds.{AreFew};
-ghost use Rattle.asl_run.specs.World.{numbered, made, family, are_kept, world_with, record_at, children_at, forker_at, counts_after, outcome_after, count_of};
-ghost use Rattle.asl_run.specs.Rebuilds.{rebuilt, told_after, placed};
+ghost use Rattle.std.specs.Prelude.{◌≡◌, ◌≤◌, ◌+◌, ◌<◌, [], ◌∷◌, ◌++◌, length, IfOk, IfSome, OnOk, OnErr, true, false, vec_len, slice_index, max, is_some, option_map, ◌^◌};
+ghost use Rattle.asl_history.specs.Events.{previous_id, IsHistory};
+ghost use Rattle.asl_steps.specs.Bounds.{AreFew, are_kept};
+ghost use Rattle.asl_frames.specs.Branches.{record_at, children_at, forker_at};
+ghost use Rattle.asl_frames.specs.Trees.{branches_of, nodes_of};
+ghost use Rattle.asl_frames.specs.Links.{latest};
+ghost use Rattle.asl_run.specs.World.{world_with, counts_after, outcome_after, count_of};
+ghost use Rattle.asl_run.specs.Telling.{placed, AllAt, told_after, last_id};
 ghost use Rattle.asl_run.specs.Refusals.{refusal_of, opening_at};
 
-use crate::branch::Branch;
-use crate::branches;
 use crate::outcome::Outcome;
 use crate::refusal::Refusal;
+use asl_frames::{Frame, bear};
 use asl_history::{EventKind, History, Place};
-use asl_json::{Json, Name, Shared};
-use asl_steps::{Children, Draft, Drafts, Effect, Ended, Record, Records, raise_at, zeros};
+use asl_json::{Name, Shared};
+use asl_steps::{Draft, Drafts, Effect, Ended, Record, raise_at, zeros};
 use asl_time::Moment;
 use std::alloc::{AllocError, Global};
 use std::marker::Model;
@@ -23,7 +25,7 @@ const FULL: usize = 24_992;
 
 /// What changes as an execution goes on. Contracts see its world.
 pub struct Run {
-    branches: Vec<Branch>,
+    root: Frame,
     counts: Vec<u32>,
     history: History,
     last: Moment,
@@ -34,7 +36,7 @@ pub struct Run {
 impl Drop for Run {
     fn drop(self) {
         let Run {
-            branches: _branches,
+            root: _root,
             counts: _counts,
             history: _history,
             last: _last,
@@ -44,8 +46,9 @@ impl Drop for Run {
 }
 
 impl Model for Run {
+    ghost use Rattle.asl_frames.specs.Trees.{branches_of, nodes_of};
     ghost use Rattle.asl_run.specs.World.{World};
-    ghost use Rattle.asl_run.specs.Order.{IsSound};
+    ghost use Rattle.asl_run.specs.Sound.{IsSound};
 
     ghost Value = { World };
 
@@ -55,9 +58,9 @@ impl Model for Run {
 
     ghost coded = { Prim.hlevel (codes, coded_data, json.the_row.coded) };
 
-    ghost view = { λ r. record { branches = r.branches.items; counts = r.counts.items; events = r.history.events; last = r.last; outcome = r.outcome } };
+    ghost view = { λ r. record { branches = branches_of r.root; counts = r.counts.items; events = r.history.events; last = r.last; outcome = r.outcome } };
 
-    ghost invariant = { λ r. IsSound r.branches.items r.counts.items r.history.events };
+    ghost invariant = { λ r. IsSound (nodes_of r.root) r.counts.items r.history.events };
 }
 
 /// The drafts, each with the place.
@@ -71,91 +74,48 @@ fn placed(alloc: Global, place: &Place, drafts: Drafts) -> Result<Vec<(Place, Dr
     Ok(placed)
 }
 
-/// Moves the drafts behind the history's events, where there is room for them.
-fn tell(history: &mut History, moment: Moment, told: Vec<(Place, Draft)>)
-    requires { vec_len told ≤ history.old.spare }
+/// Moves the drafts, all at one place, behind the history's events, where there is room for them. `previous` is the id of the last
+/// event along the place.
+fn tell(
+    history: &mut History,
+    moment: Moment,
+    place: &Place,
+    told: Vec<(Place, Draft)>,
+    previous: u64,
+)
+    requires room { vec_len told ≤ history.old.spare }
+    requires at { AllAt place.now told.items }
+    requires linked { IsHistory history.old.events }
+    requires link { previous ≡ previous_id place.now history.old.events }
     ensures { history.new.events ≡ told_after moment told.items history.old.events }
 {
-    for (place, draft) in told {
-        history.append(moment, draft.kind, place, draft.name, draft.body);
+    let mut previous = previous;
+    for (at, draft) in told {
+        history.append_linked(moment, draft.kind, at, draft.name, draft.body, previous);
+        previous = history.len() as u64;
     }
 }
 
-/// Whether the branches under a branch that steps stay.
-fn are_kept(children: &Children) -> bool
-    ensures { result ≡ are_kept children.now }
+/// The id of the latest event along a place at which a branch runs.
+fn latest_along(root: &Frame, place: &Place) -> u64
+    requires { is_some (record_at place.now (branches_of root.now)) ≡ true }
+    ensures { result ≡ latest place.now (nodes_of root.now) }
 {
-    matches!(children, Children::Kept)
-}
-
-/// New children under a place, numbered in order.
-fn numbered(alloc: Global, place: &Place, records: Records) -> Result<Vec<Branch>, AllocError>
-    requires { length records ≤ 10 ^ 9 }
-    ensures { IfOk result (λ bs. bs.items ≡ numbered place.now 0 records) }
-{
-    let mut branches = Vec::new(alloc);
-    let mut number = 0u32;
-    for current in records.list {
-        let place = place.child(alloc, number)?;
-        branches.push(Branch { place, current })?;
-        number += 1;
-    }
-    Ok(branches)
-}
-
-/// The new children under a place.
-fn made(alloc: Global, place: &Place, children: Children) -> Result<Vec<Branch>, AllocError>
-    requires { AreFew children }
-    ensures { IfOk result (λ bs. bs.items ≡ made place.now children) }
-{
-    match children {
-        Children::Kept | Children::Removed => Ok(Vec::new(alloc)),
-        Children::Forked(records) => numbered(alloc, place, records),
-    }
-}
-
-/// The branch that steps and its new children.
-fn family_at(
-    alloc: Global,
-    place: &Place,
-    after: Record,
-    children: Children,
-) -> Result<Vec<Branch>, AllocError>
-    requires { AreFew children }
-    ensures { IfOk result (λ f. f.items ≡ record { place = place.now; current = after } ∷ made place.now children) }
-{
-    let first = Branch {
-        place: place.try_clone(alloc)?,
-        current: after,
+    let Some(standing) = root.standing(place) else {
+        unreachable!();
     };
-    let mut children = made(alloc, place, children)?;
-    let mut family = vec![in alloc; first]?;
-    family.append(&mut children)?;
-    Ok(family)
+    standing.previous
 }
 
-/// The branches after a step, moved into the room that was made for them.
-fn rebuilt(
-    old: Vec<Branch>,
-    new: Vec<Branch>,
-    place: &Place,
-    keeps: bool,
-    family: Vec<Branch>,
-) -> Vec<Branch>
-    requires empty { new.items ≡ [] }
-    requires room { vec_len old + vec_len family ≤ vec_capacity new }
-    ensures { result.items ≡ rebuilt place.now keeps family.items old.items }
+/// The id of the last event, where the last so many were told just now.
+fn last_id(count: usize, history: &History) -> Option<u64>
+    ensures { result ≡ last_id count (length history.now.events) }
 {
-    let mut new = new;
-    let mut family = family;
-    for branch in old {
-        if *place == branch.place {
-            let _ = new.append(&mut family);
-        } else if keeps || !place.is_prefix_of(&branch.place) {
-            new.push_reserved(branch);
-        }
+    if count == 0 {
+        None
+    } else {
+        Some(history.len() as u64)
     }
-    new
 }
 
 /// Raises the count of a state, where it is to be raised.
@@ -190,61 +150,6 @@ fn count_of_drafts(drafts: &Drafts) -> usize
     drafts.list.len()
 }
 
-/// What happens at a place, made of all that takes memory.
-#[derive(Drop)]
-struct Plan {
-    /// Whether the branches under the one that steps stay.
-    keeps: bool,
-    /// The branch that steps and its new children.
-    family: Vec<Branch>,
-    /// What is told.
-    told: Vec<(Place, Draft)>,
-    /// Room for all branches after the step.
-    room: Vec<Branch>,
-    /// Whether the state's count is raised.
-    raises: bool,
-    /// How the execution ends.
-    ended: Option<Ended>,
-}
-
-/// Makes what an effect needs, where so many branches run.
-fn planned(
-    alloc: Global,
-    place: &Place,
-    effect: Effect,
-    branches: usize,
-) -> Result<Plan, AllocError>
-    requires { AreFew effect.children }
-    ensures keeps { IfOk result (λ p. p.keeps ≡ are_kept effect.children) }
-    ensures family { IfOk result (λ p. p.family.items ≡ family place.now effect) }
-    ensures told { IfOk result (λ p. p.told.items ≡ placed place.now effect.events) }
-    ensures empty { IfOk result (λ p. p.room.items ≡ []) }
-    ensures room { IfOk result (λ p. branches + vec_len p.family ≤ vec_capacity p.room) }
-    ensures raises { IfOk result (λ p. p.raises ≡ effect.raises) }
-    ensures ended { IfOk result (λ p. p.ended ≡ effect.outcome) }
-{
-    let Effect {
-        after,
-        children,
-        raises,
-        events,
-        outcome: ended,
-    } = effect;
-    let keeps = are_kept(&children);
-    let told = placed(alloc, place, events)?;
-    let family = family_at(alloc, place, after, children)?;
-    let most = branches.checked_add(family.len()).ok_or(AllocError)?;
-    let room = Vec::with_capacity(alloc, most)?;
-    Ok(Plan {
-        keeps,
-        family,
-        told,
-        room,
-        raises,
-        ended,
-    })
-}
-
 /// A history of the event that tells of an execution's start.
 fn started(alloc: Global, input: Shared, moment: Moment) -> Result<History, AllocError>
     ensures { IfOk result (λ h. h.events ≡ (opening_at 0 [] input moment).events) }
@@ -274,14 +179,14 @@ impl Run {
         ensures { IfOk result (λ r. r ≡ opening_at states start input.now moment) }
     {
         let history = started(alloc, input.try_clone()?, moment)?;
-        let mut branches = Vec::new(alloc);
-        branches.push(Branch {
-            place: Place::root(alloc),
-            current: Record::Ready(start, input.try_clone()?),
-        })?;
+        let current = Record::Ready {
+            state: start,
+            input: input.try_clone()?,
+        };
+        let root = Frame::root(alloc, current, 1);
         let counts = zeros(alloc, states)?;
         Ok(Run {
-            branches,
+            root,
             counts,
             history,
             last: moment,
@@ -289,25 +194,26 @@ impl Run {
         })
     }
 
-    /// What the branch at a place is doing; none where no branch runs there.
-    pub fn record_at(&self, place: &Place) -> Option<&Record>
-        ensures { option_copied result ≡ record_at place.now self.now.branches }
+    /// The frame of the branch that the execution began with.
+    pub fn root(&self) -> &Frame
+        ensures { branches_of result.now ≡ self.now.branches }
     {
-        branches::record_at(&self.branches, place)
+        &self.root
     }
 
-    /// What the branches directly under a place are doing, in order. The error is that memory ran out.
-    pub fn children_at(&self, alloc: Global, place: &Place) -> Result<Vec<&Record>, AllocError>
-        ensures { IfOk result (λ v. map (λ r. r.now) v.items ≡ children_at place.now self.now.branches) }
+    /// The frame at a place; none where no branch runs there.
+    pub fn frame_at(&self, place: &Place) -> Option<&Frame>
+        ensures record { option_map (λ f. f.now.head.current) result ≡ record_at place.now self.now.branches }
+        ensures children { IfSome result (λ f. children_at [] (branches_of f.now) ≡ children_at place.now self.now.branches) }
     {
-        branches::children_at(alloc, &self.branches, place)
+        self.root.find(place)
     }
 
     /// The name of the Map of which the branch at a place is an iteration.
     pub fn forker_at(&self, place: &Place) -> Option<&Name>
         ensures { option_map (λ n. n.now) result ≡ forker_at place.now self.now.branches }
     {
-        branches::forker_at(&self.branches, place)
+        self.root.forker(place)
     }
 
     /// How often the state of a number was invoked.
@@ -354,22 +260,25 @@ impl Run {
             Outcome::Running => {}
             Outcome::Succeeded(_) | Outcome::Failed(_) => return Some(Refusal::Over),
         }
-        let Some(current) = branches::record_at(&self.branches, place) else {
+        let Some(frame) = self.root.find(place) else {
             return Some(Refusal::NoSuchPlace);
         };
-        if branches::is_stopped(&self.branches, place) {
+        let Some(standing) = self.root.standing(place) else {
+            return Some(Refusal::NoSuchPlace);
+        };
+        if standing.stopped {
             return Some(Refusal::Stopped);
         }
-        match current {
+        match frame.held() {
             Record::Done(_) | Record::Failed(_) => return Some(Refusal::Finished),
-            Record::New(..) | Record::Ready(..) => {}
-            Record::Pausing(_, _, _, until) | Record::Again(_, _, _, _, until) => {
+            Record::New { .. } | Record::Ready { .. } => {}
+            Record::Pausing { until, .. } | Record::Again { until, .. } => {
                 if self.present(moment).millis() < until.millis() {
                     return Some(Refusal::NotYet(*until));
                 }
             }
-            Record::Forked(..) => {
-                if branches::is_busy(&self.branches, place) {
+            Record::Forked { .. } => {
+                if frame.is_busy() {
                     return Some(Refusal::Busy);
                 }
             }
@@ -381,7 +290,7 @@ impl Run {
         }
     }
 
-    /// This happened at the place, in the state of this number. What is refused, for want of memory, changes nothing.
+    /// This happened to the branch at the place, in the state of this number. What is refused, for want of memory, changes nothing.
     pub fn apply(
         &mut self,
         alloc: Global,
@@ -390,25 +299,30 @@ impl Run {
         moment: Moment,
         effect: Effect,
     ) -> Result<(), AllocError>
+        requires there { is_some (record_at place.now self.old.branches) ≡ true }
         requires room { length self.old.events ≤ 24992 }
         requires few { length effect.events ≤ 8 }
         requires fits { AreFew effect.children }
         requires tells { effect.raises ≡ true → 0 < length effect.events }
+        requires changes_tell { are_kept effect.children ≡ false → 0 < length effect.events }
         ensures ok { OnOk result (self.new ≡ world_with place.now state moment effect self.old) }
         ensures err { OnErr result (self.new ≡ self.old) }
     {
-        self.history.reserve(count_of_drafts(&effect.events))?;
-        let Plan {
-            keeps,
-            family,
-            told,
-            room,
+        let Effect {
+            after,
+            children,
             raises,
-            ended,
-        } = planned(alloc, place, effect, self.branches.len())?;
-        let old = mem::replace(&mut self.branches, Vec::new(alloc));
-        self.branches = rebuilt(old, room, place, keeps, family);
-        tell(&mut self.history, moment, told);
+            events,
+            outcome: ended,
+        } = effect;
+        let count = count_of_drafts(&events);
+        self.history.reserve(count)?;
+        let told = placed(alloc, place, events)?;
+        let offspring = bear(alloc, place, children)?;
+        let previous = latest_along(&self.root, place);
+        tell(&mut self.history, moment, place, told, previous);
+        let latest = last_id(count, &self.history);
+        self.root.apply(place, after, latest, offspring);
         raise(&mut self.counts, state, raises);
         self.last = moment;
         let before = mem::replace(&mut self.outcome, Outcome::Running);

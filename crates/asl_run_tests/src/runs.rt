@@ -169,11 +169,11 @@ fn faults_of_data_end_an_execution(rt: HostRuntime) -> Result<(), Fail> {
 const MAP_BEHIND_A_SUCCEED: &str =
     r#"{"StartAt":"S","States":{"S":{"Type":"Succeed"},"P":{"Type":"Map","Iterator":{"StartAt":"F","States":{"F":{"Type":"Fail"}}},"End":true}}}"#;
 
-const PARALLEL_BEFORE_A_TASK: &str =
-    r#"{"StartAt":"a/b","States":{"a/b":{"Type":"Parallel","Branches":[{"StartAt":"F","States":{"F":{"Type":"Fail"}}}],"Next":"T"},"T":{"Type":"Task","Resource":"r","End":true}}}"#;
+const MAP_BEFORE_A_TASK: &str =
+    r#"{"StartAt":"a/b","States":{"a/b":{"Type":"Map","Iterator":{"StartAt":"F","States":{"F":{"Type":"Fail"}}},"Next":"T"},"T":{"Type":"Task","Resource":"r","End":true}}}"#;
 
-const WAIT_BEHIND_A_PARALLEL: &str =
-    r#"{"StartAt":"L","States":{"L":{"Type":"Parallel","Branches":[{"StartAt":"F","States":{"F":{"Type":"Fail"}}}],"Next":"W"},"W":{"Type":"Wait","Seconds":1,"End":true}}}"#;
+const PARALLEL_BEFORE_A_MAP: &str =
+    r#"{"StartAt":"L","States":{"L":{"Type":"Parallel","Branches":[{"StartAt":"F","States":{"F":{"Type":"Fail"}}}],"Next":"N"},"N":{"Type":"Map","Iterator":{"StartAt":"I","States":{"I":{"Type":"Fail"}}},"End":true}}}"#;
 
 /// A mock file with the cases `c`, `a#b`, and, of another machine, `c`.
 const MOCKS: &str =
@@ -195,12 +195,12 @@ const REFUSED: &[([&str; 5], &str)] = &[
         "definition: F5 Unsupported /States/P/Type",
     ),
     (
-        [PARALLEL_BEFORE_A_TASK, "{}", "M", "{}", ""],
+        [MAP_BEFORE_A_TASK, "{}", "M", "{}", ""],
         "definition: F5 Unsupported /States/a~1b/Type",
     ),
     (
-        [WAIT_BEHIND_A_PARALLEL, "{}", "M", "{}", ""],
-        "definition: F5 Unsupported /States/L/Type",
+        [PARALLEL_BEFORE_A_MAP, "{}", "M", "{}", ""],
+        "definition: F5 Unsupported /States/N/Type",
     ),
     (
         [TWO_STATES, "[", "M#c", "{", "x"],
@@ -384,9 +384,12 @@ fn opened(rt: &HostRuntime) -> Option<Execution> {
 /// Whether the branch at the root is about to enter a state with this input.
 fn is_ready(rt: &HostRuntime, execution: &Execution, state: &str, input: &str) -> bool {
     match execution.view(&Place::root(rt.alloc())) {
-        Some(Record::Ready(name, value)) => {
-            name.as_str() == state && is_written(rt, value, input)
-        }
+        Some(
+            Record::Ready {
+                state: name,
+                input: value,
+            },
+        ) => { name.as_str() == state && is_written(rt, value, input) }
         _ => false,
     }
 }

@@ -9,14 +9,14 @@ use Rattle.asl_def.specs.Own.{own_states_in}
 use Rattle.asl_parts.specs.Texts.{text_in}
 
 abbrev pub is_ready_type : Option (List ℕ) → Bool
-is_ready_type (Some t) = bytes_eq t (codes "Task") || (bytes_eq t (codes "Pass") || (bytes_eq t (codes "Choice") || (bytes_eq t (codes "Wait") || (bytes_eq t (codes "Succeed") || bytes_eq t (codes "Fail")))))
+is_ready_type (Some t) = bytes_eq t (codes "Task") || (bytes_eq t (codes "Pass") || (bytes_eq t (codes "Choice") || (bytes_eq t (codes "Wait") || (bytes_eq t (codes "Parallel") || (bytes_eq t (codes "Succeed") || bytes_eq t (codes "Fail"))))))
 is_ready_type None = false
 
 -- the state of this object can be run yet
 abbrev pub is_ready_state : Data → Bool
 is_ready_state d = is_ready_type (text_in (value_in (codes "Type") d))
 
--- each state of the machine can be run yet; none of them holds other machines then
+-- each state of the outermost machine can be run yet; what stands in the branches of a Parallel isn't looked at
 abbrev pub is_ready : Data → Bool
 is_ready d = list_all (λ (m : Named). is_ready_state m.1) (own_states_in d)
 

@@ -18,6 +18,7 @@ fn is_ready_state(state: &State) -> bool
             | State::Pass(_)
             | State::Choice(_)
             | State::Wait(_)
+            | State::Parallel(_)
             | State::Succeed(_)
             | State::Fail(_)
     )
@@ -36,8 +37,8 @@ pub(crate) fn first_unready(machine: &Machine) -> Option<&str>
     None
 }
 
-/// Whether each state of a machine can be run yet: it is a Task, a Pass, a Choice, a Wait, a Succeed or a Fail. Further types will follow, until each machine is
-/// ready. It takes no memory.
+/// Whether each state of the outermost machine can be run yet: a Map can't, and a state of any other type can. What stands in the
+/// branches of a Parallel isn't looked at. It takes no memory.
 pub fn ready(machine: &Machine) -> bool
     ensures { result ≡ is_ready machine.now }
 {

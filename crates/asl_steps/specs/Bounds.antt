@@ -11,6 +11,12 @@ is_forked Kept = false
 is_forked Removed = false
 is_forked (Forked rs) = true
 
+-- the branches under it stay
+abbrev pub are_kept : Children → Bool
+are_kept Kept = true
+are_kept Removed = false
+are_kept (Forked rs) = false
+
 -- each new child has a number below 10^9
 abbrev pub AreFew : Children → Type 0
 AreFew Kept = Unit {0}
@@ -19,11 +25,10 @@ AreFew (Forked rs) = length rs ≤ 10 ^ 9
 
 -- the bounds that hold of an effect at a place
 pub record IsBounded (v : Seen) (invoking : Bool) (e : Effect) : Type 0 where
-  -- no more than eight events, and no more children than a place has numbers for
+  -- no more than eight events
   pub few : length e.events ≤ 8
-  pub fits : AreFew e.children
-  -- children are made only with an event that tells of it
-  pub forks_tell : is_forked e.children ≡ true → 0 < length e.events
+  -- children are made or removed only with an event that tells of it
+  pub changes_tell : are_kept e.children ≡ false → 0 < length e.events
   -- a count is raised only by a kind that invokes, and this is told
   pub raises : e.raises ≡ true → invoking ≡ true
   pub tells : e.raises ≡ true → 0 < length e.events

@@ -13,17 +13,18 @@ use Rattle.asl_steps.specs.declared.record.Record.TheVariants.{New, Ready, Pausi
 use Rattle.asl_steps.specs.declared.record.ErrorOut.{ErrorOut}
 use Rattle.asl_steps.specs.Records.{is_finished}
 use Rattle.asl_steps.specs.Seen.{Seen}
-use Rattle.asl_steps.specs.Bounds.{is_forked, AreFew, IsBounded}
+use Rattle.asl_steps.specs.Bounds.{is_forked, are_kept, AreFew, IsBounded}
 use Rattle.asl_steps.specs.Rows.{idle, iteration_event, told_begin, entering, unstarted, beginning_by, beginning, retrying, pausing, moved, ended, told_success, left, failed, told_failure, failing, is_within_limit, over_limit, leaving}
 
 -- what a row may have done before the state is left or fails
 pub record IsSoFar (invoking : Bool) (done : Progress) : Type 0 where
   pub short : length done.events ≤ 6
   pub unforked : is_forked done.children ≡ false
+  pub changes_tell : are_kept done.children ≡ false → 0 < length done.events
   pub raises : done.raises ≡ true → invoking ≡ true
   pub tells : done.raises ≡ true → 0 < length done.events
 
-few-unforked : (c : Children) → is_forked c ≡ false → AreFew c
+pub few-unforked : (c : Children) → is_forked c ≡ false → AreFew c
 few-unforked Kept e = tt
 few-unforked Removed e = tt
 few-unforked (Forked rs) e = absurd (cc)
@@ -66,8 +67,7 @@ failed-ends (i ∷ p) e root = (cc)
 left-bounded : (v : Seen) (invoking : Bool) (done : Progress) (exited : EventKind) (next : Option (List ℕ)) (x : Json) → IsSoFar invoking done → IsBounded v invoking (left v done exited next x)
 left-bounded v invoking done exited next x so = record {
   few = omega (arith, length-append {A = Draft}, success-short next v.forker v.place x, so.short);
-  fits = few-unforked done.children so.unforked;
-  forks_tell = λ e. let h : true ≡ false = sym e ∙ so.unforked in (cc);
+  changes_tell = λ e. omega (arith, length-append {A = Draft}, so.changes_tell e);
   raises = so.raises;
   tells = λ e. omega (arith, length-append {A = Draft}, so.tells e);
   at_root = ended-root next v.place x;
@@ -78,8 +78,7 @@ left-bounded v invoking done exited next x so = record {
 pub failing-bounded : (v : Seen) (invoking : Bool) (done : Progress) (e : ErrorOut) → IsSoFar invoking done → IsBounded v invoking (failing v done e)
 failing-bounded v invoking done e so = record {
   few = omega (arith, length-append {A = Draft}, failure-short v.forker v.place e, so.short);
-  fits = few-unforked done.children so.unforked;
-  forks_tell = λ h. let g : true ≡ false = sym h ∙ so.unforked in (cc);
+  changes_tell = λ h. omega (arith, length-append {A = Draft}, so.changes_tell h);
   raises = so.raises;
   tells = λ h. omega (arith, length-append {A = Draft}, so.tells h);
   at_root = failed-root v.place e;
@@ -99,6 +98,7 @@ pub unstarted-so-far : (invoking : Bool) → IsSoFar invoking unstarted
 unstarted-so-far invoking = record {
   short = omega arith;
   unforked = refl;
+  changes_tell = λ e. (cc);
   raises = λ e. (cc);
   tells = λ e. (cc);
 }
@@ -106,8 +106,7 @@ unstarted-so-far invoking = record {
 pub retrying-bounded : (v : Seen) (invoking : Bool) (done : Progress) (x : Json) (n i until : ℕ) → IsSoFar invoking done → IsBounded v invoking (retrying v done x n i until)
 retrying-bounded v invoking done x n i until so = record {
   few = omega (arith, so.short);
-  fits = few-unforked done.children so.unforked;
-  forks_tell = λ e. let h : true ≡ false = sym e ∙ so.unforked in (cc);
+  changes_tell = so.changes_tell;
   raises = so.raises;
   tells = so.tells;
   at_root = λ h. (cc);
@@ -118,8 +117,7 @@ retrying-bounded v invoking done x n i until so = record {
 pub pausing-bounded : (v : Seen) (invoking : Bool) (done : Progress) (x : Json) (until : ℕ) → IsSoFar invoking done → IsBounded v invoking (pausing v done x until)
 pausing-bounded v invoking done x until so = record {
   few = omega (arith, so.short);
-  fits = few-unforked done.children so.unforked;
-  forks_tell = λ e. let h : true ≡ false = sym e ∙ so.unforked in (cc);
+  changes_tell = so.changes_tell;
   raises = so.raises;
   tells = so.tells;
   at_root = λ h. (cc);
@@ -140,6 +138,7 @@ pub entering-so-far : (v : Seen) (invoking : Bool) (entered : EventKind) (x : Js
 entering-so-far v invoking entered x = record {
   short = omega (arith, length-append {A = Draft}, begin-short v.current v.forker v.place);
   unforked = refl;
+  changes_tell = λ e. (cc);
   raises = λ e. (cc);
   tells = λ e. (cc);
 }
@@ -175,8 +174,7 @@ beginning-so-far v invoking entered x (Failed e) = entering-so-far v invoking en
 pub idle-bounded : (v : Seen) (invoking : Bool) (r : Record) → v.current ≡ r → IsBounded v invoking (idle r)
 idle-bounded v invoking r e = record {
   few = omega arith;
-  fits = tt;
-  forks_tell = λ h. (cc);
+  changes_tell = λ h. (cc);
   raises = λ h. (cc);
   tells = λ h. (cc);
   at_root = λ h. (cc);

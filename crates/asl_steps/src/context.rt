@@ -135,7 +135,7 @@ fn retry_count(current: &Record) -> i128
     ensures { pos (spec_retry_count (uses_in current.now)) ≡ result }
 {
     match current {
-        Record::Again(_, _, _, uses, _) | Record::Forked(_, _, _, uses, _) => {
+        Record::Again { uses, .. } | Record::Forked { uses, .. } => {
             let total = sum_of(uses);
             if total < MOST {
                 total as i128
@@ -152,9 +152,9 @@ pub(crate) fn entered_at(current: &Record, now: Moment) -> Moment
     ensures { result ≡ entered_at now current.now }
 {
     match current {
-        Record::Pausing(_, _, since, _)
-        | Record::Again(_, _, since, _, _)
-        | Record::Forked(_, _, since, _, _) => *since,
+        Record::Pausing { since, .. }
+        | Record::Again { since, .. }
+        | Record::Forked { since, .. } => *since,
         _ => now,
     }
 }

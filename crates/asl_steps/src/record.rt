@@ -42,19 +42,42 @@ impl Model for Uses {
     ghost view = { λ u. u.counts.items };
 }
 
-/// What a branch is doing. The name is its state's, the value the state's raw input, `since` the moment of the
-/// state's first step.
+/// What a branch is doing. `state` is the name of its state, `input` the state's raw input, `since` the moment of the state's first
+/// step, `uses` how often each of its retriers was used.
 pub enum Record {
     /// An iteration of a Map that hasn't begun.
-    New(Name, Shared),
+    New {
+        state: Name,
+        input: Shared,
+    },
     /// About to enter its state.
-    Ready(Name, Shared),
-    /// Waiting until a moment: `since`, then until when.
-    Pausing(Name, Shared, Moment, Moment),
-    /// About to be retried: `since`, the uses, then until when it waits.
-    Again(Name, Shared, Moment, Uses, Moment),
-    /// Waiting for its children: `since`, the uses, and a Map's items.
-    Forked(Name, Shared, Moment, Uses, Items),
+    Ready {
+        state: Name,
+        input: Shared,
+    },
+    /// Waiting until a moment.
+    Pausing {
+        state: Name,
+        input: Shared,
+        since: Moment,
+        until: Moment,
+    },
+    /// Waiting until a moment, then about to be retried.
+    Again {
+        state: Name,
+        input: Shared,
+        since: Moment,
+        uses: Uses,
+        until: Moment,
+    },
+    /// Waiting for its children; `items` are a Map's.
+    Forked {
+        state: Name,
+        input: Shared,
+        since: Moment,
+        uses: Uses,
+        items: Items,
+    },
     /// Ended with this output.
     Done(Shared),
     /// Failed with this error.
@@ -64,11 +87,34 @@ pub enum Record {
 impl Drop for Record {
     fn drop(self) {
         match self {
-            Record::New(_a, _b) => {}
-            Record::Ready(_a, _b) => {}
-            Record::Pausing(_a, _b, _c, _d) => {}
-            Record::Again(_a, _b, _c, _d, _e) => {}
-            Record::Forked(_a, _b, _c, _d, _e) => {}
+            Record::New {
+                state: _a,
+                input: _b,
+            } => {}
+            Record::Ready {
+                state: _a,
+                input: _b,
+            } => {}
+            Record::Pausing {
+                state: _a,
+                input: _b,
+                since: _c,
+                until: _d,
+            } => {}
+            Record::Again {
+                state: _a,
+                input: _b,
+                since: _c,
+                uses: _d,
+                until: _e,
+            } => {}
+            Record::Forked {
+                state: _a,
+                input: _b,
+                since: _c,
+                uses: _d,
+                items: _e,
+            } => {}
             Record::Done(_part) => {}
             Record::Failed(_part) => {}
         }
@@ -102,25 +148,51 @@ impl Record {
         ensures { IfOk result (λ r. r ≡ self.now) }
     {
         Ok(match self {
-            Record::New(state, input) => Record::New(state.try_clone()?, input.try_clone()?),
-            Record::Ready(state, input) => Record::Ready(state.try_clone()?, input.try_clone()?),
-            Record::Pausing(state, input, since, until) => {
-                Record::Pausing(state.try_clone()?, input.try_clone()?, *since, *until)
-            }
-            Record::Again(state, input, since, uses, until) => Record::Again(
-                state.try_clone()?,
-                input.try_clone()?,
-                *since,
-                uses.try_clone(alloc)?,
-                *until,
-            ),
-            Record::Forked(state, input, since, uses, items) => Record::Forked(
-                state.try_clone()?,
-                input.try_clone()?,
-                *since,
-                uses.try_clone(alloc)?,
-                items.try_clone(alloc)?,
-            ),
+            Record::New { state, input } => Record::New {
+                state: state.try_clone()?,
+                input: input.try_clone()?,
+            },
+            Record::Ready { state, input } => Record::Ready {
+                state: state.try_clone()?,
+                input: input.try_clone()?,
+            },
+            Record::Pausing {
+                state,
+                input,
+                since,
+                until,
+            } => Record::Pausing {
+                state: state.try_clone()?,
+                input: input.try_clone()?,
+                since: *since,
+                until: *until,
+            },
+            Record::Again {
+                state,
+                input,
+                since,
+                uses,
+                until,
+            } => Record::Again {
+                state: state.try_clone()?,
+                input: input.try_clone()?,
+                since: *since,
+                uses: uses.try_clone(alloc)?,
+                until: *until,
+            },
+            Record::Forked {
+                state,
+                input,
+                since,
+                uses,
+                items,
+            } => Record::Forked {
+                state: state.try_clone()?,
+                input: input.try_clone()?,
+                since: *since,
+                uses: uses.try_clone(alloc)?,
+                items: items.try_clone(alloc)?,
+            },
             Record::Done(output) => Record::Done(output.try_clone()?),
             Record::Failed(error) => Record::Failed(error.try_clone(alloc)?),
         })
@@ -131,11 +203,11 @@ impl Record {
         ensures { option_map (λ n. n.now) result ≡ state_in self.now }
     {
         match self {
-            Record::New(state, _)
-            | Record::Ready(state, _)
-            | Record::Pausing(state, ..)
-            | Record::Again(state, ..)
-            | Record::Forked(state, ..) => Some(state),
+            Record::New { state, .. }
+            | Record::Ready { state, .. }
+            | Record::Pausing { state, .. }
+            | Record::Again { state, .. }
+            | Record::Forked { state, .. } => Some(state),
             Record::Done(_) | Record::Failed(_) => None,
         }
     }
@@ -155,7 +227,7 @@ impl Record {
         ensures { option_map (λ x. x.now) result ≡ entering_with self.now }
     {
         match self {
-            Record::New(_, input) | Record::Ready(_, input) => Some(input),
+            Record::New { input, .. } | Record::Ready { input, .. } => Some(input),
             _ => None,
         }
     }
@@ -165,9 +237,8 @@ impl Record {
         ensures { option_map (λ x. x.now) result ≡ beginning_with self.now }
     {
         match self {
-            Record::New(_, input) | Record::Ready(_, input) | Record::Again(_, input, ..) => {
-                Some(input)
-            }
+            Record::New { input, .. } | Record::Ready { input, .. } | Record::Again { input, .. } =>
+                Some(input),
             _ => None,
         }
     }
@@ -177,7 +248,7 @@ impl Record {
         ensures { result.now ≡ uses_in self.now }
     {
         match self {
-            Record::Again(_, _, _, uses, _) | Record::Forked(_, _, _, uses, _) => &uses.counts,
+            Record::Again { uses, .. } | Record::Forked { uses, .. } => &uses.counts,
             _ => &[],
         }
     }
@@ -187,7 +258,7 @@ impl Record {
         ensures { option_map (λ x. x.now) result ≡ pausing_with self.now }
     {
         match self {
-            Record::Pausing(_, input, _, _) => Some(input),
+            Record::Pausing { input, .. } => Some(input),
             _ => None,
         }
     }

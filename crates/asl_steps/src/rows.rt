@@ -85,7 +85,7 @@ fn begun(alloc: Global, visit: &Visit) -> Result<Drafts, AllocError>
 {
     let events = Drafts::new(alloc);
     match visit.current {
-        Record::New(_, _) => {
+        Record::New { .. } => {
             with_iteration(
                 alloc,
                 events,
@@ -126,7 +126,7 @@ pub fn beginning(
     ensures { IfOk result (λ d. d ≡ spec_beginning (seen visit.now) entered input.now) }
 {
     match visit.current {
-        Record::Again(..) => Ok(unstarted(alloc)),
+        Record::Again { .. } => Ok(unstarted(alloc)),
         _ => entering(alloc, visit, entered, input),
     }
 }
@@ -209,7 +209,13 @@ pub fn retrying(
     let name = name_of(alloc, visit.current)?;
     let since = entered_at(visit.current, visit.moment);
     Ok(Effect {
-        after: Record::Again(name, input.try_clone()?, since, uses, until),
+        after: Record::Again {
+            state: name,
+            input: input.try_clone()?,
+            since,
+            uses,
+            until,
+        },
         children,
         raises,
         events,
@@ -245,7 +251,12 @@ pub fn pausing(
     } = done;
     let name = name_of(alloc, visit.current)?;
     Ok(Effect {
-        after: Record::Pausing(name, input.try_clone()?, visit.moment, until),
+        after: Record::Pausing {
+            state: name,
+            input: input.try_clone()?,
+            since: visit.moment,
+            until,
+        },
         children,
         raises,
         events,
@@ -260,7 +271,10 @@ fn moved(alloc: Global, next: Option<&str>, output: &Shared) -> Result<Record, A
     let output = output.try_clone()?;
     match next {
         None => Ok(Record::Done(output)),
-        Some(name) => Ok(Record::Ready(Name::new(alloc, name)?, output)),
+        Some(name) => Ok(Record::Ready {
+            state: Name::new(alloc, name)?,
+            input: output,
+        }),
     }
 }
 

@@ -16,7 +16,7 @@ use Rattle.asl_members.proofs.Fitting.{fit, text_fits}
 use Rattle.asl_members.proofs.Retrying.{not_none, value_there}
 use Rattle.asl_def.specs.Built.{HasRoom, Grows, IsBody}
 use Rattle.asl_parts.proofs.Fits.{none_there, some_there, of_kind, of_none}
-use Rattle.asl_def.proofs.Builds.{on_ok, comment_fits, start_is_there, states_are_there, states_room, body_grows, body_shows, value_depth, branches_room, iterator_room, parallel_grows, map_grows, parallel_is, map_is, leaf_grows, room_as, grows_as, state_as, own_room, own_step, own_all, own_fit, states_grow, states_stand, body_room, bodies_step, bodies_all, bodies_grow}
+use Rattle.asl_def.proofs.Builds.{on_ok, comment_fits, start_is_there, states_are_there, states_room, body_grows, body_shows, value_depth, branches_room, iterator_room, parallel_grows, map_grows, parallel_is, map_is, leaf_grows, room_as, grows_as, state_as, own_room, own_step, own_all, own_fit, states_grow, states_stand, body_room, bodies_few, bodies_step, bodies_all, bodies_grow}
 use Rattle.asl_def.proofs.build.+build.Goals as goal
 
 pub body-read_optional-requires : goal.body-read_optional-requires
@@ -63,6 +63,9 @@ parallel-list_in-requires t c = form_fits (some_there c.requires.kind.names sort
 
 pub parallel-bodies-requires : goal.parallel-bodies-requires
 parallel-bodies-requires t c = (omega (arith, value_depth (codes "Branches") (pairs c.args.members.now) (list (chain c.list_in.result.now)) (sym (rw c.in-Some.is at c.find.ensures) ∙ ap Some c.list_in.ensures)), (subst (IsClean sort.Machines) c.list_in.ensures (some_there c.requires.kind.names sort.Machines _ _ (data_of c.in-Some.branches.now) (ap (option_map (λ v. data_of v.now)) c.in-Some.is) c.find.ensures (parallel_branches c.requires.kind.names (pairs c.args.members.now) c.requires.kind.inside)), branches_room c.args.table.now c.args.members.now (list (chain c.list_in.result.now)) c.requires.kind (sym (rw c.in-Some.is at c.find.ensures) ∙ ap Some c.list_in.ensures) c.requires.room))
+
+pub parallel-invariant_of-read : goal.parallel-invariant_of-read
+parallel-invariant_of-read t c = bodies_few c.bodies.new.table c.list_in.result.now c.in_ok-bodies.bodies.items (subst (IsClean sort.Machines) c.list_in.ensures (some_there c.requires.kind.names sort.Machines _ _ (data_of c.in-Some.branches.now) (ap (option_map (λ v. data_of v.now)) c.in-Some.is) c.find.ensures (parallel_branches c.requires.kind.names (pairs c.args.members.now) c.requires.kind.inside))) c.in_ok-bodies.ensures.bodies
 
 pub parallel-returns-clause-grows : goal.parallel-returns-clause-grows
 parallel-returns-clause-grows t c = on_ok c.read.result _ (parallel_grows c.args.table.now c.bodies.new.table c.args.members.now (chain c.list_in.result.now) c.requires.kind (sym (rw c.in-Some.is at c.find.ensures) ∙ ap Some c.list_in.ensures) c.in_ok-bodies.ensures.grows)

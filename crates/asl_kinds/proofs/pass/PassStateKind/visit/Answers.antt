@@ -3,6 +3,7 @@ use Rattle.asl_states.specs.Show.{pass_object}
 use Rattle.asl_steps.specs.Context.{context_of}
 use Rattle.asl_steps.specs.Seen.{seen}
 use Rattle.asl_kinds.specs.Members.{pass_output}
+use Rattle.asl_kinds.specs.Laws.{pass-lawful, fits_as}
 use Rattle.asl_kinds.proofs.pass.PassStateKind.visit.Goals as goal
 
 pub returns-clause-effect : goal.returns-clause-effect
@@ -11,3 +12,6 @@ returns-clause-effect c =
     let told = rw c.in_ok-done.ensures at gives in
     let moved = rw (c.target-next.ensures, c.next.ensures.next) at told in
     rw (sym c.in-Some.ensures) moved
+
+pub returns-clause-fits : goal.returns-clause-fits
+returns-clause-fits c = fits_as c.passed.result _ (returns-clause-effect c) (pass-lawful (pass_object c.args.self.now) c.args.context.now.facts (seen c.args.visit.now)).fits

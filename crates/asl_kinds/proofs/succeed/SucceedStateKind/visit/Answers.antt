@@ -3,6 +3,7 @@ use Rattle.asl_states.specs.Show.{succeed_object}
 use Rattle.asl_steps.specs.Context.{context_of}
 use Rattle.asl_steps.specs.Seen.{seen}
 use Rattle.asl_kinds.specs.Members.{passed_on}
+use Rattle.asl_kinds.specs.Laws.{succeed-lawful, fits_as}
 use Rattle.asl_kinds.proofs.succeed.SucceedStateKind.visit.Goals as goal
 
 pub returns-clause-effect : goal.returns-clause-effect
@@ -10,3 +11,6 @@ returns-clause-effect c =
     let gives = c.passed.ensures (passed_on (succeed_object c.args.self.now) c.in-Some.input.now (context_of c.args.context.now.facts (seen c.args.visit.now))) c.output-given.ensures.given in
     let told = rw c.in_ok-done.ensures at gives in
     rw (sym c.in-Some.ensures) told
+
+pub returns-clause-fits : goal.returns-clause-fits
+returns-clause-fits c = fits_as c.passed.result _ (returns-clause-effect c) (succeed-lawful (succeed_object c.args.self.now) c.args.context.now.facts (seen c.args.visit.now)).fits

@@ -3,6 +3,7 @@ use Rattle.asl_states.specs.Show.{wait_object}
 use Rattle.asl_steps.specs.Context.{context_of}
 use Rattle.asl_steps.specs.Seen.{seen}
 use Rattle.asl_kinds.specs.Members.{passed_on}
+use Rattle.asl_kinds.specs.Laws.{wait-lawful, fits_as}
 use Rattle.asl_kinds.proofs.wait.WaitStateKind.visit.Goals as goal
 
 pub returns-clause-effect : goal.returns-clause-effect
@@ -10,3 +11,6 @@ returns-clause-effect c =
     let gives = c.passed.ensures (passed_on (wait_object c.args.self.now) c.in-Some-pausing.input.now (context_of c.args.context.now.facts (seen c.args.visit.now))) c.output-given.ensures.given in
     let told = rw (c.unstarted.ensures, c.target-next.ensures, c.next.ensures.next) at gives in
     rw (sym c.in_default.ensures, sym c.in-Some-pausing.ensures) told
+
+pub returns-clause-fits : goal.returns-clause-fits
+returns-clause-fits c = fits_as c.passed.result _ (returns-clause-effect c) (wait-lawful (wait_object c.args.self.now) c.args.context.now.facts (seen c.args.visit.now)).fits

@@ -1,0 +1,4 @@
+pub mod Branches
+pub mod Trees
+pub mod Changes
+pub mod Links

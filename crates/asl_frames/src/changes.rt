@@ -1,0 +1,76 @@
+// What a step does to the tree. It takes no memory.
+ghost use Rattle.std.specs.Prelude.{◌≡◌, ◌≤◌, ◌<◌, ◌+◌, ◌^◌, not};
+ghost use Rattle.asl_steps.specs.Records.{is_done as spec_is_done};
+ghost use Rattle.asl_frames.specs.Trees.{nodes_of, one_if};
+ghost use Rattle.asl_frames.specs.Changes.{change, nodes_after, marked as spec_marked};
+
+use crate::frame::Frame;
+use crate::offspring::Offspring;
+use crate::walks::split;
+use asl_history::Place;
+use asl_steps::Record;
+
+/// The latest event, where one is told.
+fn marked(told: Option<u64>, before: u64) -> u64
+    ensures { result ≡ spec_marked told before }
+{
+    told.unwrap_or(before)
+}
+
+/// A count over children, one of which changes.
+fn adjusted(count: usize, was: bool, is: bool) -> usize
+    requires counted { one_if was ≤ count }
+    requires few { count < 2 ^ 63 }
+    ensures { result + one_if was ≡ count + one_if is }
+{
+    if was == is {
+        count
+    } else if was {
+        count - 1
+    } else {
+        count + 1
+    }
+}
+
+impl Frame {
+    /// This happens at the place: what the branch does from now on, the id of the latest event that is told of it, and what becomes
+    /// of the branches under it.
+    pub fn apply(&mut self, place: &Place, after: Record, told: Option<u64>, offspring: Offspring)
+        ensures { nodes_of self.new ≡ nodes_after place.now (change after told offspring) (nodes_of self.old) }
+    {
+        self.change(place.numbers(), after, told, offspring);
+    }
+
+    fn change(&mut self, place: &[u32], after: Record, told: Option<u64>, offspring: Offspring)
+        ensures { nodes_of self.new ≡ nodes_after place.now (change after told offspring) (nodes_of self.old) }
+    {
+        self.under = marked(told, self.under);
+        let Some((number, deeper)) = split(place) else {
+            self.held = after;
+            self.at = marked(told, self.at);
+            let Offspring {
+                keeps,
+                frames,
+                undone,
+                failed,
+            } = offspring;
+            if !keeps {
+                self.children = frames;
+                self.undone = undone;
+                self.failed = failed;
+            }
+            return;
+        };
+        let number = number as usize;
+        if number < self.children.as_slice().len() {
+            let child = &mut self.children[number];
+            let was_done = child.held().is_done();
+            let was_failed = child.held().is_failed();
+            child.change(deeper, after, told, offspring);
+            let is_done = child.held().is_done();
+            let is_failed = child.held().is_failed();
+            self.undone = adjusted(self.undone, !was_done, !is_done);
+            self.failed = adjusted(self.failed, was_failed, is_failed);
+        }
+    }
+}

@@ -1,0 +1,158 @@
+// What becomes of a state whose branches have ended.
+ghost use Rattle.std.specs.Prelude.{◌≡◌, map, option_map, IfOk};
+ghost use Rattle.asl_parts.specs.Member.{outcome_object};
+ghost use Rattle.asl_steps.specs.Context.{context_of};
+ghost use Rattle.asl_steps.specs.Seen.{seen};
+ghost use Rattle.asl_kinds.specs.Forks.{forked_with, error_in, first_error as spec_first_error, output_in, outputs as spec_outputs, gathered as spec_gathered};
+ghost use Rattle.asl_kinds.specs.Table.{branch_fails, branches_end, joined};
+
+use crate::making::selected;
+use crate::raising::{raise, settled};
+use asl_data::empty_object;
+use asl_history::EventKind;
+use asl_json::{Items, Json, Shared};
+use asl_parts::Outcome;
+use asl_steps::{
+    Children, Context, Drafts, Effect, ErrorOut, Progress, Record, Visit, error_output, idle,
+    telling,
+};
+use std::alloc::{AllocError, Global};
+
+/// The raw input of a state that waits for its branches.
+pub(crate) fn forked(current: &Record) -> Option<&Shared>
+    ensures { option_map (λ x. x.now) result ≡ forked_with current.now }
+{
+    match current {
+        Record::Forked { input, .. } => Some(input),
+        _ => None,
+    }
+}
+
+/// The error of a branch that has failed.
+fn error_of(branch: &Record) -> Option<&ErrorOut>
+    ensures { option_map (λ e. e.now) result ≡ error_in branch.now }
+{
+    match branch {
+        Record::Failed(error) => Some(error),
+        _ => None,
+    }
+}
+
+/// The error of the first branch that has failed.
+fn first_error<'a>(branches: &'a [&'a Record]) -> Option<&'a ErrorOut>
+    ensures { option_map (λ e. e.now) result ≡ spec_first_error (map (λ r. r.now) branches.now) }
+{
+    for branch in branches {
+        if let Some(error) = error_of(branch) {
+            return Some(error);
+        }
+    }
+    None
+}
+
+/// The output of a branch that has ended well.
+fn output_of(branch: &Record) -> Option<&Shared>
+    ensures { option_map (λ x. x.now) result ≡ output_in branch.now }
+{
+    match branch {
+        Record::Done(output) => Some(output),
+        _ => None,
+    }
+}
+
+/// The outputs in the order of the branches; none where one of them hasn't ended well.
+fn outputs(alloc: Global, branches: &[&Record]) -> Result<Option<Items>, AllocError>
+    ensures { IfOk result (λ o. o ≡ spec_outputs (map (λ r. r.now) branches.now)) }
+{
+    let mut outputs = Vec::new(alloc);
+    for branch in branches {
+        let Some(output) = output_of(branch) else {
+            return Ok(None);
+        };
+        outputs.push(output.get().try_clone(alloc)?)?;
+    }
+    Ok(Some(Items::of_values(outputs)))
+}
+
+/// The branches are taken away.
+fn gathered(alloc: Global) -> Progress
+    ensures { result ≡ spec_gathered }
+{
+    Progress {
+        children: Children::Removed,
+        raises: false,
+        events: Drafts::new(alloc),
+    }
+}
+
+/// A branch has failed: the state raises the branch's error.
+fn branch_fails(
+    alloc: Global,
+    outcome: &Outcome,
+    visit: &Visit,
+    failed: EventKind,
+    exited: EventKind,
+    input: &Shared,
+    error: ErrorOut,
+) -> Result<Effect, AllocError>
+    ensures { IfOk result (λ e. e ≡ branch_fails failed exited (outcome_object outcome.now) (seen visit.now) input.now error) }
+{
+    let told = Shared::new(alloc, error_output(alloc, &error)?)?;
+    let done = telling(alloc, visit, gathered(alloc), failed, told)?;
+    raise(alloc, outcome, visit, done, exited, input, error)
+}
+
+/// All branches have ended: the list of their outputs is the state's result.
+fn branches_end(
+    alloc: Global,
+    outcome: &Outcome,
+    visit: &Visit,
+    context: &mut Context,
+    succeeded: EventKind,
+    exited: EventKind,
+    input: &Shared,
+    outputs: Items,
+) -> Result<Effect, AllocError>
+    ensures effect { IfOk result (λ e. e ≡ branches_end succeeded exited (outcome_object outcome.now) (context_of context.old.facts (seen visit.now)) (seen visit.now) input.now outputs) }
+    ensures facts { context.new.facts ≡ context.old.facts }
+{
+    let done = telling(
+        alloc,
+        visit,
+        gathered(alloc),
+        succeeded,
+        empty_object(alloc)?,
+    )?;
+    let outputs = Shared::new(alloc, Json::List(outputs))?;
+    let given = selected(alloc, outcome, input, outputs, visit, context);
+    settled(alloc, outcome, visit, done, exited, input, given)
+}
+
+/// Branches are joined as soon as one has failed, or all have ended; nothing happens while they go on. The kinds of events say what
+/// is told where the branches succeed, where one fails, and where the state is left.
+pub(crate) fn join(
+    alloc: Global,
+    outcome: &Outcome,
+    visit: &Visit,
+    context: &mut Context,
+    succeeded: EventKind,
+    failed: EventKind,
+    exited: EventKind,
+    input: &Shared,
+) -> Result<Effect, AllocError>
+    ensures effect { IfOk result (λ e. e ≡ joined succeeded failed exited (outcome_object outcome.now) (context_of context.old.facts (seen visit.now)) (seen visit.now) input.now) }
+    ensures facts { context.new.facts ≡ context.old.facts }
+{
+    if let Some(error) = first_error(visit.children) {
+        let error = error.try_clone(alloc)?;
+        return branch_fails(alloc, outcome, visit, failed, exited, input, error);
+    }
+    match outputs(alloc, visit.children)? {
+        Some(outputs) => {
+            branches_end(
+                alloc, outcome, visit, context, succeeded, exited, input, outputs,
+            )
+        }
+        None => idle(alloc, visit.current),
+    }
+}

@@ -1,0 +1,503 @@
+// Executions over a plain list of branches. A step looks through the whole list, builds it anew, and finds the event before a new one
+// by a walk back. So little code does what the tree of frames does with less work: both have to tell the same, step by step.
+use crate::shown::{line_of, record_text};
+use asl_def::Machine;
+use asl_exec::{Execution, Outcome, Refusal};
+use asl_history::{EventKind, History, Place};
+use asl_json::{Name, write};
+use asl_kinds::StateKind;
+use asl_run::put_step;
+use asl_setup::{Emulation, Setup};
+use asl_states::State;
+use asl_steps::{
+    Children, Context, Draft, Effect, Ended, Facts, Record, Visit, error_output, idle, zeros,
+};
+use asl_time::Moment;
+use std::alloc::{AllocError, Global};
+use std::mem;
+use std::test::Fail;
+
+/// A step is taken while there are at most so many events.
+const FULL: usize = 24_992;
+
+#[derive(Drop)]
+struct Branch {
+    place: Place,
+    current: Record,
+}
+
+/// An execution. The branches are in the order of their places.
+struct Listed {
+    setup: Setup,
+    context: Context,
+    branches: Vec<Branch>,
+    counts: Vec<u32>,
+    history: History,
+    last: Moment,
+    outcome: Outcome,
+}
+
+// Written out, so that a caller's proof sees one call and not the drop of each part.
+impl Drop for Listed {
+    fn drop(self) {
+        let Listed {
+            setup: _setup,
+            context: _context,
+            branches: _branches,
+            counts: _counts,
+            history: _history,
+            last: _last,
+            outcome: _outcome,
+        } = self;
+    }
+}
+
+/// What the branch at a place is doing.
+fn record_at<'a>(branches: &'a [Branch], place: &Place) -> Option<&'a Record> {
+    for branch in branches {
+        if branch.place == *place {
+            return Some(&branch.current);
+        }
+    }
+    None
+}
+
+/// What the branches right under a place are doing.
+fn children_at<'a>(
+    alloc: Global,
+    branches: &'a [Branch],
+    place: &Place,
+) -> Result<Vec<&'a Record>, AllocError> {
+    let mut children = Vec::new(alloc);
+    for branch in branches {
+        if place.is_parent_of(&branch.place) {
+            children.push(&branch.current)?;
+        }
+    }
+    Ok(children)
+}
+
+/// The name of the Map of which the branch at a place is an iteration.
+fn forker_at<'a>(branches: &'a [Branch], place: &Place) -> Option<&'a Name> {
+    for branch in branches {
+        if branch.place.is_parent_of(place) {
+            return match &branch.current {
+                Record::Forked { state, items, .. } if items.len() > 0 => Some(state),
+                _ => None,
+            };
+        }
+    }
+    None
+}
+
+/// Whether a sibling of the place, or of a place above it, has failed.
+fn is_stopped(branches: &[Branch], place: &Place) -> bool {
+    for branch in branches {
+        if branch.current.is_failed() && place.is_beside(&branch.place) {
+            return true;
+        }
+    }
+    false
+}
+
+/// Whether no child has failed, and some child isn't done.
+fn is_busy(branches: &[Branch], place: &Place) -> bool {
+    let mut waits = false;
+    for branch in branches {
+        if place.is_parent_of(&branch.place) {
+            if branch.current.is_failed() {
+                return false;
+            }
+            if !branch.current.is_done() {
+                waits = true;
+            }
+        }
+    }
+    waits
+}
+
+/// The state that a branch is in, and its number.
+fn state_of<'a>(machine: &'a Machine, current: &Record) -> Option<(usize, &'a State)> {
+    let name = current.state()?;
+    machine.find(name.as_str())
+}
+
+/// The branch that steps, and the new ones under it.
+fn family(
+    alloc: Global,
+    place: &Place,
+    after: Record,
+    children: Children,
+) -> Result<Vec<Branch>, Fail> {
+    let mut family = Vec::new(alloc);
+    family.push(Branch {
+        place: place.try_clone(alloc)?,
+        current: after,
+    })?;
+    if let Children::Forked(records) = children {
+        let mut number = 0u32;
+        for current in records.list {
+            if number >= 1_000_000 {
+                return Err("too many branches")?;
+            }
+            let place = place.child(alloc, number)?;
+            family.push(Branch { place, current })?;
+            number += 1;
+        }
+    }
+    Ok(family)
+}
+
+/// The branches, with those of a family in the place of the first of it, and of those under it where they don't stay.
+fn rebuilt(
+    alloc: Global,
+    old: Vec<Branch>,
+    place: &Place,
+    keeps: bool,
+    family: Vec<Branch>,
+) -> Result<Vec<Branch>, AllocError> {
+    let mut new = Vec::new(alloc);
+    let mut family = family;
+    for branch in old {
+        if branch.place == *place {
+            new.append(&mut family)?;
+        } else if keeps || !place.is_prefix_of(&branch.place) {
+            new.push(branch)?;
+        }
+    }
+    Ok(new)
+}
+
+/// Raises the count of a state.
+fn raise(counts: &mut [u32], number: Option<usize>) {
+    let Some(number) = number else {
+        return;
+    };
+    if number < counts.len() {
+        counts[number] = counts[number].saturating_add(1);
+    }
+}
+
+/// Adds an event behind the others.
+fn tell(
+    alloc: Global,
+    history: &mut History,
+    moment: Moment,
+    place: &Place,
+    draft: Draft,
+) -> Result<(), AllocError> {
+    let at = place.try_clone(alloc)?;
+    history.reserve(1)?;
+    history.append(moment, draft.kind, at, draft.name, draft.body);
+    Ok(())
+}
+
+/// The branch that an execution begins with.
+fn first(alloc: Global, setup: &Setup) -> Result<Branch, AllocError> {
+    Ok(Branch {
+        place: Place::root(alloc),
+        current: Record::Ready {
+            state: Name::new(alloc, setup.machine.start())?,
+            input: setup.input.try_clone()?,
+        },
+    })
+}
+
+/// What stays the same as the execution goes on.
+fn facts(alloc: Global, setup: &Setup) -> Result<Facts, AllocError> {
+    Ok(Facts {
+        machine: Name::new(alloc, setup.name_of_machine.as_str())?,
+        name: Name::new(alloc, setup.name.as_str())?,
+        input: setup.input.try_clone()?,
+        start: setup.start,
+    })
+}
+
+/// A history of the event that tells of the start.
+fn started(alloc: Global, setup: &Setup) -> Result<History, AllocError> {
+    let mut history = History::new(alloc);
+    let draft = Draft {
+        kind: EventKind::ExecutionStarted,
+        name: Name::new(alloc, "")?,
+        body: setup.input.try_clone()?,
+    };
+    let root = Place::root(alloc);
+    tell(alloc, &mut history, setup.start, &root, draft)?;
+    Ok(history)
+}
+
+impl Listed {
+    fn open(alloc: Global, setup: Setup) -> Result<Listed, AllocError> {
+        let mut branches = Vec::new(alloc);
+        branches.push(first(alloc, &setup)?)?;
+        let counts = zeros(alloc, setup.machine.len())?;
+        let history = started(alloc, &setup)?;
+        let context = Context::new(alloc, facts(alloc, &setup)?)?;
+        let last = setup.start;
+        Ok(Listed {
+            setup,
+            context,
+            branches,
+            counts,
+            history,
+            last,
+            outcome: Outcome::Running,
+        })
+    }
+
+    /// The present moment of a step that is handed this one.
+    fn present(&self, moment: Moment) -> Moment {
+        if self.last.millis() < moment.millis() {
+            moment
+        } else {
+            self.last
+        }
+    }
+
+    fn refusal(&self, place: &Place, moment: Moment) -> Option<Refusal> {
+        if !matches!(&self.outcome, Outcome::Running) {
+            return Some(Refusal::Over);
+        }
+        let Some(current) = record_at(&self.branches, place) else {
+            return Some(Refusal::NoSuchPlace);
+        };
+        if is_stopped(&self.branches, place) {
+            return Some(Refusal::Stopped);
+        }
+        match current {
+            Record::Done(_) | Record::Failed(_) => return Some(Refusal::Finished),
+            Record::New { .. } | Record::Ready { .. } => {}
+            Record::Pausing { until, .. } | Record::Again { until, .. } => {
+                if self.present(moment).millis() < until.millis() {
+                    return Some(Refusal::NotYet(*until));
+                }
+            }
+            Record::Forked { .. } => {
+                if is_busy(&self.branches, place) {
+                    return Some(Refusal::Busy);
+                }
+            }
+        }
+        if self.history.len() > FULL {
+            Some(Refusal::HistoryFull)
+        } else {
+            None
+        }
+    }
+
+    /// What a step of a branch that runs does, and the number of its state.
+    fn planned(
+        &mut self,
+        alloc: Global,
+        place: &Place,
+        now: Moment,
+    ) -> Result<(Option<usize>, Effect), Fail> {
+        let current = record_at(&self.branches, place).ok_or("no branch")?;
+        let Some((number, state)) = state_of(&self.setup.machine, current) else {
+            return Ok((None, idle(alloc, current)?));
+        };
+        let children = children_at(alloc, &self.branches, place)?;
+        let visit = Visit {
+            place,
+            current,
+            children: &children,
+            forker: forker_at(&self.branches, place),
+            invokes: state.invokes(),
+            count: self.counts.get(number).copied().unwrap_or(0),
+            case: &self.setup.case,
+            moment: now,
+        };
+        let effect = state.visit(alloc, &visit, &mut self.context)?;
+        Ok((Some(number), effect))
+    }
+
+    fn apply(
+        &mut self,
+        alloc: Global,
+        place: &Place,
+        number: Option<usize>,
+        now: Moment,
+        effect: Effect,
+    ) -> Result<(), Fail> {
+        let Effect {
+            after,
+            children,
+            raises,
+            events,
+            outcome,
+        } = effect;
+        for draft in events.list {
+            tell(alloc, &mut self.history, now, place, draft)?;
+        }
+        let keeps = matches!(&children, Children::Kept);
+        let family = family(alloc, place, after, children)?;
+        let old = mem::replace(&mut self.branches, Vec::new(alloc));
+        self.branches = rebuilt(alloc, old, place, keeps, family)?;
+        if raises {
+            raise(&mut self.counts, number);
+        }
+        self.last = now;
+        match outcome {
+            None => {}
+            Some(Ended::Succeeded(output)) => self.outcome = Outcome::Succeeded(output),
+            Some(Ended::Failed(error)) => self.outcome = Outcome::Failed(error),
+        }
+        Ok(())
+    }
+
+    /// Takes a step, and tells why it is refused, if it is.
+    fn step(
+        &mut self,
+        alloc: Global,
+        place: &Place,
+        moment: Moment,
+    ) -> Result<Option<Refusal>, Fail> {
+        if let Some(refusal) = self.refusal(place, moment) {
+            return Ok(Some(refusal));
+        }
+        let now = self.present(moment);
+        let (number, effect) = self.planned(alloc, place, now)?;
+        self.apply(alloc, place, number, now, effect)?;
+        Ok(None)
+    }
+}
+
+/// An outcome as a text.
+fn outcome_text(alloc: Global, outcome: &Outcome) -> Result<String, Fail> {
+    Ok(match outcome {
+        Outcome::Running => String::from_str(alloc, "running")?,
+        Outcome::Succeeded(output) => write(alloc, output.get())?,
+        Outcome::Failed(error) => write(alloc, &error_output(alloc, error)?)?,
+    })
+}
+
+/// The line of a step's reply.
+fn reply_text(alloc: Global, place: &Place, reply: Option<Refusal>) -> Result<String, Fail> {
+    let mut text = String::new(alloc);
+    put_step(&mut text, place, reply)?;
+    Ok(text)
+}
+
+/// Parallels in one another, again and again: an inner one of a Task that is retried and a Wait, itself retried and caught; beside it a
+/// Task, and two Passes; around them one that is retried and caught.
+const AGAIN_AND_AGAIN: &str =
+    r#"{"StartAt":"O","States":{"O":{"Type":"Parallel","Branches":[{"StartAt":"I","States":{"I":{"Type":"Parallel","Parameters":{"n.$":"$$.State.RetryCount"},"Branches":[{"StartAt":"W","States":{"W":{"Type":"Task","Resource":"r","Retry":[{"ErrorEquals":["E"],"IntervalSeconds":1,"MaxAttempts":1}],"Next":"Lone"},"Lone":{"Type":"Succeed"}}},{"StartAt":"G","States":{"G":{"Type":"Pass","Next":"X"},"X":{"Type":"Wait","Seconds":1,"Next":"Y"},"Y":{"Type":"Succeed"}}}],"Retry":[{"ErrorEquals":["F"],"IntervalSeconds":1,"MaxAttempts":2,"BackoffRate":1}],"Catch":[{"ErrorEquals":["F"],"ResultPath":"$.why","Next":"R"}],"ResultPath":"$.i","End":true},"R":{"Type":"Pass","End":true}}},{"StartAt":"V","States":{"V":{"Type":"Task","Resource":"r","End":true}}},{"StartAt":"P","States":{"P":{"Type":"Pass","Next":"S"},"S":{"Type":"Succeed"}}}],"Retry":[{"ErrorEquals":["G"],"IntervalSeconds":1,"MaxAttempts":1}],"Catch":[{"ErrorEquals":["States.ALL"],"ResultPath":"$.failed","Next":"A"}],"ResultSelector":{"n.$":"States.ArrayLength($)","all.$":"$"},"ResultPath":"$.all","Next":"A"},"A":{"Type":"Pass","Result":{},"Next":"O"}}}"#;
+
+/// Each place at which a branch may run, and some at which none ever does.
+const PLACES: [&str; 12] = [
+    "/", "/0", "/0/0", "/0/1", "/1", "/2", "/0", "/0/0", "/0/1", "/", "/3", "/1/0",
+];
+
+/// What a Task answers to the invocation of this number.
+fn answer(number: usize) -> &'static str {
+    match number % 9 {
+        0 | 3 | 4 => r#"{"Throw":{"Error":"E"}}"#,
+        2 | 6 => r#"{"Throw":{"Error":"F","Cause":"f"}}"#,
+        5 => r#"{"Throw":{"Error":"G"}}"#,
+        _ => r#"{"Return":[1]}"#,
+    }
+}
+
+/// The mock file of a test case that answers the Tasks W and V in turn by what they return and throw.
+fn mocks(alloc: Global) -> Result<String, Fail> {
+    let mut text = String::from_str(
+        alloc,
+        r#"{"StateMachines":{"M":{"TestCases":{"c":{"W":"a","V":"b"}}}},"MockedResponses":{"b":{"3":{"Throw":{"Error":"G"}},"7":{"Throw":{"Error":"H"}},"0-2":{"Return":1},"4-6":{"Return":2},"8-9999":{"Return":3}},"a":{"#,
+    )?;
+    for number in 0..500 {
+        write!(text, "\"{number}\":{},", answer(number))?;
+    }
+    text.push_str(r#""500-9999":{"Return":null}}}}"#)?;
+    Ok(text)
+}
+
+fn setup(alloc: Global) -> Result<Setup, Fail> {
+    let emulation = Emulation::read(
+        alloc,
+        AGAIN_AND_AGAIN.as_bytes(),
+        mocks(alloc)?.as_bytes(),
+        "M#c",
+        b"{}",
+        b"",
+    );
+    Ok(emulation.map_err(|_| "refused")?.setup)
+}
+
+/// The places that are stepped and viewed.
+fn places(alloc: Global) -> Result<Vec<Place>, Fail> {
+    let mut places = Vec::new(alloc);
+    for text in PLACES {
+        places.push(Place::read(alloc, text)?.ok_or("no place")?)?;
+    }
+    Ok(places)
+}
+
+/// Whether the branches at these places do the same in both.
+fn are_same_views(
+    alloc: Global,
+    tree: &Execution,
+    list: &Listed,
+    places: &[Place],
+) -> Result<bool, Fail> {
+    for place in places {
+        let one = record_text(alloc, tree.view(place))?;
+        let other = record_text(alloc, record_at(&list.branches, place))?;
+        if one.as_str() != other.as_str() {
+            return Ok(false);
+        }
+    }
+    Ok(true)
+}
+
+/// Whether the events of both are the same, but for the first so many.
+fn are_same_events(
+    alloc: Global,
+    tree: &History,
+    list: &History,
+    known: usize,
+) -> Result<bool, Fail> {
+    for (one, other) in tree.events().iter().zip(list.events()).skip(known) {
+        let one = line_of(alloc, one)?;
+        let other = line_of(alloc, other)?;
+        if one.as_str() != other.as_str() {
+            return Ok(false);
+        }
+    }
+    Ok(tree.len() == list.len())
+}
+
+#[test]
+fn a_tree_of_frames_does_what_a_list_of_branches_does(rt: HostRuntime) -> Result<(), Fail> {
+    let alloc = rt.alloc();
+    let mut tree = Execution::open(alloc, setup(alloc)?)?;
+    let mut list = Listed::open(alloc, setup(alloc)?)?;
+    let places = places(alloc)?;
+    let mut replies = String::new(alloc);
+    let mut seed = 7u32;
+    let mut known = 0;
+    let mut millis = 0u64;
+    for number in 0..800u32 {
+        seed = seed.wrapping_mul(1_664_525).wrapping_add(1_013_904_223);
+        let place = places.get((seed >> 16) as usize % 12).ok_or("no place")?;
+        let moment = Moment::of_millis(millis).ok_or("no moment")?;
+        millis = millis.saturating_add(200);
+        let one = tree.step(place, moment).err();
+        let other = list.step(alloc, place, moment)?;
+        let reply = reply_text(alloc, place, one)?;
+        assert_eq!(rt; reply.as_str(), reply_text(alloc, place, other)?.as_str());
+        replies.push_str(&reply)?;
+        assert!(rt; are_same_views(alloc, &tree, &list, &places)?, "{number}");
+        let same = are_same_events(alloc, tree.history(), &list.history, known)?;
+        assert!(rt; same, "{number}");
+        known = list.history.len();
+    }
+    assert!(rt; are_same_events(alloc, tree.history(), &list.history, 0)?);
+    let one = outcome_text(alloc, tree.outcome())?;
+    assert_eq!(rt; one.as_str(), outcome_text(alloc, &list.outcome)?.as_str());
+    // The steps weren't all of one kind.
+    for reply in [" ok\n", " S2 ", " S3 ", " S4 ", " S5 ", " S7 "] {
+        assert!(rt; replies.contains(reply), "{reply}");
+    }
+    assert!(rt; known > 300, "{known}");
+    Ok(())
+}

@@ -1,0 +1,115 @@
+// Records and events as texts, so that tests can compare them.
+use asl_history::{Event, put_line};
+use asl_json::{Json, Name, Shared, put};
+use asl_steps::{ErrorOut, Record, Uses, error_output};
+use asl_time::Moment;
+use std::alloc::Global;
+use std::test::Fail;
+
+/// Appends the name of a state and its raw input.
+fn put_state(out: &mut String, state: &Name, input: &Shared) -> Result<(), Fail> {
+    out.push(' ')?;
+    out.push_str(state.as_str())?;
+    out.push(' ')?;
+    Ok(put(out, input.get())?)
+}
+
+/// Appends a moment in milliseconds.
+fn put_moment(out: &mut String, moment: Moment) -> Result<(), Fail> {
+    Ok(write!(out, " {}", moment.millis())?)
+}
+
+/// Appends how often each retrier was used.
+fn put_uses(out: &mut String, uses: &Uses) -> Result<(), Fail> {
+    let mut behind = " [";
+    for count in &uses.counts {
+        write!(out, "{behind}{count}")?;
+        behind = ",";
+    }
+    if uses.counts.is_empty() {
+        out.push_str(behind)?;
+    }
+    Ok(out.push(']')?)
+}
+
+/// Appends an error as its error output.
+fn put_error(alloc: Global, out: &mut String, error: &ErrorOut) -> Result<(), Fail> {
+    out.push(' ')?;
+    Ok(put(out, &error_output(alloc, error)?)?)
+}
+
+fn put_record(alloc: Global, out: &mut String, record: &Record) -> Result<(), Fail> {
+    match record {
+        Record::New { state, input } => {
+            out.push_str("New")?;
+            put_state(out, state, input)
+        }
+        Record::Ready { state, input } => {
+            out.push_str("Ready")?;
+            put_state(out, state, input)
+        }
+        Record::Pausing {
+            state,
+            input,
+            since,
+            until,
+        } => {
+            out.push_str("Pausing")?;
+            put_state(out, state, input)?;
+            put_moment(out, *since)?;
+            put_moment(out, *until)
+        }
+        Record::Again {
+            state,
+            input,
+            since,
+            uses,
+            until,
+        } => {
+            out.push_str("Again")?;
+            put_state(out, state, input)?;
+            put_moment(out, *since)?;
+            put_uses(out, uses)?;
+            put_moment(out, *until)
+        }
+        Record::Forked {
+            state,
+            input,
+            since,
+            uses,
+            items,
+        } => {
+            out.push_str("Forked")?;
+            put_state(out, state, input)?;
+            put_moment(out, *since)?;
+            put_uses(out, uses)?;
+            out.push(' ')?;
+            Ok(put(out, &Json::List(items.try_clone(alloc)?))?)
+        }
+        Record::Done(output) => {
+            out.push_str("Done ")?;
+            Ok(put(out, output.get())?)
+        }
+        Record::Failed(error) => {
+            out.push_str("Failed")?;
+            put_error(alloc, out, error)
+        }
+    }
+}
+
+/// A record as a text: its kind, then its fields in order, moments in milliseconds; `none` for none.
+pub(crate) fn record_text(alloc: Global, record: Option<&Record>) -> Result<String, Fail> {
+    let mut text = String::new(alloc);
+    match record {
+        None => text.push_str("none")?,
+        Some(record) => put_record(alloc, &mut text, record)?,
+    }
+    Ok(text)
+}
+
+/// The line of an event.
+pub(crate) fn line_of(alloc: Global, event: &Event) -> Result<String, Fail> {
+    let mut line = String::new(alloc);
+    put_line(&mut line, event)?;
+    Ok(line)
+}
