@@ -33,6 +33,7 @@ picked_sound (r ∷ rs) cs h = opt_sound r.name (kept r.name (value_at r.name cs
 arranged_sound : (s : Sort) (rs : List Row) (ms cs : Pairs) → AreSoundMembers ms → AreSoundMembers cs → IsSound (arranged s rs ms cs)
 arranged_sound sort.Definition rs ms cs d h = picked_sound rs cs h
 arranged_sound sort.Machine rs ms cs d h = picked_sound rs cs h
+arranged_sound sort.ItemProcessor rs ms cs d h = picked_sound rs cs h
 arranged_sound sort.State rs ms cs d h = picked_sound rs cs h
 arranged_sound sort.Rule rs ms cs d h = picked_sound rs cs h
 arranged_sound sort.InnerRule rs ms cs d h = picked_sound rs cs h

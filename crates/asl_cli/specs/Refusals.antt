@@ -1,5 +1,5 @@
 -- What is read for a command, what is judged or emulated then, and why nothing is.
-use Rattle.std.specs.Prelude.{ℕ, Bool, List, [], ◌∷◌, ◌≡◌, ◌++◌, ◌⊎◌, ⊤, codes}
+use Rattle.std.specs.Prelude.{ℕ, Bool, Option, Some, None, option_map, List, [], ◌∷◌, ◌≡◌, ◌++◌, ◌⊎◌, ⊤, codes}
 use Rattle.asl_json.specs.Data.{Data}
 use Rattle.asl_json.specs.Compact.{compact}
 use Rattle.asl_check.specs.Judged.{IsDefinition, IsMachineOf, IsFaultOf}
@@ -7,36 +7,73 @@ use Rattle.asl_check.specs.Lines.{fault_line as definition_fault_line}
 use Rattle.asl_check.specs.declared.fault.Fault.{Fault}
 use Rattle.asl_check.specs.declared.fault.Fault.TheVariants as fault
 use Rattle.asl_setup.specs.declared.fault.EmulateFault.{EmulateFault}
-use Rattle.asl_exec.specs.Emulations.{IsRunOf}
-use Rattle.asl_setup.specs.Emulations.{IsRefused}
+use Rattle.asl_exec.specs.Emulations.{IsRunOf, IsDrivenRunOf}
+use Rattle.asl_setup.specs.Emulations.{IsRefused, IsSetupRefused}
 use Rattle.asl_setup.specs.Texts.{Unless, refusal_line}
 use Rattle.asl_cli.specs.declared.refusal.Refusal.{Refusal}
 use Rattle.asl_cli.specs.declared.refusal.Refusal.TheVariants.{File, Definition, Emulation, OutOfMemory}
 use Rattle.asl_host.specs.declared.words.DefinitionWords.{DefinitionWords}
 use Rattle.asl_host.specs.declared.words.RunWords.{RunWords}
 
--- the files that the words name may give these bytes: a definition, mocks, an input and steps
-abbrev pub IsGiven : (List ℕ → List ℕ → Type 0) → RunWords → List ℕ → List ℕ → List ℕ → List ℕ → Type 0
-IsGiven gives w definition mocks input steps =
-    gives w.definition.now definition × gives w.mocks.now mocks × gives w.input.now input × gives w.steps.now steps
+-- the name of the file of steps, where there is one
+abbrev pub steps_name : RunWords → Option (List ℕ)
+steps_name w = option_map (λ name. name.now) w.steps
 
--- the run of what the files may give prints this text and is good or not
-pub record IsEmulated (gives : List ℕ → List ℕ → Type 0) (w : RunWords) (text : List ℕ) (good : Bool) : Type 0 where
+-- the files that the words name may give these bytes: a definition, mocks and an input
+abbrev pub IsGiven : (List ℕ → List ℕ → Type 0) → RunWords → List ℕ → List ℕ → List ℕ → Type 0
+IsGiven gives w definition mocks input = gives w.definition.now definition × gives w.mocks.now mocks × gives w.input.now input
+
+-- the run of what the files may give, by this file of steps, prints this text and is good or not
+pub record IsStepped (gives : List ℕ → List ℕ → Type 0) (w : RunWords) (name : List ℕ) (text : List ℕ) (good : Bool) : Type 0 where
   pub definition : List ℕ
   pub mocks : List ℕ
   pub input : List ℕ
   pub steps : List ℕ
-  pub given : IsGiven gives w definition mocks input steps
+  pub given : IsGiven gives w definition mocks input
+  pub given_steps : gives name steps
   pub is_run : IsRunOf definition mocks w.chosen.now input steps text good
 
--- what the files may give is refused for this fault
-pub record IsRefusedFor (gives : List ℕ → List ℕ → Type 0) (w : RunWords) (fault : EmulateFault) : Type 0 where
+-- at most so many steps are taken where no file names them
+abbrev pub most_steps : ℕ
+most_steps = 10_000
+
+-- the same by the steps that come next
+pub record IsDriven (gives : List ℕ → List ℕ → Type 0) (w : RunWords) (text : List ℕ) (good : Bool) : Type 0 where
+  pub definition : List ℕ
+  pub mocks : List ℕ
+  pub input : List ℕ
+  pub given : IsGiven gives w definition mocks input
+  pub is_run : IsDrivenRunOf definition mocks w.chosen.now input most_steps text good
+
+abbrev pub IsEmulatedBy : (List ℕ → List ℕ → Type 0) → RunWords → Option (List ℕ) → List ℕ → Bool → Type 0
+IsEmulatedBy gives w None text good = IsDriven gives w text good
+IsEmulatedBy gives w (Some name) text good = IsStepped gives w name text good
+
+-- the run that the words ask for prints this text and is good or not
+abbrev pub IsEmulated : (List ℕ → List ℕ → Type 0) → RunWords → List ℕ → Bool → Type 0
+IsEmulated gives w text good = IsEmulatedBy gives w (steps_name w) text good
+
+-- what the files may give is refused for this fault, with this file of steps
+pub record IsRefusedSteps (gives : List ℕ → List ℕ → Type 0) (w : RunWords) (name : List ℕ) (fault : EmulateFault) : Type 0 where
   pub definition : List ℕ
   pub mocks : List ℕ
   pub input : List ℕ
   pub steps : List ℕ
-  pub given : IsGiven gives w definition mocks input steps
+  pub given : IsGiven gives w definition mocks input
+  pub given_steps : gives name steps
   pub refused : Unless (IsRefused definition mocks w.chosen.now input steps) fault
+
+-- the same without such a file
+pub record IsRefusedSetup (gives : List ℕ → List ℕ → Type 0) (w : RunWords) (fault : EmulateFault) : Type 0 where
+  pub definition : List ℕ
+  pub mocks : List ℕ
+  pub input : List ℕ
+  pub given : IsGiven gives w definition mocks input
+  pub refused : Unless (IsSetupRefused definition mocks w.chosen.now input) fault
+
+abbrev pub IsRefusedBy : (List ℕ → List ℕ → Type 0) → RunWords → Option (List ℕ) → EmulateFault → Type 0
+IsRefusedBy gives w None fault = IsRefusedSetup gives w fault
+IsRefusedBy gives w (Some name) fault = IsRefusedSteps gives w name fault
 
 -- a file that can't be read is the one of this name, and may be lacking
 abbrev pub IsUnread : (List ℕ → Type 0) → List ℕ → Refusal → Type 0
@@ -47,13 +84,13 @@ IsUnread lacks wanted OutOfMemory = ⊤
 
 -- the words name the file
 abbrev pub IsNamed : RunWords → List ℕ → Type 0
-IsNamed w name = (name ≡ w.definition.now) ⊎ (name ≡ w.mocks.now) ⊎ (name ≡ w.input.now) ⊎ (name ≡ w.steps.now)
+IsNamed w name = (name ≡ w.definition.now) ⊎ (name ≡ w.mocks.now) ⊎ (name ≡ w.input.now) ⊎ (Some name ≡ steps_name w)
 
 -- why nothing is emulated: a file that the words name may be lacking, what was read is refused, or memory ran out
 abbrev pub IsReason : (List ℕ → List ℕ → Type 0) → (List ℕ → Type 0) → RunWords → Refusal → Type 0
 IsReason gives lacks w (File name) = IsNamed w name.now × lacks name.now
 IsReason gives lacks w (Definition fault) = ⊥
-IsReason gives lacks w (Emulation fault) = IsRefusedFor gives w fault
+IsReason gives lacks w (Emulation fault) = IsRefusedBy gives w (steps_name w) fault
 IsReason gives lacks w OutOfMemory = ⊤
 
 -- the file that the word names may give a definition without faults

@@ -1,13 +1,13 @@
 // The program behind its words, files and streams.
-ghost use Rattle.std.specs.Prelude.{◌≡◌, ◌⊎◌, List, ℕ, string_bytes, IfOk, IfErr};
+ghost use Rattle.std.specs.Prelude.{◌≡◌, ◌⊎◌, List, ℕ, Some, None, string_bytes, IfOk, IfErr};
 ghost use Rattle.asl_cli.specs.Answers.{IsRan, IsChecked, IsFormPrinted, IsAnswered};
 ghost use Rattle.asl_host.specs.Outcomes.{status_of, IsPrinted, IsTold};
-ghost use Rattle.asl_cli.specs.Refusals.{IsEmulated, IsReason, IsUnread};
+ghost use Rattle.asl_cli.specs.Refusals.{steps_name, IsStepped, IsDriven, IsEmulated, IsReason, IsUnread};
 
 use crate::checking::check;
 use crate::printing::print;
 use crate::refusal::Refusal;
-use asl_exec::{Emulated, emulate};
+use asl_exec::{Emulated, emulate, emulate_driven};
 use asl_history::Sink;
 use asl_host::{
     DefinitionWords, Files, GivenFault, ReadFault, RunWords, Words, malformed_word, read_words,
@@ -23,6 +23,9 @@ use std::convert::AsStr;
 const GOOD: u8 = 0;
 /// The status where an execution didn't end in success.
 const FAILED: u8 = 1;
+/// So many steps are taken at most where no file names them.
+const MOST_STEPS: u32 = 10_000;
+
 /// The status where a command line, a file or its content is refused, or a write fails.
 pub(crate) const REFUSED: u8 = 2;
 
@@ -88,10 +91,27 @@ fn emulate_files<'a, F: Files>(
     ensures emulated { IfOk result (λ e. IsEmulated (F.gives files.old) words.now (string_bytes e.text) e.good) }
     ensures refused { IfErr result (IsReason (F.gives files.old) (F.lacks files.old) words.now) }
 {
+    match words.steps {
+        Some(name) => emulate_steps(alloc, words, name, files),
+        None => emulate_next(alloc, words, files),
+    }
+}
+
+/// The same by a file of steps.
+fn emulate_steps<'a, F: Files>(
+    alloc: Global,
+    words: &RunWords<'a>,
+    name: &'a str,
+    files: &mut F,
+) -> Result<Emulated, Refusal<'a>>
+    requires { steps_name words.now ≡ Some name.now }
+    ensures emulated { IfOk result (λ e. IsStepped (F.gives files.old) words.now name.now (string_bytes e.text) e.good) }
+    ensures refused { IfErr result (IsReason (F.gives files.old) (F.lacks files.old) words.now) }
+{
     let definition = read_file(alloc, files, words.definition)?;
     let mocks = read_file(alloc, files, words.mocks)?;
     let input = read_file(alloc, files, words.input)?;
-    let steps = read_file(alloc, files, words.steps)?;
+    let steps = read_file(alloc, files, name)?;
     let answer = emulate(
         alloc,
         definition.as_slice(),
@@ -99,6 +119,34 @@ fn emulate_files<'a, F: Files>(
         words.chosen,
         input.as_slice(),
         steps.as_slice(),
+    );
+    match answer {
+        Ok(emulated) => Ok(emulated),
+        Err(EmulateFault::OutOfMemory) => Err(Refusal::OutOfMemory),
+        Err(fault) => Err(Refusal::Emulation(fault)),
+    }
+}
+
+/// The same by the steps that come next.
+fn emulate_next<'a, F: Files>(
+    alloc: Global,
+    words: &RunWords<'a>,
+    files: &mut F,
+) -> Result<Emulated, Refusal<'a>>
+    requires { steps_name words.now ≡ None }
+    ensures emulated { IfOk result (λ e. IsDriven (F.gives files.old) words.now (string_bytes e.text) e.good) }
+    ensures refused { IfErr result (IsReason (F.gives files.old) (F.lacks files.old) words.now) }
+{
+    let definition = read_file(alloc, files, words.definition)?;
+    let mocks = read_file(alloc, files, words.mocks)?;
+    let input = read_file(alloc, files, words.input)?;
+    let answer = emulate_driven(
+        alloc,
+        definition.as_slice(),
+        mocks.as_slice(),
+        words.chosen,
+        input.as_slice(),
+        MOST_STEPS,
     );
     match answer {
         Ok(emulated) => Ok(emulated),

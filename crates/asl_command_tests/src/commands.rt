@@ -24,6 +24,16 @@ step / ok
 status SUCCEEDED {"a":{"b":7}}
 "#;
 
+/// What the same run prints where no file names its steps.
+const DRIVEN: &str = r#"1 0 1970-01-01T00:00:00.000Z / ExecutionStarted "" {}
+2 1 1970-01-01T00:00:00.000Z / PassStateEntered "P" {}
+3 2 1970-01-01T00:00:00.000Z / PassStateExited "P" {"a":{"b":7}}
+4 3 1970-01-01T00:00:00.000Z / SucceedStateEntered "S" {"a":{"b":7}}
+5 4 1970-01-01T00:00:00.000Z / SucceedStateExited "S" {"a":{"b":7}}
+6 5 1970-01-01T00:00:00.000Z / ExecutionSucceeded "" {"a":{"b":7}}
+status SUCCEEDED {"a":{"b":7}}
+"#;
+
 /// A command line whose files are all there.
 const RUN: [&str; 8] = [
     "asl", "run", "machine", "mocks", "M", "input", "--steps", "steps",
@@ -154,6 +164,19 @@ fn prints_an_execution_that_succeeds(rt: HostRuntime) {
     assert_eq!(rt; text(&err), "");
     assert_eq!(rt; status, 0);
     assert_eq!(rt; files.asked.as_str(), "machine mocks input steps ");
+}
+
+#[test]
+fn without_steps_takes_those_that_come_next(rt: HostRuntime) {
+    let alloc = rt.alloc();
+    let words = ["asl", "run", "machine", "mocks", "M", "input"];
+    let mut files = make_shelf(alloc, DEFINITION, "no step");
+    let (mut out, mut err) = (Memory::new(alloc), Memory::new(alloc));
+    let status = run_words(alloc, words.as_slice(), &mut files, &mut out, &mut err);
+    assert_eq!(rt; text(&out), DRIVEN);
+    assert_eq!(rt; text(&err), "");
+    assert_eq!(rt; status, 0);
+    assert_eq!(rt; files.asked.as_str(), "machine mocks input ");
 }
 
 /// Definitions, and what `check` prints and tells of each.
@@ -325,7 +348,7 @@ fn help_goes_to_standard_output(rt: HostRuntime) {
         (&["asl", "help"], "Usage: asl <COMMAND>"),
         (
             &["asl", "run", "--help"],
-            "Usage: asl run --steps <FILE> <DEF> <MOCKS> <CHOSEN> <INPUT>",
+            "Usage: asl run [OPTIONS] <DEF> <MOCKS> <CHOSEN> <INPUT>",
         ),
         (&["asl", "--version"], "asl 0.1.0"),
     ];
@@ -341,30 +364,31 @@ fn help_goes_to_standard_output(rt: HostRuntime) {
 #[test]
 fn wrong_command_lines_are_told_on_standard_error(rt: HostRuntime) {
     let alloc = rt.alloc();
-    let cases: [(&[&str], &str); 7] = [
-        (&[], "requires a subcommand"),
-        (&["asl", "check"], "<DEF>"),
-        (&["asl", "print"], "<DEF>"),
-        (&["asl"], "requires a subcommand"),
-        (&["asl", "walk"], "unrecognized subcommand 'walk'"),
+    // The words, what is told of them, and whether the usage is (clap leaves it out where an option has no value).
+    let cases: [(&[&str], &str, bool); 7] = [
+        (&[], "requires a subcommand", true),
+        (&["asl", "check"], "<DEF>", true),
+        (&["asl", "print"], "<DEF>", true),
+        (&["asl"], "requires a subcommand", true),
+        (&["asl", "walk"], "unrecognized subcommand 'walk'", true),
         (
             &["asl", "run", "machine", "mocks", "M", "--steps", "steps"],
             "<INPUT>",
+            true,
         ),
         (
-            &["asl", "run", "machine", "mocks", "M", "input"],
-            "--steps <FILE>",
+            &["asl", "run", "machine", "mocks", "M", "input", "--steps"],
+            "a value is required for '--steps <FILE>'",
+            false,
         ),
     ];
-    for (words, want) in cases {
+    for (words, want, has_usage) in cases {
         let mut files = make_shelf(alloc, DEFINITION, TWO_STEPS);
         let (mut out, mut err) = (Memory::new(alloc), Memory::new(alloc));
         let status = run_words(alloc, words, &mut files, &mut out, &mut err);
-        assert!(rt;
-            text(&err).contains(want) && text(&err).contains("Usage: "),
-            "{}",
-            text(&err)
-        );
+        assert!(rt; text(&err).contains(want), "{}", text(&err));
+        assert_eq!(rt; text(&err).contains("Usage: "), has_usage);
+        assert!(rt; text(&err).ends_with("For more information, try '--help'.\n"));
         assert!(rt; status == 2 && out.bytes().is_empty() && files.asked.is_empty());
     }
     let mut err = Memory::new(alloc);

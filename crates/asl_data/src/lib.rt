@@ -14,6 +14,6 @@ mod reason;
 
 pub use delay::{moment_at, seconds_at};
 pub use fault::{Fault, missing, raised};
-pub use paths::{copied, empty_object, put_into, taken};
+pub use paths::{copied, empty_object, part_of, put_into, taken};
 pub use payload::filled;
 pub use reason::text_at;

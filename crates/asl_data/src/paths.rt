@@ -42,7 +42,7 @@ fn part(alloc: Global, field: &str, path: &RefPath, value: &Json) -> Result<Shar
 }
 
 /// The part of a value, or of the Context Object, that a field's path names.
-fn part_of(
+pub fn part_of(
     alloc: Global,
     field: &str,
     path: &RefPath,

@@ -1,6 +1,6 @@
 -- The table of a definition is built state by state.
 use Rattle.std.proofs.Common.{◌≡◌, ℕ, ◌+◌, ◌<◌, ◌≤◌, List, [], ◌∷◌, ◌++◌, Bool, true, false, ◌&&◌, length, map, take, drop, get_or, refl, sym, subst, ◌∙◌, ap, arith, append_assoc, length-append}
-use Rattle.std.specs.Prelude.{Some, Result, Ok, Err, IfOk, OnOk, option_map, codes, string_bytes, max, nat_le}
+use Rattle.std.specs.Prelude.{Option, Some, None, is_some, Result, Ok, Err, IfOk, OnOk, option_map, codes, string_bytes, max, nat_le}
 use Rattle.std.proofs.lemmas.Bool.Decides.{nat_tests}
 use Rattle.std.proofs.lemmas.List.{take_more, take_all, drop_at, append-nil, map-append, length-map}
 use Rattle.asl_json.specs.Data.{Data, Pairs, no_members, member, Chain, depth, members_depth, text, list, dict, chain, pairs}
@@ -14,14 +14,15 @@ use Rattle.asl_schema.specs.declared.sort.Sort.{Sort}
 use Rattle.asl_schema.specs.declared.sort.Sort.TheVariants as sort
 use Rattle.asl_schema.specs.declared.sort.Kind.{Kind}
 use Rattle.asl_schema.specs.declared.sort.Kind.TheVariants as kind
-use Rattle.asl_schema.specs.Members.{Shape, shape_in, state_shape, sort_at, kind_named, machine_rows, parallel_rows, map_rows}
+use Rattle.asl_schema.specs.Members.{Shape, shape_in, state_shape, sort_at, kind_named, machine_rows, item_processor_rows, parallel_rows, map_rows}
 use Rattle.asl_schema.specs.Claims.{item_count, is_nonempty}
 use Rattle.asl_schema.specs.States.{states_in, member_states}
 use Rattle.asl_schema.specs.Canon.{Named, canon, kept_at, opt}
 use Rattle.asl_schema.specs.Clean.{IsClean, Fits, IsThere}
 use Rattle.asl_schema.proofs.Inside.{fits_at, object_inside}
 use Rattle.asl_schema.proofs.Canons.{plain_kept}
-use Rattle.asl_schema.proofs.Required.{machine_start, machine_states as states_there}
+use Rattle.asl_schema.proofs.Required.{machine_start, machine_states as states_there, item_processor_start, item_processor_states as processor_states_there}
+use Rattle.asl_schema.proofs.Ways.{processor_one}
 use Rattle.asl_members.proofs.Items.{canon_each}
 use Rattle.asl_parts.specs.declared.body.Body.{Body}
 use Rattle.asl_def.specs.declared.build.Own.{Own}
@@ -30,16 +31,20 @@ use Rattle.asl_states.specs.declared.state.State.{State}
 use Rattle.asl_states.specs.declared.state.State.TheVariants.{Task, Pass, Choice, Wait, Parallel, Map, Succeed, Fail}
 use Rattle.asl_states.specs.declared.parallel.Parallel.{Parallel as ParallelState}
 use Rattle.asl_states.specs.declared.map.Map.{Map as MapState}
-use Rattle.asl_parts.specs.Bodies.{body_of, bodies_of, IsWithin, AreWithin}
-use Rattle.asl_states.specs.Show.{state_of, parallel_object, map_object, StateIsWithin}
+use Rattle.asl_members.specs.declared.processor.ProcessorConfig.{ProcessorConfig}
+use Rattle.asl_members.specs.Shown.{config_shown}
+use Rattle.asl_states.specs.declared.processor.Processor.{Processor}
+use Rattle.asl_states.specs.declared.processor.Processor.TheVariants.{Iterator, ItemProcessor}
+use Rattle.asl_parts.specs.Bodies.{body_of, bodies_of, processor_of, IsWithin, AreWithin}
+use Rattle.asl_states.specs.Show.{state_of, parallel_object, map_object, body_in, machine_shown, as_iterator, as_item_processor, StateIsWithin}
 use Rattle.asl_def.specs.Machines.{all_states}
 use Rattle.asl_parts.specs.Built.{IsOfKind}
-use Rattle.asl_def.specs.Built.{HasRoom, HasRoomFor, Grows, IsBody, AreBodies, IsState, IsSpan, AreOwn, OwnAreWithin, row_in, rows_in, canon_row, canon_rows, tally}
+use Rattle.asl_def.specs.Built.{HasRoom, HasRoomInside, HasRoomFor, Grows, GrowsInside, IsMachine, IsCompiled, IsBody, AreBodies, IsState, IsSpan, AreOwn, OwnAreWithin, row_in, rows_in, canon_row, canon_rows, tally}
 use Rattle.asl_def.proofs.Tables.{state_of-append, bodies_of-append}
 use Rattle.asl_def.proofs.Tally.{tally-append, own_once, tally-rows, tally_member, inner, tally_states, inner_at, within_items, tally_items, items_at}
-use Rattle.asl_def.proofs.Gathers.{has_machines, no_states, parallel_states, map_states, machine_states, items_all, machines_states, items_all-push, inner_all, inner_all-push, own_states_are, canon_states}
-use Rattle.asl_states.proofs.Canonical.{machine_is, kept_so}
-use Rattle.asl_parts.proofs.Fits.{is_there}
+use Rattle.asl_def.proofs.Gathers.{has_machines, no_states, parallel_states, iterator_states, processor_states, machine_states, item_processor_states, kept_there, kept_none, items_all, machines_states, items_all-push, inner_all, inner_all-push, own_states_are, canon_states}
+use Rattle.asl_states.proofs.Canonical.{machine_is, item_processor_is, kept_so}
+use Rattle.asl_parts.proofs.Fits.{is_there, clean_in}
 
 -- ---- longer tables
 
@@ -49,7 +54,7 @@ bodies_more m n (b ∷ bs) h le = (let w : b.first + b.count ≤ m = h.0 in omeg
 
 pub within_more : (m n : ℕ) (s : State) → StateIsWithin m s → m ≤ n → StateIsWithin n s
 within_more m n (Parallel x) h le = bodies_more m n x.branches h le
-within_more m n (Map x) h le = let w : x.iterator.first + x.iterator.count ≤ m = h in omega arith
+within_more m n (Map x) h le = let w : (body_in x.processor).first + (body_in x.processor).count ≤ m = h in omega arith
 within_more m n (Task x) h le = tt
 within_more m n (Pass x) h le = tt
 within_more m n (Choice x) h le = tt
@@ -248,41 +253,93 @@ member_grows before t s q ms name d parts e at same g =
       named = λ k. omega (arith, h.named k, ap (tally k) (parts k), tally_member k name (shape_in s ms) 0 ms d at);
     }
 
-pub states_room : (t : List Named) (ms : Pairs) (own : Data) → value_at (codes "States") ms ≡ Some own → HasRoom t sort.Machine (dict ms) → HasRoom t sort.States own
+there_is : (s : Sort) (o : Option Data) → IsThere s o → (d : Data) × (o ≡ Some d)
+there_is s None h = absurd h
+there_is s (Some d) h = (d, refl)
+
+-- in either spelling
+
+pub machine_clean : (ms : Pairs) → IsClean sort.Machine (dict ms) → IsMachine ms
 unfolding machine_rows
-states_room t ms own at room = member_room t sort.Machine sort.States ms (codes "States") own (λ k. refl) refl at room
+machine_clean ms c =
+    let inside = object_inside c.names sort.Machine ms refl c.is in
+    record {
+      comment = fits_at _ (shape_in sort.Machine ms) ms (codes "Comment") inside;
+      start = is_there _ sort.Target (value_at (codes "StartAt") ms) (machine_start _ (kind_named (value_at (codes "Type") ms)) ms inside);
+      states = is_there _ sort.States (value_at (codes "States") ms) (states_there _ (kind_named (value_at (codes "Type") ms)) ms inside);
+    }
 
-pub body_grows : (before t : List Named) (ms own : Pairs) → value_at (codes "States") ms ≡ Some (dict own) → Grows sort.States (dict own) before t → Grows sort.Machine (dict ms) before t
+pub processor_clean : (ms : Pairs) → IsClean sort.ItemProcessor (dict ms) → IsMachine ms
+unfolding item_processor_rows
+processor_clean ms c =
+    let inside = object_inside c.names sort.ItemProcessor ms refl c.is in
+    record {
+      comment = fits_at _ (shape_in sort.ItemProcessor ms) ms (codes "Comment") inside;
+      start = is_there _ sort.Target (value_at (codes "StartAt") ms) (item_processor_start _ (kind_named (value_at (codes "Type") ms)) ms inside);
+      states = is_there _ sort.States (value_at (codes "States") ms) (processor_states_there _ (kind_named (value_at (codes "Type") ms)) ms inside);
+    }
+
+pub config_fits : (ms : Pairs) → IsClean sort.ItemProcessor (dict ms) → Fits sort.ProcessorConfig (value_at (codes "ProcessorConfig") ms)
+unfolding item_processor_rows
+config_fits ms c = fits_at _ (shape_in sort.ItemProcessor ms) ms (codes "ProcessorConfig") (object_inside c.names sort.ItemProcessor ms refl c.is)
+
+pub machine_room : (t : List Named) (ms : Pairs) → HasRoom t sort.Machine (dict ms) → HasRoomInside t ms
 unfolding machine_rows
-body_grows before t ms own at g = member_grows before t sort.Machine sort.States ms (codes "States") (dict own) (λ k. refl) refl at (machine_states ms own at) g
+machine_room t ms room = record { own = λ d at. member_room t sort.Machine sort.States ms (codes "States") d (λ k. refl) refl at room }
 
-pub comment_fits : (ms : Pairs) → IsClean sort.Machine (dict ms) → Fits sort.Text (value_at (codes "Comment") ms)
+pub processor_room : (t : List Named) (ms : Pairs) → HasRoom t sort.ItemProcessor (dict ms) → HasRoomInside t ms
+unfolding item_processor_rows
+processor_room t ms room = record { own = λ d at. member_room t sort.ItemProcessor sort.States ms (codes "States") d (λ k. refl) refl at room }
+
+pub grows_inside : (before t : List Named) (ms own : Pairs) → value_at (codes "States") ms ≡ Some (dict own) → Grows sort.States (dict own) before t → GrowsInside ms before t
+grows_inside before t ms own at g = record { own = λ d e. let same : dict own ≡ d = let x = sym at ∙ e in cc in subst (λ (x : Data). Grows sort.States x before t) same g }
+
+pub machine_grows : (before t : List Named) (ms : Pairs) → IsMachine ms → GrowsInside ms before t → Grows sort.Machine (dict ms) before t
 unfolding machine_rows
-comment_fits ms c = fits_at _ (shape_in sort.Machine ms) ms (codes "Comment") (object_inside c.names sort.Machine ms refl c.is)
+machine_grows before t ms h g =
+    let own = there_is sort.States (value_at (codes "States") ms) h.states in
+    member_grows before t sort.Machine sort.States ms (codes "States") own.0 (λ k. refl) refl own.1 (machine_states ms own.0 own.1) (g.own own.0 own.1)
 
-pub start_is_there : (ms : Pairs) → IsClean sort.Machine (dict ms) → IsThere sort.Target (value_at (codes "StartAt") ms)
-start_is_there ms c = is_there _ sort.Target (value_at (codes "StartAt") ms) (machine_start _ (kind_named (value_at (codes "Type") ms)) ms (object_inside c.names sort.Machine ms refl c.is))
+pub processor_grows : (before t : List Named) (ms : Pairs) → IsMachine ms → GrowsInside ms before t → Grows sort.ItemProcessor (dict ms) before t
+unfolding item_processor_rows
+processor_grows before t ms h g =
+    let own = there_is sort.States (value_at (codes "States") ms) h.states in
+    member_grows before t sort.ItemProcessor sort.States ms (codes "States") own.0 (λ k. refl) refl own.1 (item_processor_states ms own.0 own.1) (g.own own.0 own.1)
 
-pub states_are_there : (ms : Pairs) → IsClean sort.Machine (dict ms) → IsThere sort.States (value_at (codes "States") ms)
-states_are_there ms c = is_there _ sort.States (value_at (codes "States") ms) (states_there _ (kind_named (value_at (codes "Type") ms)) ms (object_inside c.names sort.Machine ms refl c.is))
-
-pub body_shows : (t : List Named) (ms : Pairs) (own : List Named) (b : Body) (s : Span)
+pub compiled : (t : List Named) (ms : Pairs) (own : List Named) (b : Body) (s : Span)
     → option_map text b.comment ≡ value_at (codes "Comment") ms
     → Some (text b.start.name) ≡ value_at (codes "StartAt") ms
     → value_at (codes "States") ms ≡ Some (dict (pairs own))
     → IsSpan t own s → b.first ≡ s.first → b.count ≡ s.count
-    → IsBody t (dict ms) b
-unfolding machine_rows
-body_shows t ms own b s e1 e2 e3 span first count =
-    let p1 = e1 ∙ sym (plain_kept (codes "Comment") sort.Text ms refl refl) in
-    let p2 = e2 ∙ sym (plain_kept (codes "StartAt") sort.Target ms refl refl) in
+    → IsCompiled t ms b
+compiled t ms own b s e1 e2 e3 span first count =
     let slice : take b.count (drop b.first t) ≡ canon_rows own = rw (first, count) span.shows in
-    let p3 : Some (dict (pairs (take b.count (drop b.first t)))) ≡ kept_at (codes "States") sort.States ms =
-    ap (λ (xs : List Named). Some (dict (pairs xs))) slice ∙ ap (λ (d : Data). Some d) (sym (canon_states own)) ∙ ap (option_map (canon sort.States)) (sym e3) ∙ sym (kept_so (codes "States") (option_map (canon sort.States) (value_at (codes "States") ms)) refl) in
     record {
       within = rw (first, count) span.within;
+      comment = e1;
+      start = e2;
+      states = ap (λ (xs : List Named). Some (dict (pairs xs))) slice ∙ ap (λ (d : Data). Some d) (sym (canon_states own)) ∙ ap (option_map (canon sort.States)) (sym e3) ∙ sym (kept_so (codes "States") (option_map (canon sort.States) (value_at (codes "States") ms)) refl);
+    }
+
+pub body_shows : (t : List Named) (ms : Pairs) (b : Body) → IsCompiled t ms b → IsBody t (dict ms) b
+unfolding machine_rows
+body_shows t ms b h =
+    let p1 = h.comment ∙ sym (plain_kept (codes "Comment") sort.Text ms refl refl) in
+    let p2 = h.start ∙ sym (plain_kept (codes "StartAt") sort.Target ms refl refl) in
+    let p3 = h.states in
+    record {
+      within = h.within;
       shows = (λ i. dict (pairs (opt (codes "Comment") (p1 i) ++ (opt (codes "StartAt") (p2 i) ++ (opt (codes "States") (p3 i) ++ []))))) ∙ sym (machine_is ms);
     }
+
+pub processor_shows : (t : List Named) (ms : Pairs) (c : Option ProcessorConfig) (b : Body) → IsCompiled t ms b → option_map config_shown c ≡ value_at (codes "ProcessorConfig") ms → processor_of t c b ≡ canon sort.ItemProcessor (dict ms)
+unfolding item_processor_rows
+processor_shows t ms c b h e =
+    let p1 = h.comment ∙ sym (plain_kept (codes "Comment") sort.Text ms refl refl) in
+    let p2 = e ∙ sym (plain_kept (codes "ProcessorConfig") sort.ProcessorConfig ms refl refl) in
+    let p3 = h.start ∙ sym (plain_kept (codes "StartAt") sort.Target ms refl refl) in
+    let p4 = h.states in
+    (λ i. dict (pairs (opt (codes "Comment") (p1 i) ++ (opt (codes "ProcessorConfig") (p2 i) ++ (opt (codes "StartAt") (p3 i) ++ (opt (codes "States") (p4 i) ++ [])))))) ∙ sym (item_processor_is ms)
 
 -- ---- a state
 
@@ -311,33 +368,64 @@ pub branches_room : (t : List Named) (ms : List Named) (d : Data) → IsOfKind k
 unfolding parallel_rows
 branches_room t ms d h at room = member_room t sort.State sort.Machines (pairs ms) (codes "Branches") d (λ k. refl) (ap (λ (sh : Shape). sort_at sh (codes "Branches")) (in_state (pairs ms) kind.Parallel h.is)) at room
 
-pub iterator_room : (t : List Named) (ms : List Named) (d : Data) → IsOfKind kind.Map ms → value_at (codes "Iterator") (pairs ms) ≡ Some d → HasRoom t sort.State (dict (pairs ms)) → HasRoom t sort.Machine d
+pub iterator_room : (t : List Named) (ms own : List Named) → IsOfKind kind.Map ms → value_at (codes "Iterator") (pairs ms) ≡ Some (dict (pairs own)) → HasRoom t sort.State (dict (pairs ms)) → HasRoomInside t (pairs own)
 unfolding map_rows
-iterator_room t ms d h at room = member_room t sort.State sort.Machine (pairs ms) (codes "Iterator") d (λ k. refl) (ap (λ (sh : Shape). sort_at sh (codes "Iterator")) (in_state (pairs ms) kind.Map h.is)) at room
+iterator_room t ms own h at room = machine_room t (pairs own) (member_room t sort.State sort.Machine (pairs ms) (codes "Iterator") (dict (pairs own)) (λ k. refl) (ap (λ (sh : Shape). sort_at sh (codes "Iterator")) (in_state (pairs ms) kind.Map h.is)) at room)
+
+pub item_processor_room : (t : List Named) (ms own : List Named) → IsOfKind kind.Map ms → value_at (codes "ItemProcessor") (pairs ms) ≡ Some (dict (pairs own)) → HasRoom t sort.State (dict (pairs ms)) → HasRoomInside t (pairs own)
+unfolding map_rows
+item_processor_room t ms own h at room = processor_room t (pairs own) (member_room t sort.State sort.ItemProcessor (pairs ms) (codes "ItemProcessor") (dict (pairs own)) (λ k. refl) (ap (λ (sh : Shape). sort_at sh (codes "ItemProcessor")) (in_state (pairs ms) kind.Map h.is)) at room)
 
 pub parallel_grows : (before t ms : List Named) (ds : Chain) → IsOfKind kind.Parallel ms → value_at (codes "Branches") (pairs ms) ≡ Some (list ds) → Grows sort.Machines (list ds) before t → Grows sort.State (dict (pairs ms)) before t
 unfolding parallel_rows
 parallel_grows before t ms ds h at g = member_grows before t sort.State sort.Machines (pairs ms) (codes "Branches") (list ds) (λ k. refl) (ap (λ (sh : Shape). sort_at sh (codes "Branches")) (in_state (pairs ms) kind.Parallel h.is)) at (parallel_states (pairs ms) ds h.is at) g
 
-pub map_grows : (before t ms : List Named) (own : Pairs) → IsOfKind kind.Map ms → value_at (codes "Iterator") (pairs ms) ≡ Some (dict own) → Grows sort.Machine (dict own) before t → Grows sort.State (dict (pairs ms)) before t
+-- a Map with an Iterator, or with an ItemProcessor
+
+pub iterator_clean : (ms : List Named) (d : Data) → IsOfKind kind.Map ms → Some d ≡ value_at (codes "Iterator") (pairs ms) → IsClean sort.Machine d
 unfolding map_rows
-map_grows before t ms own h at g = member_grows before t sort.State sort.Machine (pairs ms) (codes "Iterator") (dict own) (λ k. refl) (ap (λ (sh : Shape). sort_at sh (codes "Iterator")) (in_state (pairs ms) kind.Map h.is)) at (map_states (pairs ms) own h.is at) g
+iterator_clean ms d h at = clean_in kind.Map ms (codes "Iterator") sort.Machine d refl h at
+
+pub item_processor_clean : (ms : List Named) (d : Data) → IsOfKind kind.Map ms → Some d ≡ value_at (codes "ItemProcessor") (pairs ms) → IsClean sort.ItemProcessor d
+unfolding map_rows
+item_processor_clean ms d h at = clean_in kind.Map ms (codes "ItemProcessor") sort.ItemProcessor d refl h at
+
+none_of : (o : Option Data) → is_some o ≡ false → o ≡ None
+none_of None e = refl
+none_of (Some d) e = absurd cc
+
+pub no_iterator : (ms : List Named) (d : Data) → IsOfKind kind.Map ms → value_at (codes "ItemProcessor") (pairs ms) ≡ Some d → value_at (codes "Iterator") (pairs ms) ≡ None
+no_iterator ms d h at = none_of (value_at (codes "Iterator") (pairs ms)) (processor_one h.names (pairs ms) h.inside (ap is_some at))
+
+pub iterator_grows : (before t ms : List Named) (own : Pairs) → IsOfKind kind.Map ms → value_at (codes "Iterator") (pairs ms) ≡ Some (dict own) → value_at (codes "ItemProcessor") (pairs ms) ≡ None → IsMachine own → GrowsInside own before t → Grows sort.State (dict (pairs ms)) before t
+unfolding map_rows
+iterator_grows before t ms own h at off m g = member_grows before t sort.State sort.Machine (pairs ms) (codes "Iterator") (dict own) (λ k. refl) (ap (λ (sh : Shape). sort_at sh (codes "Iterator")) (in_state (pairs ms) kind.Map h.is)) at (iterator_states (pairs ms) (dict own) h.is at off) (machine_grows before t own m g)
+
+pub item_processor_grows : (before t ms : List Named) (own : Pairs) → IsOfKind kind.Map ms → value_at (codes "ItemProcessor") (pairs ms) ≡ Some (dict own) → IsMachine own → GrowsInside own before t → Grows sort.State (dict (pairs ms)) before t
+unfolding map_rows
+item_processor_grows before t ms own h at m g = member_grows before t sort.State sort.ItemProcessor (pairs ms) (codes "ItemProcessor") (dict own) (λ k. refl) (ap (λ (sh : Shape). sort_at sh (codes "ItemProcessor")) (in_state (pairs ms) kind.Map h.is)) at (processor_states (pairs ms) (dict own) h.is (no_iterator ms (dict own) h at) at) (processor_grows before t own m g)
 
 pub branches_kept : (t ms : List Named) (ds : List Data) (bs : List Body) → value_at (codes "Branches") (pairs ms) ≡ Some (list (chain ds)) → AreBodies t ds bs → Some (list (chain (bodies_of t bs))) ≡ kept_at (codes "Branches") sort.Machines (pairs ms)
 branches_kept t ms ds bs at h =
     ap (λ (xs : List Data). Some (list (chain xs))) h.shows ∙ ap (λ (c : Chain). Some (list c)) (canon_each sort.Machine ds) ∙ ap (option_map (canon sort.Machines)) (sym at) ∙ sym (kept_so (codes "Branches") (option_map (canon sort.Machines) (value_at (codes "Branches") (pairs ms))) refl)
 
-pub iterator_kept : (t ms : List Named) (d : Data) (b : Body) → value_at (codes "Iterator") (pairs ms) ≡ Some d → IsBody t d b → Some (body_of t b) ≡ kept_at (codes "Iterator") sort.Machine (pairs ms)
-iterator_kept t ms d b at h =
-    ap (λ (x : Data). Some x) h.shows ∙ ap (option_map (canon sort.Machine)) (sym at) ∙ sym (kept_so (codes "Iterator") (option_map (canon sort.Machine) (value_at (codes "Iterator") (pairs ms))) refl)
-
 pub parallel_is : {E : Type 0} (r : Result ParallelState E) (t ms : List Named) (ds : List Data) (bs : List Body) → value_at (codes "Branches") (pairs ms) ≡ Some (list (chain ds)) → AreBodies t ds bs → IfOk r (λ x. x.branches ≡ bs) → IfOk r (λ x. (u : List Named) → Some (list (chain (bodies_of u bs))) ≡ kept_at (codes "Branches") sort.Machines (pairs ms) → parallel_object u x ≡ canon sort.State (dict (pairs ms))) → IfOk r (λ x. IsState t (dict (pairs ms)) (Parallel x))
 parallel_is (Ok x) t ms ds bs at h e f = record { within = subst (AreWithin (length t)) (sym e) h.within; shows = f t (branches_kept t ms ds bs at h) }
 parallel_is (Err y) t ms ds bs at h e f = tt
 
-pub map_is : {E : Type 0} (r : Result MapState E) (t ms : List Named) (d : Data) (b : Body) → value_at (codes "Iterator") (pairs ms) ≡ Some d → IsBody t d b → IfOk r (λ x. x.iterator ≡ b) → IfOk r (λ x. (u : List Named) → Some (body_of u b) ≡ kept_at (codes "Iterator") sort.Machine (pairs ms) → map_object u x ≡ canon sort.State (dict (pairs ms))) → IfOk r (λ x. IsState t (dict (pairs ms)) (Map x))
-map_is (Ok x) t ms d b at h e f = record { within = subst (IsWithin (length t)) (sym e) h.within; shows = f t (iterator_kept t ms d b at h) }
-map_is (Err y) t ms d b at h e f = tt
+pub iterator_stands : {E : Type 0} (r : Result MapState E) (t ms own : List Named) (b : Body) → value_at (codes "Iterator") (pairs ms) ≡ Some (dict (pairs own)) → value_at (codes "ItemProcessor") (pairs ms) ≡ None → IsCompiled t (pairs own) b → IfOk r (λ x. x.processor ≡ Iterator b) → IfOk r (λ x. (u : List Named) → as_iterator (Iterator b) (machine_shown u (Iterator b)) ≡ kept_at (codes "Iterator") sort.Machine (pairs ms) → as_item_processor (Iterator b) (machine_shown u (Iterator b)) ≡ kept_at (codes "ItemProcessor") sort.ItemProcessor (pairs ms) → map_object u x ≡ canon sort.State (dict (pairs ms))) → IfOk r (λ x. IsState t (dict (pairs ms)) (Map x))
+iterator_stands (Ok x) t ms own b at off h e f = record {
+  within = subst (λ (p : Processor). IsWithin (length t) (body_in p)) (sym e) h.within;
+  shows = f t (ap Some (body_shows t (pairs own) b h).shows ∙ sym (kept_there (codes "Iterator") sort.Machine (pairs ms) (dict (pairs own)) refl at)) (sym (kept_none (codes "ItemProcessor") sort.ItemProcessor (pairs ms) off));
+}
+iterator_stands (Err y) t ms own b at off h e f = tt
+
+pub item_processor_stands : {E : Type 0} (r : Result MapState E) (t ms own : List Named) (c : Option ProcessorConfig) (b : Body) → IsOfKind kind.Map ms → value_at (codes "ItemProcessor") (pairs ms) ≡ Some (dict (pairs own)) → IsCompiled t (pairs own) b → option_map config_shown c ≡ value_at (codes "ProcessorConfig") (pairs own) → IfOk r (λ x. x.processor ≡ ItemProcessor c b) → IfOk r (λ x. (u : List Named) → as_iterator (ItemProcessor c b) (machine_shown u (ItemProcessor c b)) ≡ kept_at (codes "Iterator") sort.Machine (pairs ms) → as_item_processor (ItemProcessor c b) (machine_shown u (ItemProcessor c b)) ≡ kept_at (codes "ItemProcessor") sort.ItemProcessor (pairs ms) → map_object u x ≡ canon sort.State (dict (pairs ms))) → IfOk r (λ x. IsState t (dict (pairs ms)) (Map x))
+item_processor_stands (Ok x) t ms own c b k at h cs e f = record {
+  within = subst (λ (p : Processor). IsWithin (length t) (body_in p)) (sym e) h.within;
+  shows = f t (sym (kept_none (codes "Iterator") sort.Machine (pairs ms) (no_iterator ms (dict (pairs own)) k at))) (ap Some (processor_shows t (pairs own) c b h cs) ∙ sym (kept_there (codes "ItemProcessor") sort.ItemProcessor (pairs ms) (dict (pairs own)) refl at));
+}
+item_processor_stands (Err y) t ms own c b k at h cs e f = tt
 
 pub on_ok : {A E : Type 0} (r : Result A E) (P : Type 0) → P → OnOk r P
 on_ok (Ok x) P h = h

@@ -1,19 +1,20 @@
 -- The states of a canonical object.
 use Rattle.std.proofs.Common.{◌≡◌, ℕ, List, [], ◌∷◌, ◌++◌, Bool, true, false, refl, sym, ◌∙◌, ap, subst, append_assoc}
-use Rattle.std.specs.Prelude.{Option, Some, None, codes, if◌then◌else◌}
+use Rattle.std.specs.Prelude.{Option, Some, None, codes, option_map, if◌then◌else◌}
 use Rattle.std.proofs.lemmas.List.{append-nil}
 use Rattle.asl_json.specs.Data.{Data, Pairs, member, Chain, null, boolean, number, text, list, dict, chain, pairs}
+use Rattle.asl_json.specs.Same.{bytes_eq}
 use Rattle.asl_json.specs.Meaning.{value_at}
 use Rattle.asl_json.specs.View.{unpaired-pairs}
 use Rattle.asl_schema.specs.declared.sort.Sort.{Sort}
 use Rattle.asl_schema.specs.declared.sort.Sort.TheVariants as sort
 use Rattle.asl_schema.specs.declared.sort.Kind.{Kind}
 use Rattle.asl_schema.specs.declared.sort.Kind.TheVariants as kind
-use Rattle.asl_schema.specs.Members.{Row, Shape, kind_rows, state_shape, shape_of, shape_in, sort_at, kind_named, definition_rows, machine_rows, task_rows, pass_rows, choice_rows, wait_rows, parallel_rows, map_rows, succeed_rows, fail_rows}
-use Rattle.asl_schema.specs.Canon.{Named, opt, kept_at, canon, canon_members, picked_at, kind_text}
+use Rattle.asl_schema.specs.Members.{Row, Shape, kind_rows, state_shape, shape_of, shape_in, sort_at, kind_named, definition_rows, machine_rows, item_processor_rows, task_rows, pass_rows, choice_rows, wait_rows, parallel_rows, map_rows, succeed_rows, fail_rows}
+use Rattle.asl_schema.specs.Canon.{Named, opt, kept, kept_at, canon, canon_members, picked_at, kind_text}
 use Rattle.asl_def.specs.Machines.{holds_states, all_states, states_of_members}
 use Rattle.asl_def.specs.Built.{canon_rows}
-use Rattle.asl_states.proofs.Canonical.{kind_is, typed, machine_is, definition_is}
+use Rattle.asl_states.proofs.Canonical.{kind_is, typed, kept_so, machine_is, item_processor_is, definition_is}
 
 leaf : (s : Sort) (d : Data) → holds_states s ≡ false → all_states s d ≡ []
 leaf s null e = refl
@@ -116,20 +117,46 @@ pub parallel_states : (ms : Pairs) (ds : Chain) → kind_named (value_at (codes 
 unfolding parallel_rows
 parallel_states ms ds h e = state_states kind.Parallel ms h ∙ one_there (state_shape (Some kind.Parallel)) (codes "Branches") (kept_at (codes "Branches") sort.Machines ms) (canon sort.Machines (list ds)) (rw e refl)
 
-pub map_states : (ms own : Pairs) → kind_named (value_at (codes "Type") ms) ≡ Some kind.Map → value_at (codes "Iterator") ms ≡ Some (dict own) → all_states sort.State (canon sort.State (dict ms)) ≡ all_states sort.Machine (canon sort.Machine (dict own))
+-- a member whose value is there, and one that isn't
+pub kept_there : (k : List ℕ) (s : Sort) (ms : Pairs) (d : Data) → bytes_eq k (codes "End") ≡ false → value_at k ms ≡ Some d → kept_at k s ms ≡ Some (canon s d)
+kept_there k s ms d n e = kept_so k (option_map (canon s) (value_at k ms)) n ∙ ap (option_map (canon s)) e
+
+pub kept_none : (k : List ℕ) (s : Sort) (ms : Pairs) → value_at k ms ≡ None → kept_at k s ms ≡ None
+kept_none k s ms e = ap (λ (o : Option Data). kept k (option_map (canon s) o)) e
+
+first_there : (sh : Shape) (k l : List ℕ) (o p : Option Data) (d : Data) → o ≡ Some d → p ≡ None → states_at sh k o ++ (states_at sh l p ++ []) ≡ all_states (sort_at sh k) d
+first_there sh k l o p d e f = ap (λ (x : Option Data). states_at sh k o ++ (states_at sh l x ++ [])) f ∙ one_there sh k o d e
+
+second_there : (sh : Shape) (k l : List ℕ) (o p : Option Data) (d : Data) → o ≡ None → p ≡ Some d → states_at sh k o ++ (states_at sh l p ++ []) ≡ all_states (sort_at sh l) d
+second_there sh k l o p d e f = ap (λ (x : Option Data). states_at sh k x ++ (states_at sh l p ++ [])) e ∙ one_there sh l p d f
+
+pub iterator_states : (ms : Pairs) (d : Data) → kind_named (value_at (codes "Type") ms) ≡ Some kind.Map → value_at (codes "Iterator") ms ≡ Some d → value_at (codes "ItemProcessor") ms ≡ None → all_states sort.State (canon sort.State (dict ms)) ≡ all_states sort.Machine (canon sort.Machine d)
 unfolding map_rows
-map_states ms own h e = state_states kind.Map ms h ∙ one_there (state_shape (Some kind.Map)) (codes "Iterator") (kept_at (codes "Iterator") sort.Machine ms) (canon sort.Machine (dict own)) (rw e refl)
+iterator_states ms d h e f = state_states kind.Map ms h ∙ first_there (state_shape (Some kind.Map)) (codes "Iterator") (codes "ItemProcessor") (kept_at (codes "Iterator") sort.Machine ms) (kept_at (codes "ItemProcessor") sort.ItemProcessor ms) (canon sort.Machine d) (kept_there (codes "Iterator") sort.Machine ms d refl e) (kept_none (codes "ItemProcessor") sort.ItemProcessor ms f)
+
+pub processor_states : (ms : Pairs) (d : Data) → kind_named (value_at (codes "Type") ms) ≡ Some kind.Map → value_at (codes "Iterator") ms ≡ None → value_at (codes "ItemProcessor") ms ≡ Some d → all_states sort.State (canon sort.State (dict ms)) ≡ all_states sort.ItemProcessor (canon sort.ItemProcessor d)
+unfolding map_rows
+processor_states ms d h e f = state_states kind.Map ms h ∙ second_there (state_shape (Some kind.Map)) (codes "Iterator") (codes "ItemProcessor") (kept_at (codes "Iterator") sort.Machine ms) (kept_at (codes "ItemProcessor") sort.ItemProcessor ms) (canon sort.ItemProcessor d) (kept_none (codes "Iterator") sort.Machine ms e) (kept_there (codes "ItemProcessor") sort.ItemProcessor ms d refl f)
 
 -- ---- of machines
 
-pub machine_states : (ms own : Pairs) → value_at (codes "States") ms ≡ Some (dict own) → all_states sort.Machine (canon sort.Machine (dict ms)) ≡ all_states sort.States (canon sort.States (dict own))
+pub machine_states : (ms : Pairs) (d : Data) → value_at (codes "States") ms ≡ Some d → all_states sort.Machine (canon sort.Machine (dict ms)) ≡ all_states sort.States (canon sort.States d)
 unfolding machine_rows
-machine_states ms own e =
+machine_states ms d e =
     let cs = picked_at (shape_of sort.Machine None) machine_rows ms in
     ap (all_states sort.Machine) (machine_is ms)
     ∙ append-nil (states_of_members (shape_of sort.Machine None) (pairs cs))
     ∙ rows_are (shape_of sort.Machine None) machine_rows ms
-    ∙ one_there (shape_of sort.Machine None) (codes "States") (kept_at (codes "States") sort.States ms) (canon sort.States (dict own)) (rw e refl)
+    ∙ one_there (shape_of sort.Machine None) (codes "States") (kept_at (codes "States") sort.States ms) (canon sort.States d) (kept_there (codes "States") sort.States ms d refl e)
+
+pub item_processor_states : (ms : Pairs) (d : Data) → value_at (codes "States") ms ≡ Some d → all_states sort.ItemProcessor (canon sort.ItemProcessor (dict ms)) ≡ all_states sort.States (canon sort.States d)
+unfolding item_processor_rows
+item_processor_states ms d e =
+    let cs = picked_at (shape_of sort.ItemProcessor None) item_processor_rows ms in
+    ap (all_states sort.ItemProcessor) (item_processor_is ms)
+    ∙ append-nil (states_of_members (shape_of sort.ItemProcessor None) (pairs cs))
+    ∙ rows_are (shape_of sort.ItemProcessor None) item_processor_rows ms
+    ∙ one_there (shape_of sort.ItemProcessor None) (codes "States") (kept_at (codes "States") sort.States ms) (canon sort.States d) (kept_there (codes "States") sort.States ms d refl e)
 
 pub definition_states : (ms own : Pairs) → value_at (codes "States") ms ≡ Some (dict own) → all_states sort.Definition (canon sort.Definition (dict ms)) ≡ all_states sort.States (canon sort.States (dict own))
 unfolding definition_rows

@@ -14,15 +14,17 @@ use Rattle.asl_parts.specs.declared.body.Body.{Body}
 use Rattle.asl_def.specs.Machines.{number_at}
 use Rattle.asl_schema.specs.Canon.{Named}
 use Rattle.asl_parts.specs.Bodies.{body_of, bodies_of, IsWithin, AreWithin}
-use Rattle.asl_states.specs.Show.{state_of, shown, StateIsWithin, AreInOrder}
+use Rattle.asl_states.specs.Show.{state_of, shown, body_in, StateIsWithin, AreInOrder}
 
 -- what goes on behind does not change what is shown
-pub body_of-append : (t r : List Named) (b : Body) → IsWithin (length t) b → body_of (t ++ r) b ≡ body_of t b
-body_of-append t r b h =
+slice-append : (t r : List Named) (b : Body) → IsWithin (length t) b → take b.count (drop b.first (t ++ r)) ≡ take b.count (drop b.first t)
+slice-append t r b h =
     let front : drop b.first (t ++ r) ≡ drop b.first t ++ r = drop-append-le b.first t r (omega arith) in
     let long : b.count ≤ length (drop b.first t) = omega (arith, length-drop b.first t) in
-    let same : take b.count (drop b.first (t ++ r)) ≡ take b.count (drop b.first t) = ap (take b.count) front ∙ take-append-le b.count (drop b.first t) r long in
-    rw same refl
+    ap (take b.count) front ∙ take-append-le b.count (drop b.first t) r long
+
+pub body_of-append : (t r : List Named) (b : Body) → IsWithin (length t) b → body_of (t ++ r) b ≡ body_of t b
+body_of-append t r b h = rw (slice-append t r b h) refl
 
 pub bodies_of-append : (t r : List Named) (bs : List Body) → AreWithin (length t) bs → bodies_of (t ++ r) bs ≡ bodies_of t bs
 bodies_of-append t r [] h = refl
@@ -34,7 +36,7 @@ state_of-append t r (Pass x) h = refl
 state_of-append t r (Choice x) h = refl
 state_of-append t r (Wait x) h = refl
 state_of-append t r (Parallel x) h = rw (bodies_of-append t r x.branches h) refl
-state_of-append t r (Map x) h = rw (body_of-append t r x.iterator h) refl
+state_of-append t r (Map x) h = rw (slice-append t r (body_in x.processor) h) refl
 state_of-append t r (Succeed x) h = refl
 state_of-append t r (Fail x) h = refl
 

@@ -1,11 +1,13 @@
 -- What is built of a definition without faults.
-use Rattle.std.specs.Prelude.{◌≡◌, ◌+◌, ◌≤◌, ℕ, List, [], ◌∷◌, ◌++◌, length, map, if◌then◌else◌, take, drop, string_bytes}
-use Rattle.asl_json.specs.Data.{Data}
+use Rattle.std.specs.Prelude.{◌≡◌, ◌+◌, ◌≤◌, ℕ, List, [], ◌∷◌, ◌++◌, length, map, Some, option_map, codes, if◌then◌else◌, take, drop, string_bytes}
+use Rattle.asl_json.specs.Data.{Data, Pairs, text, dict, pairs}
 use Rattle.asl_json.specs.Same.{bytes_eq}
+use Rattle.asl_json.specs.Meaning.{value_at}
 use Rattle.asl_schema.specs.declared.sort.Sort.{Sort}
-use Rattle.asl_schema.specs.declared.sort.Sort.TheVariants.{State as state_sort, Machine}
+use Rattle.asl_schema.specs.declared.sort.Sort.TheVariants.{State as state_sort, Machine, States, Text, Target}
 use Rattle.asl_schema.specs.States.{states_in}
-use Rattle.asl_schema.specs.Canon.{Named, canon}
+use Rattle.asl_schema.specs.Canon.{Named, canon, kept_at}
+use Rattle.asl_schema.specs.Clean.{Fits, IsThere}
 use Rattle.asl_parts.specs.declared.body.Body.{Body}
 use Rattle.asl_states.specs.declared.state.State.{State}
 use Rattle.asl_parts.specs.Bodies.{body_of, bodies_of, IsWithin, AreWithin}
@@ -27,6 +29,26 @@ pub record HasRoom (t : List Named) (s : Sort) (d : Data) : Type 0 where
 pub record Grows (s : Sort) (d : Data) (old new : List Named) : Type 0 where
   pub is : new ≡ old ++ all_states s (canon s d)
   pub named : (k : List ℕ) → tally k new ≤ tally k old + tally k (states_in s d)
+
+-- the same of the states of a machine, by its members
+pub record HasRoomInside (t : List Named) (ms : Pairs) : Type 0 where
+  pub own : (d : Data) → value_at (codes "States") ms ≡ Some d → HasRoom t States d
+
+pub record GrowsInside (ms : Pairs) (old new : List Named) : Type 0 where
+  pub own : (d : Data) → value_at (codes "States") ms ≡ Some d → Grows States d old new
+
+-- the members of a machine inside a state are such as they are compiled from
+pub record IsMachine (ms : Pairs) : Type 0 where
+  pub comment : Fits Text (value_at (codes "Comment") ms)
+  pub start : IsThere Target (value_at (codes "StartAt") ms)
+  pub states : IsThere States (value_at (codes "States") ms)
+
+-- and are compiled
+pub record IsCompiled (t : List Named) (ms : Pairs) (b : Body) : Type 0 where
+  pub within : IsWithin (length t) b
+  pub comment : option_map text b.comment ≡ value_at (codes "Comment") ms
+  pub start : Some (text b.start.name) ≡ value_at (codes "StartAt") ms
+  pub states : Some (dict (pairs (take b.count (drop b.first t)))) ≡ kept_at (codes "States") States ms
 
 pub record IsBody (t : List Named) (d : Data) (b : Body) : Type 0 where
   pub within : IsWithin (length t) b

@@ -13,6 +13,7 @@ use Rattle.asl_schema.specs.Canon.{Named}
 abbrev pub holds_states : Sort → Bool
 holds_states sort.Definition = true
 holds_states sort.Machine = true
+holds_states sort.ItemProcessor = true
 holds_states sort.Machines = true
 holds_states sort.States = true
 holds_states sort.State = true

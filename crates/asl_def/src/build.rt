@@ -4,7 +4,7 @@ ghost use Rattle.asl_json.specs.View.{data_of};
 ghost use Rattle.asl_json.specs.Meaning.{value_at};
 ghost use Rattle.asl_json.specs.Data.{text, list, dict, chain, pairs};
 ghost use Rattle.asl_json.specs.Distinct.{AreDistinct};
-ghost use Rattle.asl_schema.specs.declared.sort.Sort.TheVariants.{Machine as machine_sort, Machines as machines_sort, State as state_sort, States as states_sort};
+ghost use Rattle.asl_schema.specs.declared.sort.Sort.TheVariants.{Machines as machines_sort, State as state_sort, States as states_sort};
 ghost use Rattle.asl_schema.specs.declared.sort.Form.TheVariants.{Object, List as ListForm};
 ghost use Rattle.asl_schema.specs.Demands.{is_of};
 ghost use Rattle.asl_schema.specs.declared.sort.Kind.TheVariants.{Parallel as parallel_kind, Map as map_kind};
@@ -12,14 +12,14 @@ ghost use Rattle.asl_schema.specs.Members.{kind_named as spec_kind_named};
 ghost use Rattle.asl_schema.specs.Canon.{Named, canon};
 ghost use Rattle.asl_schema.specs.Clean.{IsClean};
 ghost use Rattle.asl_parts.specs.Built.{IsOfKind};
-ghost use Rattle.asl_def.specs.Built.{Grows, HasRoom, HasRoomFor, IsBody, AreBodies, IsState, IsSpan, AreOwn, rows_in};
+ghost use Rattle.asl_def.specs.Built.{Grows, GrowsInside, HasRoom, HasRoomInside, HasRoomFor, IsMachine, IsCompiled, AreBodies, IsState, IsSpan, AreOwn, rows_in};
 
 use crate::table::Table;
 use asl_json::{Items, Json, Members};
 use asl_members::read_optional;
 use asl_schema::{Kind, kind_named};
 use asl_states::{
-    Bodies, Body, Choice, Fail, Map, Parallel, Pass, State, Succeed, Target, Task, Wait,
+    Bodies, Body, Choice, Fail, Map, Parallel, Pass, Processor, State, Succeed, Target, Task, Wait,
 };
 use std::alloc::{AllocError, Global};
 
@@ -101,11 +101,17 @@ fn map(alloc: Global, table: &mut Table, members: &Members) -> Result<Map, Alloc
     ensures grows { OnOk result (Grows state_sort (dict (pairs members.now)) table.old table.new) }
     ensures state { IfOk result (λ x. IsState table.new (dict (pairs members.now)) (State.Map x)) }
 {
+    if let Some(processor) = members.find("ItemProcessor") {
+        let machine = object_in(processor);
+        let config = read_optional(alloc, machine.find("ProcessorConfig"))?;
+        let body = body(alloc, table, machine)?;
+        return Map::read(alloc, members, Processor::ItemProcessor(config, body));
+    }
     let Some(iterator) = members.find("Iterator") else {
         unreachable!();
     };
-    let iterator = body(alloc, table, object_in(iterator))?;
-    Map::read(alloc, members, iterator)
+    let body = body(alloc, table, object_in(iterator))?;
+    Map::read(alloc, members, Processor::Iterator(body))
 }
 
 #[cycle(build)]
@@ -145,12 +151,13 @@ fn bodies(alloc: Global, table: &mut Table, machines: &Items) -> Result<Vec<Body
     Ok(bodies)
 }
 
+/// A machine inside a state, whatever it is called there.
 #[cycle(build)]
 fn body(alloc: Global, table: &mut Table, members: &Members) -> Result<Body, AllocError>
-    requires clean { IsClean machine_sort (dict (pairs members.now)) }
-    requires room { HasRoom table.old machine_sort (dict (pairs members.now)) }
-    ensures grows { OnOk result (Grows machine_sort (dict (pairs members.now)) table.old table.new) }
-    ensures body { IfOk result (λ b. IsBody table.new (dict (pairs members.now)) b) }
+    requires machine { IsMachine (pairs members.now) }
+    requires room { HasRoomInside table.old (pairs members.now) }
+    ensures grows { OnOk result (GrowsInside (pairs members.now) table.old table.new) }
+    ensures body { IfOk result (λ b. IsCompiled table.new (pairs members.now) b) }
 {
     let comment = read_optional(alloc, members.find("Comment"))?;
     let start = Target::read(alloc, members.find("StartAt"))?;

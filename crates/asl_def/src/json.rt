@@ -1,23 +1,30 @@
 // Machines as JSON.
 ghost use Rattle.std.specs.Prelude.{◌≡◌, ◌≤◌, ◌+◌, IfOk, length, take, drop};
 ghost use Rattle.asl_json.specs.View.{data_of};
-ghost use Rattle.asl_parts.specs.Bodies.{IsWithin, AreWithin, body_of, bodies_of};
+ghost use Rattle.asl_parts.specs.Bodies.{IsWithin, AreWithin, bodies_of, processor_of};
 ghost use Rattle.asl_states.specs.Show.{StateIsWithin, state_of};
 
 use crate::table::Table;
 use asl_json::{Items, Json, Members, Txt};
-use asl_members::object;
+use asl_members::{ProcessorConfig, object};
 use asl_parts::{and, with_optional};
 use asl_states::{Body, State};
 use std::alloc::{AllocError, Global};
 
-/// The canonical object of a machine inside a definition. The error is that memory ran out.
+/// The canonical object of a machine inside a definition; `config` is its `ProcessorConfig`, which an `ItemProcessor` may have.
+/// The error is that memory ran out.
 #[cycle(json)]
-pub(crate) fn body_json(alloc: Global, table: &Table, body: &Body) -> Result<Json, AllocError>
+pub(crate) fn body_json(
+    alloc: Global,
+    table: &Table,
+    config: Option<ProcessorConfig>,
+    body: &Body,
+) -> Result<Json, AllocError>
     requires { IsWithin (length table.now) body.now }
-    ensures { IfOk result (λ j. data_of j ≡ body_of table.now body.now) }
+    ensures { IfOk result (λ j. data_of j ≡ processor_of table.now config body.now) }
 {
     let own = with_optional(alloc, Vec::new(alloc), "Comment", &body.comment)?;
+    let own = with_optional(alloc, own, "ProcessorConfig", &config)?;
     let start = body.start.json(alloc)?;
     let own = and(own, "StartAt", Some(start))?;
     let states = states_json(alloc, table, body.first, body.count)?;
@@ -71,7 +78,11 @@ fn state_json(
             let branches = bodies_json(alloc, table, number, parallel.branches.as_slice())?;
             parallel.json(alloc, branches)
         }
-        State::Map(map) => map.json(alloc, body_json(alloc, table, &map.iterator)?),
+        State::Map(map) => {
+            let config = map.processor.config();
+            let machine = body_json(alloc, table, config, map.processor.machine())?;
+            map.json(alloc, machine)
+        }
         State::Succeed(succeed) => succeed.json(alloc),
         State::Fail(fail) => fail.json(alloc),
     }
@@ -90,7 +101,7 @@ fn bodies_json(
 {
     let mut machines = Vec::new(alloc);
     for body in bodies {
-        machines.push(body_json(alloc, table, body)?)?;
+        machines.push(body_json(alloc, table, None, body)?)?;
     }
     Ok(Items::of_values(machines))
 }

@@ -6,6 +6,7 @@ ghost use Rattle.asl_json.specs.Compact.{compact};
 ghost use Rattle.asl_json.specs.Meaning.{value_in};
 ghost use Rattle.asl_schema.specs.Canon.{canonical};
 ghost use Rattle.asl_schema.specs.Faults.{Accepted};
+ghost use Rattle.asl_members.specs.Retries.{whole_in};
 ghost use Rattle.asl_states.specs.Show.{state_of};
 ghost use Rattle.asl_def.specs.Machines.{states_of, state_object, state_number, state_count};
 ghost use Rattle.asl_def.specs.Own.{own_states_in};
@@ -95,6 +96,16 @@ impl Machine {
         ensures { Some (text result.now) ≡ value_in (codes "StartAt") self.now }
     {
         self.parts().root.start.name.as_str()
+    }
+
+    /// How many seconds an execution may take (`TimeoutSeconds`); `None` where nothing is said.
+    pub fn timeout(&self) -> Option<u32>
+        ensures { result ≡ whole_in (value_in (codes "TimeoutSeconds") self.now) }
+    {
+        match &self.parts().heading.timeout {
+            Some(seconds) => Some(seconds.value()),
+            None => None,
+        }
     }
 
     /// The state of this name, in whatever machine it stands, by a hash. Contracts see its object over the states of the

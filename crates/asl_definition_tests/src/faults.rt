@@ -293,10 +293,6 @@ const STATES: &[(&str, &str)] = &[
     ),
     (r#""Type":"Map","End":true"#, "F9 Neither /States/A"),
     (
-        r#""Type":"Map","End":true,"ItemProcessor":{}"#,
-        "F4 UnknownField /States/A/ItemProcessor",
-    ),
-    (
         r#""Type":"Map","End":true,"ItemsPath":null,"Iterator":{"StartAt":"B","States":{"B":{"Type":"Succeed"}}}"#,
         "F6 WrongType /States/A/ItemsPath",
     ),
@@ -370,6 +366,78 @@ const STATES: &[(&str, &str)] = &[
     ),
 ];
 
+/// The same for Maps with members of both spellings, and for machines that aren't a Map's.
+const SPELLINGS: &[(&str, &str)] = &[
+    (
+        r#""Type":"Map","End":true,"ItemProcessor":{}"#,
+        "F3 Missing /States/A/ItemProcessor/StartAt",
+    ),
+    (
+        r#""Type":"Map","End":true,"ItemProcessor":{"StartAt":"B","States":{"B":{"Type":"Succeed"}}}"#,
+        "ok",
+    ),
+    (
+        r#""Type":"Map","End":true,"Iterator":{"StartAt":"B","States":{"B":{"Type":"Succeed"}}},"ItemProcessor":{"StartAt":"C","States":{"C":{"Type":"Succeed"}}}"#,
+        "F8 Both /States/A/ItemProcessor",
+    ),
+    (
+        r#""Type":"Map","End":true,"ItemProcessor":{"StartAt":"B","States":{"B":{"Type":"Succeed"}}},"Iterator":{"StartAt":"C","States":{"C":{"Type":"Succeed"}}}"#,
+        "F8 Both /States/A/Iterator",
+    ),
+    (
+        r#""Type":"Map","End":true,"ItemSelector":{"v.$":"$$.Map.Item.Value"},"Iterator":{"StartAt":"B","States":{"B":{"Type":"Succeed"}}}"#,
+        "ok",
+    ),
+    (
+        r#""Type":"Map","End":true,"Parameters":{"v.$":"$$.Map.Item.Value"},"ItemProcessor":{"StartAt":"B","States":{"B":{"Type":"Succeed"}}}"#,
+        "ok",
+    ),
+    (
+        r#""Type":"Map","End":true,"Parameters":{},"ItemSelector":{},"ItemProcessor":{"StartAt":"B","States":{"B":{"Type":"Succeed"}}}"#,
+        "F8 Both /States/A/ItemSelector",
+    ),
+    (
+        r#""Type":"Map","End":true,"ItemSelector":{},"Parameters":{},"ItemProcessor":{"StartAt":"B","States":{"B":{"Type":"Succeed"}}}"#,
+        "F8 Both /States/A/Parameters",
+    ),
+    (
+        r#""Type":"Map","End":true,"ItemSelector":{"x.$":"States.Nope()"},"ItemProcessor":{"StartAt":"B","States":{"B":{"Type":"Succeed"}}}"#,
+        "F14 Expression /States/A/ItemSelector/x.$",
+    ),
+    (
+        r#""Type":"Pass","End":true,"ItemSelector":{}"#,
+        "F4 UnknownField /States/A/ItemSelector",
+    ),
+    (
+        r#""Type":"Map","End":true,"ItemProcessor":{"ProcessorConfig":{"Mode":"DISTRIBUTED","ExecutionType":"STANDARD"},"StartAt":"B","States":{"B":{"Type":"Succeed"}}}"#,
+        "F5 Unsupported /States/A/ItemProcessor/ProcessorConfig/Mode",
+    ),
+    (
+        r#""Type":"Map","End":true,"ItemProcessor":{"StartAt":"B","States":{"B":{"Type":"Succeed"}},"ProcessorConfig":{"ExecutionType":"STANDARD","Mode":1}}"#,
+        "F5 Unsupported /States/A/ItemProcessor/ProcessorConfig/ExecutionType",
+    ),
+    (
+        r#""Type":"Map","End":true,"ItemProcessor":{"ProcessorConfig":"INLINE","StartAt":"B","States":{"B":{"Type":"Succeed"}}}"#,
+        "F6 WrongType /States/A/ItemProcessor/ProcessorConfig",
+    ),
+    (
+        r#""Type":"Map","End":true,"Iterator":{"ProcessorConfig":{"Mode":"INLINE"},"StartAt":"B","States":{"B":{"Type":"Succeed"}}}"#,
+        "F4 UnknownField /States/A/Iterator/ProcessorConfig",
+    ),
+    (
+        r#""Type":"Parallel","End":true,"Branches":[{"ProcessorConfig":{},"StartAt":"B","States":{"B":{"Type":"Succeed"}}}]"#,
+        "F4 UnknownField /States/A/Branches/0/ProcessorConfig",
+    ),
+    (
+        r#""Type":"Map","End":true,"ItemProcessor":{"StartAt":"A","States":{"B":{"Type":"Succeed"}}}"#,
+        "F10 NoTarget /States/A/ItemProcessor/StartAt",
+    ),
+    (
+        r#""Type":"Map","End":true,"ItemProcessor":{"StartAt":"A","States":{"A":{"Type":"Succeed"}}}"#,
+        "F11 DuplicateState /States/A/ItemProcessor/States/A",
+    ),
+];
+
 #[test]
 fn whole_definitions(rt: HostRuntime) -> Result<(), Fail> {
     for (text, wanted) in WHOLE {
@@ -381,6 +449,14 @@ fn whole_definitions(rt: HostRuntime) -> Result<(), Fail> {
 #[test]
 fn states(rt: HostRuntime) -> Result<(), Fail> {
     for (members, wanted) in STATES {
+        assert!(rt; is_told_of_state(rt.alloc(), members, wanted), "{members}");
+    }
+    Ok(())
+}
+
+#[test]
+fn maps_in_both_spellings(rt: HostRuntime) -> Result<(), Fail> {
+    for (members, wanted) in SPELLINGS {
         assert!(rt; is_told_of_state(rt.alloc(), members, wanted), "{members}");
     }
     Ok(())
@@ -441,13 +517,33 @@ fn states_of_inner_machines(rt: HostRuntime) -> Result<(), Fail> {
     Ok(())
 }
 
+#[test]
+fn maps_of_inner_machines(rt: HostRuntime) -> Result<(), Fail> {
+    for (members, wanted) in SPELLINGS {
+        assert!(rt;
+            is_told_of_state_inside(rt.alloc(), members, wanted, 4),
+            "{members}"
+        );
+    }
+    Ok(())
+}
+
+/// The name of the machine in the state of this number: the two spellings take turns.
+fn spelling(level: usize) -> &'static str {
+    if level % 2 == 0 {
+        return "ItemProcessor";
+    }
+    "Iterator"
+}
+
 /// So many machines in one another, in canonical form.
 pub(crate) fn nested(alloc: Global, machines: usize) -> Option<String> {
     let mut text = String::new(alloc);
     for level in 1..machines {
         write!(
             text,
-            "{{\"StartAt\":\"A{level}\",\"States\":{{\"A{level}\":{{\"Type\":\"Map\",\"Iterator\":"
+            "{{\"StartAt\":\"A{level}\",\"States\":{{\"A{level}\":{{\"Type\":\"Map\",\"{}\":",
+            spelling(level)
         )
         .ok()?;
     }
@@ -460,7 +556,8 @@ pub(crate) fn nested(alloc: Global, machines: usize) -> Option<String> {
 }
 
 fn is_told_at_the_seventeenth(line: &str) -> bool {
-    line.starts_with("F15 Nesting /States/A1/Iterator/") && line.ends_with("/States/A16/Iterator")
+    line.starts_with("F15 Nesting /States/A1/Iterator/States/A2/ItemProcessor/")
+        && line.ends_with("/States/A16/ItemProcessor")
 }
 
 #[test]

@@ -96,6 +96,18 @@ const STATES: &[(&str, &str)] = &[
         r#""Type":"Map","InputPath":"$","ItemsPath":"$.i","MaxConcurrency":0,"Parameters":{},"Iterator":{"StartAt":"B","States":{"B":{"Type":"Succeed"}}},"ResultSelector":1,"ResultPath":"$","OutputPath":"$","Retry":[],"Catch":[],"End":true"#,
     ),
     (
+        r#""End":true,"Catch":[],"Retry":[],"OutputPath":"$","ResultPath":"$","ResultSelector":1,"ItemProcessor":{"States":{"B":{"End":true,"Type":"Pass"}},"StartAt":"B","ProcessorConfig":{"Mode":"INLINE"},"Comment":"c"},"ItemSelector":{"z":1,"v.$":"$$.Map.Item.Value"},"MaxConcurrency":0,"ItemsPath":"$.i","InputPath":"$","Type":"Map""#,
+        r#""Type":"Map","InputPath":"$","ItemsPath":"$.i","MaxConcurrency":0,"ItemSelector":{"z":1,"v.$":"$$.Map.Item.Value"},"ItemProcessor":{"Comment":"c","ProcessorConfig":{"Mode":"INLINE"},"StartAt":"B","States":{"B":{"Type":"Pass","End":true}}},"ResultSelector":1,"ResultPath":"$","OutputPath":"$","Retry":[],"Catch":[],"End":true"#,
+    ),
+    (
+        r#""Next":"A","ItemProcessor":{"States":{"B":{"Type":"Succeed"}},"StartAt":"B","ProcessorConfig":{}},"Parameters":[1],"Type":"Map""#,
+        r#""Type":"Map","Parameters":[1],"ItemProcessor":{"ProcessorConfig":{},"StartAt":"B","States":{"B":{"Type":"Succeed"}}},"Next":"A""#,
+    ),
+    (
+        r#""Iterator":{"States":{"B":{"Type":"Succeed"}},"StartAt":"B"},"ItemSelector":null,"End":true,"Type":"Map""#,
+        r#""Type":"Map","ItemSelector":null,"Iterator":{"StartAt":"B","States":{"B":{"Type":"Succeed"}}},"End":true"#,
+    ),
+    (
         r#""OutputPath":null,"InputPath":null,"Comment":"c","Type":"Succeed""#,
         r#""Type":"Succeed","Comment":"c","InputPath":null,"OutputPath":null"#,
     ),

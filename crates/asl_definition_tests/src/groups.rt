@@ -42,6 +42,21 @@ const CONNECTIVES: &[(&str, &str)] = &[
     ("Not", r#"{"Variable":"$","IsNull":true}"#),
 ];
 
+/// The machine of a Map in either spelling.
+const PROCESSORS: &[(&str, &str)] = &[
+    (
+        "Iterator",
+        r#"{"StartAt":"B","States":{"B":{"Type":"Succeed"}}}"#,
+    ),
+    (
+        "ItemProcessor",
+        r#"{"StartAt":"C","States":{"C":{"Type":"Succeed"}}}"#,
+    ),
+];
+
+/// The template for the inputs of its iterations.
+const SELECTORS: &[(&str, &str)] = &[("Parameters", "{}"), ("ItemSelector", r#"{"a":1}"#)];
+
 const GROUPS: &[Group] = &[
     Group {
         frame: STATE,
@@ -72,6 +87,30 @@ const GROUPS: &[Group] = &[
         others: r#""Type":"Map","Iterator":{"StartAt":"B","States":{"B":{"Type":"Succeed"}}}"#,
         none: "F9 Neither",
         members: ENDS,
+    },
+    Group {
+        frame: STATE,
+        others: r#""Type":"Map","ItemProcessor":{"StartAt":"B","States":{"B":{"Type":"Succeed"}}}"#,
+        none: "F9 Neither",
+        members: ENDS,
+    },
+    Group {
+        frame: STATE,
+        others: r#""Type":"Map","ItemSelector":{},"End":true"#,
+        none: "F9 Neither",
+        members: PROCESSORS,
+    },
+    Group {
+        frame: STATE,
+        others: r#""Type":"Map","Iterator":{"StartAt":"B","States":{"B":{"Type":"Succeed"}}},"End":true"#,
+        none: "ok",
+        members: SELECTORS,
+    },
+    Group {
+        frame: STATE,
+        others: r#""Type":"Map","ItemProcessor":{"StartAt":"B","States":{"B":{"Type":"Succeed"}}},"End":true"#,
+        none: "ok",
+        members: SELECTORS,
     },
     Group {
         frame: STATE,

@@ -1,7 +1,8 @@
 // What a machine lends, and that its copies lend the same.
 use asl_check::accept;
 use asl_def::Machine;
-use asl_members::PathField;
+use asl_json::write;
+use asl_members::{Compiled, PathField};
 use asl_states::{Next, State};
 use std::test::Fail;
 
@@ -103,5 +104,48 @@ fn states_of_inner_machines(rt: HostRuntime) -> Result<(), Fail> {
     assert!(rt; holds_inner_states(&machine));
     let copy = machine.try_clone().map_err(|_| "memory")?;
     assert!(rt; holds_inner_states(&copy));
+    Ok(())
+}
+
+/// Maps in the older spelling, in the newer one, and in both; the last has no template.
+const MAPS: &str = r#"{"StartAt":"K","States":{
+    "K":{"Type":"Map","Next":"L","Parameters":{"k":1},"Iterator":{"StartAt":"KI","States":{"KI":{"Type":"Succeed"}}}},
+    "L":{"Type":"Map","Next":"M","ItemSelector":{"l":1},"ItemProcessor":{"ProcessorConfig":{"Mode":"INLINE"},"StartAt":"LI","States":{"LI":{"Type":"Succeed"}}}},
+    "M":{"Type":"Map","Next":"N","ItemSelector":{"m":1},"Iterator":{"StartAt":"MI","States":{"MI":{"Type":"Succeed"}}}},
+    "N":{"Type":"Map","End":true,"ItemProcessor":{"StartAt":"NI","States":{"NI":{"Type":"Succeed"}}}}}}"#;
+
+/// Whether a Map runs a machine that starts there, for each item.
+fn runs(machine: &Machine, name: &str, start: &str) -> bool {
+    match machine.state(name) {
+        Some(State::Map(map)) => map.item_processor().start.name.as_str() == start,
+        _ => false,
+    }
+}
+
+/// The text of the template for the inputs of a Map's iterations.
+fn selector(rt: &HostRuntime, machine: &Machine, name: &str) -> Option<String> {
+    match machine.state(name) {
+        Some(State::Map(map)) => match map.item_selector() {
+            Some(template) => write(rt.alloc(), &template.json(rt.alloc()).ok()?).ok(),
+            None => String::from_str(rt.alloc(), "none").ok(),
+        },
+        _ => None,
+    }
+}
+
+fn selects(rt: &HostRuntime, machine: &Machine, name: &str, wanted: &str) -> bool {
+    match selector(rt, machine, name) {
+        Some(text) => text.as_str() == wanted,
+        None => false,
+    }
+}
+
+#[test]
+fn maps_in_either_spelling(rt: HostRuntime) -> Result<(), Fail> {
+    let machine = machine(&rt, MAPS).ok_or("refused")?;
+    assert!(rt; runs(&machine, "K", "KI") && selects(&rt, &machine, "K", r#"{"k":1}"#));
+    assert!(rt; runs(&machine, "L", "LI") && selects(&rt, &machine, "L", r#"{"l":1}"#));
+    assert!(rt; runs(&machine, "M", "MI") && selects(&rt, &machine, "M", r#"{"m":1}"#));
+    assert!(rt; runs(&machine, "N", "NI") && selects(&rt, &machine, "N", "none"));
     Ok(())
 }

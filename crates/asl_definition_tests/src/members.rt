@@ -280,16 +280,13 @@ fn none_that_is_required_is_left_out(rt: HostRuntime) -> Result<(), Fail> {
     Ok(())
 }
 
-/// Members that no object has, those that aren't supported yet among them.
+/// Members that no object has.
 const UNKNOWN: &[&str] = &[
     "Foo",
     "",
     "next",
     "Next ",
     "type",
-    "ItemProcessor",
-    "ItemSelector",
-    "ProcessorConfig",
     "StringMatchesPath",
     "IsNullPath",
 ];
@@ -342,6 +339,53 @@ fn besides(alloc: Global, names: &[&str], wanted: &str) -> Result<Trial, AllocEr
 #[test]
 fn others_are_unknown(rt: HostRuntime) -> Result<(), Fail> {
     let trial = besides(rt.alloc(), UNKNOWN, "F4 UnknownField")?;
+    assert_eq!(rt; trial.differences(), "");
+    Ok(())
+}
+
+/// Members that some object has.
+const OF_OTHERS: &[&str] = &[
+    "Iterator",
+    "ItemProcessor",
+    "ItemSelector",
+    "ProcessorConfig",
+    "Mode",
+    "Branches",
+    "Choices",
+    "ErrorEquals",
+    "Resource",
+    "States",
+];
+
+/// Whether an object has a member of this name.
+fn has(shape: &Shape, name: &str) -> bool {
+    for part in shape.parts {
+        for row in part.rows {
+            let (other, _, _) = *row;
+            if name == other {
+                return true;
+            }
+        }
+    }
+    false
+}
+
+fn try_of_others(alloc: Global, trial: &mut Trial, shape: &Shape) -> Result<(), AllocError> {
+    for name in OF_OTHERS {
+        if !has(shape, name) {
+            try_besides(alloc, trial, shape, &[*name], "F4 UnknownField")?;
+        }
+    }
+    Ok(())
+}
+
+#[test]
+fn those_of_other_objects_are_unknown(rt: HostRuntime) -> Result<(), Fail> {
+    let alloc = rt.alloc();
+    let mut trial = Trial::new(alloc);
+    for number in 0..OBJECTS {
+        try_of_others(alloc, &mut trial, &object(number))?;
+    }
     assert_eq!(rt; trial.differences(), "");
     Ok(())
 }

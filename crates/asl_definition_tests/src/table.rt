@@ -96,6 +96,25 @@ const MACHINE_PARTS: &[Part] = &[Part {
     rows: &[COMMENT, START_AT, STATES],
 }];
 
+const ITEM_PROCESSOR_PARTS: &[Part] = &[Part {
+    instead: &[],
+    rows: &[
+        COMMENT,
+        (
+            "ProcessorConfig",
+            Kind::ProcessorConfig,
+            r#"{"Mode":"INLINE"}"#,
+        ),
+        START_AT,
+        STATES,
+    ],
+}];
+
+const PROCESSOR_CONFIG_PARTS: &[Part] = &[Part {
+    instead: &[],
+    rows: &[("Mode", Kind::Mode, r#""INLINE""#)],
+}];
+
 const PASS_PARTS: &[Part] = &[
     Part {
         instead: &[],
@@ -213,9 +232,24 @@ const MAP_PARTS: &[Part] = &[
             ("MaxConcurrency", Kind::FromZero, "3"),
             PARAMETERS,
             (
+                "ItemSelector",
+                Kind::Template,
+                r#"{"i.$":"$$.Map.Item.Value"}"#,
+            ),
+        ],
+    },
+    Part {
+        instead: &["Iterator"],
+        rows: &[
+            (
                 "Iterator",
                 Kind::Machine,
                 r#"{"StartAt":"B","States":{"B":{"Type":"Succeed"}}}"#,
+            ),
+            (
+                "ItemProcessor",
+                Kind::Machine,
+                r#"{"ProcessorConfig":{"Mode":"INLINE"},"StartAt":"B","States":{"B":{"Type":"Succeed"}}}"#,
             ),
         ],
     },
@@ -481,6 +515,32 @@ fn iterator() -> Shape {
     }
 }
 
+fn item_processor() -> Shape {
+    Shape {
+        frame: Frame {
+            before: r#"{"StartAt":"A","States":{"A":{"Type":"Map","ItemProcessor":{"#,
+            behind: r#"},"End":true}}}"#,
+            place: "/States/A/ItemProcessor",
+        },
+        required: MACHINE,
+        enough: MACHINE,
+        parts: ITEM_PROCESSOR_PARTS,
+    }
+}
+
+fn processor_config() -> Shape {
+    Shape {
+        frame: Frame {
+            before: r#"{"StartAt":"A","States":{"A":{"Type":"Map","ItemProcessor":{"ProcessorConfig":{"#,
+            behind: r#"},"StartAt":"B","States":{"B":{"Type":"Succeed"}}},"End":true}}}"#,
+            place: "/States/A/ItemProcessor/ProcessorConfig",
+        },
+        required: &[],
+        enough: &[],
+        parts: PROCESSOR_CONFIG_PARTS,
+    }
+}
+
 const RULE_PARTS: &[Part] = &[
     RULE_HEAD,
     CONNECTIVES,
@@ -564,7 +624,7 @@ fn catcher() -> Shape {
 }
 
 /// How many objects a definition may have.
-pub(crate) const OBJECTS: usize = 16;
+pub(crate) const OBJECTS: usize = 18;
 
 /// The object of this number: a definition, states of each type, and the objects in them.
 pub(crate) fn object(number: usize) -> Shape {
@@ -584,6 +644,8 @@ pub(crate) fn object(number: usize) -> Shape {
         12 => negated_rule(),
         13 => rule_in_or(),
         14 => retrier(),
-        _ => catcher(),
+        15 => catcher(),
+        16 => item_processor(),
+        _ => processor_config(),
     }
 }

@@ -31,6 +31,8 @@ pub(crate) enum Kind {
     InnerRule,
     Machines,
     Machine,
+    ProcessorConfig,
+    Mode,
     States,
 }
 
@@ -82,7 +84,7 @@ pub(crate) fn types_of(kind: Kind) -> &'static [Type] {
         | Kind::Rules
         | Kind::InnerRules
         | Kind::Machines => &[Type::List],
-        Kind::InnerRule | Kind::Machine | Kind::States => &[Type::Object],
+        Kind::InnerRule | Kind::Machine | Kind::ProcessorConfig | Kind::States => &[Type::Object],
         _ => &[Type::Text],
     }
 }
@@ -412,6 +414,11 @@ const TEMPLATE_ANSWERS: &[Answers] = &[
     ("F14 Expression /a/b/c.$", &[r#"{"a":{"b":{"c.$":"c"}}}"#]),
 ];
 
+const EXECUTION_TYPES: &[&str] = &[
+    r#"{"ExecutionType":"STANDARD"}"#,
+    r#"{"Mode":"INLINE","ExecutionType":"EXPRESS"}"#,
+];
+
 /// What is told of values of a kind that have a type which it may have.
 pub(crate) fn answers_of(kind: Kind) -> &'static [Answers] {
     match kind {
@@ -522,6 +529,20 @@ fn answers_of_parts(kind: Kind) -> &'static [Answers] {
             ("F3 Missing /0/StartAt", &["[{}]"]),
         ],
         Kind::Machine => &[("F3 Missing /StartAt", &["{}"])],
+        Kind::ProcessorConfig => &[
+            ("ok", &["{}", r#"{"Mode":"INLINE"}"#]),
+            ("F4 UnknownField /Foo", &[r#"{"Mode":"INLINE","Foo":1}"#]),
+            ("F5 Unsupported /Mode", &[r#"{"Mode":"DISTRIBUTED"}"#]),
+            ("F5 Unsupported /ExecutionType", EXECUTION_TYPES),
+            ("F6 WrongType /Mode", &[r#"{"Mode":null}"#]),
+        ],
+        Kind::Mode => &[
+            ("ok", &[r#""INLINE""#]),
+            (
+                "F5 Unsupported",
+                &[r#""DISTRIBUTED""#, r#""inline""#, r#""INLINE ""#, r#""""#],
+            ),
+        ],
         Kind::States => &[
             (
                 "F6 WrongType /B",

@@ -2,3 +2,4 @@ pub mod Steps
 pub mod Views
 pub mod RunText
 pub mod Emulations
+pub mod Driving

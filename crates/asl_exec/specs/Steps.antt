@@ -1,5 +1,5 @@
 -- The steps of an execution: the world that each leaves.
-use Rattle.std.specs.Prelude.{ℕ, Bool, false, List, [], ◌∷◌, max, if◌then◌else◌, is_none, Option, Some, None, codes}
+use Rattle.std.specs.Prelude.{ℕ, Bool, false, List, [], ◌∷◌, max, if◌then◌else◌, is_none, Option, Some, None, option_map, codes}
 use Rattle.std.specs.Option.{option_and_then}
 use Rattle.asl_json.specs.Data.{Data}
 use Rattle.asl_json.specs.Meaning.{value_in}
@@ -9,13 +9,18 @@ use Rattle.asl_steps.specs.declared.record.Record.{Record}
 use Rattle.asl_steps.specs.declared.facts.Facts.{Facts}
 use Rattle.asl_steps.specs.Rows.{idle}
 use Rattle.asl_steps.specs.Seen.{Seen}
-use Rattle.asl_kinds.specs.Table.{state_effect, invokes}
+use Rattle.asl_kinds.specs.Table.{state_effect, invokes, slots}
+use Rattle.asl_kinds.specs.Members.{later}
+use Rattle.asl_members.specs.Retries.{whole_in}
 use Rattle.asl_mock.specs.Answers.{Case}
 use Rattle.asl_parts.specs.Texts.{text_in}
 use Rattle.asl_steps.specs.Records.{state_in, name_or_none}
-use Rattle.asl_frames.specs.Branches.{record_at, children_at, forker_at}
-use Rattle.asl_run.specs.World.{World, count_of, world_with}
-use Rattle.asl_run.specs.Refusals.{refusal_of, opening_at}
+use Rattle.asl_frames.specs.Branches.{record_at, children_at, forker_at, iteration_at}
+use Rattle.asl_frames.specs.Turns.{Limits}
+use Rattle.asl_run.specs.World.{World, count_of, is_late, world_with, timed_out}
+use Rattle.asl_run.specs.declared.refusal.Refusal.{Refusal}
+use Rattle.asl_run.specs.Refusals.{opening_at}
+use Rattle.asl_run.specs.Picking.{refusal_with}
 use Rattle.asl_setup.specs.declared.setup.Setup.{Setup}
 use Rattle.asl_setup.specs.declared.step_at.StepAt.{StepAt}
 
@@ -38,6 +43,14 @@ abbrev pub invokes_by : Option Data → Bool
 invokes_by None = false
 invokes_by (Some o) = invokes o
 
+abbrev pub slots_or : Option ℕ → ℕ
+slots_or None = 0
+slots_or (Some n) = n
+
+-- how many iterations the Map of a name runs at once; 0 where there is no limit, or no Map
+abbrev pub limits_in : Data → Limits
+limits_in d name = slots_or (option_map slots (state_object name d))
+
 -- what a step may read
 abbrev pub seen_at : Data → Case → World → List ℕ → ℕ → Record → Seen
 seen_at d cs w p now r = record {
@@ -45,6 +58,7 @@ seen_at d cs w p now r = record {
   current = r;
   children = children_at p w.branches;
   forker = forker_at p w.branches;
+  iteration = iteration_at p w.branches;
   invokes = invokes_by (object_in d r);
   count = count_of w.counts (number_in d r);
   case = cs;
@@ -63,10 +77,18 @@ abbrev pub moved_on : Setup → World → List ℕ → ℕ → Option Record →
 moved_on s w p now None = w
 moved_on s w p now (Some r) = world_with p (number_in s.machine r) now (effect_in s.machine (facts_of s) (seen_at s.machine s.case w p now r)) w
 
+-- the world after a step at a place at this moment: where the execution's time is over, it ends
+abbrev pub stepped : Setup → World → List ℕ → ℕ → World
+stepped s w p now = if is_late now w.deadline then timed_out now w else moved_on s w p now (record_at p w.branches)
+
+-- why a step at a place, handed this moment, is refused
+abbrev pub refusal_in : Setup → World → List ℕ → ℕ → Option Refusal
+refusal_in s w p t = refusal_with (limits_in s.machine) w p t
+
 -- the world after a step at a place, handed this moment: its moment is the greater of this and the last one; a refused step
 -- changes nothing
 unfoldable pub step : Setup → World → List ℕ → ℕ → World
-step s w p t = if is_none (refusal_of w p t) then moved_on s w p (max w.last t) (record_at p w.branches) else w
+step s w p t = if is_none (refusal_in s w p t) then stepped s w p (max w.last t) else w
 
 -- ---- runs
 
@@ -74,8 +96,12 @@ step s w p t = if is_none (refusal_of w p t) then moved_on s w p (max w.last t) 
 abbrev pub start_in : Data → List ℕ
 start_in d = name_or_none (text_in (value_in (codes "StartAt") d))
 
+-- the moment at which the time of an execution is over, where its machine has a time limit (ASL, "Top-level fields": TimeoutSeconds)
+abbrev pub deadline_of : Setup → Option ℕ
+deadline_of s = option_map (later s.start) (whole_in (value_in (codes "TimeoutSeconds") s.machine))
+
 abbrev pub opening : Setup → World
-opening s = opening_at (state_count s.machine) (start_in s.machine) s.input s.start
+opening s = opening_at (state_count s.machine) (start_in s.machine) s.input s.start (deadline_of s)
 
 -- the world after these steps
 abbrev pub world_after : Setup → World → List StepAt → World

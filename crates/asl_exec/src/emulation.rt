@@ -1,11 +1,11 @@
 // A whole run, from texts to text.
 ghost use Rattle.std.specs.Prelude.{◌≡◌, IfOk, IfErr, string_bytes};
-ghost use Rattle.asl_setup.specs.Emulations.{IsRefused};
+ghost use Rattle.asl_setup.specs.Emulations.{IsRefused, IsSetupRefused};
 ghost use Rattle.asl_setup.specs.Texts.{Unless};
-ghost use Rattle.asl_exec.specs.Emulations.{IsRunOf};
+ghost use Rattle.asl_exec.specs.Emulations.{IsRunOf, IsDrivenRunOf};
 
-use crate::printing::run;
-use asl_setup::{EmulateFault, Emulation};
+use crate::printing::{run, run_driven};
+use asl_setup::{EmulateFault, Emulation, Setup};
 use std::alloc::Global;
 
 /// What becomes of a run.
@@ -35,5 +35,26 @@ pub fn emulate(
 {
     let emulation = Emulation::read(alloc, definition, mocks, chosen, input, steps)?;
     let (text, good) = run(alloc, emulation.setup, &emulation.steps)?;
+    Ok(Emulated { text, good })
+}
+
+/// Runs an execution by the steps that come next, at most so many, from the epoch on.
+///
+/// The texts are read as `Setup::read` does, with its faults.
+///
+/// The text has the lines of the history, then the status.
+pub fn emulate_driven(
+    alloc: Global,
+    definition: &[u8],
+    mocks: &[u8],
+    chosen: &str,
+    input: &[u8],
+    limit: u32,
+) -> Result<Emulated, EmulateFault>
+    ensures run { IfOk result (λ e. IsDrivenRunOf definition.now mocks.now chosen.now input.now limit (string_bytes e.text) e.good) }
+    ensures fault { IfErr result (Unless (IsSetupRefused definition.now mocks.now chosen.now input.now)) }
+{
+    let setup = Setup::read(alloc, definition, mocks, chosen, input)?;
+    let (text, good) = run_driven(alloc, setup, limit)?;
     Ok(Emulated { text, good })
 }

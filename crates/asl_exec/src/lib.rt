@@ -1,16 +1,18 @@
 //! Executions: worlds that go on by steps at places, and the text of a whole run.
 //!
-//! Modules in reading order: `execution` is what an execution has, `stepping` opens and steps one, `printing` prints a run, and
-//! `emulation` is a whole run, from texts to text.
+//! Modules in reading order: `execution` is what an execution has, `stepping` opens and steps one, `driving` takes the steps
+//! that come next, `printing` prints a run, and `emulation` is a whole run, from texts to text.
 //! What an execution begins with and the refusals of texts are published from the crates below.
 #![tactic(auto)]
 
+mod driving;
 mod emulation;
 mod execution;
 mod printing;
 mod stepping;
 
-pub use asl_run::{Frame, Outcome, Refusal};
-pub use asl_setup::{EmulateFault, Setup, StepAt, ready};
-pub use emulation::{Emulated, emulate};
+pub use asl_run::{Frame, Next, Outcome, Refusal};
+pub use asl_setup::{EmulateFault, Setup, StepAt};
+pub use driving::Ended;
+pub use emulation::{Emulated, emulate, emulate_driven};
 pub use execution::Execution;

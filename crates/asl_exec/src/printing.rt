@@ -1,9 +1,9 @@
 // The text of a run.
-ghost use Rattle.std.specs.Prelude.{◌≡◌, ◌++◌, OnOk, IfOk, string_bytes};
+ghost use Rattle.std.specs.Prelude.{◌≡◌, ◌++◌, OnOk, OnErr, IfOk, string_bytes};
 ghost use Rattle.asl_run.specs.Lines.{end_text, is_success};
-ghost use Rattle.asl_run.specs.Refusals.{refusal_of};
 ghost use Rattle.asl_exec.specs.RunText.{step_lines, run_text};
-ghost use Rattle.asl_exec.specs.Steps.{opening, step, world_after};
+ghost use Rattle.asl_exec.specs.Steps.{opening, refusal_in, step, world_after};
+ghost use Rattle.asl_exec.specs.Driving.{driven};
 ghost use Rattle.asl_exec.specs.Views.{setup_of, world_of};
 
 use crate::execution::Execution;
@@ -14,9 +14,10 @@ use std::alloc::{AllocError, Global};
 impl Execution {
     /// Takes a step, and tells why it was refused, if it was. The error is that memory ran out.
     #[tactic(auto, using(crate::proofs::Accepting::step_refused))]
-    fn reply(&mut self, at: &StepAt) -> Result<Option<Refusal>, AllocError>
-        ensures reply { IfOk result (λ r. r ≡ refusal_of (world_of self.old) at.now.place at.now.moment) }
+    pub(crate) fn reply(&mut self, at: &StepAt) -> Result<Option<Refusal>, AllocError>
+        ensures reply { IfOk result (λ r. r ≡ refusal_in (setup_of self.old) (world_of self.old) at.now.place at.now.moment) }
         ensures world { OnOk result (world_of self.new ≡ step (setup_of self.old) (world_of self.old) at.now.place at.now.moment) }
+        ensures err { OnErr result (world_of self.new ≡ world_of self.old) }
         ensures setup { setup_of self.new ≡ setup_of self.old }
     {
         match self.step(&at.place, at.moment) {
@@ -39,6 +40,17 @@ impl Execution {
         Ok(())
     }
 
+    /// The text so far with the history and the status behind it, and whether the execution has succeeded. The error is that memory
+    /// ran out.
+    fn ended(&self, text: String) -> Result<(String, bool), AllocError>
+        ensures text { IfOk result (λ r. string_bytes r.0 ≡ string_bytes text ++ end_text (world_of self.now)) }
+        ensures good { IfOk result (λ r. r.1 ≡ is_success (world_of self.now).outcome) }
+    {
+        let mut text = text;
+        put_end(self.alloc(), &mut text, self.run())?;
+        Ok((text, is_success(self.outcome())))
+    }
+
     /// Takes steps in order: the text of them, of the history and of the status, and whether the execution has succeeded then. The
     /// error is that memory ran out.
     fn print(&mut self, steps: &[StepAt]) -> Result<(String, bool), AllocError>
@@ -49,8 +61,19 @@ impl Execution {
     {
         let mut text = String::new(self.alloc());
         self.put_steps(&mut text, steps)?;
-        put_end(self.alloc(), &mut text, self.run())?;
-        Ok((text, is_success(self.outcome())))
+        self.ended(text)
+    }
+
+    /// Takes the steps that come next, at most so many: the text of the history and of the status, and whether the execution has
+    /// succeeded then. The error is that memory ran out.
+    fn print_driven(&mut self, limit: u32) -> Result<(String, bool), AllocError>
+        ensures text { IfOk result (λ r. string_bytes r.0 ≡ end_text (driven limit (setup_of self.old) (world_of self.old))) }
+        ensures good { IfOk result (λ r. r.1 ≡ is_success (driven limit (setup_of self.old) (world_of self.old)).outcome) }
+    {
+        match self.drive(limit) {
+            Ok(_) => self.ended(String::new(self.alloc())),
+            Err((_, AllocError)) => Err(AllocError),
+        }
     }
 }
 
@@ -65,6 +88,22 @@ pub(crate) fn run(
 {
     let mut execution = Execution::open(alloc, setup)?;
     let printed = execution.print(steps);
+    drop(execution);
+    printed
+}
+
+/// The text of a run of the steps that come next, at most so many, and whether the execution has succeeded then. The error is that
+/// memory ran out.
+pub(crate) fn run_driven(
+    alloc: Global,
+    setup: Setup,
+    limit: u32,
+) -> Result<(String, bool), AllocError>
+    ensures text { IfOk result (λ r. string_bytes r.0 ≡ end_text (driven limit setup (opening setup))) }
+    ensures good { IfOk result (λ r. r.1 ≡ is_success (driven limit setup (opening setup)).outcome) }
+{
+    let mut execution = Execution::open(alloc, setup)?;
+    let printed = execution.print_driven(limit);
     drop(execution);
     printed
 }

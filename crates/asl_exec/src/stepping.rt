@@ -7,9 +7,9 @@ ghost use Rattle.asl_schema.specs.Canon.{Named};
 ghost use Rattle.asl_steps.specs.Bounds.{AreFew};
 ghost use Rattle.asl_steps.specs.Seen.{seen};
 ghost use Rattle.asl_frames.specs.Branches.{record_at, children_at};
-ghost use Rattle.asl_frames.specs.Trees.{branches_of};
-ghost use Rattle.asl_run.specs.Refusals.{refusal_of};
-ghost use Rattle.asl_exec.specs.Steps.{opening, facts_of, step, invokes_by, effect_by, effect_in, number_in, object_in, seen_at, start_in};
+ghost use Rattle.asl_frames.specs.Links.{ArePlaced};
+ghost use Rattle.asl_frames.specs.Trees.{branches_of, nodes_of};
+ghost use Rattle.asl_exec.specs.Steps.{opening, facts_of, refusal_in, limits_in, deadline_of, step, invokes_by, effect_by, effect_in, number_in, object_in, seen_at, start_in};
 ghost use Rattle.asl_exec.specs.Views.{setup_of, world_of};
 
 use crate::execution::Execution;
@@ -23,7 +23,7 @@ use asl_run::{Outcome, Refusal, Run};
 use asl_setup::Setup;
 use asl_states::State;
 use asl_steps::{Context, Effect, Facts, Record, Visit, idle};
-use asl_time::Moment;
+use asl_time::{Moment, add};
 use std::alloc::{AllocError, Global};
 
 /// The name of the state that a machine starts at.
@@ -45,15 +45,26 @@ fn facts_of(alloc: Global, setup: &Setup) -> Result<Facts, AllocError>
     })
 }
 
+/// The moment at which the time of an execution is over, where its machine has a time limit.
+fn deadline_of(setup: &Setup) -> Option<Moment>
+    ensures { result ≡ deadline_of setup.now }
+{
+    match setup.machine.timeout() {
+        Some(seconds) => Some(add(setup.start, u64::from(seconds) * 1000)),
+        None => None,
+    }
+}
+
 impl Execution {
-    /// The world before the first step: the branch at the root is about to enter the state that the machine starts at. A state
-    /// that can't be run yet (`ready`) does nothing.
+    /// The world before the first step: the branch at the root is about to enter the state that the machine starts at.
     pub fn open(alloc: Global, setup: Setup) -> Result<Execution, AllocError>
         ensures setup { IfOk result (λ x. setup_of x ≡ setup) }
         ensures world { IfOk result (λ x. world_of x ≡ opening setup) }
     {
         let start = start_of(alloc, &setup.machine)?;
-        let run = Run::open(alloc, setup.machine.len(), start, &setup.input, setup.start)?;
+        let deadline = deadline_of(&setup);
+        let states = setup.machine.len();
+        let run = Run::open(alloc, states, start, &setup.input, setup.start, deadline)?;
         let context = Context::new(alloc, facts_of(alloc, &setup)?)?;
         Ok(Execution {
             setup,
@@ -78,9 +89,10 @@ impl Execution {
         Some(frame.held())
     }
 
-    /// The frame of the branch that it began with: the running branches are its tree.
+    /// The frame of the branch that it began with: the running branches are its tree, and each lends its place.
     pub fn root(&self) -> &Frame
-        ensures { branches_of result.now ≡ (world_of self.now).branches }
+        ensures branches { branches_of result.now ≡ (world_of self.now).branches }
+        ensures placed { ArePlaced (nodes_of result.now) }
     {
         self.run.root()
     }
@@ -101,29 +113,49 @@ impl Execution {
 
     /// Why a step would be refused; none where only want of memory can refuse it.
     pub fn refusal(&self, place: &Place, moment: Moment) -> Option<Refusal>
-        ensures { result ≡ refusal_of (world_of self.now) place.now moment }
+        ensures { result ≡ refusal_in (setup_of self.now) (world_of self.now) place.now moment }
     {
-        self.run.refusal(place, moment)
+        let slots = match self.run.forker_at(place) {
+            Some(map) => limit_in(&self.setup.machine, map),
+            None => 0,
+        };
+        self.run.refusal(place, moment, slots)
     }
 
     /// One step of the branch at a place. Its moment is the greater of the one given and that of the last step. A refused
     /// step changes nothing.
     pub fn step(&mut self, place: &Place, moment: Moment) -> Result<(), Refusal>
         ensures ok { OnOk result (world_of self.new ≡ step (setup_of self.old) (world_of self.old) place.now moment) }
-        ensures accepted { OnOk result (refusal_of (world_of self.old) place.now moment ≡ None) }
+        ensures accepted { OnOk result (refusal_in (setup_of self.old) (world_of self.old) place.now moment ≡ None) }
         ensures err { OnErr result (world_of self.new ≡ world_of self.old) }
-        ensures why { IfErr result (λ e. (refusal_of (world_of self.old) place.now moment ≡ Some e)
-            ⊎ ((refusal_of (world_of self.old) place.now moment ≡ None) × (e ≡ Refusal.OutOfMemory))) }
+        ensures why { IfErr result (λ e. (refusal_in (setup_of self.old) (world_of self.old) place.now moment ≡ Some e)
+            ⊎ ((refusal_in (setup_of self.old) (world_of self.old) place.now moment ≡ None) × (e ≡ Refusal.OutOfMemory))) }
         ensures setup { setup_of self.new ≡ setup_of self.old }
     {
-        if let Some(refusal) = self.run.refusal(place, moment) {
+        if let Some(refusal) = self.refusal(place, moment) {
             return Err(refusal);
         }
-        let Some(frame) = self.run.frame_at(place) else {
-            return Err(Refusal::NoSuchPlace);
-        };
+        match self.take(place, moment) {
+            Ok(()) => Ok(()),
+            Err(AllocError) => Err(Refusal::OutOfMemory),
+        }
+    }
+
+    /// A step that isn't refused. The error is that memory ran out, and nothing changed.
+    fn take(&mut self, place: &Place, moment: Moment) -> Result<(), AllocError>
+        requires { refusal_in (setup_of self.old) (world_of self.old) place.now moment ≡ None }
+        ensures ok { OnOk result (world_of self.new ≡ step (setup_of self.old) (world_of self.old) place.now moment) }
+        ensures err { OnErr result (world_of self.new ≡ world_of self.old) }
+        ensures setup { setup_of self.new ≡ setup_of self.old }
+    {
         let now = self.run.present(moment);
-        let Ok((number, effect)) = planned(
+        if self.run.is_late(moment) {
+            return self.run.time_out(self.alloc, now);
+        }
+        let Some(frame) = self.run.frame_at(place) else {
+            unreachable!();
+        };
+        let (number, effect) = planned(
             self.alloc,
             &self.setup.machine,
             &self.setup.case,
@@ -132,13 +164,8 @@ impl Execution {
             place,
             frame,
             now,
-        ) else {
-            return Err(Refusal::OutOfMemory);
-        };
-        match self.run.apply(self.alloc, place, number, now, effect) {
-            Ok(()) => Ok(()),
-            Err(AllocError) => Err(Refusal::OutOfMemory),
-        }
+        )?;
+        self.run.apply(self.alloc, place, number, now, effect)
     }
 
     /// Its world.
@@ -179,6 +206,7 @@ fn planned(
         current,
         children: &children,
         forker: run.forker_at(place),
+        iteration: run.iteration_at(place),
         invokes: invokes_in(state),
         count: run.count(number),
         case,
@@ -226,5 +254,15 @@ fn state_of<'a>(machine: &'a Machine, current: &Record) -> (Option<usize>, Optio
     match machine.find(name.as_str()) {
         Some((number, state)) => (Some(number), Some(state)),
         None => (None, None),
+    }
+}
+
+/// How many iterations the Map of a name runs at once; 0 where there is no limit, or no Map.
+pub(crate) fn limit_in(machine: &Machine, map: &Name) -> u32
+    ensures { result ≡ limits_in machine.now map.now }
+{
+    match machine.find(map.as_str()) {
+        Some((_, state)) => state.slots(),
+        None => 0,
     }
 }

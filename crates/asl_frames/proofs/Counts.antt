@@ -1,5 +1,6 @@
 -- Counts over children, one of which changes.
-use Rattle.std.proofs.Common.{ℕ, suc, zero, ◌≡◌, ◌+◌, ◌<◌, ◌≤◌, Bool, true, false, not, List, [], ◌∷◌, sym, ap, arith, length, set, get_or, drop, Some}
+use Rattle.std.proofs.Common.{ℕ, suc, zero, ◌≡◌, ◌+◌, ◌-◌, ◌<◌, ◌≤◌, Bool, true, false, not, List, [], ◌∷◌, ◌++◌, sym, ◌∙◌, ap, subst, arith, length, set, get_or, take, drop, Some}
+use Rattle.std.proofs.lemmas.List.{take-append-drop, take-take, drop-take}
 use Rattle.std.specs.Prelude.{slice_get}
 use Rattle.asl_steps.specs.Records.{is_failed, is_done}
 use Rattle.asl_frames.specs.Trees.{Family, count_undone, count_failed, one_if, AreCounted}
@@ -14,7 +15,7 @@ failed-set [] j k new e = (cc)
 failed-set (c ∷ cs) zero k new e = let s : c ≡ k = cc in rw s (omega arith)
 failed-set (c ∷ cs) (suc j) k new e = let r = failed-set cs j k new e in omega (arith, r)
 
-one-most : (b : Bool) → one_if b ≤ 1
+pub one-most : (b : Bool) → one_if b ≤ 1
 one-most true = omega arith
 one-most false = omega arith
 
@@ -63,3 +64,28 @@ pub failed-here : (ks : List Family) (j : ℕ) (k : Family) → slice_get ks j �
 failed-here [] j k g e = (cc)
 failed-here (c ∷ cs) zero k g e = let s : c ≡ k = cc in rw (s, e) (omega arith)
 failed-here (c ∷ cs) (suc j) k g e = failed-here cs j k g e
+
+-- one more child is counted
+pub undone-next : (ks : List Family) (i : ℕ) (k : Family) → slice_get ks i ≡ Some k → count_undone (take (suc i) ks) ≡ count_undone (take i ks) + one_if (not (is_done k.head.current))
+undone-next [] i k g = (cc)
+undone-next (c ∷ cs) zero k g = let s : c ≡ k = cc in rw s (omega arith)
+undone-next (c ∷ cs) (suc i) k g = let r = undone-next cs i k g in omega (arith, r)
+
+pub undone-more : (ks : List Family) (i : ℕ) (k : Family) → slice_get ks i ≡ Some k → count_undone (take (i + 1) ks) ≡ count_undone (take i ks) + one_if (not (is_done k.head.current))
+undone-more ks i k g = let s : i + 1 ≡ suc i = omega arith in rw s (undone-next ks i k g)
+
+-- the children of two lists
+pub undone-append : (xs ys : List Family) → count_undone (xs ++ ys) ≡ count_undone xs + count_undone ys
+undone-append [] ys = omega arith
+undone-append (x ∷ xs) ys = let r = undone-append xs ys in omega (arith, r)
+
+-- the first children in two parts
+pub undone-from : (ks : List Family) (a b : ℕ) → a ≤ b → count_undone (take b ks) ≡ count_undone (take a ks) + count_undone (take (b - a) (drop a ks))
+undone-from ks a b l =
+    let t : take a (take b ks) ≡ take a ks = take-take a b ks l in
+    let n : a + (b - a) ≡ b = omega arith in
+    let d : drop a (take b ks) ≡ take (b - a) (drop a ks) = subst (λ z. drop a (take z ks) ≡ take (b - a) (drop a ks)) n (drop-take a (b - a) ks) in
+    ap count_undone (sym (take-append-drop a (take b ks)))
+    ∙ undone-append (take a (take b ks)) (drop a (take b ks))
+    ∙ ap (λ xs. count_undone xs + count_undone (drop a (take b ks))) t
+    ∙ ap (λ xs. count_undone (take a ks) + count_undone xs) d

@@ -1,6 +1,11 @@
 pub mod Reading
 pub mod Forking
+pub mod Iterating
 pub mod Counts
+pub mod Keeping
 pub mod Changing
 pub mod Linking
 pub mod Placing
+pub mod Turning
+pub mod Skipping
+pub mod Going

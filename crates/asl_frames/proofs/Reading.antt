@@ -38,7 +38,7 @@ at T bs = filter (λ b. T b.place) bs
 abbrev pub currents : (List ℕ → Bool) → List Branch → List Record
 currents T bs = map (λ b. b.current) (at T bs)
 
-currents-append : (T : List ℕ → Bool) (xs ys : List Branch) → currents T (xs ++ ys) ≡ currents T xs ++ currents T ys
+pub currents-append : (T : List ℕ → Bool) (xs ys : List Branch) → currents T (xs ++ ys) ≡ currents T xs ++ currents T ys
 currents-append T xs ys = ap (map (λ b. b.current)) (filter-append (λ b. T b.place) xs ys) ∙ map-append (λ b. b.current) (at T xs) (at T ys)
 
 spots-same : (T U : List ℕ → Bool) (i : ℕ) (ss : List Spot) → ((q : List ℕ) → T (i ∷ q) ≡ U q) → currents T (map branch_of (map (pushed i) ss)) ≡ currents U (map branch_of ss)

@@ -1,5 +1,7 @@
 -- Running branches as a list in the order of their places, what is read of it, and what a step makes of it.
-use Rattle.std.specs.Prelude.{ℕ, Bool, not, ◌+◌, ◌&&◌, List, [], ◌∷◌, ◌++◌, map, if◌then◌else◌, Option, Some, None, nat_eq}
+use Rattle.std.specs.Prelude.{ℕ, Bool, false, not, ◌+◌, ◌==◌, ◌&&◌, List, [], ◌∷◌, ◌++◌, map, if◌then◌else◌, Option, Some, None, nat_eq, nat_lt, slice_get}
+use Rattle.std.specs.Option.{option_or}
+use Rattle.asl_json.specs.Data.{Data}
 use Rattle.std.specs.Cmp.Lexicographic.{pointwise}
 use Rattle.std.specs.List.{filter, flat_map, list_any, list_all}
 use Rattle.asl_history.specs.Places.{is_prefix, is_child, is_beside}
@@ -54,6 +56,43 @@ forker_at p bs = map_of (first_of (filter (λ b. is_child b.place p) bs))
 -- a sibling of the place, or of a place above it, has failed
 abbrev pub is_stopped : List ℕ → List Branch → Bool
 is_stopped p bs = list_any (λ b. is_failed b.current && is_beside p b.place) bs
+
+-- the part of a place behind this one that leads to it; none where it doesn't
+abbrev pub beyond : List ℕ → List ℕ → Option (List ℕ)
+beyond [] p = Some p
+beyond (x ∷ xs) [] = None
+beyond (x ∷ xs) (y ∷ ys) = if x == y then beyond xs ys else None
+
+abbrev pub numbered_item : ℕ → Option Data → Option (ℕ × Data)
+numbered_item i None = None
+numbered_item i (Some d) = Some (i, d)
+
+-- the number and the item of the iteration that a branch under this one is in, at or under the child of this number
+abbrev pub iteration_in : Record → Option (List ℕ) → Option (ℕ × Data)
+iteration_in (Forked n x since uses items) (Some (i ∷ deeper)) = numbered_item i (slice_get items i)
+iteration_in r o = None
+
+-- the number and the item of the innermost iteration of a Map that a place is at or under; none where it is in no Map
+abbrev pub iteration_at : List ℕ → List Branch → Option (ℕ × Data)
+iteration_at p [] = None
+iteration_at p (b ∷ bs) = option_or (iteration_at p bs) (iteration_in b.current (beyond b.place p))
+
+-- the second is a sibling of the first with a lower number
+abbrev pub is_elder : List ℕ → List ℕ → Bool
+is_elder [] q = false
+is_elder (x ∷ xs) [] = false
+is_elder (x ∷ []) (y ∷ []) = nat_lt y x
+is_elder (x ∷ []) (y ∷ z ∷ zs) = false
+is_elder (x ∷ w ∷ ws) (y ∷ ys) = (x == y) && is_elder (w ∷ ws) ys
+
+-- what its siblings with lower numbers are doing
+abbrev pub elders_at : List ℕ → List Branch → List Record
+elders_at p bs = map (λ b. b.current) (filter (λ b. is_elder p b.place) bs)
+
+-- how many of these aren't done
+abbrev pub undone_in : List Record → ℕ
+undone_in [] = 0
+undone_in (r ∷ rs) = (if is_done r then 0 else 1) + undone_in rs
 
 -- no child has failed, and some child is not done
 abbrev pub is_busy : List Record → Bool

@@ -1,14 +1,17 @@
 // What a step does to the tree. It takes no memory.
-ghost use Rattle.std.specs.Prelude.{◌≡◌, ◌≤◌, ◌<◌, ◌+◌, ◌^◌, not};
+ghost use Rattle.std.specs.Prelude.{◌≡◌, ◌≤◌, ◌<◌, ◌+◌, ◌^◌, not, [], Some};
 ghost use Rattle.asl_steps.specs.Records.{is_done as spec_is_done};
-ghost use Rattle.asl_frames.specs.Trees.{nodes_of, one_if};
-ghost use Rattle.asl_frames.specs.Changes.{change, nodes_after, marked as spec_marked};
+ghost use Rattle.asl_steps.specs.declared.effect.Children.TheVariants.{Kept};
+ghost use Rattle.asl_frames.specs.Trees.{branches_of, nodes_of, one_if};
+ghost use Rattle.asl_frames.specs.Changes.{change, nodes_after, litter_of, marked as spec_marked};
 
 use crate::frame::Frame;
 use crate::offspring::Offspring;
+use crate::resting::none_resting;
 use crate::walks::split;
 use asl_history::Place;
 use asl_steps::Record;
+use asl_time::Moment;
 
 /// The latest event, where one is told.
 fn marked(told: Option<u64>, before: u64) -> u64
@@ -34,14 +37,37 @@ fn adjusted(count: usize, was: bool, is: bool) -> usize
 
 impl Frame {
     /// This happens at the place: what the branch does from now on, the id of the latest event that is told of it, and what becomes
-    /// of the branches under it.
-    pub fn apply(&mut self, place: &Place, after: Record, told: Option<u64>, offspring: Offspring)
+    /// of the branches under it. The moment is the step's; it matters for speed alone.
+    pub fn apply(
+        &mut self,
+        place: &Place,
+        after: Record,
+        told: Option<u64>,
+        offspring: Offspring,
+        now: Moment,
+    )
         ensures { nodes_of self.new ≡ nodes_after place.now (change after told offspring) (nodes_of self.old) }
     {
-        self.change(place.numbers(), after, told, offspring);
+        self.change(place.numbers(), after, told, offspring, now);
     }
 
-    fn change(&mut self, place: &[u32], after: Record, told: Option<u64>, offspring: Offspring)
+    /// An event of this id is told at its own place, and no branch changes.
+    pub fn tell(&mut self, id: u64)
+        ensures branches { branches_of self.new ≡ branches_of self.old }
+        ensures nodes { nodes_of self.new ≡ nodes_after [] (change self.old.head.current (Some id) (litter_of [] Kept)) (nodes_of self.old) }
+    {
+        self.at = id;
+        self.under = id;
+    }
+
+    fn change(
+        &mut self,
+        place: &[u32],
+        after: Record,
+        told: Option<u64>,
+        offspring: Offspring,
+        now: Moment,
+    )
         ensures { nodes_of self.new ≡ nodes_after place.now (change after told offspring) (nodes_of self.old) }
     {
         self.under = marked(told, self.under);
@@ -58,6 +84,7 @@ impl Frame {
                 self.children = frames;
                 self.undone = undone;
                 self.failed = failed;
+                self.resting = none_resting();
             }
             return;
         };
@@ -66,11 +93,13 @@ impl Frame {
             let child = &mut self.children[number];
             let was_done = child.held().is_done();
             let was_failed = child.held().is_failed();
-            child.change(deeper, after, told, offspring);
+            child.change(deeper, after, told, offspring, now);
             let is_done = child.held().is_done();
             let is_failed = child.held().is_failed();
             self.undone = adjusted(self.undone, !was_done, !is_done);
             self.failed = adjusted(self.failed, was_failed, is_failed);
+            let resting = self.resting.before(number);
+            self.resting = resting.extended(&self.children, now);
         }
     }
 }

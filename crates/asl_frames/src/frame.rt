@@ -3,6 +3,7 @@ ghost use Rattle.std.specs.Prelude.{◌≡◌, ◌∷◌, [], map, not, ◌&&◌
 ghost use Rattle.asl_frames.specs.Branches.{children_at, is_busy as spec_is_busy};
 ghost use Rattle.asl_frames.specs.Trees.{branches_of, nodes_of, below_of};
 
+use crate::resting::{Resting, none_resting};
 use asl_history::Place;
 use asl_steps::Record;
 use std::alloc::{AllocError, Global};
@@ -23,12 +24,15 @@ pub struct Frame {
     pub(crate) undone: usize,
     /// So many children have failed.
     pub(crate) failed: usize,
+    /// The children at rest.
+    pub(crate) resting: Resting,
 }
 
 impl Model for Frame {
     ghost use Rattle.std.specs.Prelude.{List, length, ◌∷◌, ◌+◌};
     ghost use Rattle.std.proofs.Common.{arith};
-    ghost use Rattle.asl_frames.specs.Trees.{Held, Family, below_of, most-below, AreCounted};
+    ghost use Rattle.asl_frames.specs.Trees.{Held, Family, below_of, most-below};
+    ghost use Rattle.asl_frames.specs.Resting.{AreKept};
 
     ghost Value = { Family };
 
@@ -40,7 +44,7 @@ impl Model for Frame {
 
     ghost view = { λ f. record { head = record { place = f.place; current = f.held; at = f.at; under = f.under }; below = below_of 0 f.children.items } };
 
-    ghost invariant = { λ f. AreCounted f.undone f.failed f.children.items };
+    ghost invariant = { λ f. AreKept f.undone f.failed f.resting f.children.items };
 
     ghost size = { λ v. length v.below };
 
@@ -60,6 +64,7 @@ impl Frame {
             children: Vec::new(alloc),
             undone: 0,
             failed: 0,
+            resting: none_resting(),
         }
     }
 

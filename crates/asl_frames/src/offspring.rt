@@ -5,6 +5,7 @@ ghost use Rattle.asl_frames.specs.Changes.{newborns, litter_of};
 ghost use Rattle.asl_frames.specs.Trees.{count_undone, count_failed};
 
 use crate::frame::Frame;
+use crate::resting::none_resting;
 use asl_history::Place;
 use asl_steps::{Children, Record, Records};
 use std::alloc::{AllocError, Global};
@@ -49,6 +50,7 @@ fn newborn(alloc: Global, place: &Place, number: u32, current: Record) -> Result
         children: Vec::new(alloc),
         undone: 0,
         failed: 0,
+        resting: none_resting(),
     })
 }
 
@@ -67,7 +69,7 @@ fn newborns(alloc: Global, place: &Place, records: Records) -> Result<Vec<Frame>
 }
 
 /// How many of these aren't done.
-fn undone_of(frames: &[Frame]) -> usize
+pub(crate) fn undone_of(frames: &[Frame]) -> usize
     ensures { result ≡ count_undone frames.now }
 {
     let mut undone = 0;
@@ -121,7 +123,11 @@ fn replaced(frames: Vec<Frame>) -> Offspring
 }
 
 /// What becomes of the branches under the one at a place. The error is that memory ran out.
-pub fn bear(alloc: Global, place: &Place, children: Children) -> Result<Offspring, AllocError>
+pub fn make_offspring(
+    alloc: Global,
+    place: &Place,
+    children: Children,
+) -> Result<Offspring, AllocError>
     requires { AreFew children }
     ensures { IfOk result (λ o. o ≡ litter_of place.now children) }
 {

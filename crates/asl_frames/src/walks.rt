@@ -1,14 +1,18 @@
 // What is read at a place, by a walk down to it.
-ghost use Rattle.std.specs.Prelude.{None, ◌≡◌, ◌∷◌, [], slice_get, IfSome, is_some, option_map, ◌||◌, nat_lt, max};
+ghost use Rattle.std.specs.Prelude.{None, Some, ◌≡◌, ◌∷◌, [], List, ℕ, slice_get, IfSome, is_some, option_map, ◌||◌, nat_lt, nat_le, max, take};
+ghost use Rattle.asl_json.specs.View.{data_of};
 ghost use Rattle.std.specs.Option.{option_copied};
 ghost use Rattle.asl_steps.specs.Records.{is_failed};
-ghost use Rattle.asl_frames.specs.Branches.{record_at, children_at, is_stopped, map_in as spec_map_in, forker_at};
-ghost use Rattle.asl_frames.specs.Trees.{branches_of, nodes_of, one_if};
+ghost use Rattle.asl_frames.specs.Branches.{record_at, children_at, is_stopped, map_in as spec_map_in, forker_at, iteration_in, iteration_at, elders_at, undone_in};
+ghost use Rattle.asl_frames.specs.Resting.{IsResting};
+ghost use Rattle.asl_frames.specs.Trees.{branches_of, nodes_of, one_if, count_undone};
 ghost use Rattle.asl_frames.specs.Links.{latest};
 
 use crate::frame::Frame;
+use crate::offspring::undone_of;
+use crate::resting::Resting;
 use asl_history::Place;
-use asl_json::Name;
+use asl_json::{Json, Name};
 use asl_steps::Record;
 
 /// How a place stands: what keeps its branch from a step, and what was told along it.
@@ -54,8 +58,31 @@ pub(crate) fn split(place: &[u32]) -> Option<(u32, &[u32])>
     Some((*number, deeper))
 }
 
+/// The number and the item of an iteration, where a branch is a Map that waits for it.
+fn item_of(current: &Record, number: u32) -> Option<(u32, &Json)>
+    ensures { (deeper : List ℕ) → option_map (λ i. (i.0, data_of i.1.now)) result ≡ iteration_in current.now (Some (number ∷ deeper)) }
+{
+    let Record::Forked { items, .. } = current else {
+        return None;
+    };
+    let item = items.get(number as usize)?;
+    Some((number, item))
+}
+
+/// How many of the first children aren't done, where this is known of those at rest.
+fn undone_before(children: &[Frame], resting: Resting, number: usize) -> usize
+    requires { IsResting resting children.now }
+    ensures { result ≡ count_undone (take number children.now) }
+{
+    let end = number.min(children.len());
+    if end < resting.idle {
+        return undone_of(&children[..end]);
+    }
+    resting.undone + undone_of(&children[resting.idle..end])
+}
+
 /// The name of the Map, where a branch waits for its iterations.
-fn map_in(current: &Record) -> Option<&Name>
+pub(crate) fn map_in(current: &Record) -> Option<&Name>
     ensures { option_map (λ n. n.now) result ≡ spec_map_in current.now }
 {
     match current {
@@ -139,5 +166,47 @@ impl Frame {
             return None;
         };
         child.forks(deeper)
+    }
+
+    /// The number and the item of the innermost iteration of a Map that a place is at or under; none where it is in no Map.
+    pub fn iteration(&self, place: &Place) -> Option<(u32, &Json)>
+        ensures { option_map (λ i. (i.0, data_of i.1.now)) result ≡ iteration_at place.now (branches_of self.now) }
+    {
+        self.iterates(place.numbers())
+    }
+
+    fn iterates(&self, place: &[u32]) -> Option<(u32, &Json)>
+        ensures { option_map (λ i. (i.0, data_of i.1.now)) result ≡ iteration_at place.now (branches_of self.now) }
+    {
+        let Some((number, deeper)) = split(place) else {
+            return None;
+        };
+        let own = item_of(&self.held, number);
+        let Some(child) = child_of(&self.children, number) else {
+            return own;
+        };
+        child.iterates(deeper).or(own)
+    }
+
+    /// Whether at least so many siblings with lower numbers aren't done.
+    pub fn is_crowded(&self, place: &Place, slots: u32) -> bool
+        ensures { result ≡ nat_le slots (undone_in (elders_at place.now (branches_of self.now))) }
+    {
+        self.crowds(place.numbers(), slots)
+    }
+
+    fn crowds(&self, place: &[u32], slots: u32) -> bool
+        ensures { result ≡ nat_le slots (undone_in (elders_at place.now (branches_of self.now))) }
+    {
+        let Some((number, deeper)) = split(place) else {
+            return slots == 0;
+        };
+        if deeper.is_empty() {
+            return slots as usize <= undone_before(&self.children, self.resting, number as usize);
+        }
+        let Some(child) = child_of(&self.children, number) else {
+            return slots == 0;
+        };
+        child.crowds(deeper, slots)
     }
 }

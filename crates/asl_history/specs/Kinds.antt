@@ -1,12 +1,13 @@
 -- The names of the kinds of events (Step Functions Developer Guide, HistoryEvent, `type`).
 use Rattle.std.specs.Prelude.{ℕ, List, codes}
 use Rattle.asl_history.specs.declared.kind.EventKind.{EventKind}
-use Rattle.asl_history.specs.declared.kind.EventKind.TheVariants.{ExecutionStarted, ExecutionSucceeded, ExecutionFailed, PassStateEntered, TaskStateEntered, ChoiceStateEntered, WaitStateEntered, SucceedStateEntered, FailStateEntered, ParallelStateEntered, MapStateEntered, PassStateExited, TaskStateExited, ChoiceStateExited, WaitStateExited, SucceedStateExited, ParallelStateExited, MapStateExited, TaskScheduled, TaskStarted, TaskSucceeded, TaskFailed, ParallelStateStarted, ParallelStateSucceeded, ParallelStateFailed, MapStateStarted, MapStateSucceeded, MapStateFailed, MapIterationStarted, MapIterationSucceeded, MapIterationFailed}
+use Rattle.asl_history.specs.declared.kind.EventKind.TheVariants.{ExecutionStarted, ExecutionSucceeded, ExecutionFailed, ExecutionTimedOut, PassStateEntered, TaskStateEntered, ChoiceStateEntered, WaitStateEntered, SucceedStateEntered, FailStateEntered, ParallelStateEntered, MapStateEntered, PassStateExited, TaskStateExited, ChoiceStateExited, WaitStateExited, SucceedStateExited, ParallelStateExited, MapStateExited, TaskScheduled, TaskStarted, TaskSucceeded, TaskFailed, ParallelStateStarted, ParallelStateSucceeded, ParallelStateFailed, MapStateStarted, MapStateSucceeded, MapStateFailed, MapIterationStarted, MapIterationSucceeded, MapIterationFailed}
 
 abbrev pub kind_name : EventKind → List ℕ
 kind_name ExecutionStarted = codes "ExecutionStarted"
 kind_name ExecutionSucceeded = codes "ExecutionSucceeded"
 kind_name ExecutionFailed = codes "ExecutionFailed"
+kind_name ExecutionTimedOut = codes "ExecutionTimedOut"
 kind_name PassStateEntered = codes "PassStateEntered"
 kind_name TaskStateEntered = codes "TaskStateEntered"
 kind_name ChoiceStateEntered = codes "ChoiceStateEntered"

@@ -30,7 +30,8 @@ pub struct RunWords<'a> {
     pub mocks: &'a str,
     pub chosen: &'a str,
     pub input: &'a str,
-    pub steps: &'a str,
+    /// Where no file of steps is named, the execution takes the steps that come next.
+    pub steps: Option<&'a str>,
 }
 
 /// Why the program's words can't be had.
@@ -96,7 +97,7 @@ fn run_words_of<'a>(matches: &ArgMatches<'a>) -> Option<RunWords<'a>> {
         mocks: matches.get_str("MOCKS")?,
         chosen: matches.get_str("CHOSEN")?,
         input: matches.get_str("INPUT")?,
-        steps: matches.get_str("steps")?,
+        steps: matches.get_str("steps"),
     })
 }
 
@@ -128,8 +129,7 @@ fn run_command<'a>(alloc: Global) -> Result<Command<'a>, AllocError> {
     let steps = Arg::new(alloc, "steps")
         .long("steps")
         .value_name("FILE")
-        .required(true)
-        .help("The file of the steps to take");
+        .help("The file of the steps to take; without it, each step is the one that comes next");
     Command::new(alloc, "run")
         .about("Runs an execution and prints its replies, its history and its status")
         .arg(definition_word(alloc))?

@@ -10,7 +10,7 @@ use Rattle.asl_schema.specs.declared.sort.Sort.{Sort}
 use Rattle.asl_schema.specs.declared.sort.Sort.TheVariants as sort
 use Rattle.asl_schema.specs.declared.sort.Kind.{Kind}
 use Rattle.asl_schema.specs.declared.sort.Kind.TheVariants as kind
-use Rattle.asl_schema.specs.Members.{Row, shape_of, untyped_rows, definition_rows, machine_rows, task_rows, pass_rows, choice_rows, wait_rows, parallel_rows, map_rows, succeed_rows, fail_rows, test_rows, inner_rule_rows, rule_rows, retrier_rows, catcher_rows}
+use Rattle.asl_schema.specs.Members.{Row, shape_of, untyped_rows, definition_rows, machine_rows, item_processor_rows, processor_config_rows, task_rows, pass_rows, choice_rows, wait_rows, parallel_rows, map_rows, succeed_rows, fail_rows, test_rows, inner_rule_rows, rule_rows, retrier_rows, catcher_rows}
 use Rattle.asl_schema.specs.Canon.{Named, opt, kept, picked}
 use Rattle.asl_schema.proofs.Deciding.{neither_is, not_true}
 use Rattle.asl_judge.proofs.CanonicalTwice.{is_row, kept_ways}
@@ -26,7 +26,7 @@ both_are true b e = (refl, e)
 both_are false b e = absurd cc
 
 pub shape_differs : (s : Sort) (o : Option Kind) → rows_differ (shape_of s o).rows ≡ true
-unfolding untyped_rows definition_rows machine_rows task_rows pass_rows choice_rows wait_rows parallel_rows map_rows succeed_rows fail_rows test_rows inner_rule_rows rule_rows retrier_rows catcher_rows
+unfolding untyped_rows definition_rows machine_rows item_processor_rows processor_config_rows task_rows pass_rows choice_rows wait_rows parallel_rows map_rows succeed_rows fail_rows test_rows inner_rule_rows rule_rows retrier_rows catcher_rows
 shape_differs sort.State None = refl
 shape_differs sort.State (Some kind.Task) = refl
 shape_differs sort.State (Some kind.Pass) = refl

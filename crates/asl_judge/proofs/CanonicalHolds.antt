@@ -10,7 +10,7 @@ use Rattle.asl_json.specs.View.{unpaired}
 use Rattle.asl_schema.specs.declared.sort.Sort.{Sort}
 use Rattle.asl_schema.specs.declared.sort.Sort.TheVariants as sort
 use Rattle.asl_schema.specs.declared.sort.Kind.{Kind}
-use Rattle.asl_schema.specs.Members.{Shape, shape_of, shape_in, sort_at, item_sort, kind_named, definition_rows, machine_rows}
+use Rattle.asl_schema.specs.Members.{Shape, shape_of, shape_in, sort_at, item_sort, kind_named, definition_rows, machine_rows, item_processor_rows}
 use Rattle.asl_schema.specs.Claims.{Spot, under, heres, step, demands, claims, at_member, at_item, inside, one_deeper, names_in, members_in, member_claims, item_claims, row_claims, group_demands, object_claims, is_object, is_template, is_nonempty, item_count}
 use Rattle.asl_schema.specs.First.{Each, Hold}
 use Rattle.asl_json.specs.Sound.{KeysDiffer, KeysDifferInItems, KeysDifferInMembers}
@@ -54,6 +54,13 @@ machine_names : (ms : Pairs) (k : List ℕ) → names_in (pairs (picked (shape_i
 unfolding machine_rows
 machine_names ms k =
     let sh = shape_in sort.Machine ms in
+    ap (λ (o : Option Data). is_some (value_at k (members_in o))) (picked_there (codes "States") sh.rows (canon_members sh ms) refl ∙ ap (kept (codes "States")) (value_at-canon (codes "States") sh ms))
+    ∙ states_there k (value_at (codes "States") ms)
+
+processor_names : (ms : Pairs) (k : List ℕ) → names_in (pairs (picked (shape_in sort.ItemProcessor ms).rows (canon_members (shape_in sort.ItemProcessor ms) ms))) k ≡ names_in ms k
+unfolding item_processor_rows
+processor_names ms k =
+    let sh = shape_in sort.ItemProcessor ms in
     ap (λ (o : Option Data). is_some (value_at k (members_in o))) (picked_there (codes "States") sh.rows (canon_members sh ms) refl ∙ ap (kept (codes "States")) (value_at-canon (codes "States") sh ms))
     ∙ states_there k (value_at (codes "States") ms)
 
@@ -103,6 +110,11 @@ arranged_hold p sort.Machine ms distinct h all =
     let named : names_in ms ≡ names_in ns = fun_ext (λ k. sym (machine_names ms k)) in
     each-append Hold (heres (demands p sort.Machine (dict ns))) (object_claims p sort.Machine ns) (own_hold p sort.Machine (dict ms) h)
     (subst (λ (names : List ℕ → Bool). Parts (record { names = names; level = one_deeper p.level; ends = p.ends; key = p.key; doubled = p.doubled }) (shape_in sort.Machine ms) ns) named (ordered_hold p sort.Machine ms refl refl distinct h (all refl)))
+arranged_hold p sort.ItemProcessor ms distinct h all =
+    let ns = pairs (picked (shape_in sort.ItemProcessor ms).rows (canon_members (shape_in sort.ItemProcessor ms) ms)) in
+    let named : names_in ms ≡ names_in ns = fun_ext (λ k. sym (processor_names ms k)) in
+    each-append Hold (heres (demands p sort.ItemProcessor (dict ns))) (object_claims p sort.ItemProcessor ns) (own_hold p sort.ItemProcessor (dict ms) h)
+    (subst (λ (names : List ℕ → Bool). Parts (record { names = names; level = one_deeper p.level; ends = p.ends; key = p.key; doubled = p.doubled }) (shape_in sort.ItemProcessor ms) ns) named (ordered_hold p sort.ItemProcessor ms refl refl distinct h (all refl)))
 arranged_hold p sort.State ms distinct h all =
     let ns = pairs (picked (shape_in sort.State ms).rows (canon_members (shape_in sort.State ms) ms)) in
     each-append Hold (heres (demands p sort.State (dict ns))) (object_claims p sort.State ns) (own_hold p sort.State (dict ms) h)

@@ -68,6 +68,7 @@ ordered_differs s ms h = (distinct_picked (shape_in s ms).rows [] (canon_members
 arranged_differs : (s : Sort) (ms : Pairs) → KeysDiffer (dict ms) → KeysDifferInMembers (canon_members (shape_in s ms) ms) → KeysDiffer (arranged s (shape_in s ms).rows ms (canon_members (shape_in s ms) ms))
 arranged_differs sort.Definition ms d h = ordered_differs sort.Definition ms h
 arranged_differs sort.Machine ms d h = ordered_differs sort.Machine ms h
+arranged_differs sort.ItemProcessor ms d h = ordered_differs sort.ItemProcessor ms h
 arranged_differs sort.State ms d h = ordered_differs sort.State ms h
 arranged_differs sort.Rule ms d h = ordered_differs sort.Rule ms h
 arranged_differs sort.InnerRule ms d h = ordered_differs sort.InnerRule ms h

@@ -33,6 +33,7 @@ shorter_picked s ms h =
 shorter_arranged : (s : Sort) (ms : Pairs) → total span (canon_members (shape_in s ms) ms) ≤ total span ms → length (compact (arranged s (shape_in s ms).rows ms (canon_members (shape_in s ms) ms))) ≤ length (compact (dict ms))
 shorter_arranged sort.Definition ms h = shorter_picked sort.Definition ms h
 shorter_arranged sort.Machine ms h = shorter_picked sort.Machine ms h
+shorter_arranged sort.ItemProcessor ms h = shorter_picked sort.ItemProcessor ms h
 shorter_arranged sort.State ms h = shorter_picked sort.State ms h
 shorter_arranged sort.Rule ms h = shorter_picked sort.Rule ms h
 shorter_arranged sort.InnerRule ms h = shorter_picked sort.InnerRule ms h
@@ -78,6 +79,7 @@ flatter_picked sh ms h = omega (arith, picked_depth sh.rows (canon_members sh ms
 flatter_arranged : (s : Sort) (ms : Pairs) → members_depth (canon_members (shape_in s ms) ms) ≤ members_depth ms → depth (arranged s (shape_in s ms).rows ms (canon_members (shape_in s ms) ms)) ≤ depth (dict ms)
 flatter_arranged sort.Definition ms h = flatter_picked (shape_in sort.Definition ms) ms h
 flatter_arranged sort.Machine ms h = flatter_picked (shape_in sort.Machine ms) ms h
+flatter_arranged sort.ItemProcessor ms h = flatter_picked (shape_in sort.ItemProcessor ms) ms h
 flatter_arranged sort.State ms h = flatter_picked (shape_in sort.State ms) ms h
 flatter_arranged sort.Rule ms h = flatter_picked (shape_in sort.Rule ms) ms h
 flatter_arranged sort.InnerRule ms h = flatter_picked (shape_in sort.InnerRule ms) ms h

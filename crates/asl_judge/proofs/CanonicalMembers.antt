@@ -33,6 +33,7 @@ use Rattle.asl_judge.proofs.CanonicalRows.{group_row, row_stays, rows_stay}
 arranged_true : (s : Sort) (rs : List Row) (ms cs : Pairs) → is_true (arranged s rs ms cs) ≡ false
 arranged_true sort.Definition rs ms cs = refl
 arranged_true sort.Machine rs ms cs = refl
+arranged_true sort.ItemProcessor rs ms cs = refl
 arranged_true sort.State rs ms cs = refl
 arranged_true sort.Rule rs ms cs = refl
 arranged_true sort.InnerRule rs ms cs = refl

@@ -7,7 +7,7 @@ use Rattle.asl_schema.specs.declared.sort.Sort.{Sort}
 use Rattle.asl_schema.specs.declared.sort.Sort.TheVariants as sort
 use Rattle.asl_schema.specs.declared.sort.Kind.{Kind}
 use Rattle.asl_schema.specs.declared.sort.Kind.TheVariants as kind
-use Rattle.asl_schema.specs.Members.{Row, Group, shape_of, is_among, operators, untyped_rows, definition_rows, machine_rows, task_rows, pass_rows, choice_rows, wait_rows, parallel_rows, map_rows, succeed_rows, fail_rows, test_rows, inner_rule_rows, rule_rows, retrier_rows, catcher_rows}
+use Rattle.asl_schema.specs.Members.{Row, Group, shape_of, is_among, operators, untyped_rows, definition_rows, machine_rows, item_processor_rows, processor_config_rows, task_rows, pass_rows, choice_rows, wait_rows, parallel_rows, map_rows, succeed_rows, fail_rows, test_rows, inner_rule_rows, rule_rows, retrier_rows, catcher_rows}
 use Rattle.asl_schema.proofs.Deciding.{IsGroup}
 use Rattle.asl_judge.proofs.CanonicalTwice.{is_row}
 use Rattle.asl_judge.proofs.CanonicalAmounts.{both_are}
@@ -36,7 +36,7 @@ rows_stay [] = true
 rows_stay (r ∷ rs) = row_stays r && rows_stay rs
 
 shape_grouped : (s : Sort) (o : Option Kind) → groups_rows (shape_of s o).groups (shape_of s o).rows ≡ true
-unfolding operators untyped_rows definition_rows machine_rows task_rows pass_rows choice_rows wait_rows parallel_rows map_rows succeed_rows fail_rows test_rows inner_rule_rows rule_rows retrier_rows catcher_rows
+unfolding operators untyped_rows definition_rows machine_rows item_processor_rows processor_config_rows task_rows pass_rows choice_rows wait_rows parallel_rows map_rows succeed_rows fail_rows test_rows inner_rule_rows rule_rows retrier_rows catcher_rows
 shape_grouped sort.State None = refl
 shape_grouped sort.State (Some kind.Task) = refl
 shape_grouped sort.State (Some kind.Pass) = refl
@@ -49,7 +49,7 @@ shape_grouped sort.State (Some kind.Fail) = refl
 shape_grouped s o = refl
 
 pub shape_stays : (s : Sort) (o : Option Kind) → rows_stay (shape_of s o).rows ≡ true
-unfolding operators untyped_rows definition_rows machine_rows task_rows pass_rows choice_rows wait_rows parallel_rows map_rows succeed_rows fail_rows test_rows inner_rule_rows rule_rows retrier_rows catcher_rows
+unfolding operators untyped_rows definition_rows machine_rows item_processor_rows processor_config_rows task_rows pass_rows choice_rows wait_rows parallel_rows map_rows succeed_rows fail_rows test_rows inner_rule_rows rule_rows retrier_rows catcher_rows
 shape_stays sort.State None = refl
 shape_stays sort.State (Some kind.Task) = refl
 shape_stays sort.State (Some kind.Pass) = refl

@@ -78,6 +78,7 @@ fewer_ordered x s ms h = fewer_picked x (shape_in s ms) ms (shape_differs s (kin
 fewer_arranged : (x : List ℕ) (s : Sort) (ms : Pairs) → Fewer x (shape_in s ms) ms → times x (states_in s (arranged s (shape_in s ms).rows ms (canon_members (shape_in s ms) ms))) ≤ times x (states_in s (dict ms))
 fewer_arranged x sort.Definition ms h = fewer_ordered x sort.Definition ms h
 fewer_arranged x sort.Machine ms h = fewer_ordered x sort.Machine ms h
+fewer_arranged x sort.ItemProcessor ms h = fewer_ordered x sort.ItemProcessor ms h
 fewer_arranged x sort.State ms h =
     let ns = pairs (picked (shape_in sort.State ms).rows (canon_members (shape_in sort.State ms) ms)) in
     subst (λ (sh : Shape). times x (member_states sh 0 ns) ≤ times x (member_states (shape_in sort.State ms) 0 ms)) (sym (shape_kept ms)) (fewer_ordered x sort.State ms h)

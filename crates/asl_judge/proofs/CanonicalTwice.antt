@@ -120,6 +120,7 @@ ordered_again sh ms e = ap (λ (xs : List Named). dict (pairs xs)) (picked_again
 arranged_again : (s : Sort) (ms : Pairs) → canon_members (shape_in s ms) (canon_members (shape_in s ms) ms) ≡ canon_members (shape_in s ms) ms → canon s (arranged s (shape_in s ms).rows ms (canon_members (shape_in s ms) ms)) ≡ arranged s (shape_in s ms).rows ms (canon_members (shape_in s ms) ms)
 arranged_again sort.Definition ms e = ordered_again (shape_in sort.Definition ms) ms e
 arranged_again sort.Machine ms e = ordered_again (shape_in sort.Machine ms) ms e
+arranged_again sort.ItemProcessor ms e = ordered_again (shape_in sort.ItemProcessor ms) ms e
 arranged_again sort.State ms e =
     let ns = pairs (picked (shape_in sort.State ms).rows (canon_members (shape_in sort.State ms) ms)) in
     ap (λ (sh : Shape). dict (pairs (picked sh.rows (canon_members sh ns)))) (shape_kept ms) ∙ ordered_again (shape_in sort.State ms) ms e

@@ -9,6 +9,9 @@ use Rattle.asl_schema.specs.Claims.{form_demand}
 pub typed_form : (s : Sort) (d : Data) → (s ≡ sort.Definition → ⊥) → form_demand s d ≡ typed (form_of s) d
 typed_form sort.Definition d n = absurd (n refl)
 typed_form sort.Machine d n = refl
+typed_form sort.ItemProcessor d n = refl
+typed_form sort.ProcessorConfig d n = refl
+typed_form sort.Mode d n = refl
 typed_form sort.Machines d n = refl
 typed_form sort.States d n = refl
 typed_form sort.State d n = refl

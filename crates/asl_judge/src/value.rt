@@ -25,6 +25,8 @@ fn form_of(sort: Sort) -> Form
     match sort {
         Sort::Definition
         | Sort::Machine
+        | Sort::ItemProcessor
+        | Sort::ProcessorConfig
         | Sort::States
         | Sort::State
         | Sort::Rule
@@ -39,6 +41,7 @@ fn form_of(sort: Sort) -> Form
         | Sort::ErrorNames => Form::List,
         Sort::KindName
         | Sort::Version
+        | Sort::Mode
         | Sort::QueryLanguage
         | Sort::Text
         | Sort::Target
@@ -135,7 +138,9 @@ fn spot_fault(spot: Spot, sort: Sort) -> Option<FaultKind>
 {
     match sort {
         Sort::State => unless(is_name(spot.key), FaultKind::Range),
-        Sort::Machine => unless(spot.level < MAX_MACHINES, FaultKind::Nesting),
+        Sort::Machine | Sort::ItemProcessor => {
+            unless(spot.level < MAX_MACHINES, FaultKind::Nesting)
+        }
         Sort::Unsupported => Some(FaultKind::Unsupported),
         Sort::Unknown => Some(FaultKind::UnknownField),
         _ => None,
@@ -237,6 +242,7 @@ fn text_fault(
         Sort::KindName => Ok(unless(kind_of(text).is_some(), FaultKind::Unsupported)),
         Sort::Version => Ok(unless(text == "1.0", FaultKind::Unsupported)),
         Sort::QueryLanguage => Ok(unless(text == "JSONPath", FaultKind::Unsupported)),
+        Sort::Mode => Ok(unless(text == "INLINE", FaultKind::Unsupported)),
         Sort::Target => Ok(unless(spot.names.contains(text), FaultKind::NoTarget)),
         Sort::Path | Sort::PathOrNull => path_fault(alloc, text),
         Sort::PlaceOrNull => place_fault(alloc, text),

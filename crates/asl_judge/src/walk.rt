@@ -287,7 +287,7 @@ fn check_inside(
     ensures { IfOk result (Answers (member_claims (inside (spot_of spot.entry) sort (pairs members.now)) (shape_seen shape) [] 0 (pairs members.now))) }
 {
     match sort {
-        Sort::Definition | Sort::Machine => {
+        Sort::Definition | Sort::Machine | Sort::ItemProcessor => {
             let names = state_names(alloc, members.members())?;
             let spot = Spot {
                 names: &names,

@@ -12,9 +12,9 @@ use Rattle.asl_parts.specs.declared.body.Body.{Body}
 use Rattle.asl_steps.specs.declared.effect.Progress.{Progress}
 use Rattle.asl_steps.specs.declared.record.Record.{Record}
 use Rattle.asl_steps.specs.declared.record.Record.TheVariants.{Ready}
-use Rattle.asl_steps.specs.Rows.{telling}
+use Rattle.asl_steps.specs.Rows.{forking, telling}
 use Rattle.asl_steps.specs.Seen.{Seen}
-use Rattle.asl_kinds.specs.Forks.{starts_in, ready_at, forking}
+use Rattle.asl_kinds.specs.Forks.{starts_in, ready_at}
 use Rattle.asl_kinds.specs.Table.{parallel_forks}
 
 ready_by : (bs : List Body) (y : Json) → ready_at (map (λ (b : Body). b.start.name) bs) y ≡ map (λ (b : Body). Ready b.start.name y) bs

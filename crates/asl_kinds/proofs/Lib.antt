@@ -2,3 +2,4 @@ mod Branching
 mod Choosing
 mod Counting
 mod Waiting
+pub mod Mapping

@@ -1,18 +1,22 @@
 -- Branches under a state: those that it forks, and what they have come to (ASL, "Parallel State", "Map State").
-use Rattle.std.specs.Prelude.{ℕ, false, List, [], ◌∷◌, map, Option, Some, None, codes}
+use Rattle.std.specs.Prelude.{ℕ, ◌+◌, false, List, [], ◌∷◌, map, length, nat_le, if◌then◌else◌, Option, Some, None, Result, Ok, Err, codes}
 use Rattle.std.specs.Option.{option_or}
 use Rattle.asl_json.specs.Data.{Data}
-use Rattle.asl_json.specs.View.{data_of}
+use Rattle.asl_json.specs.View.{data_of, json_of}
 use Rattle.asl_json.specs.Meaning.{value_in}
 use Rattle.asl_json.specs.declared.value.Json.{Json}
+use Rattle.asl_json.specs.declared.value.Json.TheVariants.{Null, Bool, Num, Text, List as ListOf, Dict}
 use Rattle.asl_parts.specs.Texts.{text_in}
-use Rattle.asl_steps.specs.declared.effect.Effect.{Effect}
+use Rattle.asl_steps.specs.declared.facts.Facts.{Facts}
+use Rattle.asl_steps.specs.Context.{context_of}
 use Rattle.asl_steps.specs.declared.effect.Progress.{Progress}
-use Rattle.asl_steps.specs.declared.effect.Children.TheVariants.{Removed, Forked as Made}
+use Rattle.asl_steps.specs.declared.effect.Children.TheVariants.{Removed}
 use Rattle.asl_steps.specs.declared.record.ErrorOut.{ErrorOut}
 use Rattle.asl_steps.specs.declared.record.Record.{Record}
 use Rattle.asl_steps.specs.declared.record.Record.TheVariants.{New, Ready, Pausing, Again, Forked, Done, Failed}
-use Rattle.asl_steps.specs.Records.{name_or_none, name_in, entered_at, uses_in, uses_from}
+use Rattle.asl_steps.specs.Records.{name_or_none}
+use Rattle.asl_data.specs.Paths.{Given, no_value}
+use Rattle.asl_data.specs.Payload.{filled}
 use Rattle.asl_steps.specs.Seen.{Seen}
 use Rattle.asl_kinds.specs.Members.{values_in}
 
@@ -29,16 +33,61 @@ starts_in machines = map start_in (values_in machines)
 abbrev pub ready_at : List (List ℕ) → Json → List Record
 ready_at starts y = map (λ (s : List ℕ). Ready s y) starts
 
--- the state waits for these branches. It keeps its raw input x, when it was entered, and how often each of its so many retriers
--- was used; items are a Map's
-abbrev pub forking : Seen → Progress → Json → ℕ → List Data → List Record → Effect
-forking v done x retriers items branches = record {
-  after = Forked (name_in v.current) x (entered_at v.moment v.current) (uses_from retriers (uses_in v.current)) items;
-  children = Made branches;
-  raises = done.raises;
-  events = done.events;
-  outcome = None;
+-- ---- the iterations of a Map
+
+-- the items that a Map goes over: a list of at most 999,999,999
+abbrev pub listed : Json → Result (List Data) ErrorOut
+listed Null = Err (no_value (codes "ItemsPath"))
+listed (Bool b) = Err (no_value (codes "ItemsPath"))
+listed (Num n) = Err (no_value (codes "ItemsPath"))
+listed (Text t) = Err (no_value (codes "ItemsPath"))
+listed (ListOf ds) = if nat_le (length ds) 999_999_999 then Ok ds else Err (no_value (codes "ItemsPath"))
+listed (Dict ms) = Err (no_value (codes "ItemsPath"))
+
+abbrev pub items_by : Given → Result (List Data) ErrorOut
+items_by (Ok y) = listed y
+items_by (Err e) = Err e
+
+-- what the Map reads for the iteration of this number over this item
+abbrev pub in_iteration : Seen → ℕ → Data → Seen
+in_iteration v i d = record {
+  place = v.place;
+  current = v.current;
+  children = v.children;
+  forker = v.forker;
+  iteration = Some (i, d);
+  invokes = v.invokes;
+  count = v.count;
+  case = v.case;
+  moment = v.moment;
 }
+
+-- the input of an iteration: what the template makes of the Map's effective input; the item, where there is no template
+abbrev pub item_input : Option Data → Json → Facts → Seen → ℕ → Data → Given
+item_input None y f v i d = Ok (json_of d)
+item_input (Some t) y f v i d = filled (Some t) y (context_of f (in_iteration v i d))
+
+-- iterations that haven't begun, or the error of the first input that can't be made
+abbrev pub GivenRecords : Type 0
+GivenRecords = Result (List Record) ErrorOut
+
+abbrev pub new_before : List ℕ → Given → GivenRecords → GivenRecords
+new_before start (Err e) others = Err e
+new_before start (Ok x) (Err e) = Err e
+new_before start (Ok x) (Ok rs) = Ok (New start x ∷ rs)
+
+-- the iterations over these items, numbered from i, that begin at this state
+abbrev pub iterations : List ℕ → Option Data → Json → Facts → Seen → ℕ → List Data → GivenRecords
+iterations start t y f v i [] = Ok []
+iterations start t y f v i (d ∷ ds) = new_before start (item_input t y f v i d) (iterations start t y f v (i + 1) ds)
+
+-- what a Map forks: its items, and an iteration for each; or the error that it raises
+abbrev pub GivenFork : Type 0
+GivenFork = Result (List Data × List Record) ErrorOut
+
+abbrev pub with_items : List Data → GivenRecords → GivenFork
+with_items ds (Ok rs) = Ok (ds, rs)
+with_items ds (Err e) = Err e
 
 -- ---- what branches have come to
 

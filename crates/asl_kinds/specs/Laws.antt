@@ -1,6 +1,7 @@
 -- The laws that each kind keeps.
 use Rattle.std.specs.Prelude.{ℕ, Bool, true, false, ◌<◌, ◌≤◌, List, [], ◌∷◌, map, length, ◌≡◌, Option, Some, None, if◌then◌else◌, Result, Ok, Err, IfOk, codes, refl}
 use Rattle.std.proofs.Common.{arith, ap, subst, sym, ◌∙◌, length-append}
+use Rattle.std.specs.Option.{option_or}
 use Rattle.std.specs.Str.{bytes_eq}
 use Rattle.asl_json.specs.Data.{Data, text, list, chain}
 use Rattle.asl_json.specs.View.{data_of}
@@ -11,7 +12,7 @@ use Rattle.asl_functions.proofs.Converting.{list_back}
 use Rattle.asl_schema.specs.Canon.{Named}
 use Rattle.asl_schema.specs.Members.{is_among}
 use Rattle.asl_history.specs.declared.kind.EventKind.{EventKind}
-use Rattle.asl_history.specs.declared.kind.EventKind.TheVariants.{PassStateEntered, PassStateExited, SucceedStateEntered, SucceedStateExited, FailStateEntered, ChoiceStateEntered, ChoiceStateExited, WaitStateEntered, WaitStateExited, TaskStateEntered, TaskStateExited, TaskSucceeded, TaskFailed, ParallelStateEntered, ParallelStateExited, ParallelStateStarted, ParallelStateSucceeded, ParallelStateFailed}
+use Rattle.asl_history.specs.declared.kind.EventKind.TheVariants.{PassStateEntered, PassStateExited, SucceedStateEntered, SucceedStateExited, FailStateEntered, ChoiceStateEntered, ChoiceStateExited, WaitStateEntered, WaitStateExited, TaskStateEntered, TaskStateExited, TaskSucceeded, TaskFailed, ParallelStateEntered, ParallelStateExited, ParallelStateStarted, ParallelStateSucceeded, ParallelStateFailed, MapStateEntered, MapStateStarted, MapStateSucceeded, MapStateFailed, MapStateExited}
 use Rattle.asl_parts.specs.Texts.{text_in}
 use Rattle.asl_parts.specs.declared.body.Body.{Body}
 use Rattle.asl_parts.specs.Bodies.{body_members, body_of, bodies_of}
@@ -21,7 +22,10 @@ use Rattle.asl_parts.proofs.Owning.{tied}
 use Rattle.asl_states.specs.declared.state.State.{State}
 use Rattle.asl_states.specs.declared.state.State.TheVariants as state
 use Rattle.asl_states.specs.declared.parallel.Parallel.{Parallel}
-use Rattle.asl_states.specs.Show.{parallel_members, parallel_object, state_of}
+use Rattle.asl_states.specs.declared.map.Map.{Map}
+use Rattle.asl_states.specs.Items.{processor_in}
+use Rattle.asl_states.specs.Show.{parallel_members, parallel_object, map_members, map_object, body_in, state_of}
+use Rattle.asl_states.proofs.Items.{machine_of}
 use Rattle.asl_steps.specs.declared.effect.Effect.{Effect}
 use Rattle.asl_steps.specs.declared.effect.Progress.{Progress}
 use Rattle.asl_steps.specs.declared.facts.Facts.{Facts}
@@ -33,7 +37,7 @@ use Rattle.asl_steps.specs.Records.{name_or_none, name_in, uses_in, entering_wit
 use Rattle.asl_steps.specs.Seen.{Seen}
 use Rattle.asl_steps.specs.Context.{context_of}
 use Rattle.asl_steps.specs.Bounds.{is_forked, AreFew, IsBounded}
-use Rattle.asl_steps.specs.Rows.{idle, leaving, failing, pausing, retrying, entering, beginning_by, beginning, telling, unstarted, error_output, is_within_limit, over_limit}
+use Rattle.asl_steps.specs.Rows.{forking, idle, leaving, failing, pausing, retrying, entering, beginning_by, beginning, telling, unstarted, error_output, is_within_limit, over_limit}
 use Rattle.asl_steps.specs.Laws.{IsSoFar, chosen-bounded, leaving-bounded, failing-bounded, pausing-bounded, retrying-bounded, entering-so-far, unstarted-so-far, beginning-so-far, beginning-short, beginning-kept, idle-bounded, few-unforked}
 use Rattle.asl_schema.specs.Claims.{item_count}
 use Rattle.asl_mock.specs.Answers.{answer_to}
@@ -42,8 +46,8 @@ use Rattle.asl_mock.specs.declared.response.Answer.TheVariants.{Returns, Throws}
 use Rattle.asl_handle.specs.Decisions.{Handling, again, caught, unhandled, items_in, decision}
 use Rattle.asl_data.specs.Paths.{Given, put_into}
 use Rattle.asl_kinds.specs.Members.{next_in, effective_by, effective, pass_output, passed_on, selected_by, selected, no_answer, fail_error, GivenTarget, choice_output, GivenMoment, wait_until}
-use Rattle.asl_kinds.specs.Forks.{start_in, starts_in, ready_at, forking, forked_with, first_error, outputs, gathered}
-use Rattle.asl_kinds.specs.Table.{passed, in_one, pass_effect, succeed_effect, fail_effect, begun, decided, choice_effect, waits, wait_over, wait_with, wait_effect, error_name, handled, settled, invoked, task_fails, task_returns, task_answered, task_with, task_effect, fork_settled, joined_by, joined, parallel_forks, parallel_joins, parallel_with, parallel_effect, effect_by_type, state_effect, is_invoking_type, invokes}
+use Rattle.asl_kinds.specs.Forks.{start_in, GivenFork, starts_in, ready_at, forked_with, first_error, outputs, gathered}
+use Rattle.asl_kinds.specs.Table.{length_body, iteration_start, fork_with, fork_of, map_forks, map_joins, map_with, map_effect, limit_in, slots, passed, in_one, pass_effect, succeed_effect, fail_effect, begun, decided, choice_effect, waits, wait_over, wait_with, wait_effect, error_name, handled, settled, invoked, task_fails, task_returns, task_answered, task_with, task_effect, fork_settled, joined_by, joined, parallel_forks, parallel_joins, parallel_with, parallel_effect, effect_by_type, state_effect, is_invoking_type, invokes}
 
 -- the bounds of an effect, and that it doesn't make too many children
 pub record IsLawful (v : Seen) (invoking : Bool) (e : Effect) : Type 0 where
@@ -240,6 +244,23 @@ parallel_with-bounded d c v None = (parallel_joins-lawful d c v (forked_with v.c
 pub parallel-bounded : (d : Data) (f : Facts) (v : Seen) → IsBounded v false (parallel_effect d f v)
 parallel-bounded d f v = parallel_with-bounded d (context_of f v) v (beginning_with v.current)
 
+-- ---- Map
+
+map_joins-lawful : (d c : Data) (v : Seen) (o : Option Json) → IsLawful v false (map_joins d c v o)
+map_joins-lawful d c v (Some x) = joined-lawful MapStateSucceeded MapStateFailed MapStateExited d c v x
+map_joins-lawful d c v None = idle-lawful v false
+
+map_forks-bounded : (d : Data) (v : Seen) (x : Json) (g : GivenFork) → IsBounded v false (map_forks d v (beginning v MapStateEntered x) x g)
+map_forks-bounded d v x (Ok g) = forking-bounded v (telling v (beginning v MapStateEntered x) MapStateStarted (length_body g.0)) x (item_count (items_in (value_in (codes "Retry") d))) g.0 g.1 (omega (arith, length-append {A = Draft}, beginning-short v MapStateEntered x v.current)) (omega (arith, length-append {A = Draft})) (begun-raised v MapStateEntered x v.current)
+map_forks-bounded d v x (Err e) = (fork_settled-lawful MapStateExited d v (beginning v MapStateEntered x) x (Err e) (beginning-so-far v false MapStateEntered x v.current)).bounds
+
+map_with-bounded : (d : Data) (f : Facts) (v : Seen) (o : Option Json) → IsBounded v false (map_with d f v o)
+map_with-bounded d f v (Some x) = map_forks-bounded d v x (fork_of d f v x)
+map_with-bounded d f v None = (map_joins-lawful d (context_of f v) v (forked_with v.current)).bounds
+
+pub map-bounded : (d : Data) (f : Facts) (v : Seen) → IsBounded v false (map_effect d f v)
+map-bounded d f v = map_with-bounded d f v (beginning_with v.current)
+
 -- ---- a state of any type
 
 -- a kind that doesn't invoke keeps the bounds of one that may
@@ -269,7 +290,8 @@ by_type-bounded (Some t) d f v =
     (chosen-bounded (bytes_eq t (codes "Choice")) v b _ _ (any-invoking v b _ (choice-lawful d f v).bounds)
     (chosen-bounded (bytes_eq t (codes "Wait")) v b _ _ (any-invoking v b _ (wait-lawful d f v).bounds)
     (task_or b v _ _ (task-lawful d f v).bounds
-    (chosen-bounded (bytes_eq t (codes "Parallel")) v false _ _ (parallel-bounded d f v) (idle-bounded v false v.current refl)))))))
+    (chosen-bounded (bytes_eq t (codes "Parallel")) v false _ _ (parallel-bounded d f v)
+    (chosen-bounded (bytes_eq t (codes "Map")) v false _ _ (map-bounded d f v) (idle-bounded v false v.current refl))))))))
 
 pub state-bounded : (d : Data) (f : Facts) (v : Seen) → IsBounded v (invokes d) (state_effect d f v)
 state-bounded d f v = by_type-bounded (text_in (value_in (codes "Type") d)) d f v
@@ -340,6 +362,38 @@ parallel-alike t u p f v =
     (λ k among. tied outcome_names (parallel_members t p) (parallel_members u p) k among (refl, (refl, (refl, (refl, (refl, (refl, (refl, tt))))))))
     (parallel_starts t p ∙ sym (parallel_starts u p))
 
+-- a Map's iterations start where its machine does
+map_start : (t : List Named) (m : Map) → iteration_start (processor_in (map_object t m)) ≡ (body_in m.processor).start.name
+map_start t m = ap (λ (o : Option Data). name_or_none (text_in o)) (sym (machine_of t m (body_in m.processor) (codes "StartAt") refl refl)) ∙ start-is t (body_in m.processor)
+
+-- the members that say what they begin with
+abbrev pub map_names : List (List ℕ)
+map_names = codes "InputPath" ∷ codes "ItemsPath" ∷ codes "Parameters" ∷ codes "ItemSelector" ∷ []
+
+fork_of-alike : (d e : Data) (f : Facts) (v : Seen) (x : Json) → AreAlike map_names d e → iteration_start (processor_in d) ≡ iteration_start (processor_in e) → fork_of d f v x ≡ fork_of e f v x
+fork_of-alike d e f v x same start = λ i. fork_with (same (codes "InputPath") refl i) (same (codes "ItemsPath") refl i) (option_or (same (codes "Parameters") refl i) (same (codes "ItemSelector") refl i)) (start i) f v x
+
+map_forks-alike : (d e : Data) (v : Seen) (done : Progress) (x : Json) (g : GivenFork) → AreAlike outcome_names d e → map_forks d v done x g ≡ map_forks e v done x g
+map_forks-alike d e v done x (Ok g) same = λ i. forking v (telling v done MapStateStarted (length_body g.0)) x (item_count (items_in (same (codes "Retry") refl i))) g.0 g.1
+map_forks-alike d e v done x (Err error) same = fork_settled-alike MapStateExited d e v done x (Err error) same
+
+map_joins-alike : (d e c : Data) (v : Seen) (o : Option Json) → AreAlike outcome_names d e → map_joins d c v o ≡ map_joins e c v o
+map_joins-alike d e c v (Some x) same = joined-alike MapStateSucceeded MapStateFailed MapStateExited d e c v x same
+map_joins-alike d e c v None same = refl
+
+map_with-alike : (d e : Data) (f : Facts) (v : Seen) (o : Option Json) → AreAlike map_names d e → AreAlike outcome_names d e → iteration_start (processor_in d) ≡ iteration_start (processor_in e) → map_with d f v o ≡ map_with e f v o
+map_with-alike d e f v (Some x) inputs outs start =
+    map_forks-alike d e v (beginning v MapStateEntered x) x (fork_of d f v x) outs
+    ∙ ap (map_forks e v (beginning v MapStateEntered x) x) (fork_of-alike d e f v x inputs start)
+map_with-alike d e f v None inputs outs start = map_joins-alike d e (context_of f v) v (forked_with v.current) outs
+
+map-alike : (t u : List Named) (m : Map) (f : Facts) (v : Seen) → map_effect (map_object t m) f v ≡ map_effect (map_object u m) f v
+map-alike t u m f v =
+    map_with-alike (map_object t m) (map_object u m) f v (beginning_with v.current)
+    (λ k among. tied map_names (map_members t m) (map_members u m) k among (refl, (refl, (refl, (refl, tt)))))
+    (λ k among. tied outcome_names (map_members t m) (map_members u m) k among (refl, (refl, (refl, (refl, (refl, (refl, (refl, tt))))))))
+    (map_start t m ∙ sym (map_start u m))
+
 -- what a state does doesn't depend on the states of the machines inside it, nor on their table
 pub any_table : (t u : List Named) (s : State) (f : Facts) (v : Seen) → state_effect (state_of t s) f v ≡ state_effect (state_of u s) f v
 any_table t u (state.Task x) f v = refl
@@ -347,7 +401,7 @@ any_table t u (state.Pass x) f v = refl
 any_table t u (state.Choice x) f v = refl
 any_table t u (state.Wait x) f v = refl
 any_table t u (state.Parallel x) f v = parallel-alike t u x f v
-any_table t u (state.Map x) f v = refl
+any_table t u (state.Map x) f v = map-alike t u x f v
 any_table t u (state.Succeed x) f v = refl
 any_table t u (state.Fail x) f v = refl
 
@@ -361,3 +415,14 @@ any_table_invokes t u (state.Parallel x) = refl
 any_table_invokes t u (state.Map x) = refl
 any_table_invokes t u (state.Succeed x) = refl
 any_table_invokes t u (state.Fail x) = refl
+
+-- nor does how many iterations run at once
+pub any_table_slots : (t u : List Named) (s : State) → slots (state_of t s) ≡ slots (state_of u s)
+any_table_slots t u (state.Task x) = refl
+any_table_slots t u (state.Pass x) = refl
+any_table_slots t u (state.Choice x) = refl
+any_table_slots t u (state.Wait x) = refl
+any_table_slots t u (state.Parallel x) = refl
+any_table_slots t u (state.Map x) = ap limit_in (tied (codes "MaxConcurrency" ∷ []) (map_members t x) (map_members u x) (codes "MaxConcurrency") refl (refl, tt))
+any_table_slots t u (state.Succeed x) = refl
+any_table_slots t u (state.Fail x) = refl

@@ -1,15 +1,17 @@
 -- The state table: what a step of each kind does, by what the branch is doing (ASL, "State Types"; Developer Guide, "HistoryEvent").
-use Rattle.std.specs.Prelude.{ℕ, Bool, true, false, List, [], Option, Some, None, if◌then◌else◌, Ok, Err, codes}
+use Rattle.std.specs.Prelude.{ℕ, pos, Bool, true, false, List, [], ◌∷◌, length, Option, Some, None, if◌then◌else◌, Result, Ok, Err, codes}
 use Rattle.std.specs.Str.{bytes_eq}
-use Rattle.asl_json.specs.Data.{Data}
+use Rattle.asl_json.specs.Data.{Data, number}
+use Rattle.std.specs.Fmt.{signed_decimal}
 use Rattle.asl_json.specs.View.{data_of}
 use Rattle.asl_json.specs.Meaning.{value_in}
 use Rattle.asl_json.specs.declared.value.Json.{Json}
 use Rattle.asl_json.specs.declared.value.Json.TheVariants.{Dict, List as ListOf}
 use Rattle.asl_schema.specs.Claims.{item_count}
 use Rattle.asl_history.specs.declared.kind.EventKind.{EventKind}
-use Rattle.asl_history.specs.declared.kind.EventKind.TheVariants.{PassStateEntered, PassStateExited, SucceedStateEntered, SucceedStateExited, FailStateEntered, ChoiceStateEntered, ChoiceStateExited, WaitStateEntered, WaitStateExited, TaskStateEntered, TaskStateExited, TaskScheduled, TaskStarted, TaskSucceeded, TaskFailed, ParallelStateEntered, ParallelStateExited, ParallelStateStarted, ParallelStateSucceeded, ParallelStateFailed}
+use Rattle.asl_history.specs.declared.kind.EventKind.TheVariants.{PassStateEntered, PassStateExited, SucceedStateEntered, SucceedStateExited, FailStateEntered, ChoiceStateEntered, ChoiceStateExited, WaitStateEntered, WaitStateExited, TaskStateEntered, TaskStateExited, TaskScheduled, TaskStarted, TaskSucceeded, TaskFailed, ParallelStateEntered, ParallelStateExited, ParallelStateStarted, ParallelStateSucceeded, ParallelStateFailed, MapStateEntered, MapStateStarted, MapStateSucceeded, MapStateFailed, MapStateExited}
 use Rattle.asl_parts.specs.Texts.{text_in}
+use Rattle.asl_states.specs.Items.{processor_in, selector_in, member_in}
 use Rattle.asl_steps.specs.declared.effect.Effect.{Effect}
 use Rattle.asl_steps.specs.declared.effect.Progress.{Progress}
 use Rattle.asl_steps.specs.declared.facts.Facts.{Facts}
@@ -17,14 +19,15 @@ use Rattle.asl_steps.specs.declared.record.ErrorOut.{ErrorOut}
 use Rattle.asl_steps.specs.Records.{name_or_none, name_in, uses_in, entering_with, beginning_with, pausing_with}
 use Rattle.asl_steps.specs.Seen.{Seen}
 use Rattle.asl_steps.specs.Context.{context_of}
-use Rattle.asl_steps.specs.Rows.{idle, entering, beginning, telling, unstarted, retrying, pausing, leaving, failing, error_output, is_within_limit, over_limit}
+use Rattle.asl_steps.specs.Rows.{forking, idle, entering, beginning, telling, unstarted, retrying, pausing, leaving, failing, error_output, is_within_limit, over_limit}
 use Rattle.asl_mock.specs.Answers.{answer_to}
 use Rattle.asl_mock.specs.declared.response.Answer.{Answer}
 use Rattle.asl_mock.specs.declared.response.Answer.TheVariants.{Returns, Throws}
 use Rattle.asl_handle.specs.Decisions.{Handling, again, caught, unhandled, items_in, decision}
-use Rattle.asl_data.specs.Paths.{Given, put_into}
+use Rattle.asl_data.specs.Paths.{Given, put_into, taken}
+use Rattle.asl_data.specs.Delay.{seconds_of}
 use Rattle.asl_kinds.specs.Members.{next_in, effective, pass_output, passed_on, selected, no_answer, fail_error, GivenTarget, choice_output, GivenMoment, wait_until}
-use Rattle.asl_kinds.specs.Forks.{starts_in, ready_at, forking, forked_with, first_error, outputs, gathered}
+use Rattle.asl_kinds.specs.Forks.{starts_in, ready_at, items_by, iterations, GivenFork, with_items, forked_with, first_error, outputs, gathered}
 
 -- a state without Retry and Catch is left with what it gives, or fails with the error that it raises
 abbrev pub passed : Seen → Progress → EventKind → Option (List ℕ) → Given → Effect
@@ -170,6 +173,49 @@ parallel_with d c v None = parallel_joins d c v (forked_with v.current)
 abbrev pub parallel_effect : Data → Facts → Seen → Effect
 parallel_effect d f v = parallel_with d (context_of f v) v (beginning_with v.current)
 
+-- ---- Map
+
+-- what is told of its start: how many iterations there are
+abbrev pub length_body : List Data → Json
+length_body ds = Dict ((codes "length", number (signed_decimal (pos (length ds)))) ∷ [])
+
+-- the state that each iteration begins at
+abbrev pub iteration_start : Option Data → List ℕ
+iteration_start machine = name_or_none (text_in (member_in (codes "StartAt") machine))
+
+-- by the effective input y and its items, with the template that makes inputs of them
+abbrev pub fork_over : Option Data → List ℕ → Facts → Seen → Json → Result (List Data) ErrorOut → GivenFork
+fork_over t start f v y (Ok ds) = with_items ds (iterations start t y f v 0 ds)
+fork_over t start f v y (Err e) = Err e
+
+-- the items are what ItemsPath takes of the effective input
+abbrev pub fork_by : Option Data → Option Data → List ℕ → Facts → Seen → Given → GivenFork
+fork_by items t start f v (Ok y) = fork_over t start f v y (items_by (taken (codes "ItemsPath") items y (context_of f v)))
+fork_by items t start f v (Err e) = Err e
+
+-- the effective input is what InputPath takes
+abbrev pub fork_with : Option Data → Option Data → Option Data → List ℕ → Facts → Seen → Json → GivenFork
+fork_with input items t start f v x = fork_by items t start f v (taken (codes "InputPath") input x (context_of f v))
+
+abbrev pub fork_of : Data → Facts → Seen → Json → GivenFork
+fork_of d f v x = fork_with (value_in (codes "InputPath") d) (value_in (codes "ItemsPath") d) (selector_in d) (iteration_start (processor_in d)) f v x
+
+-- the Map keeps its raw input and the items
+abbrev pub map_forks : Data → Seen → Progress → Json → GivenFork → Effect
+map_forks d v done x (Ok g) = forking v (telling v done MapStateStarted (length_body g.0)) x (item_count (items_in (value_in (codes "Retry") d))) g.0 g.1
+map_forks d v done x (Err e) = fork_settled MapStateExited d v done x (Err e)
+
+abbrev pub map_joins : Data → Data → Seen → Option Json → Effect
+map_joins d c v (Some x) = joined MapStateSucceeded MapStateFailed MapStateExited d c v x
+map_joins d c v None = idle v.current
+
+abbrev pub map_with : Data → Facts → Seen → Option Json → Effect
+map_with d f v (Some x) = map_forks d v (beginning v MapStateEntered x) x (fork_of d f v x)
+map_with d f v None = map_joins d (context_of f v) v (forked_with v.current)
+
+abbrev pub map_effect : Data → Facts → Seen → Effect
+map_effect d f v = map_with d f v (beginning_with v.current)
+
 -- ---- a state of any type
 
 -- by the type of the state; nothing where there is no such type
@@ -182,6 +228,7 @@ effect_by_type (Some t) d f v =
     else if bytes_eq t (codes "Wait") then wait_effect d f v
     else if bytes_eq t (codes "Task") then task_effect d f v
     else if bytes_eq t (codes "Parallel") then parallel_effect d f v
+    else if bytes_eq t (codes "Map") then map_effect d f v
     else idle v.current
 effect_by_type None d f v = idle v.current
 
@@ -196,3 +243,21 @@ is_invoking_type None = false
 
 abbrev pub invokes : Data → Bool
 invokes d = is_invoking_type (text_in (value_in (codes "Type") d))
+
+-- ---- how many iterations of a Map run at once
+
+abbrev pub whole_or_none : Option ℕ → ℕ
+whole_or_none None = 0
+whole_or_none (Some n) = n
+
+abbrev pub limit_in : Option Data → ℕ
+limit_in None = 0
+limit_in (Some d) = whole_or_none (seconds_of d)
+
+abbrev pub slots_by_type : Option (List ℕ) → Data → ℕ
+slots_by_type None d = 0
+slots_by_type (Some t) d = if bytes_eq t (codes "Map") then limit_in (value_in (codes "MaxConcurrency") d) else 0
+
+-- its MaxConcurrency; 0, where there is no limit, and for a state of another type
+abbrev pub slots : Data → ℕ
+slots d = slots_by_type (text_in (value_in (codes "Type") d)) d

@@ -104,6 +104,8 @@ impl StateKind for Choice {
 
     ghost is_invoking = { λ k. false };
 
+    ghost slots = { λ k. 0 };
+
     ghost bounded = { λ k f v. (choice-lawful (choice_object k) f v).bounds };
 
     fn visit(
@@ -134,5 +136,9 @@ impl StateKind for Choice {
 
     fn invokes(&self) -> bool {
         false
+    }
+
+    fn slots(&self) -> u32 {
+        0
     }
 }

@@ -82,6 +82,8 @@ impl StateKind for Fail {
 
     ghost is_invoking = { λ k. false };
 
+    ghost slots = { λ k. 0 };
+
     ghost bounded = { λ k f v. (fail-lawful (fail_object k) f v).bounds };
 
     fn visit(
@@ -100,5 +102,9 @@ impl StateKind for Fail {
 
     fn invokes(&self) -> bool {
         false
+    }
+
+    fn slots(&self) -> u32 {
+        0
     }
 }

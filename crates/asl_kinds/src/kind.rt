@@ -1,5 +1,5 @@
 // What all kinds of states have in common.
-ghost use Rattle.std.specs.Prelude.{◌≡◌, Bool, IfOk};
+ghost use Rattle.std.specs.Prelude.{◌≡◌, ℕ, Bool, IfOk};
 ghost use Rattle.asl_steps.specs.declared.effect.Effect.{Effect};
 ghost use Rattle.asl_steps.specs.declared.facts.Facts.{Facts};
 ghost use Rattle.asl_steps.specs.Seen.{Seen, seen};
@@ -16,6 +16,9 @@ pub trait StateKind {
     /// Whether a step may raise the count of the state.
     ghost is_invoking: { Self → Bool };
 
+    /// How many branches under the state run at once; 0 where there is no limit.
+    ghost slots: { Self → ℕ };
+
     /// What a step does. It is computed aside: the Context Object alone changes, and it stays that of its execution. It makes no
     /// more children than there are numbers for. What fails is memory.
     fn visit(
@@ -31,6 +34,10 @@ pub trait StateKind {
     /// Whether a step may raise the count of the state.
     fn invokes(&self) -> bool
         ensures { result ≡ is_invoking self.now };
+
+    /// How many branches under the state run at once: a Map's `MaxConcurrency`. 0 says that there is no limit.
+    fn slots(&self) -> u32
+        ensures { result ≡ slots self.now };
 
     /// At most eight events, children made or removed only with an event, a count only where the kind invokes, the outcome exactly
     /// where the branch at the root ends.

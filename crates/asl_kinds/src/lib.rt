@@ -7,10 +7,10 @@
 
 mod choice;
 mod fail;
-mod forking;
 mod joining;
 mod kind;
 mod making;
+mod map;
 mod parallel;
 mod pass;
 mod passing;

@@ -7,7 +7,6 @@ ghost use Rattle.asl_steps.specs.declared.record.Record.TheVariants.{Ready};
 ghost use Rattle.asl_steps.specs.Seen.{seen};
 ghost use Rattle.asl_kinds.specs.Table.{parallel_forks, parallel_with};
 
-use crate::forking::forking;
 use crate::joining::{forked, join};
 use crate::kind::StateKind;
 use crate::making::effective;
@@ -16,7 +15,9 @@ use asl_data::{Fault, empty_object};
 use asl_history::EventKind;
 use asl_json::{Items, Name, Shared};
 use asl_states::{Bodies, Parallel};
-use asl_steps::{Context, Effect, Progress, Record, Records, Visit, beginning, idle, telling};
+use asl_steps::{
+    Context, Effect, Progress, Record, Records, Visit, beginning, forking, idle, telling,
+};
 use std::alloc::{AllocError, Global};
 
 /// A branch for each of these machines, about to enter its first state with this input.
@@ -88,6 +89,8 @@ impl StateKind for Parallel {
 
     ghost is_invoking = { λ k. false };
 
+    ghost slots = { λ k. 0 };
+
     ghost bounded = { λ k. parallel-bounded (parallel_object [] k) };
 
     fn visit(
@@ -116,5 +119,9 @@ impl StateKind for Parallel {
 
     fn invokes(&self) -> bool {
         false
+    }
+
+    fn slots(&self) -> u32 {
+        0
     }
 }

@@ -55,6 +55,8 @@ impl StateKind for Pass {
 
     ghost is_invoking = { λ k. false };
 
+    ghost slots = { λ k. 0 };
+
     ghost bounded = { λ k f v. (pass-lawful (pass_object k) f v).bounds };
 
     fn visit(
@@ -74,5 +76,9 @@ impl StateKind for Pass {
 
     fn invokes(&self) -> bool {
         false
+    }
+
+    fn slots(&self) -> u32 {
+        0
     }
 }

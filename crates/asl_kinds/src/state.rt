@@ -1,20 +1,21 @@
 // A state of any type.
 use crate::kind::StateKind;
 use asl_states::State;
-use asl_steps::{Context, Effect, Visit, idle};
+use asl_steps::{Context, Effect, Visit};
 use std::alloc::{AllocError, Global};
 
-/// A Map does nothing yet; a state of any other type does what its kind says. What a state does doesn't depend on the states of the
-/// machines inside it: the law `any_table` of `Laws`.
+/// A state does what its kind says. It doesn't depend on the states of the machines inside it: the law `any_table` of `Laws`.
 impl StateKind for State {
     ghost use Rattle.std.specs.Prelude.{[]};
     ghost use Rattle.asl_states.specs.Show.{state_of};
-    ghost use Rattle.asl_kinds.specs.Table.{state_effect, invokes};
+    ghost use Rattle.asl_kinds.specs.Table.{state_effect, invokes, slots};
     ghost use Rattle.asl_kinds.specs.Laws.{state-bounded};
 
     ghost effect = { λ k. state_effect (state_of [] k) };
 
     ghost is_invoking = { λ k. invokes (state_of [] k) };
+
+    ghost slots = { λ k. slots (state_of [] k) };
 
     ghost bounded = { λ k. state-bounded (state_of [] k) };
 
@@ -32,7 +33,7 @@ impl StateKind for State {
             State::Wait(state) => state.visit(alloc, visit, context),
             State::Task(state) => state.visit(alloc, visit, context),
             State::Parallel(state) => state.visit(alloc, visit, context),
-            _ => idle(alloc, visit.current),
+            State::Map(state) => state.visit(alloc, visit, context),
         }
     }
 
@@ -45,7 +46,20 @@ impl StateKind for State {
             State::Wait(state) => state.invokes(),
             State::Task(state) => state.invokes(),
             State::Parallel(state) => state.invokes(),
-            _ => false,
+            State::Map(state) => state.invokes(),
+        }
+    }
+
+    fn slots(&self) -> u32 {
+        match self {
+            State::Pass(state) => state.slots(),
+            State::Succeed(state) => state.slots(),
+            State::Fail(state) => state.slots(),
+            State::Choice(state) => state.slots(),
+            State::Wait(state) => state.slots(),
+            State::Task(state) => state.slots(),
+            State::Parallel(state) => state.slots(),
+            State::Map(state) => state.slots(),
         }
     }
 }

@@ -54,6 +54,8 @@ impl StateKind for Succeed {
 
     ghost is_invoking = { λ k. false };
 
+    ghost slots = { λ k. 0 };
+
     ghost bounded = { λ k f v. (succeed-lawful (succeed_object k) f v).bounds };
 
     fn visit(
@@ -79,5 +81,9 @@ impl StateKind for Succeed {
 
     fn invokes(&self) -> bool {
         false
+    }
+
+    fn slots(&self) -> u32 {
+        0
     }
 }

@@ -144,6 +144,8 @@ impl StateKind for Task {
 
     ghost is_invoking = { λ k. true };
 
+    ghost slots = { λ k. 0 };
+
     ghost bounded = { λ k f v. (task-lawful (task_object k) f v).bounds };
 
     fn visit(
@@ -181,5 +183,9 @@ impl StateKind for Task {
 
     fn invokes(&self) -> bool {
         true
+    }
+
+    fn slots(&self) -> u32 {
+        0
     }
 }

@@ -112,6 +112,8 @@ impl StateKind for Wait {
 
     ghost is_invoking = { λ k. false };
 
+    ghost slots = { λ k. 0 };
+
     ghost bounded = { λ k f v. (wait-lawful (wait_object k) f v).bounds };
 
     fn visit(
@@ -145,5 +147,9 @@ impl StateKind for Wait {
 
     fn invokes(&self) -> bool {
         false
+    }
+
+    fn slots(&self) -> u32 {
+        0
     }
 }

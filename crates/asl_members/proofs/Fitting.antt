@@ -12,8 +12,8 @@ use Rattle.asl_schema.specs.declared.sort.Form.TheVariants as form
 use Rattle.asl_schema.specs.Demands.{form_of, is_of}
 use Rattle.asl_schema.specs.Claims.{is_between, is_between_whole}
 use Rattle.asl_schema.specs.Clean.{IsClean, Fits}
-use Rattle.asl_schema.proofs.Kept.{unfit, path_text, path_or_null, place_or_null, from_zero, from_one, rate, delay_limit, jitter, has_moment}
-use Rattle.asl_members.specs.Readable.{IsText, IsTruth, IsNumeric, IsPathText, IsPathOrCall, IsPathOrNull, IsCount, IsRate, IsDelayLimit, IsJitter, IsStamp}
+use Rattle.asl_schema.proofs.Kept.{unfit, path_text, path_or_null, place_or_null, from_zero, from_one, rate, delay_limit, jitter, mode, has_moment}
+use Rattle.asl_members.specs.Readable.{IsText, IsTruth, IsNumeric, IsPathText, IsPathOrCall, IsPathOrNull, IsCount, IsRate, IsDelayLimit, IsJitter, IsMode, IsStamp}
 
 -- where it is there
 pub fit : (s : Sort) (P : Data → Type 0) → ((d : Data) → IsClean s d → P d) → (o : Option Data) → Fits s o → IfSome o P
@@ -128,6 +128,14 @@ jitter_fits (boolean b) c = unfit sort.Jitter (boolean b) c refl
 jitter_fits (number n) c = unfit sort.Jitter (number n) c refl
 jitter_fits (list ds) c = unfit sort.Jitter (list ds) c refl
 jitter_fits (dict ms) c = unfit sort.Jitter (dict ms) c refl
+
+pub mode_fits : (d : Data) → IsClean sort.Mode d → IsMode d
+mode_fits (text t) c = mode t c
+mode_fits null c = unfit sort.Mode null c refl
+mode_fits (boolean b) c = unfit sort.Mode (boolean b) c refl
+mode_fits (number n) c = unfit sort.Mode (number n) c refl
+mode_fits (list ds) c = unfit sort.Mode (list ds) c refl
+mode_fits (dict ms) c = unfit sort.Mode (dict ms) c refl
 
 pub stamp_fits : (d : Data) → IsClean sort.Timestamp d → IsStamp d
 stamp_fits (text t) c = has_moment t c

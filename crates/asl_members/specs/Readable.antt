@@ -1,11 +1,14 @@
 -- The values that members are compiled from.
-use Rattle.std.specs.Prelude.{◌≡◌, true, pos}
+use Rattle.std.specs.Prelude.{◌≡◌, true, pos, codes}
 use Rattle.asl_json.specs.Data.{Data, null, boolean, number, text, list, Chain, no_items, item}
 use Rattle.asl_json.specs.Number.{units_of}
+use Rattle.asl_json.specs.Same.{bytes_eq}
 use Rattle.asl_json.specs.Whole.{whole_of}
 use Rattle.asl_path.specs.Grammar.{IsPath}
 use Rattle.asl_schema.specs.Demands.{Holds, HasMoment}
+use Rattle.asl_schema.specs.declared.sort.Sort.TheVariants as sort
 use Rattle.asl_schema.specs.Claims.{path_or_call, is_between, is_between_whole, is_jitter}
+use Rattle.asl_schema.specs.Clean.{IsClean}
 
 abbrev pub IsText : Data → Type 0
 IsText (text t) = Unit {0}
@@ -51,6 +54,15 @@ IsDelayLimit d = ⊥
 abbrev pub IsJitter : Data → Type 0
 IsJitter (text t) = is_jitter t ≡ true
 IsJitter d = ⊥
+
+-- INLINE
+abbrev pub IsMode : Data → Type 0
+IsMode (text t) = bytes_eq t (codes "INLINE") ≡ true
+IsMode d = ⊥
+
+-- an object with at most a Mode
+abbrev pub IsProcessorConfig : Data → Type 0
+IsProcessorConfig d = IsClean sort.ProcessorConfig d
 
 abbrev pub IsStamp : Data → Type 0
 IsStamp (text t) = HasMoment t

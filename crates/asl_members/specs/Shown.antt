@@ -8,6 +8,9 @@ use Rattle.asl_members.specs.declared.path.PathOrCall.{PathOrCall}
 use Rattle.asl_members.specs.declared.path.PathOrCall.TheVariants.{Path, Call}
 use Rattle.asl_members.specs.declared.jitter.JitterStrategy.{JitterStrategy}
 use Rattle.asl_members.specs.declared.jitter.JitterStrategy.TheVariants as jitter
+use Rattle.asl_members.specs.declared.processor.Mode.{Mode}
+use Rattle.asl_members.specs.declared.processor.Mode.TheVariants.{Inline}
+use Rattle.asl_members.specs.declared.processor.ProcessorConfig.{ProcessorConfig}
 use Rattle.asl_members.specs.declared.retry.Retrier.{Retrier}
 
 abbrev pub path_shown : PathField → Option Data
@@ -22,6 +25,12 @@ path_or_call_shown (Call c) = text c
 abbrev pub jitter_shown : JitterStrategy → Data
 jitter_shown jitter.Full = text (codes "FULL")
 jitter_shown jitter.None = text (codes "NONE")
+
+abbrev pub mode_shown : Mode → Data
+mode_shown Inline = text (codes "INLINE")
+
+abbrev pub config_shown : ProcessorConfig → Data
+config_shown c = dict (pairs (present ((codes "Mode", option_map mode_shown c.mode) ∷ [])))
 
 -- the names of errors
 abbrev pub names_shown : List (List ℕ) → Data

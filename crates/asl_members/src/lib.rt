@@ -1,7 +1,7 @@
 //! What the members of states hold, compiled from a definition without faults.
 //!
 //! Modules in reading order: `compiled` is what all of it has in common, and `list` lists of it; `plain`, `path`, `number`,
-//! `stamp`, `jitter` and `retry` are the types; `entry` makes objects. `specs/Shown.antt` says what each shows, `specs/Readable.antt`
+//! `stamp`, `jitter`, `processor` and `retry` are the types; `entry` makes objects. `specs/Shown.antt` says what each shows, `specs/Readable.antt`
 //! which values each is compiled from.
 #![tactic(auto)]
 
@@ -12,6 +12,7 @@ mod list;
 mod number;
 mod path;
 mod plain;
+mod processor;
 mod retry;
 mod stamp;
 
@@ -21,5 +22,6 @@ pub use jitter::JitterStrategy;
 pub use list::{json_all, read_all};
 pub use number::{BackoffRate, Count, DelayLimit};
 pub use path::{PathField, PathOrCall};
+pub use processor::{Mode, ProcessorConfig};
 pub use retry::{ErrorNames, Retrier, Retriers};
 pub use stamp::Stamp;

@@ -17,7 +17,7 @@ use Rattle.asl_schema.specs.Canon.{Named, canon, kept_at}
 use Rattle.asl_schema.specs.Clean.{IsClean, Fits, IsThere, IsThereAmong, GoesOneWay, goes_on}
 use Rattle.asl_schema.proofs.Inside.{fits_at, clean}
 use Rattle.asl_schema.proofs.Typed.{kind_inside, type_known}
-use Rattle.asl_schema.proofs.Ways.{one_way, two_there, wait_one, wait_some}
+use Rattle.asl_schema.proofs.Ways.{one_way, two_there, wait_one, wait_some, selector_one}
 use Rattle.asl_schema.proofs.Canons.{plain_kept}
 use Rattle.asl_schema.proofs.Ending.{end_off, end_on}
 use Rattle.asl_members.proofs.Fitting.{fit}
@@ -167,6 +167,11 @@ error_at_most f g ms o p h d e = at_most f g o p _ _ d e (error_one ms h)
 
 pub cause_at_most : {A B : Type 0} (f : A → Data) (g : B → Data) (ms : List Named) (o : Option A) (p : Option B) → IsOfKind kind.Fail ms → option_map f o ≡ value_at (codes "Cause") (pairs ms) → option_map g p ≡ value_at (codes "CausePath") (pairs ms) → is_some o ≡ true → is_some p ≡ false
 cause_at_most f g ms o p h d e = at_most f g o p _ _ d e (cause_one ms h)
+
+-- a Map has its machine in one spelling, and so the template for the inputs of its iterations
+
+pub selector_at_most : {A B : Type 0} (f : A → Data) (g : B → Data) (ms : List Named) (o : Option A) (p : Option B) → IsOfKind kind.Map ms → option_map f o ≡ value_at (codes "Parameters") (pairs ms) → option_map g p ≡ value_at (codes "ItemSelector") (pairs ms) → is_some o ≡ true → is_some p ≡ false
+selector_at_most f g ms o p h d e = at_most f g o p _ _ d e (selector_one h.names (pairs ms) h.inside)
 
 -- how a state goes on
 

@@ -1,7 +1,9 @@
 -- Machines inside states and the outermost one: what they show, over the states of the table.
-use Rattle.std.specs.Prelude.{ℕ, ◌+◌, ◌≤◌, List, [], ◌∷◌, Some, codes, map, take, drop, option_map}
+use Rattle.std.specs.Prelude.{ℕ, ◌+◌, ◌≤◌, List, [], ◌∷◌, Option, Some, codes, map, take, drop, option_map}
 use Rattle.asl_json.specs.Data.{Data, number, text, dict, pairs}
 use Rattle.asl_schema.specs.Canon.{Named}
+use Rattle.asl_members.specs.declared.processor.ProcessorConfig.{ProcessorConfig}
+use Rattle.asl_members.specs.Shown.{config_shown}
 use Rattle.asl_parts.specs.declared.body.Body.{Body}
 use Rattle.asl_parts.specs.declared.heading.Heading.{Heading}
 use Rattle.asl_parts.specs.Parts.{Slots, object}
@@ -12,6 +14,13 @@ body_members t b = (codes "Comment", option_map text b.comment) ∷ (codes "Star
 
 abbrev pub body_of : List Named → Body → Data
 body_of t b = object (body_members t b)
+
+-- and the one of an ItemProcessor, with its configuration
+abbrev pub processor_members : List Named → Option ProcessorConfig → Body → Slots
+processor_members t c b = (codes "Comment", option_map text b.comment) ∷ (codes "ProcessorConfig", option_map config_shown c) ∷ (codes "StartAt", Some (text b.start.name)) ∷ (codes "States", Some (dict (pairs (take b.count (drop b.first t))))) ∷ []
+
+abbrev pub processor_of : List Named → Option ProcessorConfig → Body → Data
+processor_of t c b = object (processor_members t c b)
 
 -- the outermost machine
 abbrev pub machine_members : List Named → Heading → Body → Slots

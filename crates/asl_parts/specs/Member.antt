@@ -25,7 +25,7 @@ path_names =
 
 -- the members whose value is a template
 abbrev pub template_names : List (List ℕ)
-template_names = codes "Parameters" ∷ codes "ResultSelector" ∷ []
+template_names = codes "Parameters" ∷ codes "ItemSelector" ∷ codes "ResultSelector" ∷ []
 
 -- the members by which a state says what becomes of its result or its error
 abbrev pub outcome_names : List (List ℕ)

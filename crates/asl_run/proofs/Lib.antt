@@ -1,3 +1,5 @@
 pub mod Telling
 pub mod Sound
 pub mod Accepting
+pub mod Picks
+pub mod Doing

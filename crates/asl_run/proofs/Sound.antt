@@ -1,5 +1,5 @@
 -- What always holds of a run holds after a step.
-use Rattle.std.proofs.Common.{ℕ, suc, zero, ◌≡◌, ◌+◌, ◌<◌, ◌≤◌, Bool, true, false, List, [], ◌∷◌, refl, sym, ◌∙◌, ap, subst, arith, length, get_or, set, Option, Some, None}
+use Rattle.std.proofs.Common.{ℕ, suc, zero, ◌≡◌, ◌+◌, ◌<◌, ◌≤◌, Bool, true, false, List, [], ◌∷◌, refl, sym, ◌∙◌, ap, subst, arith, length, get_or, set, Option, Some, None, IsSome}
 use Rattle.std.specs.Prelude.{is_some, nat_lt}
 use Rattle.std.proofs.lemmas.Bool.Decides.{nat_tests}
 use Rattle.asl_history.specs.declared.event.Event.{Event}
@@ -16,9 +16,16 @@ use Rattle.asl_frames.specs.Links.{is_there, IsLinked}
 use Rattle.asl_frames.proofs.Changing.{plain-nodes}
 use Rattle.asl_frames.proofs.Linking.{Tell, links-kept, links-still, there-is, kids-unknown}
 use Rattle.asl_frames.proofs.Placing.{placed-after}
-use Rattle.asl_run.specs.World.{raised, counts_after, events_after}
+use Rattle.asl_history.specs.declared.kind.EventKind.TheVariants.{ExecutionTimedOut}
+use Rattle.asl_steps.specs.Records.{is_finished}
+use Rattle.asl_steps.specs.Rows.{error_output}
+use Rattle.asl_steps.specs.declared.effect.Ended.{Ended}
+use Rattle.asl_steps.specs.declared.effect.Ended.TheVariants.{Succeeded as EndedWell, Failed as EndedBadly}
+use Rattle.asl_run.specs.declared.outcome.Outcome.{Outcome}
+use Rattle.asl_run.specs.declared.outcome.Outcome.TheVariants.{TimedOut}
+use Rattle.asl_run.specs.World.{raised, counts_after, events_after, is_over, outcome_after, timeout_error}
 use Rattle.asl_run.specs.Telling.{last_id}
-use Rattle.asl_run.specs.Sound.{IsSound}
+use Rattle.asl_run.specs.Sound.{IsSound, is_going}
 use Rattle.asl_run.proofs.Telling.{events-length, all-history, all-told}
 
 set-bound : (xs : List ℕ) (i v k m : ℕ) → v ≤ m → get_or xs k 0 ≤ m → get_or (set xs i v) k 0 ≤ m
@@ -60,14 +67,57 @@ linked-after (d ∷ ds) c p now r ns es t h l =
 
 -- ---- all together
 
-pub sound-after : (p : List ℕ) (o : Option ℕ) (now : ℕ) (e : Effect) (ns : List Node) (counts : List ℕ) (events : List Event) → IsSound ns counts events
+-- while the execution runs, the branch that it began with does
+going : (p : List ℕ) (e : Effect) (told : Option ℕ) (f : Family) → is_going (nodes_of f) ≡ true → (p ≡ [] → is_finished e.after ≡ false) → is_going (nodes_after p (change e.after told (litter_of p e.children)) (nodes_of f)) ≡ true
+going [] e told f g h = rw (h refl) refl
+going (x ∷ xs) e told f g h = g
+
+some-is : (o : Option Ended) → IsSome o → is_some o ≡ true
+some-is None h = h
+some-is (Some x) h = refl
+
+unended : (e : Effect) (p : List ℕ) (o : Option Ended) → e.outcome ≡ o → o ≡ None → (p ≡ [] → is_finished e.after ≡ true → IsSome e.outcome) → p ≡ [] → is_finished e.after ≡ false
+unended e p o h n ends at = by (is_finished e.after) refl
+  where
+    by : (c : Bool) → is_finished e.after ≡ c → is_finished e.after ≡ false
+    by true f = let s : IsSome e.outcome = ends at f in let x : is_some e.outcome ≡ true = some-is e.outcome s in let y : is_some e.outcome ≡ false = ap is_some (h ∙ n) in let z : true ≡ false = sym x ∙ y in (cc)
+    by false f = f
+
+pub goes-on : (p : List ℕ) (e : Effect) (told : Option ℕ) (f : Family) (before : Outcome) → (is_over before ≡ false → is_going (nodes_of f) ≡ true) → (p ≡ [] → is_finished e.after ≡ true → IsSome e.outcome)
+    → is_over (outcome_after e.outcome before) ≡ false → is_going (nodes_after p (change e.after told (litter_of p e.children)) (nodes_of f)) ≡ true
+goes-on p e told f before goes ends = by e.outcome refl
+  where
+    by : (o : Option Ended) → e.outcome ≡ o → is_over (outcome_after o before) ≡ false → is_going (nodes_after p (change e.after told (litter_of p e.children)) (nodes_of f)) ≡ true
+    by None h r = going p e told f (goes r) (unended e p None h refl ends)
+    by (Some (EndedWell x)) h r = (cc)
+    by (Some (EndedBadly x)) h r = (cc)
+
+pub sound-after : (p : List ℕ) (o : Option ℕ) (now : ℕ) (e : Effect) (ns : List Node) (counts : List ℕ) (events : List Event) (before after : Outcome) → IsSound ns counts events before
     → is_there p ns ≡ true → length events ≤ 24992 → length e.events ≤ 8 → (e.raises ≡ true → 0 < length e.events) → (are_kept e.children ≡ false → 0 < length e.events)
-    → IsSound (nodes_after p (change e.after (last_id (length e.events) (length (events_after p now e.events events))) (litter_of p e.children)) ns) (counts_after o e.raises counts) (events_after p now e.events events)
-sound-after p o now e ns counts events s t room few tells changes = record {
+    → (is_over after ≡ false → is_going (nodes_after p (change e.after (last_id (length e.events) (length (events_after p now e.events events))) (litter_of p e.children)) ns) ≡ true)
+    → IsSound (nodes_after p (change e.after (last_id (length e.events) (length (events_after p now e.events events))) (litter_of p e.children)) ns) (counts_after o e.raises counts) (events_after p now e.events events) after
+sound-after p o now e ns counts events before after s t room few tells changes goes = record {
   linked = linked-after e.events e.children p now e.after ns events t changes s.linked;
   placed = placed-after p e.after (last_id (length e.events) (length (events_after p now e.events events))) e.children ns s.placed;
-  few = omega (arith, events-length p now e.events events);
   counted = λ k. omega (arith, counted-after o (length events) (length e.events) e.raises counts tells s.counted k, events-length p now e.events events);
+  goes = goes;
+}
+
+-- the same where its time is over: an event is told at the root
+abbrev pub late-draft : Draft
+late-draft = record { kind = ExecutionTimedOut; name = []; body = error_output timeout_error }
+
+abbrev pub late-events : (now : ℕ) (es : List Event) → List Event
+late-events now es = events_after [] now (late-draft ∷ []) es
+
+pub sound-late : (now : ℕ) (f new : Family) (counts : List ℕ) (events : List Event) (before : Outcome) → IsSound (nodes_of f) counts events before
+    → nodes_of new ≡ nodes_after [] (change f.head.current (Some (length (late-events now events))) (litter_of [] Kept)) (nodes_of f)
+    → IsSound (nodes_of new) counts (late-events now events) TimedOut
+sound-late now f new counts events before s e = rw e record {
+  linked = linked-after (late-draft ∷ []) Kept [] now f.head.current (nodes_of f) events refl (λ h. (cc)) s.linked;
+  placed = placed-after [] f.head.current (Some (length (late-events now events))) Kept (nodes_of f) s.placed;
+  counted = λ k. omega (arith, s.counted k, events-length [] now (late-draft ∷ []) events);
+  goes = λ h. (cc);
 }
 
 -- ---- the same change, by what its parts are

@@ -3,3 +3,4 @@ pub mod Refusals
 pub mod Sound
 pub mod Telling
 pub mod Lines
+pub mod Picking

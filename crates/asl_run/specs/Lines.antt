@@ -7,10 +7,10 @@ use Rattle.asl_history.specs.Places.{place_text}
 use Rattle.asl_history.specs.Lines.{history_text}
 use Rattle.asl_steps.specs.Rows.{error_output}
 use Rattle.asl_run.specs.declared.outcome.Outcome.{Outcome}
-use Rattle.asl_run.specs.declared.outcome.Outcome.TheVariants.{Running, Succeeded, Failed}
+use Rattle.asl_run.specs.declared.outcome.Outcome.TheVariants.{Running, Succeeded, Failed, TimedOut}
 use Rattle.asl_run.specs.declared.refusal.Refusal.{Refusal}
 use Rattle.asl_run.specs.declared.refusal.Refusal.TheVariants.{Over, NoSuchPlace, Stopped, Finished, Busy, Slots, NotYet, HistoryFull, OutOfMemory}
-use Rattle.asl_run.specs.World.{World}
+use Rattle.asl_run.specs.World.{World, timeout_error}
 
 -- number and name
 abbrev pub refusal_words : Refusal → List ℕ
@@ -53,6 +53,7 @@ abbrev pub status_text : Outcome → List ℕ
 status_text Running = codes "status RUNNING"
 status_text (Succeeded x) = codes "status SUCCEEDED " ++ compact (data_of x)
 status_text (Failed e) = codes "status FAILED " ++ compact (data_of (error_output e))
+status_text TimedOut = codes "status TIMED_OUT " ++ compact (data_of (error_output timeout_error))
 
 -- the status, and the output or the error output
 abbrev pub status_line : Outcome → List ℕ
@@ -66,3 +67,4 @@ abbrev pub is_success : Outcome → Bool
 is_success Running = false
 is_success (Succeeded x) = true
 is_success (Failed e) = false
+is_success TimedOut = false

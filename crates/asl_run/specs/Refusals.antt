@@ -7,9 +7,10 @@ use Rattle.asl_steps.specs.declared.record.Record.{Record}
 use Rattle.asl_steps.specs.declared.record.Record.TheVariants.{New, Ready, Pausing, Again, Forked, Done, Failed}
 use Rattle.asl_run.specs.declared.outcome.Outcome.TheVariants.{Running}
 use Rattle.asl_run.specs.declared.refusal.Refusal.{Refusal}
-use Rattle.asl_run.specs.declared.refusal.Refusal.TheVariants.{Over, NoSuchPlace, Stopped, Finished, Busy, NotYet, HistoryFull}
+use Rattle.asl_run.specs.declared.refusal.Refusal.TheVariants.{Over, NoSuchPlace, Stopped, Finished, Busy, Slots, NotYet, HistoryFull}
 use Rattle.asl_frames.specs.Branches.{record_at, children_at, is_stopped, is_busy}
-use Rattle.asl_run.specs.World.{World, is_over}
+use Rattle.asl_frames.specs.Turns.{is_crowded}
+use Rattle.asl_run.specs.World.{World, is_over, is_late}
 
 -- ---- when a step is refused
 
@@ -20,31 +21,35 @@ refusal_if_full w = if nat_lt 24992 (length w.events) then Some HistoryFull else
 abbrev pub refusal_before : ℕ → ℕ → World → Option Refusal
 refusal_before until now w = if nat_lt now until then Some (NotYet until) else refusal_if_full w
 
-abbrev pub refusal_by : World → List ℕ → ℕ → Record → Option Refusal
-refusal_by w p now (New n x) = refusal_if_full w
-refusal_by w p now (Ready n x) = refusal_if_full w
-refusal_by w p now (Pausing n x since until) = refusal_before until now w
-refusal_by w p now (Again n x since uses until) = refusal_before until now w
-refusal_by w p now (Forked n x since uses items) = if is_busy (children_at p w.branches) then Some Busy else refusal_if_full w
-refusal_by w p now (Done x) = Some Finished
-refusal_by w p now (Failed e) = Some Finished
+abbrev pub refusal_by : World → List ℕ → ℕ → ℕ → Record → Option Refusal
+refusal_by w p now slots (New n x) = if is_crowded slots p w.branches then Some Slots else refusal_if_full w
+refusal_by w p now slots (Ready n x) = refusal_if_full w
+refusal_by w p now slots (Pausing n x since until) = refusal_before until now w
+refusal_by w p now slots (Again n x since uses until) = refusal_before until now w
+refusal_by w p now slots (Forked n x since uses items) = if is_busy (children_at p w.branches) then Some Busy else refusal_if_full w
+refusal_by w p now slots (Done x) = Some Finished
+refusal_by w p now slots (Failed e) = Some Finished
 
-abbrev pub refusal_at : World → List ℕ → ℕ → Option Record → Option Refusal
-refusal_at w p now None = Some NoSuchPlace
-refusal_at w p now (Some r) = if is_stopped p w.branches then Some Stopped else refusal_by w p now r
+abbrev pub refusal_at : World → List ℕ → ℕ → ℕ → Option Record → Option Refusal
+refusal_at w p now slots None = Some NoSuchPlace
+refusal_at w p now slots (Some r) = if is_stopped p w.branches then Some Stopped else refusal_by w p now slots r
 
--- why a step at a place, handed this moment, is refused: the first reason that applies
-unfoldable pub refusal_of : World → List ℕ → ℕ → Option Refusal
-refusal_of w p t = if is_over w.outcome then Some Over else refusal_at w p (max w.last t) (record_at p w.branches)
+-- why a step at a place, handed this moment, is refused: the first reason that applies. The Map of which the branch is an iteration
+-- runs at most so many at once. Where the execution's time is over, a step at any place ends it
+unfoldable pub refusal_of : World → List ℕ → ℕ → ℕ → Option Refusal
+refusal_of w p t slots =
+    if is_over w.outcome then Some Over
+    else (if is_late (max w.last t) w.deadline then None else refusal_at w p (max w.last t) slots (record_at p w.branches))
 
 -- ---- before the first step
 
 -- the world before the first step, of a machine with so many states that starts at this one
-abbrev pub opening_at : ℕ → List ℕ → Json → ℕ → World
-opening_at states start input moment = record {
+abbrev pub opening_at : ℕ → List ℕ → Json → ℕ → Option ℕ → World
+opening_at states start input moment deadline = record {
   branches = record { place = []; current = Ready start input } ∷ [];
   counts = replicate states 0;
   events = event_after [] moment ExecutionStarted [] [] input ∷ [];
   last = moment;
+  deadline = deadline;
   outcome = Running;
 }

@@ -1,22 +1,26 @@
 -- The world of an execution, and what a step makes of it.
-use Rattle.std.specs.Prelude.{ℕ, Bool, true, false, List, [], ◌∷◌, ◌++◌, ◌+◌, if◌then◌else◌, Option, Some, None, slice_index, slice_set}
+use Rattle.std.specs.Prelude.{ℕ, Bool, true, false, List, [], ◌∷◌, ◌++◌, ◌+◌, nat_le, if◌then◌else◌, Option, Some, None, slice_index, slice_set, codes}
 use Rattle.asl_history.specs.declared.event.Event.{Event}
 use Rattle.asl_history.specs.Events.{event_after}
+use Rattle.asl_history.specs.declared.kind.EventKind.TheVariants.{ExecutionTimedOut}
 use Rattle.asl_steps.specs.declared.effect.Effect.{Effect}
 use Rattle.asl_steps.specs.declared.effect.Draft.{Draft}
 use Rattle.asl_steps.specs.declared.effect.Ended.{Ended}
 use Rattle.asl_steps.specs.declared.effect.Ended.TheVariants.{Succeeded as EndedWell, Failed as EndedBadly}
+use Rattle.asl_steps.specs.declared.record.ErrorOut.{ErrorOut}
+use Rattle.asl_steps.specs.Rows.{error_output}
 use Rattle.asl_frames.specs.Branches.{Branch, branches_after}
 use Rattle.asl_run.specs.declared.outcome.Outcome.{Outcome}
-use Rattle.asl_run.specs.declared.outcome.Outcome.TheVariants.{Running, Succeeded, Failed as Lost}
+use Rattle.asl_run.specs.declared.outcome.Outcome.TheVariants.{Running, Succeeded, Failed as Lost, TimedOut}
 
 -- the running branches in the order of their places; how often each state was invoked, by the machine's list of states; what was
--- told; the last moment; the outcome
+-- told; the last moment; the one at which its time is over, where it has a time limit; the outcome
 pub record World : Type 0 where
   pub branches : List Branch
   pub counts : List ℕ
   pub events : List Event
   pub last : ℕ
+  pub deadline : Option ℕ
   pub outcome : Outcome
 
 -- ---- what is read of it
@@ -30,6 +34,12 @@ abbrev pub is_over : Outcome → Bool
 is_over Running = false
 is_over (Succeeded x) = true
 is_over (Lost e) = true
+is_over TimedOut = true
+
+-- whether its time is over at this moment
+abbrev pub is_late : ℕ → Option ℕ → Bool
+is_late now None = false
+is_late now (Some deadline) = nat_le deadline now
 
 -- ---- what a step makes of it
 
@@ -58,5 +68,22 @@ world_with p n now e w = record {
   counts = counts_after n e.raises w.counts;
   events = events_after p now e.events w.events;
   last = now;
+  deadline = w.deadline;
   outcome = outcome_after e.outcome w.outcome;
+}
+
+-- ---- what its time limit makes of it (ASL, "Top-level fields": TimeoutSeconds)
+
+abbrev pub timeout_error : ErrorOut
+timeout_error = record { error = Some (codes "States.Timeout"); cause = None }
+
+-- the world after a step for which it is too late: the branches stay as they are
+abbrev pub timed_out : ℕ → World → World
+timed_out now w = record {
+  branches = w.branches;
+  counts = w.counts;
+  events = w.events ++ event_after w.events now ExecutionTimedOut [] [] (error_output timeout_error) ∷ [];
+  last = now;
+  deadline = w.deadline;
+  outcome = TimedOut;
 }

@@ -1,16 +1,19 @@
 //! Worlds of executions: running branches, counts, the history and the outcome, and how what happens at a place changes them.
 //!
-//! Modules in reading order: `outcome` is how far an execution is, `refusal` why a step is refused; `run` changes a world, and `lines`
-//! tells of one. The running branches are the tree of `asl_frames`.
+//! Modules in reading order: `outcome` is how far an execution is, `refusal` why a step is refused; `run` changes a world, `next` finds
+//! what comes next, `time_limit` is what happens when its time is over, and `lines` tells of a world. The running branches are the tree of `asl_frames`.
 #![tactic(auto)]
 
 mod lines;
+mod next;
 mod outcome;
 mod refusal;
 mod run;
+mod time_limit;
 
-pub use asl_frames::Frame;
+pub use asl_frames::{Frame, Limits};
 pub use lines::{is_success, put_end, put_step};
+pub use next::Next;
 pub use outcome::Outcome;
 pub use refusal::Refusal;
 pub use run::Run;

@@ -5,10 +5,12 @@ ghost use Rattle.asl_json.specs.Compact.{compact};
 ghost use Rattle.asl_time.specs.StampText.{stamp_of};
 ghost use Rattle.asl_history.specs.Lines.{history_text};
 ghost use Rattle.asl_run.specs.Lines.{refusal_words, awaited, with_stamp, reply_text, step_line, status_text, status_line, end_text, is_success};
+ghost use Rattle.asl_steps.specs.Rows.{error_output as spec_error_output};
 
 use crate::outcome::Outcome;
 use crate::refusal::Refusal;
 use crate::run::Run;
+use crate::time_limit::timeout_error;
 use asl_history::{History, Place, put_line};
 use asl_json::{Json, put};
 use asl_steps::{ErrorOut, error_output};
@@ -102,12 +104,17 @@ fn put_data(out: &mut String, status: &str, value: &Json) -> Result<(), AllocErr
     put(out, value)
 }
 
-/// Appends the status of an execution that failed, and the error output.
-fn put_failure(alloc: Global, out: &mut String, error: &ErrorOut) -> Result<(), AllocError>
-    ensures { OnOk result (string_bytes out.new ≡ string_bytes out.old ++ status_text (Outcome.Failed error.now)) }
+/// Appends a status and the error output.
+fn put_failure(
+    alloc: Global,
+    out: &mut String,
+    status: &str,
+    error: &ErrorOut,
+) -> Result<(), AllocError>
+    ensures { OnOk result (string_bytes out.new ≡ string_bytes out.old ++ (status.now ++ compact (data_of (spec_error_output error.now)))) }
 {
     let output = error_output(alloc, error)?;
-    put_data(out, "status FAILED ", &output)
+    put_data(out, status, &output)
 }
 
 /// Appends the status, and the output or the error output.
@@ -117,7 +124,11 @@ fn put_outcome(alloc: Global, out: &mut String, outcome: &Outcome) -> Result<(),
     match outcome {
         Outcome::Running => out.push_str("status RUNNING"),
         Outcome::Succeeded(output) => put_data(out, "status SUCCEEDED ", output),
-        Outcome::Failed(error) => put_failure(alloc, out, error),
+        Outcome::Failed(error) => put_failure(alloc, out, "status FAILED ", error),
+        Outcome::TimedOut => {
+            let error = timeout_error(alloc)?;
+            put_failure(alloc, out, "status TIMED_OUT ", &error)
+        }
     }
 }
 

@@ -11,6 +11,8 @@ pub enum Outcome {
     Succeeded(Shared),
     /// `FAILED`, with the error.
     Failed(ErrorOut),
+    /// `TIMED_OUT`: its time was over.
+    TimedOut,
 }
 
 // Written out, so that a caller's proof sees one call and not the drop of each part.
@@ -20,6 +22,7 @@ impl Drop for Outcome {
             Outcome::Running => {}
             Outcome::Succeeded(_part) => {}
             Outcome::Failed(_part) => {}
+            Outcome::TimedOut => {}
         }
     }
 }

@@ -1,19 +1,22 @@
 // What changes as an execution goes on.
-ghost use Rattle.std.specs.Prelude.{◌≡◌, ◌≤◌, ◌+◌, ◌<◌, [], ◌∷◌, ◌++◌, length, IfOk, IfSome, OnOk, OnErr, true, false, vec_len, slice_index, max, is_some, option_map, ◌^◌};
+ghost use Rattle.std.specs.Prelude.{◌≡◌, ◌≤◌, ◌+◌, ◌<◌, [], ◌∷◌, ◌++◌, length, IfOk, IfSome, IsSome, OnOk, OnErr, true, false, None, vec_len, slice_index, max, is_some, option_map, ◌^◌, not, nat_lt};
 ghost use Rattle.asl_history.specs.Events.{previous_id, IsHistory};
 ghost use Rattle.asl_steps.specs.Bounds.{AreFew, are_kept};
-ghost use Rattle.asl_frames.specs.Branches.{record_at, children_at, forker_at};
+ghost use Rattle.asl_steps.specs.Records.{is_finished};
+ghost use Rattle.asl_json.specs.View.{data_of};
+ghost use Rattle.asl_frames.specs.Branches.{record_at, children_at, forker_at, iteration_at};
 ghost use Rattle.asl_frames.specs.Trees.{branches_of, nodes_of};
-ghost use Rattle.asl_frames.specs.Links.{latest};
-ghost use Rattle.asl_run.specs.World.{world_with, counts_after, outcome_after, count_of};
+ghost use Rattle.asl_frames.specs.Links.{ArePlaced, latest};
+ghost use Rattle.asl_run.specs.World.{world_with, counts_after, outcome_after, count_of, is_over, is_late as spec_is_late, timed_out};
 ghost use Rattle.asl_run.specs.Telling.{placed, AllAt, told_after, last_id};
 ghost use Rattle.asl_run.specs.Refusals.{refusal_of, opening_at};
 
 use crate::outcome::Outcome;
 use crate::refusal::Refusal;
-use asl_frames::{Frame, bear};
+use crate::time_limit::{is_late, timeout_output};
+use asl_frames::{Frame, make_offspring};
 use asl_history::{EventKind, History, Place};
-use asl_json::{Name, Shared};
+use asl_json::{Json, Name, Shared};
 use asl_steps::{Draft, Drafts, Effect, Ended, Record, raise_at, zeros};
 use asl_time::Moment;
 use std::alloc::{AllocError, Global};
@@ -25,10 +28,11 @@ const FULL: usize = 24_992;
 
 /// What changes as an execution goes on. Contracts see its world.
 pub struct Run {
-    root: Frame,
+    pub(crate) root: Frame,
     counts: Vec<u32>,
     history: History,
     last: Moment,
+    deadline: Option<Moment>,
     outcome: Outcome,
 }
 
@@ -40,6 +44,7 @@ impl Drop for Run {
             counts: _counts,
             history: _history,
             last: _last,
+            deadline: _deadline,
             outcome: _outcome,
         } = self;
     }
@@ -58,9 +63,9 @@ impl Model for Run {
 
     ghost coded = { Prim.hlevel (codes, coded_data, json.the_row.coded) };
 
-    ghost view = { λ r. record { branches = branches_of r.root; counts = r.counts.items; events = r.history.events; last = r.last; outcome = r.outcome } };
+    ghost view = { λ r. record { branches = branches_of r.root; counts = r.counts.items; events = r.history.events; last = r.last; deadline = r.deadline; outcome = r.outcome } };
 
-    ghost invariant = { λ r. IsSound (nodes_of r.root) r.counts.items r.history.events };
+    ghost invariant = { λ r. IsSound (nodes_of r.root) r.counts.items r.history.events r.outcome };
 }
 
 /// The drafts, each with the place.
@@ -152,7 +157,7 @@ fn count_of_drafts(drafts: &Drafts) -> usize
 
 /// A history of the event that tells of an execution's start.
 fn started(alloc: Global, input: Shared, moment: Moment) -> Result<History, AllocError>
-    ensures { IfOk result (λ h. h.events ≡ (opening_at 0 [] input moment).events) }
+    ensures { IfOk result (λ h. h.events ≡ (opening_at 0 [] input moment None).events) }
 {
     let mut history = History::new(alloc);
     history.reserve(1)?;
@@ -168,15 +173,17 @@ fn started(alloc: Global, input: Shared, moment: Moment) -> Result<History, Allo
 }
 
 impl Run {
-    /// The world before the first step, of a machine with so many states that starts at this one. The error is that memory ran out.
+    /// The world before the first step, of a machine with so many states that starts at this one, and whose time is over at the
+    /// deadline. The error is that memory ran out.
     pub fn open(
         alloc: Global,
         states: usize,
         start: Name,
         input: &Shared,
         moment: Moment,
+        deadline: Option<Moment>,
     ) -> Result<Run, AllocError>
-        ensures { IfOk result (λ r. r ≡ opening_at states start input.now moment) }
+        ensures { IfOk result (λ r. r ≡ opening_at states start input.now moment deadline) }
     {
         let history = started(alloc, input.try_clone()?, moment)?;
         let current = Record::Ready {
@@ -190,13 +197,15 @@ impl Run {
             counts,
             history,
             last: moment,
+            deadline,
             outcome: Outcome::Running,
         })
     }
 
-    /// The frame of the branch that the execution began with.
+    /// The frame of the branch that the execution began with. Each frame under it lends its place.
     pub fn root(&self) -> &Frame
-        ensures { branches_of result.now ≡ self.now.branches }
+        ensures branches { branches_of result.now ≡ self.now.branches }
+        ensures placed { ArePlaced (nodes_of result.now) }
     {
         &self.root
     }
@@ -214,6 +223,13 @@ impl Run {
         ensures { option_map (λ n. n.now) result ≡ forker_at place.now self.now.branches }
     {
         self.root.forker(place)
+    }
+
+    /// The number and the item of the innermost iteration of a Map that a place is at or under.
+    pub fn iteration_at(&self, place: &Place) -> Option<(u32, &Json)>
+        ensures { option_map (λ i. (i.0, data_of i.1.now)) result ≡ iteration_at place.now self.now.branches }
+    {
+        self.root.iteration(place)
     }
 
     /// How often the state of a number was invoked.
@@ -240,6 +256,27 @@ impl Run {
         &self.outcome
     }
 
+    /// Whether it hasn't ended yet.
+    pub fn is_running(&self) -> bool
+        ensures { result ≡ not (is_over self.now.outcome) }
+    {
+        matches!(&self.outcome, Outcome::Running)
+    }
+
+    /// Whether no step is taken any more since there are so many events.
+    pub fn is_full(&self) -> bool
+        ensures { result ≡ nat_lt 24992 (length self.now.events) }
+    {
+        self.history.len() > FULL
+    }
+
+    /// The moment of the last step, or of the start.
+    pub fn last(&self) -> Moment
+        ensures { result ≡ self.now.last }
+    {
+        self.last
+    }
+
     /// The present moment of a step that is handed this one.
     pub fn present(&self, moment: Moment) -> Moment
         ensures { result ≡ max self.now.last moment }
@@ -251,14 +288,34 @@ impl Run {
         }
     }
 
-    /// Why a step would be refused: the first reason that applies, but for want of memory.
+    /// The moment at which its time is over, where it has a time limit.
+    pub(crate) fn deadline(&self) -> Option<Moment>
+        ensures { result ≡ self.now.deadline }
+    {
+        self.deadline
+    }
+
+    /// Whether its time is over where a step is handed this moment.
+    pub fn is_late(&self, moment: Moment) -> bool
+        ensures { result ≡ spec_is_late (max self.now.last moment) self.now.deadline }
+    {
+        is_late(self.present(moment), self.deadline)
+    }
+
+    /// Why a step would be refused: the first reason that applies, but for want of memory. The Map of which the branch is an iteration
+    /// runs at most so many at once; 0 says that there is no limit.
     #[tactic(auto, unfolding(crate::specs::Refusals::refusal_of))]
-    pub fn refusal(&self, place: &Place, moment: Moment) -> Option<Refusal>
-        ensures { result ≡ refusal_of self.now place.now moment }
+    pub fn refusal(&self, place: &Place, moment: Moment, slots: u32) -> Option<Refusal>
+        ensures { result ≡ refusal_of self.now place.now moment slots }
     {
         match &self.outcome {
             Outcome::Running => {}
-            Outcome::Succeeded(_) | Outcome::Failed(_) => return Some(Refusal::Over),
+            Outcome::Succeeded(_) | Outcome::Failed(_) | Outcome::TimedOut => {
+                return Some(Refusal::Over);
+            }
+        }
+        if self.is_late(moment) {
+            return None;
         }
         let Some(frame) = self.root.find(place) else {
             return Some(Refusal::NoSuchPlace);
@@ -271,7 +328,12 @@ impl Run {
         }
         match frame.held() {
             Record::Done(_) | Record::Failed(_) => return Some(Refusal::Finished),
-            Record::New { .. } | Record::Ready { .. } => {}
+            Record::New { .. } => {
+                if slots > 0 && self.root.is_crowded(place, slots) {
+                    return Some(Refusal::Slots);
+                }
+            }
+            Record::Ready { .. } => {}
             Record::Pausing { until, .. } | Record::Again { until, .. } => {
                 if self.present(moment).millis() < until.millis() {
                     return Some(Refusal::NotYet(*until));
@@ -283,11 +345,35 @@ impl Run {
                 }
             }
         }
-        if self.history.len() > FULL {
+        if self.is_full() {
             Some(Refusal::HistoryFull)
         } else {
             None
         }
+    }
+
+    /// Its time was over at this moment. What is refused, for want of memory, changes nothing.
+    pub fn time_out(&mut self, alloc: Global, moment: Moment) -> Result<(), AllocError>
+        ensures ok { OnOk result (self.new ≡ timed_out moment self.old) }
+        ensures err { OnErr result (self.new ≡ self.old) }
+    {
+        let nameless = Name::new(alloc, "")?;
+        let error = timeout_output(alloc)?;
+        let root = Place::root(alloc);
+        let previous = latest_along(&self.root, &root);
+        self.history.reserve(1)?;
+        self.history.append_linked(
+            moment,
+            EventKind::ExecutionTimedOut,
+            root,
+            nameless,
+            error,
+            previous,
+        );
+        self.root.tell(self.history.len() as u64);
+        self.last = moment;
+        self.outcome = Outcome::TimedOut;
+        Ok(())
     }
 
     /// This happened to the branch at the place, in the state of this number. What is refused, for want of memory, changes nothing.
@@ -305,6 +391,7 @@ impl Run {
         requires fits { AreFew effect.children }
         requires tells { effect.raises ≡ true → 0 < length effect.events }
         requires changes_tell { are_kept effect.children ≡ false → 0 < length effect.events }
+        requires ends { place.now ≡ [] → is_finished effect.after ≡ true → IsSome effect.outcome }
         ensures ok { OnOk result (self.new ≡ world_with place.now state moment effect self.old) }
         ensures err { OnErr result (self.new ≡ self.old) }
     {
@@ -318,11 +405,11 @@ impl Run {
         let count = count_of_drafts(&events);
         self.history.reserve(count)?;
         let told = placed(alloc, place, events)?;
-        let offspring = bear(alloc, place, children)?;
+        let offspring = make_offspring(alloc, place, children)?;
         let previous = latest_along(&self.root, place);
         tell(&mut self.history, moment, place, told, previous);
         let latest = last_id(count, &self.history);
-        self.root.apply(place, after, latest, offspring);
+        self.root.apply(place, after, latest, offspring, moment);
         raise(&mut self.counts, state, raises);
         self.last = moment;
         let before = mem::replace(&mut self.outcome, Outcome::Running);

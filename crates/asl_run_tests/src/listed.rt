@@ -2,9 +2,9 @@
 // by a walk back. So little code does what the tree of frames does with less work: both have to tell the same, step by step.
 use crate::shown::{line_of, record_text};
 use asl_def::Machine;
-use asl_exec::{Execution, Outcome, Refusal};
+use asl_exec::{Execution, Next, Outcome, Refusal};
 use asl_history::{EventKind, History, Place};
-use asl_json::{Name, write};
+use asl_json::{Items, Json, Name, Shared, read, write};
 use asl_kinds::StateKind;
 use asl_run::put_step;
 use asl_setup::{Emulation, Setup};
@@ -12,7 +12,7 @@ use asl_states::State;
 use asl_steps::{
     Children, Context, Draft, Effect, Ended, Facts, Record, Visit, error_output, idle, zeros,
 };
-use asl_time::Moment;
+use asl_time::{Moment, add};
 use std::alloc::{AllocError, Global};
 use std::mem;
 use std::test::Fail;
@@ -34,6 +34,7 @@ struct Listed {
     counts: Vec<u32>,
     history: History,
     last: Moment,
+    deadline: Moment,
     outcome: Outcome,
 }
 
@@ -47,6 +48,7 @@ impl Drop for Listed {
             counts: _counts,
             history: _history,
             last: _last,
+            deadline: _deadline,
             outcome: _outcome,
         } = self;
     }
@@ -88,6 +90,44 @@ fn forker_at<'a>(branches: &'a [Branch], place: &Place) -> Option<&'a Name> {
         }
     }
     None
+}
+
+/// The number and the item of the innermost iteration of a Map that the branch at a place is in.
+fn iteration_at<'a>(branches: &'a [Branch], place: &Place) -> Option<(u32, &'a Json)> {
+    let mut found = None;
+    for branch in branches {
+        if branch.place.is_prefix_of(place) {
+            if let Record::Forked { items, .. } = &branch.current {
+                let number = place.numbers().get(branch.place.numbers().len()).copied();
+                found = item_of(items, number).or(found);
+            }
+        }
+    }
+    found
+}
+
+/// The item of this number.
+fn item_of(items: &Items, number: Option<u32>) -> Option<(u32, &Json)> {
+    let number = number?;
+    Some((number, items.get(number as usize)?))
+}
+
+/// How many branches beside the one at a place, with lower numbers, aren't done.
+fn elders_at(branches: &[Branch], place: &Place) -> u32 {
+    let mut count = 0u32;
+    for branch in branches {
+        if branch.place == *place {
+            return count;
+        }
+        let level = branch.place.numbers().len();
+        if level == place.numbers().len()
+            && place.is_beside(&branch.place)
+            && !branch.current.is_done()
+        {
+            count = count.saturating_add(1);
+        }
+    }
+    count
 }
 
 /// Whether a sibling of the place, or of a place above it, has failed.
@@ -241,6 +281,7 @@ impl Listed {
             counts,
             history,
             last,
+            deadline: add(last, TIME_LIMIT * 1000),
             outcome: Outcome::Running,
         })
     }
@@ -254,9 +295,28 @@ impl Listed {
         }
     }
 
+    /// Whether the execution's time is over where a step is handed this moment.
+    fn is_late(&self, moment: Moment) -> bool {
+        self.deadline.millis() <= self.present(moment).millis()
+    }
+
+    /// How many iterations run at once of the Map above a place.
+    fn slots(&self, place: &Place) -> u32 {
+        let Some(name) = forker_at(&self.branches, place) else {
+            return 0;
+        };
+        match self.setup.machine.find(name.as_str()) {
+            Some((_, state)) => state.slots(),
+            None => 0,
+        }
+    }
+
     fn refusal(&self, place: &Place, moment: Moment) -> Option<Refusal> {
         if !matches!(&self.outcome, Outcome::Running) {
             return Some(Refusal::Over);
+        }
+        if self.is_late(moment) {
+            return None;
         }
         let Some(current) = record_at(&self.branches, place) else {
             return Some(Refusal::NoSuchPlace);
@@ -266,7 +326,13 @@ impl Listed {
         }
         match current {
             Record::Done(_) | Record::Failed(_) => return Some(Refusal::Finished),
-            Record::New { .. } | Record::Ready { .. } => {}
+            Record::New { .. } => {
+                let slots = self.slots(place);
+                if 0 < slots && slots <= elders_at(&self.branches, place) {
+                    return Some(Refusal::Slots);
+                }
+            }
+            Record::Ready { .. } => {}
             Record::Pausing { until, .. } | Record::Again { until, .. } => {
                 if self.present(moment).millis() < until.millis() {
                     return Some(Refusal::NotYet(*until));
@@ -283,6 +349,16 @@ impl Listed {
         } else {
             None
         }
+    }
+
+    /// The first place that isn't refused at a moment, by a look at each.
+    fn first(&self, moment: Moment) -> Option<&Place> {
+        for branch in &self.branches {
+            if self.refusal(&branch.place, moment).is_none() {
+                return Some(&branch.place);
+            }
+        }
+        None
     }
 
     /// What a step of a branch that runs does, and the number of its state.
@@ -302,6 +378,7 @@ impl Listed {
             current,
             children: &children,
             forker: forker_at(&self.branches, place),
+            iteration: iteration_at(&self.branches, place),
             invokes: state.invokes(),
             count: self.counts.get(number).copied().unwrap_or(0),
             case: &self.setup.case,
@@ -345,6 +422,20 @@ impl Listed {
         Ok(())
     }
 
+    fn time_out(&mut self, alloc: Global, now: Moment) -> Result<(), Fail> {
+        let body = read(alloc, br#"{"Error":"States.Timeout"}"#).map_err(|_| "no JSON")?;
+        let draft = Draft {
+            kind: EventKind::ExecutionTimedOut,
+            name: Name::new(alloc, "")?,
+            body: Shared::new(alloc, body)?,
+        };
+        let root = Place::root(alloc);
+        tell(alloc, &mut self.history, now, &root, draft)?;
+        self.last = now;
+        self.outcome = Outcome::TimedOut;
+        Ok(())
+    }
+
     /// Takes a step, and tells why it is refused, if it is.
     fn step(
         &mut self,
@@ -356,6 +447,10 @@ impl Listed {
             return Ok(Some(refusal));
         }
         let now = self.present(moment);
+        if self.is_late(moment) {
+            self.time_out(alloc, now)?;
+            return Ok(None);
+        }
         let (number, effect) = self.planned(alloc, place, now)?;
         self.apply(alloc, place, number, now, effect)?;
         Ok(None)
@@ -368,6 +463,7 @@ fn outcome_text(alloc: Global, outcome: &Outcome) -> Result<String, Fail> {
         Outcome::Running => String::from_str(alloc, "running")?,
         Outcome::Succeeded(output) => write(alloc, output.get())?,
         Outcome::Failed(error) => write(alloc, &error_output(alloc, error)?)?,
+        Outcome::TimedOut => String::from_str(alloc, "timed out")?,
     })
 }
 
@@ -378,14 +474,18 @@ fn reply_text(alloc: Global, place: &Place, reply: Option<Refusal>) -> Result<St
     Ok(text)
 }
 
-/// Parallels in one another, again and again: an inner one of a Task that is retried and a Wait, itself retried and caught; beside it a
-/// Task, and two Passes; around them one that is retried and caught.
+/// States that fork in one another, again and again: an inner Parallel of a Task that is retried and a Wait, itself retried and caught;
+/// beside it a Map of a Task, one iteration at a time, and two Passes; around them a Parallel that is retried and caught. All of it
+/// may take so many seconds.
 const AGAIN_AND_AGAIN: &str =
-    r#"{"StartAt":"O","States":{"O":{"Type":"Parallel","Branches":[{"StartAt":"I","States":{"I":{"Type":"Parallel","Parameters":{"n.$":"$$.State.RetryCount"},"Branches":[{"StartAt":"W","States":{"W":{"Type":"Task","Resource":"r","Retry":[{"ErrorEquals":["E"],"IntervalSeconds":1,"MaxAttempts":1}],"Next":"Lone"},"Lone":{"Type":"Succeed"}}},{"StartAt":"G","States":{"G":{"Type":"Pass","Next":"X"},"X":{"Type":"Wait","Seconds":1,"Next":"Y"},"Y":{"Type":"Succeed"}}}],"Retry":[{"ErrorEquals":["F"],"IntervalSeconds":1,"MaxAttempts":2,"BackoffRate":1}],"Catch":[{"ErrorEquals":["F"],"ResultPath":"$.why","Next":"R"}],"ResultPath":"$.i","End":true},"R":{"Type":"Pass","End":true}}},{"StartAt":"V","States":{"V":{"Type":"Task","Resource":"r","End":true}}},{"StartAt":"P","States":{"P":{"Type":"Pass","Next":"S"},"S":{"Type":"Succeed"}}}],"Retry":[{"ErrorEquals":["G"],"IntervalSeconds":1,"MaxAttempts":1}],"Catch":[{"ErrorEquals":["States.ALL"],"ResultPath":"$.failed","Next":"A"}],"ResultSelector":{"n.$":"States.ArrayLength($)","all.$":"$"},"ResultPath":"$.all","Next":"A"},"A":{"Type":"Pass","Result":{},"Next":"O"}}}"#;
+    r#"{"StartAt":"O","TimeoutSeconds":150,"States":{"O":{"Type":"Parallel","Branches":[{"StartAt":"I","States":{"I":{"Type":"Parallel","Parameters":{"n.$":"$$.State.RetryCount"},"Branches":[{"StartAt":"W","States":{"W":{"Type":"Task","Resource":"r","Retry":[{"ErrorEquals":["E"],"IntervalSeconds":1,"MaxAttempts":1}],"Next":"Lone"},"Lone":{"Type":"Succeed"}}},{"StartAt":"G","States":{"G":{"Type":"Pass","Next":"X"},"X":{"Type":"Wait","Seconds":1,"Next":"Y"},"Y":{"Type":"Succeed"}}}],"Retry":[{"ErrorEquals":["F"],"IntervalSeconds":1,"MaxAttempts":2,"BackoffRate":1}],"Catch":[{"ErrorEquals":["F"],"ResultPath":"$.why","Next":"R"}],"ResultPath":"$.i","End":true},"R":{"Type":"Pass","End":true}}},{"StartAt":"M","States":{"M":{"Type":"Map","ItemsPath":"$$.Execution.Input.l","MaxConcurrency":1,"Parameters":{"n.$":"$$.Map.Item.Index","v.$":"$$.Map.Item.Value"},"Iterator":{"StartAt":"V","States":{"V":{"Type":"Task","Resource":"r","Parameters":{"of.$":"$$.Map.Item.Value"},"End":true}}},"End":true}}},{"StartAt":"P","States":{"P":{"Type":"Pass","Next":"S"},"S":{"Type":"Succeed"}}}],"Retry":[{"ErrorEquals":["G"],"IntervalSeconds":1,"MaxAttempts":1}],"Catch":[{"ErrorEquals":["States.ALL"],"ResultPath":"$.failed","Next":"A"}],"ResultSelector":{"n.$":"States.ArrayLength($)","all.$":"$"},"ResultPath":"$.all","Next":"A"},"A":{"Type":"Pass","Result":{},"Next":"O"}}}"#;
+
+/// The `TimeoutSeconds` of that definition.
+const TIME_LIMIT: u64 = 150;
 
 /// Each place at which a branch may run, and some at which none ever does.
 const PLACES: [&str; 12] = [
-    "/", "/0", "/0/0", "/0/1", "/1", "/2", "/0", "/0/0", "/0/1", "/", "/3", "/1/0",
+    "/", "/0", "/0/0", "/0/1", "/1", "/2", "/0", "/1/1", "/0/1", "/", "/3", "/1/0",
 ];
 
 /// What a Task answers to the invocation of this number.
@@ -417,7 +517,7 @@ fn setup(alloc: Global) -> Result<Setup, Fail> {
         AGAIN_AND_AGAIN.as_bytes(),
         mocks(alloc)?.as_bytes(),
         "M#c",
-        b"{}",
+        b"{\"l\":[[7],8]}",
         b"",
     );
     Ok(emulation.map_err(|_| "refused")?.setup)
@@ -466,6 +566,33 @@ fn are_same_events(
     Ok(tree.len() == list.len())
 }
 
+/// Whether a place that may step is the first one of the list at that moment.
+fn is_first(place: Option<&Place>, list: &Listed, moment: Moment) -> bool {
+    match (place, list.first(moment)) {
+        (Some(one), Some(other)) => *one == *other,
+        (None, None) => true,
+        _ => false,
+    }
+}
+
+/// Whether the same comes next in both.
+fn is_same_next(tree: &Execution, list: &Listed) -> bool {
+    match tree.next() {
+        Next::Over => !matches!(&list.outcome, Outcome::Running),
+        Next::Full => list.history.len() > FULL,
+        Next::Step(place) => is_first(Some(place), list, list.last),
+        Next::At(moment) => {
+            let Some(before) = Moment::of_millis(moment.millis().saturating_sub(1)) else {
+                return false;
+            };
+            is_first(None, list, list.last)
+                && is_first(None, list, before)
+                && tree.first(moment).is_some()
+                && is_first(tree.first(moment), list, moment)
+        }
+    }
+}
+
 #[test]
 fn a_tree_of_frames_does_what_a_list_of_branches_does(rt: HostRuntime) -> Result<(), Fail> {
     let alloc = rt.alloc();
@@ -487,6 +614,7 @@ fn a_tree_of_frames_does_what_a_list_of_branches_does(rt: HostRuntime) -> Result
         assert_eq!(rt; reply.as_str(), reply_text(alloc, place, other)?.as_str());
         replies.push_str(&reply)?;
         assert!(rt; are_same_views(alloc, &tree, &list, &places)?, "{number}");
+        assert!(rt; is_same_next(&tree, &list), "{number}");
         let same = are_same_events(alloc, tree.history(), &list.history, known)?;
         assert!(rt; same, "{number}");
         known = list.history.len();
@@ -495,7 +623,9 @@ fn a_tree_of_frames_does_what_a_list_of_branches_does(rt: HostRuntime) -> Result
     let one = outcome_text(alloc, tree.outcome())?;
     assert_eq!(rt; one.as_str(), outcome_text(alloc, &list.outcome)?.as_str());
     // The steps weren't all of one kind.
-    for reply in [" ok\n", " S2 ", " S3 ", " S4 ", " S5 ", " S7 "] {
+    for reply in [
+        " ok\n", " S2 ", " S3 ", " S4 ", " S5 ", " S6 ", " S7 ", " S1 ",
+    ] {
         assert!(rt; replies.contains(reply), "{reply}");
     }
     assert!(rt; known > 300, "{known}");

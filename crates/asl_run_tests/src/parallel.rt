@@ -1,42 +1,11 @@
 // Parallel: branches that run beside each other, how they are joined, and what becomes of a branch's error.
+use crate::branching::{steps_at, told};
 use crate::shown::{line_of, record_text};
-use asl_exec::{Execution, Frame, emulate};
+use asl_exec::{Execution, Frame};
 use asl_history::{Event, Place};
 use asl_setup::Emulation;
 use asl_time::Moment;
 use std::test::Fail;
-
-/// The text of a run of the machine M in its test case c, in which the Task W has these answers.
-fn told(
-    rt: &HostRuntime,
-    definition: &str,
-    answers: &str,
-    input: &str,
-    steps: &str,
-) -> Result<String, Fail> {
-    let mocks = format!(in rt.alloc();
-        "{{\"StateMachines\":{{\"M\":{{\"TestCases\":{{\"c\":{{\"W\":\"a\"}}}}}}}},\"MockedResponses\":{{\"a\":{{{answers}}}}}}}"
-    )?;
-    let emulated = emulate(
-        rt.alloc(),
-        definition.as_bytes(),
-        mocks.as_bytes(),
-        "M#c",
-        input.as_bytes(),
-        steps.as_bytes(),
-    );
-    Ok(emulated.map_err(|_| "refused")?.text)
-}
-
-/// The lines of steps at these places, all at one moment.
-fn steps_at(rt: &HostRuntime, places: &[&str]) -> Result<String, Fail> {
-    let mut steps = String::new(rt.alloc());
-    for place in places {
-        steps.push_str(place)?;
-        steps.push_str(" 2024-01-01T00:00:00Z\n")?;
-    }
-    Ok(steps)
-}
 
 /// Two branches of a Pass and a Succeed each.
 const TWO_BRANCHES: &str =

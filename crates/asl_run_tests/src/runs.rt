@@ -165,16 +165,6 @@ fn faults_of_data_end_an_execution(rt: HostRuntime) -> Result<(), Fail> {
     Ok(())
 }
 
-// Definitions without faults that can't be run yet.
-const MAP_BEHIND_A_SUCCEED: &str =
-    r#"{"StartAt":"S","States":{"S":{"Type":"Succeed"},"P":{"Type":"Map","Iterator":{"StartAt":"F","States":{"F":{"Type":"Fail"}}},"End":true}}}"#;
-
-const MAP_BEFORE_A_TASK: &str =
-    r#"{"StartAt":"a/b","States":{"a/b":{"Type":"Map","Iterator":{"StartAt":"F","States":{"F":{"Type":"Fail"}}},"Next":"T"},"T":{"Type":"Task","Resource":"r","End":true}}}"#;
-
-const PARALLEL_BEFORE_A_MAP: &str =
-    r#"{"StartAt":"L","States":{"L":{"Type":"Parallel","Branches":[{"StartAt":"F","States":{"F":{"Type":"Fail"}}}],"Next":"N"},"N":{"Type":"Map","Iterator":{"StartAt":"I","States":{"I":{"Type":"Fail"}}},"End":true}}}"#;
-
 /// A mock file with the cases `c`, `a#b`, and, of another machine, `c`.
 const MOCKS: &str =
     r#"{"StateMachines":{"M":{"TestCases":{"c":{"T":"r"},"a#b":{"T":"s"}}},"N":{"TestCases":{"c":{"T":"s"}}}},
@@ -189,18 +179,6 @@ const REFUSED: &[([&str; 5], &str)] = &[
     (
         ["{}", "[]", "M#c", "{", "x"],
         "definition: F3 Missing /StartAt",
-    ),
-    (
-        [MAP_BEHIND_A_SUCCEED, "[", "M#c", "{", "x"],
-        "definition: F5 Unsupported /States/P/Type",
-    ),
-    (
-        [MAP_BEFORE_A_TASK, "{}", "M", "{}", ""],
-        "definition: F5 Unsupported /States/a~1b/Type",
-    ),
-    (
-        [PARALLEL_BEFORE_A_MAP, "{}", "M", "{}", ""],
-        "definition: F5 Unsupported /States/N/Type",
     ),
     (
         [TWO_STATES, "[", "M#c", "{", "x"],

@@ -27,6 +27,7 @@ picked-canon sh (r ∷ rs) ms = rw (value_at-canon r.name sh ms, picked-canon sh
 arranged_plain : (s : Sort) (rs : List Row) (ms cs : Pairs) → is_plain s ≡ true → arranged s rs ms cs ≡ dict ms
 arranged_plain sort.Definition rs ms cs e = absurd cc
 arranged_plain sort.Machine rs ms cs e = absurd cc
+arranged_plain sort.ItemProcessor rs ms cs e = absurd cc
 arranged_plain sort.State rs ms cs e = absurd cc
 arranged_plain sort.Rule rs ms cs e = absurd cc
 arranged_plain sort.InnerRule rs ms cs e = absurd cc

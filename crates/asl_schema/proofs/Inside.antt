@@ -127,6 +127,7 @@ own_hold p s (dict ms) h = each_left Hold (heres (demands p s (dict ms))) _ h
 named_within : (p : Spot) (names : List ℕ → Bool) (s : Sort) (ms : Pairs) → ((k : List ℕ) → p.names k ≡ names k) → (k : List ℕ) → (inside p s ms).names k ≡ names_within s names ms k
 named_within p names sort.Definition ms named k = refl
 named_within p names sort.Machine ms named k = refl
+named_within p names sort.ItemProcessor ms named k = refl
 named_within p names s ms named k = named k
 
 pub object_hold : (p : Spot) (s : Sort) (ms : Pairs) → is_object s ≡ true → Each Hold (claims p s (dict ms)) → Each Hold (object_claims p s ms)

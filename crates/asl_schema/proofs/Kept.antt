@@ -1,8 +1,9 @@
 -- What the value of a member keeps, by what it is to be.
 use Rattle.std.proofs.Common.{◌≡◌, ℕ, List, [], ◌∷◌, ◌++◌, Bool, true, false, sym, ◌∙◌}
-use Rattle.std.specs.Prelude.{Option, Some, None, IfSome, pos, nat_le, ◌&&◌}
+use Rattle.std.specs.Prelude.{Option, Some, None, IfSome, pos, nat_le, ◌&&◌, codes}
 use Rattle.asl_json.specs.Data.{Data, number, text, list, Chain}
 use Rattle.asl_json.specs.Number.{units_of}
+use Rattle.asl_json.specs.Same.{bytes_eq}
 use Rattle.asl_json.specs.Whole.{whole_of}
 use Rattle.asl_path.specs.Grammar.{IsPath, StartsFrom}
 use Rattle.asl_path.specs.declared.step.Root.TheVariants.{Input}
@@ -70,6 +71,9 @@ delay_limit n c = c.is.hold.1.1.0
 
 pub jitter : (t : List ℕ) → IsClean sort.Jitter (text t) → is_jitter t ≡ true
 jitter t c = c.is.hold.1.1.0
+
+pub mode : (t : List ℕ) → IsClean sort.Mode (text t) → bytes_eq t (codes "INLINE") ≡ true
+mode t c = c.is.hold.1.1.0
 
 pub target : (names : List ℕ → Bool) (t : List ℕ) → IsCleanAmong names sort.Target (text t) → names t ≡ true
 target names t c = let h = c.hold.1.1.0 in rw c.named at h

@@ -7,6 +7,7 @@ pub mod Kept
 pub mod Deciding
 pub mod Ways
 pub mod Templates
+pub mod Configs
 pub mod Required
 pub mod Ending
 pub mod Accepting

@@ -6,11 +6,11 @@ use Rattle.asl_json.specs.Meaning.{value_at}
 use Rattle.asl_schema.specs.declared.sort.Sort.TheVariants as sort
 use Rattle.asl_schema.specs.declared.sort.Kind.{Kind}
 use Rattle.asl_schema.specs.declared.sort.Kind.TheVariants as kind
-use Rattle.asl_schema.specs.Members.{exactly_one, shape_of, state_shape, is_among, operators, definition_rows, machine_rows, task_rows, choice_rows, parallel_rows, map_rows, retrier_rows, catcher_rows, rule_rows, inner_rule_rows, test_rows}
+use Rattle.asl_schema.specs.Members.{shape_of, state_shape, is_among, operators, definition_rows, machine_rows, item_processor_rows, task_rows, choice_rows, parallel_rows, map_rows, retrier_rows, catcher_rows, rule_rows, inner_rule_rows, test_rows}
 use Rattle.asl_schema.specs.Claims.{has_any}
 use Rattle.asl_schema.specs.Clean.{IsCleanInside, IsThereAmong, is_beside}
 use Rattle.asl_schema.proofs.Inside.{there_at, there_beside, fits_among_at, is_there}
-use Rattle.asl_schema.proofs.Ways.{some_there}
+use Rattle.asl_schema.proofs.Ways.{processor_some}
 
 pub definition_start : (names : List ℕ → Bool) (o : Option Kind) (ms : Pairs) → IsCleanInside names (shape_of sort.Definition o) ms → IsThereAmong names sort.Target (value_at (codes "StartAt") ms)
 unfolding definition_rows
@@ -28,6 +28,14 @@ pub machine_states : (names : List ℕ → Bool) (o : Option Kind) (ms : Pairs) 
 unfolding machine_rows
 machine_states names o ms c = there_at names (shape_of sort.Machine o) ms (codes "States") refl c
 
+pub item_processor_start : (names : List ℕ → Bool) (o : Option Kind) (ms : Pairs) → IsCleanInside names (shape_of sort.ItemProcessor o) ms → IsThereAmong names sort.Target (value_at (codes "StartAt") ms)
+unfolding item_processor_rows
+item_processor_start names o ms c = there_at names (shape_of sort.ItemProcessor o) ms (codes "StartAt") refl c
+
+pub item_processor_states : (names : List ℕ → Bool) (o : Option Kind) (ms : Pairs) → IsCleanInside names (shape_of sort.ItemProcessor o) ms → IsThereAmong names sort.States (value_at (codes "States") ms)
+unfolding item_processor_rows
+item_processor_states names o ms c = there_at names (shape_of sort.ItemProcessor o) ms (codes "States") refl c
+
 pub task_resource : (names : List ℕ → Bool) (ms : Pairs) → IsCleanInside names (state_shape (Some kind.Task)) ms → IsThereAmong names sort.Text (value_at (codes "Resource") ms)
 unfolding task_rows
 task_resource names ms c = there_at names (state_shape (Some kind.Task)) ms (codes "Resource") refl c
@@ -40,16 +48,17 @@ pub parallel_branches : (names : List ℕ → Bool) (ms : Pairs) → IsCleanInsi
 unfolding parallel_rows
 parallel_branches names ms c = there_at names (state_shape (Some kind.Parallel)) ms (codes "Branches") refl c
 
-one_name : (k : List ℕ) (ms : Pairs) → has_any (k ∷ []) ms ≡ true → is_some (value_at k ms) ≡ true
-one_name k ms e = by (is_some (value_at k ms)) refl
+-- the machine of a Map is its Iterator, where it has no ItemProcessor
+left_there : (k l : List ℕ) (ms : Pairs) → has_any (k ∷ l ∷ []) ms ≡ true → is_some (value_at l ms) ≡ false → is_some (value_at k ms) ≡ true
+left_there k l ms e off = by (is_some (value_at k ms)) refl
   where
     by : (b : Bool) → is_some (value_at k ms) ≡ b → is_some (value_at k ms) ≡ true
     by true h = h
-    by false h = absurd (let x = rw h at e in cc)
+    by false h = absurd (let x = rw (h, off) at e in cc)
 
-pub map_iterator : (names : List ℕ → Bool) (ms : Pairs) → IsCleanInside names (state_shape (Some kind.Map)) ms → IsThereAmong names sort.Machine (value_at (codes "Iterator") ms)
+pub map_iterator : (names : List ℕ → Bool) (ms : Pairs) → IsCleanInside names (state_shape (Some kind.Map)) ms → is_some (value_at (codes "ItemProcessor") ms) ≡ false → IsThereAmong names sort.Machine (value_at (codes "Iterator") ms)
 unfolding map_rows
-map_iterator names ms c = is_there names sort.Machine (value_at (codes "Iterator") ms) (fits_among_at names (state_shape (Some kind.Map)) ms (codes "Iterator") c) (one_name (codes "Iterator") ms (some_there names (state_shape (Some kind.Map)) (exactly_one (codes "Iterator" ∷ [])) ms c (inl refl) refl))
+map_iterator names ms c off = is_there names sort.Machine (value_at (codes "Iterator") ms) (fits_among_at names (state_shape (Some kind.Map)) ms (codes "Iterator") c) (left_there (codes "Iterator") (codes "ItemProcessor") ms (processor_some names ms c) off)
 
 pub retrier_errors : (names : List ℕ → Bool) (o : Option Kind) (ms : Pairs) → IsCleanInside names (shape_of sort.Retrier o) ms → IsThereAmong names sort.ErrorNames (value_at (codes "ErrorEquals") ms)
 unfolding retrier_rows

@@ -12,7 +12,7 @@ use Rattle.asl_schema.specs.declared.sort.Sort.{Sort}
 use Rattle.asl_schema.specs.declared.sort.Sort.TheVariants as sort
 use Rattle.asl_schema.specs.declared.sort.Kind.{Kind}
 use Rattle.asl_schema.specs.declared.sort.Kind.TheVariants as kind
-use Rattle.asl_schema.specs.Members.{Group, exactly_one, at_most_one, Shape, sort_at, state_shape, is_among, transition, wait_time, operators, connectives, rule_groups, task_rows, pass_rows, wait_rows, parallel_rows, map_rows}
+use Rattle.asl_schema.specs.Members.{Group, exactly_one, at_most_one, Shape, sort_at, state_shape, is_among, transition, wait_time, processor_group, selector_group, operators, connectives, rule_groups, task_rows, pass_rows, wait_rows, parallel_rows, map_rows}
 use Rattle.asl_schema.specs.Claims.{counts, any_in, is_true, has_any}
 use Rattle.asl_schema.specs.Clean.{IsCleanInside, Fits, GoesOneWay, is_ending, goes_on}
 use Rattle.asl_schema.proofs.Inside.{fits_at, any_there, or_right}
@@ -78,6 +78,17 @@ wait_some names ms c = some_there names (state_shape (Some kind.Wait)) wait_time
 pub wait_one : (names : List ℕ → Bool) (ms : Pairs) (k l : List ℕ) → IsCleanInside names (state_shape (Some kind.Wait)) ms → is_among k wait_time.names ≡ true → is_among l wait_time.names ≡ true → bytes_eq k l ≡ false → is_some (value_at k ms) ≡ true → is_some (value_at l ms) ≡ false
 wait_one names ms k l c a b ne h = two_there names (state_shape (Some kind.Wait)) wait_time ms k l c (inl refl) refl a b ne h
 
+-- a Map has its machine in one spelling
+pub processor_some : (names : List ℕ → Bool) (ms : Pairs) → IsCleanInside names (state_shape (Some kind.Map)) ms → has_any processor_group.names ms ≡ true
+processor_some names ms c = some_there names (state_shape (Some kind.Map)) processor_group ms c (inl refl) refl
+
+pub processor_one : (names : List ℕ → Bool) (ms : Pairs) → IsCleanInside names (state_shape (Some kind.Map)) ms → is_some (value_at (codes "ItemProcessor") ms) ≡ true → is_some (value_at (codes "Iterator") ms) ≡ false
+processor_one names ms c h = two_there names (state_shape (Some kind.Map)) processor_group ms (codes "ItemProcessor") (codes "Iterator") c (inl refl) refl refl refl refl h
+
+-- and the template for the inputs of its iterations
+pub selector_one : (names : List ℕ → Bool) (ms : Pairs) → IsCleanInside names (state_shape (Some kind.Map)) ms → is_some (value_at (codes "Parameters") ms) ≡ true → is_some (value_at (codes "ItemSelector") ms) ≡ false
+selector_one names ms c h = two_there names (state_shape (Some kind.Map)) selector_group ms (codes "Parameters") (codes "ItemSelector") c (inr (inl refl)) refl refl refl refl h
+
 -- a rule has one test or connective
 abbrev rule_tests : Group
 rule_tests = exactly_one (operators ++ connectives)
@@ -131,7 +142,7 @@ is_transition kind.Task e = inr (inr (inl refl))
 is_transition kind.Pass e = inl refl
 is_transition kind.Wait e = inr (inl refl)
 is_transition kind.Parallel e = inl refl
-is_transition kind.Map e = inr (inl refl)
+is_transition kind.Map e = inr (inr (inl refl))
 is_transition kind.Choice e = absurd cc
 is_transition kind.Succeed e = absurd cc
 is_transition kind.Fail e = absurd cc

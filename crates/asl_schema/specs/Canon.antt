@@ -43,6 +43,7 @@ picked (r ∷ rs) ms = opt r.name (kept r.name (value_at r.name ms)) ++ picked r
 abbrev pub arranged : Sort → List Row → Pairs → Pairs → Data
 arranged sort.Definition rs ms cs = dict (pairs (picked rs cs))
 arranged sort.Machine rs ms cs = dict (pairs (picked rs cs))
+arranged sort.ItemProcessor rs ms cs = dict (pairs (picked rs cs))
 arranged sort.State rs ms cs = dict (pairs (picked rs cs))
 arranged sort.Rule rs ms cs = dict (pairs (picked rs cs))
 arranged sort.InnerRule rs ms cs = dict (pairs (picked rs cs))
@@ -100,6 +101,7 @@ kind_text kind.Fail = codes "Fail"
 abbrev pub is_plain : Sort → Bool
 is_plain sort.Definition = false
 is_plain sort.Machine = false
+is_plain sort.ItemProcessor = false
 is_plain sort.Machines = false
 is_plain sort.States = false
 is_plain sort.State = false

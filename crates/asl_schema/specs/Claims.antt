@@ -70,6 +70,7 @@ one_deeper n = if nat_lt max_machines n then n else suc n
 abbrev pub spot_demands : Spot → Sort → List Demand
 spot_demands p sort.State = in_range (is_name p.key) ∷ []
 spot_demands p sort.Machine = within (nat_lt p.level max_machines) ∷ []
+spot_demands p sort.ItemProcessor = within (nat_lt p.level max_machines) ∷ []
 spot_demands p sort.Unsupported = supported false ∷ []
 spot_demands p sort.Unknown = known ∷ []
 spot_demands p s = []
@@ -103,6 +104,7 @@ abbrev pub text_demands : Spot → Sort → List ℕ → List Demand
 text_demands p sort.KindName t = supported (is_some (kind_of t)) ∷ []
 text_demands p sort.Version t = supported (bytes_eq t (codes "1.0")) ∷ []
 text_demands p sort.QueryLanguage t = supported (bytes_eq t (codes "JSONPath")) ∷ []
+text_demands p sort.Mode t = supported (bytes_eq t (codes "INLINE")) ∷ []
 text_demands p sort.Target t = named (p.names t) ∷ []
 text_demands p sort.Path t = path t ∷ []
 text_demands p sort.PathOrNull t = path t ∷ []
@@ -225,6 +227,7 @@ names_in ms k = is_some (value_at k (members_in (value_at (codes "States") ms)))
 abbrev pub inside : Spot → Sort → Pairs → Spot
 inside p sort.Definition ms = record { names = names_in ms; level = one_deeper p.level; ends = p.ends; key = p.key; doubled = p.doubled }
 inside p sort.Machine ms = record { names = names_in ms; level = one_deeper p.level; ends = p.ends; key = p.key; doubled = p.doubled }
+inside p sort.ItemProcessor ms = record { names = names_in ms; level = one_deeper p.level; ends = p.ends; key = p.key; doubled = p.doubled }
 inside p s ms = p
 
 -- of `k` and `k.$` in an object of a template the other one stands before

@@ -30,6 +30,7 @@ pub record IsCleanInside (names : List ℕ → Bool) (sh : Shape) (ms : Pairs) :
 abbrev pub names_within : Sort → (List ℕ → Bool) → Pairs → List ℕ → Bool
 names_within sort.Definition names ms k = names_in ms k
 names_within sort.Machine names ms k = names_in ms k
+names_within sort.ItemProcessor names ms k = names_in ms k
 names_within s names ms k = names k
 
 -- a member that these rows require

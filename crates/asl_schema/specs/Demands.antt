@@ -16,6 +16,8 @@ use Rattle.asl_schema.specs.declared.sort.Form.TheVariants as form
 abbrev pub form_of : Sort → Form
 form_of sort.Definition = form.Object
 form_of sort.Machine = form.Object
+form_of sort.ItemProcessor = form.Object
+form_of sort.ProcessorConfig = form.Object
 form_of sort.States = form.Object
 form_of sort.State = form.Object
 form_of sort.Rule = form.Object
@@ -30,6 +32,7 @@ form_of sort.Catchers = form.List
 form_of sort.ErrorNames = form.List
 form_of sort.KindName = form.Text
 form_of sort.Version = form.Text
+form_of sort.Mode = form.Text
 form_of sort.QueryLanguage = form.Text
 form_of sort.Text = form.Text
 form_of sort.Target = form.Text

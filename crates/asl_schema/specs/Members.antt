@@ -6,7 +6,7 @@ use Rattle.asl_json.specs.Same.{bytes_eq}
 use Rattle.asl_json.specs.Meaning.{value_at}
 use Rattle.asl_template.specs.Names.{name_before}
 use Rattle.asl_schema.specs.declared.sort.Sort.{Sort}
-use Rattle.asl_schema.specs.declared.sort.Sort.TheVariants.{Definition, Machine, Machines, States, State, KindName, Version, QueryLanguage, Text, Truth, Target, Path, PathOrNull, PlaceOrNull, PathOrCall, Timestamp, Number, FromZero, FromOne, Rate, DelayLimit, Jitter, Rules, Rule, InnerRules, InnerRule, Retriers, Retrier, Catchers, Catcher, ErrorNames, Template, Computed, Any, Unsupported, Unknown}
+use Rattle.asl_schema.specs.declared.sort.Sort.TheVariants.{Definition, Machine, ItemProcessor, ProcessorConfig, Mode, Machines, States, State, KindName, Version, QueryLanguage, Text, Truth, Target, Path, PathOrNull, PlaceOrNull, PathOrCall, Timestamp, Number, FromZero, FromOne, Rate, DelayLimit, Jitter, Rules, Rule, InnerRules, InnerRule, Retriers, Retrier, Catchers, Catcher, ErrorNames, Template, Computed, Any, Unsupported, Unknown}
 use Rattle.asl_schema.specs.declared.sort.Kind.{Kind}
 use Rattle.asl_schema.specs.declared.sort.Kind.TheVariants as kind
 
@@ -85,6 +85,20 @@ machine_rows =
     optional (codes "Comment") Text
     ∷ required (codes "StartAt") Target
     ∷ required (codes "States") States
+    ∷ []
+
+-- of a Map, in the newer spelling
+unfoldable pub item_processor_rows : List Row
+item_processor_rows =
+    optional (codes "Comment") Text
+    ∷ optional (codes "ProcessorConfig") ProcessorConfig
+    ∷ required (codes "StartAt") Target
+    ∷ required (codes "States") States
+    ∷ []
+
+unfoldable pub processor_config_rows : List Row
+processor_config_rows =
+    optional (codes "Mode") Mode
     ∷ []
 
 unfoldable pub untyped_rows : List Row
@@ -170,7 +184,9 @@ map_rows =
     ∷ optional (codes "ItemsPath") Path
     ∷ optional (codes "MaxConcurrency") FromZero
     ∷ optional (codes "Parameters") Template
+    ∷ optional (codes "ItemSelector") Template
     ∷ optional (codes "Iterator") Machine
+    ∷ optional (codes "ItemProcessor") ItemProcessor
     ∷ optional (codes "ResultSelector") Template
     ∷ optional (codes "ResultPath") PlaceOrNull
     ∷ optional (codes "OutputPath") PathOrNull
@@ -319,6 +335,14 @@ transition = exactly_one (two (codes "Next") (codes "End"))
 abbrev pub wait_time : Group
 wait_time = exactly_one (codes "Seconds" ∷ codes "SecondsPath" ∷ codes "Timestamp" ∷ codes "TimestampPath" ∷ [])
 
+-- the machine of a Map, in either spelling
+abbrev pub processor_group : Group
+processor_group = exactly_one (two (codes "Iterator") (codes "ItemProcessor"))
+
+-- the template for the inputs of its iterations
+abbrev pub selector_group : Group
+selector_group = at_most_one (two (codes "Parameters") (codes "ItemSelector"))
+
 abbrev pub connectives : List (List ℕ)
 connectives = codes "And" ∷ codes "Or" ∷ codes "Not" ∷ []
 
@@ -328,7 +352,7 @@ kind_groups kind.Pass = transition ∷ []
 kind_groups kind.Choice = []
 kind_groups kind.Wait = wait_time ∷ transition ∷ []
 kind_groups kind.Parallel = transition ∷ []
-kind_groups kind.Map = exactly_one (codes "Iterator" ∷ []) ∷ transition ∷ []
+kind_groups kind.Map = processor_group ∷ selector_group ∷ transition ∷ []
 kind_groups kind.Succeed = []
 kind_groups kind.Fail = at_most_one (two (codes "Error") (codes "ErrorPath")) ∷ at_most_one (two (codes "Cause") (codes "CausePath")) ∷ []
 
@@ -369,6 +393,8 @@ state_shape None = record { rows = untyped_rows; others = Any; groups = [] }
 abbrev pub shape_of : Sort → Option Kind → Shape
 shape_of Definition k = known_shape definition_rows []
 shape_of Machine k = known_shape machine_rows []
+shape_of ItemProcessor k = known_shape item_processor_rows []
+shape_of ProcessorConfig k = known_shape processor_config_rows []
 shape_of States k = record { rows = []; others = State; groups = [] }
 shape_of State k = state_shape k
 shape_of Rule k = known_shape rule_rows rule_groups

@@ -55,12 +55,23 @@ const DEFINITION: &[Row] = &[
     Required("States", Sort::States),
 ];
 
-/// A machine of a Parallel or Map state.
+/// A machine of a Parallel state, or the `Iterator` of a Map state.
 const MACHINE: &[Row] = &[
     Optional("Comment", Sort::Text),
     Required("StartAt", Sort::Target),
     Required("States", Sort::States),
 ];
+
+/// The `ItemProcessor` of a Map state. (Amazon States Language, "Map State", "ItemProcessor".)
+const ITEM_PROCESSOR: &[Row] = &[
+    Optional("Comment", Sort::Text),
+    Optional("ProcessorConfig", Sort::ProcessorConfig),
+    Required("StartAt", Sort::Target),
+    Required("States", Sort::States),
+];
+
+/// (Amazon States Language, "Map State", "ProcessorConfig".)
+const PROCESSOR_CONFIG: &[Row] = &[Optional("Mode", Sort::Mode)];
 
 /// A state whose type is missing or unknown.
 const UNTYPED: &[Row] = &[Required("Type", Sort::KindName)];
@@ -153,7 +164,9 @@ const MAP: &[Row] = &[
     Optional("ItemsPath", Sort::Path),
     Optional("MaxConcurrency", Sort::FromZero),
     Optional("Parameters", Sort::Template),
+    Optional("ItemSelector", Sort::Template),
     Optional("Iterator", Sort::Machine),
+    Optional("ItemProcessor", Sort::ItemProcessor),
     Optional("ResultSelector", Sort::Template),
     Optional("ResultPath", Sort::PlaceOrNull),
     Optional("OutputPath", Sort::PathOrNull),
@@ -411,9 +424,14 @@ const WAIT_GROUPS: &[Group] = &[
 
 const MAP_GROUPS: &[Group] = &[
     Group {
-        names: &["Iterator"],
+        names: &["Iterator", "ItemProcessor"],
         more: NONE,
         exact: true,
+    },
+    Group {
+        names: &["Parameters", "ItemSelector"],
+        more: NONE,
+        exact: false,
     },
     Group {
         names: TRANSITION,
@@ -502,13 +520,15 @@ fn searched_as(rows: &'static [Row], others: Sort) -> Shape
 }
 
 /// What an object of this sort may have; for a state by its type.
-#[tactic(auto, unfolding(crate::specs::Members::definition_rows, crate::specs::Members::machine_rows, crate::specs::Members::untyped_rows, crate::specs::Members::operators, crate::specs::Members::inner_rule_rows, crate::specs::Members::test_rows, crate::specs::Members::rule_rows, crate::specs::Members::retrier_rows, crate::specs::Members::catcher_rows))]
+#[tactic(auto, unfolding(crate::specs::Members::definition_rows, crate::specs::Members::machine_rows, crate::specs::Members::item_processor_rows, crate::specs::Members::processor_config_rows, crate::specs::Members::untyped_rows, crate::specs::Members::operators, crate::specs::Members::inner_rule_rows, crate::specs::Members::test_rows, crate::specs::Members::rule_rows, crate::specs::Members::retrier_rows, crate::specs::Members::catcher_rows))]
 fn shape_of(sort: Sort, kind: Option<Kind>) -> Shape
     ensures { shape_seen result ≡ spec_shape_of sort kind }
 {
     match sort {
         Sort::Definition => known(DEFINITION, NO_GROUPS),
         Sort::Machine => known(MACHINE, NO_GROUPS),
+        Sort::ItemProcessor => known(ITEM_PROCESSOR, NO_GROUPS),
+        Sort::ProcessorConfig => known(PROCESSOR_CONFIG, NO_GROUPS),
         Sort::Rule => known(RULE, RULE_GROUPS),
         Sort::InnerRule => known(INNER_RULE, RULE_GROUPS),
         Sort::Retrier => known(RETRIER, NO_GROUPS),

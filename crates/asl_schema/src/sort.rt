@@ -28,6 +28,12 @@ pub enum Sort {
     Definition,
     /// A state machine inside a state.
     Machine,
+    /// The state machine of an `ItemProcessor`.
+    ItemProcessor,
+    /// The `ProcessorConfig` of an `ItemProcessor`.
+    ProcessorConfig,
+    /// The `Mode` of a `ProcessorConfig`.
+    Mode,
     /// State machines.
     Machines,
     /// The states of a machine by their names.

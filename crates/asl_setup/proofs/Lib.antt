@@ -2,5 +2,4 @@ mod FileLines
 mod StepLines
 mod StepsRead
 mod OneReading
-pub mod Unready
 pub mod Refusing

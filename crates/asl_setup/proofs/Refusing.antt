@@ -1,5 +1,5 @@
 -- A fault of one text is that of a run, where the texts before it are good.
-use Rattle.std.proofs.Common.{◌≡◌, ℕ, true, List}
+use Rattle.std.proofs.Common.{◌≡◌, ℕ, List}
 use Rattle.std.specs.Prelude.{Ok}
 use Rattle.asl_json.specs.Data.{Data}
 use Rattle.asl_json.specs.declared.value.Json.{Json}
@@ -9,9 +9,8 @@ use Rattle.asl_mock.specs.Told.{IsMockFile}
 use Rattle.asl_setup.specs.declared.fault.EmulateFault.{EmulateFault}
 use Rattle.asl_setup.specs.declared.fault.EmulateFault.TheVariants.{Definition, Mocks, Case, Input, StepLine, OutOfMemory}
 use Rattle.asl_setup.specs.Chosen.{case_chosen, IsCase}
-use Rattle.asl_setup.specs.Emulations.{IsRefused, by_case, by_input, by_steps}
-use Rattle.asl_setup.specs.Ready.{is_ready}
-use Rattle.asl_setup.specs.Texts.{IsReadyDefinition, IsInputOf, IsNoCase, IsBadCase, IsBadInput, AreBadSteps, Unless}
+use Rattle.asl_setup.specs.Emulations.{AreSetupTextsOf, IsSetupRefused, by_case, by_input, IsRefused, by_setup, by_steps}
+use Rattle.asl_setup.specs.Texts.{IsDefinition, IsInputOf, IsNoCase, IsBadCase, IsBadInput, AreBadSteps, Unless}
 
 carried : (P Q : EmulateFault → Type 0) → ((f : EmulateFault) → P f → Q f) → (f : EmulateFault) → Unless P f → Unless Q f
 carried P Q h (Definition e) p = h (Definition e) p
@@ -21,8 +20,8 @@ carried P Q h (Input e) p = h (Input e) p
 carried P Q h (StepLine n) p = h (StepLine n) p
 carried P Q h OutOfMemory p = tt
 
-ready_definition : (d : List ℕ) (v : Data) → IsMachineOf d v → is_ready v ≡ true → IsReadyDefinition d
-ready_definition d v of ready = record { machine = v; is_of = of; ready = ready }
+a_definition : (d : List ℕ) (v : Data) → IsMachineOf d v → IsDefinition d
+a_definition d v of = record { machine = v; is_of = of }
 
 a_case : (m c : List ℕ) (ms : mocks.Machines) (found : mocks.Case) → IsMockFile m ms → case_chosen ms c ≡ Ok found → IsCase m c
 a_case m c ms found file chosen = record { found = found; is_of = record { machines = ms; mocks_are = file; chosen_is = chosen } }
@@ -35,14 +34,17 @@ lost m c ms (Input e) file bad = bad
 lost m c ms (StepLine n) file bad = bad
 lost m c ms OutOfMemory file bad = bad
 
-pub case_refused : (d m c x s : List ℕ) (v : Data) (ms : mocks.Machines) (f : EmulateFault) → IsMachineOf d v → is_ready v ≡ true → IsMockFile m ms → Unless (IsNoCase ms c) f → Unless (IsRefused d m c x s) f
-case_refused d m c x s v ms f of ready file bad =
-    carried (IsNoCase ms c) (IsRefused d m c x s) (λ g b. by_case (ready_definition d v of ready) (lost m c ms g file b)) f bad
+pub case_refused : (d m c x : List ℕ) (v : Data) (ms : mocks.Machines) (f : EmulateFault) → IsMachineOf d v → IsMockFile m ms → Unless (IsNoCase ms c) f → Unless (IsSetupRefused d m c x) f
+case_refused d m c x v ms f of file bad =
+    carried (IsNoCase ms c) (IsSetupRefused d m c x) (λ g b. by_case (a_definition d v of) (lost m c ms g file b)) f bad
 
-pub input_refused : (d m c x s : List ℕ) (v : Data) (ms : mocks.Machines) (found : mocks.Case) (f : EmulateFault) → IsMachineOf d v → is_ready v ≡ true → IsMockFile m ms → case_chosen ms c ≡ Ok found → Unless (IsBadInput x) f → Unless (IsRefused d m c x s) f
-input_refused d m c x s v ms found f of ready file chosen bad =
-    carried (IsBadInput x) (IsRefused d m c x s) (λ g b. by_input (ready_definition d v of ready) (a_case m c ms found file chosen) b) f bad
+pub input_refused : (d m c x : List ℕ) (v : Data) (ms : mocks.Machines) (found : mocks.Case) (f : EmulateFault) → IsMachineOf d v → IsMockFile m ms → case_chosen ms c ≡ Ok found → Unless (IsBadInput x) f → Unless (IsSetupRefused d m c x) f
+input_refused d m c x v ms found f of file chosen bad =
+    carried (IsBadInput x) (IsSetupRefused d m c x) (λ g b. by_input (a_definition d v of) (a_case m c ms found file chosen) b) f bad
 
-pub steps_refused : (d m c x s : List ℕ) (v : Data) (ms : mocks.Machines) (found : mocks.Case) (j : Json) (f : EmulateFault) → IsMachineOf d v → is_ready v ≡ true → IsMockFile m ms → case_chosen ms c ≡ Ok found → IsInputOf x j → Unless (AreBadSteps s) f → Unless (IsRefused d m c x s) f
-steps_refused d m c x s v ms found j f of ready file chosen input bad =
-    carried (AreBadSteps s) (IsRefused d m c x s) (λ g b. by_steps (ready_definition d v of ready) (a_case m c ms found file chosen) (record { value = j; is_of = input }) b) f bad
+pub setup_refused : (d m c x s : List ℕ) (f : EmulateFault) → Unless (IsSetupRefused d m c x) f → Unless (IsRefused d m c x s) f
+setup_refused d m c x s f bad = carried (IsSetupRefused d m c x) (IsRefused d m c x s) (λ g b. by_setup b) f bad
+
+pub steps_refused : (d m c x s : List ℕ) (v : Data) (found : mocks.Case) (j : Json) (f : EmulateFault) → AreSetupTextsOf d m c x v found j → Unless (AreBadSteps s) f → Unless (IsRefused d m c x s) f
+steps_refused d m c x s v found j f texts bad =
+    carried (AreBadSteps s) (IsRefused d m c x s) (λ g b. by_steps (a_definition d v texts.machine) (record { found = found; is_of = texts.case_is }) (record { value = j; is_of = texts.input_is }) b) f bad

@@ -1,5 +1,4 @@
 pub mod StepsFile
-pub mod Ready
 pub mod Chosen
 pub mod Texts
 pub mod Emulations

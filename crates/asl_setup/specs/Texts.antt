@@ -1,14 +1,11 @@
 -- What the texts of a run spell, and which fault of them is answered.
-use Rattle.std.specs.Prelude.{◌≡◌, ◌⊎◌, ℕ, List, [], ◌∷◌, ◌++◌, true, Some, Err, codes}
+use Rattle.std.specs.Prelude.{◌≡◌, ℕ, List, [], ◌∷◌, ◌++◌, Err, codes}
 use Rattle.std.specs.Fmt.{decimal}
 use Rattle.asl_json.specs.Data.{Data}
 use Rattle.asl_json.specs.View.{data_of}
-use Rattle.asl_json.specs.Pointers.{name_part}
 use Rattle.asl_json.specs.Wrong.{ReadsAs}
 use Rattle.asl_json.specs.FaultText.{fault_text}
 use Rattle.asl_json.specs.declared.value.Json.{Json}
-use Rattle.asl_schema.specs.declared.fault.FaultKind.TheVariants.{Unsupported}
-use Rattle.asl_def.specs.Own.{own_states_in}
 use Rattle.asl_check.specs.Judged.{IsMachineOf, IsTextFault, IsFaultOf}
 use Rattle.asl_check.specs.Lines.{fault_line}
 use Rattle.asl_check.specs.declared.fault.Fault.{Fault}
@@ -23,16 +20,14 @@ use Rattle.asl_setup.specs.declared.fault.EmulateFault.TheVariants.{Definition, 
 use Rattle.asl_setup.specs.declared.setup.Setup.{Setup}
 use Rattle.asl_setup.specs.declared.step_at.StepAt.{StepAt}
 use Rattle.asl_setup.specs.Chosen.{machine_name, execution_name, case_chosen, IsLost}
-use Rattle.asl_setup.specs.Ready.{is_ready, first_unready}
 use Rattle.asl_setup.specs.StepsFile.{IsFirstBadLine}
 
 -- ---- what they spell
 
--- the text is a definition, and each state of its machine can be run yet
-pub record IsReadyDefinition (b : List ℕ) : Type 0 where
+-- the text is some definition
+pub record IsDefinition (b : List ℕ) : Type 0 where
   pub machine : Data
   pub is_of : IsMachineOf b machine
-  pub ready : is_ready machine ≡ true
 
 abbrev pub IsInputOf : List ℕ → Json → Type 0
 IsInputOf b x = ReadsAs b (data_of x)
@@ -47,15 +42,15 @@ abbrev pub start_at : List StepAt → ℕ
 start_at [] = 0
 start_at (s ∷ ss) = s.moment
 
--- the setup of a run
-abbrev pub setup_for : Data → List ℕ → mocks.Case → Json → List StepAt → Setup
-setup_for m chosen c x ss = record {
+-- the setup of a run that starts at this moment
+abbrev pub setup_for : Data → List ℕ → mocks.Case → Json → ℕ → Setup
+setup_for m chosen c x start = record {
   machine = m;
   name_of_machine = machine_name chosen;
   case = c;
   input = x;
   name = execution_name chosen;
-  start = start_at ss;
+  start = start;
 }
 
 -- ---- why they are refused
@@ -65,20 +60,8 @@ pub record IsDefinitionFault (b : List ℕ) (e : Fault) : Type 0 where
   pub is_fault : IsFaultOf b e
   pub told : e ≡ check.OutOfMemory → ⊥
 
--- the type of the state of this name isn't supported yet
-abbrev pub unsupported_type : List ℕ → Fault
-unsupported_type name = check.Definition Unsupported ((name_part (codes "States") ++ name_part name) ++ name_part (codes "Type"))
-
--- the text is a definition, and this is told of the first state of its machine that can't be run yet
-pub record IsNotReady (b : List ℕ) (e : Fault) : Type 0 where
-  pub machine : Data
-  pub is_of : IsMachineOf b machine
-  pub name : List ℕ
-  pub first : first_unready (own_states_in machine) ≡ Some name
-  pub fault : e ≡ unsupported_type name
-
 abbrev pub IsBadDefinition : List ℕ → EmulateFault → Type 0
-IsBadDefinition b (Definition e) = IsDefinitionFault b e ⊎ IsNotReady b e
+IsBadDefinition b (Definition e) = IsDefinitionFault b e
 IsBadDefinition b _ = ⊥
 
 -- the first fault of a mock file

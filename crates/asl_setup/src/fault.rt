@@ -10,8 +10,7 @@ use std::alloc::{AllocError, Global};
 /// Why the texts of a run are refused: the first fault of the first text that has one, in this order.
 #[derive(Drop)]
 pub enum EmulateFault {
-    /// F1 to F15: the first fault of the definition; or, where it has none, F5 at the `Type` of the first of its states that can't
-    /// be run yet.
+    /// F1 to F15: the first fault of the definition.
     Definition(Fault),
     /// M1 to M5: the first fault of the mock file.
     Mocks(MockFault),

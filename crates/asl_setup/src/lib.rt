@@ -1,12 +1,11 @@
 //! What an execution begins with and the steps that it takes, read from texts.
 //!
-//! Modules in reading order: `setup` is what an execution begins with, `step_at` a step; `readiness` says which machines can be run
-//! yet; `steps_file` reads steps, `texts` each other text, `fault` says why they are refused; `emulation` reads all texts of a run.
+//! Modules in reading order: `setup` is what an execution begins with, `step_at` a step; `steps_file`
+//! reads steps, `texts` each other text, `fault` says why they are refused; `emulation` reads all texts of a run.
 #![tactic(auto)]
 
 mod emulation;
 mod fault;
-mod readiness;
 mod setup;
 mod step_at;
 mod steps_file;
@@ -14,7 +13,6 @@ mod texts;
 
 pub use emulation::Emulation;
 pub use fault::EmulateFault;
-pub use readiness::ready;
 pub use setup::Setup;
 pub use step_at::StepAt;
 pub use steps_file::{StepsFault, files_spell_one_list_of_steps, read_steps};

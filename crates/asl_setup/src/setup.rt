@@ -1,9 +1,15 @@
 // What an execution begins with.
+ghost use Rattle.std.specs.Prelude.{◌≡◌, IfOk, IfErr};
+ghost use Rattle.asl_setup.specs.Emulations.{AreSetupTextsOf, IsSetupRefused};
+ghost use Rattle.asl_setup.specs.Texts.{Unless, setup_for as spec_setup_for};
 
+use crate::fault::EmulateFault;
+use crate::texts::{case_of, input_of, machine_of, mocks_of, setup_for};
 use asl_def::Machine;
 use asl_json::{Shared, Txt};
 use asl_mock::Case;
 use asl_time::Moment;
+use std::alloc::Global;
 
 /// What an execution begins with.
 pub struct Setup {
@@ -32,5 +38,31 @@ impl Drop for Setup {
             name: _name,
             start: _start,
         } = self;
+    }
+}
+
+impl Setup {
+    /// Reads the texts of a setup: a state machine's definition, a mock file, the name of the machine, behind which `#` and the name
+    /// of a test case may stand, and the execution's input. What is chosen is cut at its first `#`; where no test case is named, none
+    /// is looked up, whatever the machine's name. The execution has the name of its test case, or `run`. It starts at the epoch.
+    ///
+    /// A definition is judged as `asl_check::accept` does. The fault is the first of the first text that has one, in the order of
+    /// the parameters.
+    pub fn read(
+        alloc: Global,
+        definition: &[u8],
+        mocks: &[u8],
+        chosen: &str,
+        input: &[u8],
+    ) -> Result<Setup, EmulateFault>
+        ensures found { IfOk result (λ s. AreSetupTextsOf definition.now mocks.now chosen.now input.now s.machine s.case s.input) }
+        ensures setup { IfOk result (λ s. s ≡ spec_setup_for s.machine chosen.now s.case s.input 0) }
+        ensures fault { IfErr result (Unless (IsSetupRefused definition.now mocks.now chosen.now input.now)) }
+    {
+        let machine = machine_of(alloc, definition)?;
+        let file = mocks_of(alloc, mocks)?;
+        let case = case_of(&file, chosen)?;
+        let input = input_of(alloc, input)?;
+        Ok(setup_for(alloc, machine, chosen, case, input, Moment::FIRST)?)
     }
 }

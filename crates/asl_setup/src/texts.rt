@@ -1,27 +1,24 @@
 // What the texts of a run spell.
-ghost use Rattle.std.specs.Prelude.{◌≡◌, true, Ok, IfOk, IfErr};
+ghost use Rattle.std.specs.Prelude.{◌≡◌, Ok, IfOk, IfErr};
 ghost use Rattle.asl_check.specs.Judged.{IsMachineOf};
 ghost use Rattle.asl_mock.specs.Told.{IsMockFile};
-ghost use Rattle.asl_setup.specs.Ready.{is_ready};
 ghost use Rattle.asl_setup.specs.Chosen.{case_name, machine_name, execution_name, case_chosen};
-ghost use Rattle.asl_setup.specs.Texts.{IsInputOf, start_at, setup_for, IsBadDefinition, AreBadMocks, IsNoCase, IsBadInput, AreBadSteps, Unless, unsupported_type};
+ghost use Rattle.asl_setup.specs.Texts.{IsInputOf, start_at, setup_for, IsBadDefinition, AreBadMocks, IsNoCase, IsBadInput, AreBadSteps, Unless};
 ghost use Rattle.asl_setup.specs.StepsFile.{IsStepsFile};
 
 use crate::fault::EmulateFault;
-use crate::readiness::first_unready;
 use crate::setup::Setup;
 use crate::step_at::StepAt;
 use crate::steps_file::{StepsFault, read_steps};
 use asl_check::{Fault, accept};
 use asl_def::Machine;
-use asl_json::{Json, JsonFault, Pointer, Shared, Txt, read};
+use asl_json::{Json, JsonFault, Shared, Txt, read};
 use asl_mock::{Case, MockFault, Mocks};
-use asl_schema::FaultKind;
 use asl_time::Moment;
 use std::alloc::{AllocError, Global};
 
 /// The machine of a definition.
-fn accepted(alloc: Global, definition: &[u8]) -> Result<Machine, EmulateFault>
+pub(crate) fn machine_of(alloc: Global, definition: &[u8]) -> Result<Machine, EmulateFault>
     ensures found { IfOk result (IsMachineOf definition.now) }
     ensures fault { IfErr result (Unless (IsBadDefinition definition.now)) }
 {
@@ -30,28 +27,6 @@ fn accepted(alloc: Global, definition: &[u8]) -> Result<Machine, EmulateFault>
         Err(Fault::OutOfMemory) => Err(EmulateFault::OutOfMemory),
         Err(fault) => Err(EmulateFault::Definition(fault)),
     }
-}
-
-/// The fault of a state of this name, whose type isn't supported yet.
-fn unsupported(alloc: Global, name: &str) -> Result<Fault, AllocError>
-    ensures { IfOk result (λ f. f ≡ unsupported_type name.now) }
-{
-    let states = Pointer::whole(alloc).at_name("States")?;
-    let place = states.at_name(name)?.at_name("Type")?;
-    Ok(Fault::Definition(FaultKind::Unsupported, place))
-}
-
-/// The machine of a definition, where each of its states can be run yet.
-pub(crate) fn machine_of(alloc: Global, definition: &[u8]) -> Result<Machine, EmulateFault>
-    ensures found { IfOk result (IsMachineOf definition.now) }
-    ensures ready { IfOk result (λ m. is_ready m ≡ true) }
-    ensures fault { IfErr result (Unless (IsBadDefinition definition.now)) }
-{
-    let machine = accepted(alloc, definition)?;
-    if let Some(name) = first_unready(&machine) {
-        return Err(EmulateFault::Definition(unsupported(alloc, name)?));
-    }
-    Ok(machine)
 }
 
 /// The machines and cases of a mock file.
@@ -117,7 +92,7 @@ pub(crate) fn steps_of(alloc: Global, steps: &[u8]) -> Result<Vec<StepAt>, Emula
 }
 
 /// When an execution starts: at the moment of its first step, and at the epoch where there is none.
-fn start_of(steps: &[StepAt]) -> Moment
+pub(crate) fn start_of(steps: &[StepAt]) -> Moment
     ensures { result ≡ start_at steps.now }
 {
     match steps {
@@ -143,9 +118,9 @@ pub(crate) fn setup_for(
     chosen: &str,
     case: Case,
     input: Json,
-    steps: &[StepAt],
+    start: Moment,
 ) -> Result<Setup, AllocError>
-    ensures { IfOk result (λ s. s ≡ setup_for machine chosen.now case input steps.now) }
+    ensures { IfOk result (λ s. s ≡ setup_for machine chosen.now case input start) }
 {
     let (name_of_machine, _) = names_in(chosen);
     Ok(Setup {
@@ -154,6 +129,6 @@ pub(crate) fn setup_for(
         case,
         input: Shared::new(alloc, input)?,
         name: Txt::new(String::from_str(alloc, execution_name(chosen))?),
-        start: start_of(steps),
+        start,
     })
 }

@@ -9,7 +9,7 @@ use Rattle.asl_schema.specs.declared.sort.Sort.{Sort}
 use Rattle.asl_schema.specs.declared.sort.Sort.TheVariants as sort
 use Rattle.asl_schema.specs.declared.sort.Kind.{Kind}
 use Rattle.asl_schema.specs.declared.sort.Kind.TheVariants as kind
-use Rattle.asl_schema.specs.Members.{Row, Shape, shape_of, machine_rows, definition_rows, kind_rows, state_shape, shape_in, kind_named, task_rows, pass_rows, choice_rows, wait_rows, parallel_rows, map_rows, succeed_rows, fail_rows}
+use Rattle.asl_schema.specs.Members.{Row, Shape, shape_of, machine_rows, item_processor_rows, definition_rows, kind_rows, state_shape, shape_in, kind_named, task_rows, pass_rows, choice_rows, wait_rows, parallel_rows, map_rows, succeed_rows, fail_rows}
 use Rattle.asl_schema.specs.Canon.{Named, opt, present, kept, kept_at, canon, canon_members, picked, picked_at, kind_text, is_plain}
 use Rattle.asl_schema.proofs.Canons.{picked-canon, plain_kept}
 use Rattle.asl_schema.proofs.Typed.{type_is}
@@ -26,8 +26,8 @@ use Rattle.asl_states.specs.declared.succeed.Succeed.{Succeed as SucceedState}
 use Rattle.asl_states.specs.declared.fail.Fail.{Fail as FailState}
 use Rattle.asl_parts.specs.Parts.{Slots, object, next_shown, end_shown}
 use Rattle.asl_parts.specs.Parts.{listed}
-use Rattle.asl_states.specs.Show.{told, told_at, seconds_shown, seconds_path_shown, timestamp_shown, timestamp_path_shown, task_members, pass_members, choice_members, wait_members, parallel_members, map_members, succeed_members, fail_members, task_object, pass_object, choice_object, wait_object, parallel_object, map_object, succeed_object, fail_object}
-use Rattle.asl_parts.specs.Bodies.{body_of, bodies_of}
+use Rattle.asl_states.specs.Show.{told, told_at, seconds_shown, seconds_path_shown, timestamp_shown, timestamp_path_shown, parameters_shown, item_selector_shown, machine_shown, as_iterator, as_item_processor, task_members, pass_members, choice_members, wait_members, parallel_members, map_members, succeed_members, fail_members, task_object, pass_object, choice_object, wait_object, parallel_object, map_object, succeed_object, fail_object}
+use Rattle.asl_parts.specs.Bodies.{bodies_of}
 use Rattle.asl_parts.specs.Built.{IsOfKind, IsOutcome, Shows}
 use Rattle.asl_parts.proofs.Fits.{map_same}
 
@@ -42,6 +42,10 @@ kind_is ms k named =
 -- and of a machine
 pub machine_is : (ms : Pairs) → canon sort.Machine (dict ms) ≡ dict (pairs (picked_at (shape_of sort.Machine None) machine_rows ms))
 machine_is ms = ap (λ (xs : List Named). dict (pairs xs)) (picked-canon (shape_of sort.Machine None) machine_rows ms)
+
+-- and of one that is an ItemProcessor
+pub item_processor_is : (ms : Pairs) → canon sort.ItemProcessor (dict ms) ≡ dict (pairs (picked_at (shape_of sort.ItemProcessor None) item_processor_rows ms))
+item_processor_is ms = ap (λ (xs : List Named). dict (pairs xs)) (picked-canon (shape_of sort.ItemProcessor None) item_processor_rows ms)
 
 -- and of the outermost one
 pub definition_is : (ms : Pairs) → canon sort.Definition (dict ms) ≡ dict (pairs (picked_at (shape_of sort.Definition None) definition_rows ms))
@@ -509,12 +513,14 @@ pub map_shows : (t ms : List Named) (x : MapState) → IsOfKind kind.Map ms
     → path_shown x.input_path ≡ value_at (codes "InputPath") (pairs ms)
     → option_map text x.items_path ≡ value_at (codes "ItemsPath") (pairs ms)
     → option_map number x.max_concurrency ≡ value_at (codes "MaxConcurrency") (pairs ms)
-    → option_map (λ (t : Data). t) x.parameters ≡ value_at (codes "Parameters") (pairs ms)
-    → Some (body_of t x.iterator) ≡ kept_at (codes "Iterator") sort.Machine (pairs ms)
+    → parameters_shown x.selector ≡ value_at (codes "Parameters") (pairs ms)
+    → item_selector_shown x.selector ≡ value_at (codes "ItemSelector") (pairs ms)
+    → as_iterator x.processor (machine_shown t x.processor) ≡ kept_at (codes "Iterator") sort.Machine (pairs ms)
+    → as_item_processor x.processor (machine_shown t x.processor) ≡ kept_at (codes "ItemProcessor") sort.ItemProcessor (pairs ms)
     → IsOutcome (pairs ms) x.outcome
     → map_object t x ≡ canon sort.State (dict (pairs ms))
 unfolding map_rows
-map_shows t ms x h e1 e2 e3 e4 e5 e6 e7 o =
+map_shows t ms x h e1 e2 e3 e4 e5 e6 e7 e8 e9 o =
     let ps = pairs ms in
     state_shows ps kind.Map (map_members t x) h.is (
       refl,
@@ -536,32 +542,40 @@ map_shows t ms x h e1 e2 e3 e4 e5 e6 e7 o =
                 plain (codes "MaxConcurrency") sort.FromZero ps (option_map number x.max_concurrency) refl refl e5,
                 (
                   refl,
-                  template (codes "Parameters") ps x.parameters refl e6,
+                  plain (codes "Parameters") sort.Template ps (parameters_shown x.selector) refl refl e6,
                   (
                     refl,
-                    e7,
+                    plain (codes "ItemSelector") sort.Template ps (item_selector_shown x.selector) refl refl e7,
                     (
                       refl,
-                      selector ps x.outcome o,
+                      e8,
                       (
                         refl,
-                        result_place ps x.outcome o,
+                        e9,
                         (
                           refl,
-                          output ps x.outcome o,
+                          selector ps x.outcome o,
                           (
                             refl,
-                            retry ps x.outcome o,
+                            result_place ps x.outcome o,
                             (
                               refl,
-                              catch ps x.outcome o,
+                              output ps x.outcome o,
                               (
                                 refl,
-                                o.next,
+                                retry ps x.outcome o,
                                 (
                                   refl,
-                                  o.ends,
-                                  tt,
+                                  catch ps x.outcome o,
+                                  (
+                                    refl,
+                                    o.next,
+                                    (
+                                      refl,
+                                      o.ends,
+                                      tt,
+                                    ),
+                                  ),
                                 ),
                               ),
                             ),

@@ -1,4 +1,5 @@
 pub mod Canonical
 pub mod Ruling
 pub mod Begins
+pub mod Items
 mod Nexts

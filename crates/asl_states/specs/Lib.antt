@@ -1,2 +1,3 @@
+pub mod Items
 pub mod Show
 pub mod Choosing

@@ -3,6 +3,7 @@ use Rattle.std.specs.Prelude.{ℕ, suc, List, [], ◌∷◌, ◌++◌, Option, S
 use Rattle.asl_json.specs.Data.{Data, number, text, list, dict, chain, pairs}
 use Rattle.asl_json.specs.View.{data_of}
 use Rattle.asl_schema.specs.Canon.{Named}
+use Rattle.asl_members.specs.declared.processor.ProcessorConfig.{ProcessorConfig}
 use Rattle.asl_members.specs.Shown.{path_shown, path_or_call_shown}
 use Rattle.asl_states.specs.declared.task.Task.{Task as TaskState}
 use Rattle.asl_states.specs.declared.pass.Pass.{Pass as PassState}
@@ -12,6 +13,10 @@ use Rattle.asl_states.specs.declared.wait.Delay.{Delay}
 use Rattle.asl_states.specs.declared.wait.Delay.TheVariants as delay
 use Rattle.asl_states.specs.declared.parallel.Parallel.{Parallel as ParallelState}
 use Rattle.asl_states.specs.declared.map.Map.{Map as MapState}
+use Rattle.asl_states.specs.declared.processor.Selector.{Selector}
+use Rattle.asl_states.specs.declared.processor.Selector.TheVariants.{Parameters, ItemSelector}
+use Rattle.asl_states.specs.declared.processor.Processor.{Processor}
+use Rattle.asl_states.specs.declared.processor.Processor.TheVariants.{Iterator, ItemProcessor}
 use Rattle.asl_states.specs.declared.succeed.Succeed.{Succeed as SucceedState}
 use Rattle.asl_states.specs.declared.fail.Fail.{Fail as FailState}
 use Rattle.asl_states.specs.declared.fail.Reason.{Reason}
@@ -20,7 +25,8 @@ use Rattle.asl_states.specs.declared.state.State.{State}
 use Rattle.asl_states.specs.declared.state.State.TheVariants.{Task, Pass, Choice, Wait, Parallel, Map, Succeed, Fail}
 use Rattle.asl_states.specs.declared.choice.ChoiceRule.{ChoiceRule}
 use Rattle.asl_parts.specs.Parts.{Slots, object, next_shown, end_shown, limits_members, common_members, outcome_members}
-use Rattle.asl_parts.specs.Bodies.{body_of, bodies_of, IsWithin, AreWithin}
+use Rattle.asl_parts.specs.declared.body.Body.{Body}
+use Rattle.asl_parts.specs.Bodies.{bodies_of, processor_of, IsWithin, AreWithin}
 
 -- ---- states without machines
 
@@ -136,14 +142,53 @@ parallel_members t p =
     ∷ (codes "Branches", Some (list (chain (bodies_of t p.branches))))
     ∷ outcome_members p.outcome)
 
+-- the template for the inputs of iterations is there under one name at most
+abbrev pub parameters_shown : Option Selector → Option Data
+parameters_shown None = None
+parameters_shown (Some (Parameters x)) = Some x
+parameters_shown (Some (ItemSelector x)) = None
+
+abbrev pub item_selector_shown : Option Selector → Option Data
+item_selector_shown None = None
+item_selector_shown (Some (Parameters x)) = None
+item_selector_shown (Some (ItemSelector x)) = Some x
+
+abbrev pub selector_shown : Option Selector → Option Data
+selector_shown None = None
+selector_shown (Some (Parameters x)) = Some x
+selector_shown (Some (ItemSelector x)) = Some x
+
+-- the machine of a Map, with what is said of how it is run
+abbrev pub body_in : Processor → Body
+body_in (Iterator b) = b
+body_in (ItemProcessor c b) = b
+
+abbrev pub config_in : Processor → Option ProcessorConfig
+config_in (Iterator b) = None
+config_in (ItemProcessor c b) = c
+
+abbrev pub machine_shown : List Named → Processor → Data
+machine_shown t p = processor_of t (config_in p) (body_in p)
+
+-- a value under the one name or the other
+abbrev pub as_iterator : Processor → Data → Option Data
+as_iterator (Iterator b) d = Some d
+as_iterator (ItemProcessor c b) d = None
+
+abbrev pub as_item_processor : Processor → Data → Option Data
+as_item_processor (Iterator b) d = None
+as_item_processor (ItemProcessor c b) d = Some d
+
 abbrev pub map_members : List Named → MapState → Slots
 map_members t m =
     common_members (codes "Map") m.common ++
     ((codes "InputPath", path_shown m.input_path)
     ∷ (codes "ItemsPath", option_map text m.items_path)
     ∷ (codes "MaxConcurrency", option_map number m.max_concurrency)
-    ∷ (codes "Parameters", m.parameters)
-    ∷ (codes "Iterator", Some (body_of t m.iterator))
+    ∷ (codes "Parameters", parameters_shown m.selector)
+    ∷ (codes "ItemSelector", item_selector_shown m.selector)
+    ∷ (codes "Iterator", as_iterator m.processor (machine_shown t m.processor))
+    ∷ (codes "ItemProcessor", as_item_processor m.processor (machine_shown t m.processor))
     ∷ outcome_members m.outcome)
 
 -- the canonical members of a state, over the states that stand before it
@@ -191,7 +236,7 @@ map_object t x = object (map_members t x)
 -- the machines inside a state stand among the first n states
 abbrev pub StateIsWithin : ℕ → State → Type 0
 StateIsWithin n (Parallel x) = AreWithin n x.branches
-StateIsWithin n (Map x) = IsWithin n x.iterator
+StateIsWithin n (Map x) = IsWithin n (body_in x.processor)
 StateIsWithin n s = Unit {0}
 
 -- each state in turn, over those before it

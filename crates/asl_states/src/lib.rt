@@ -1,6 +1,6 @@
 //! States of all eight types, compiled from a definition without faults.
 //!
-//! Modules in reading order: each of the eight types has a module; `state` is a state of any type, and `member` what a state's own
+//! Modules in reading order: each of the eight types has a module, and `processor` is what a Map runs; `state` is a state of any type, and `member` what a state's own
 //! members name. What several types have is in `asl_parts`.
 #![tactic(auto)]
 
@@ -10,12 +10,14 @@ mod map;
 mod member;
 mod parallel;
 mod pass;
+mod processor;
 mod state;
 mod succeed;
 mod task;
 mod wait;
 
 pub use asl_choice::Rule;
+pub use asl_members::{Mode, ProcessorConfig};
 pub use asl_parts::{
     Bodies, Body, Catcher, Catchers, Common, Heading, Limits, Next, Outcome, Target, entry,
 };
@@ -24,6 +26,7 @@ pub use fail::{Fail, Reason};
 pub use map::Map;
 pub use parallel::Parallel;
 pub use pass::Pass;
+pub use processor::{Processor, Selector};
 pub use state::State;
 pub use succeed::Succeed;
 pub use task::Task;

@@ -1,18 +1,20 @@
 // Map states.
-ghost use Rattle.std.specs.Prelude.{◌≡◌, Some, List, IfOk, codes, option_map, true, ℕ};
+ghost use Rattle.std.specs.Prelude.{◌≡◌, List, IfOk, codes, option_map, true, ℕ};
 ghost use Rattle.asl_json.specs.View.{data_of};
 ghost use Rattle.asl_json.specs.Data.{dict, pairs, text, number};
-ghost use Rattle.asl_schema.specs.declared.sort.Sort.TheVariants.{State as state_sort, Machine as part_sort};
+ghost use Rattle.asl_schema.specs.declared.sort.Sort.TheVariants.{State as state_sort, Machine as machine_sort, ItemProcessor as processor_sort};
 ghost use Rattle.asl_schema.specs.declared.sort.Kind.TheVariants.{Map as map_kind};
 ghost use Rattle.asl_schema.specs.Canon.{Named, canon, kept_at};
 ghost use Rattle.asl_parts.specs.Built.{IsOfKind};
-ghost use Rattle.asl_states.specs.Show.{map_object};
+ghost use Rattle.asl_states.specs.Items.{processor_in, selector_in, machine_names, member_in};
+ghost use Rattle.asl_states.specs.Show.{map_object, selector_shown, machine_shown, as_iterator, as_item_processor};
 ghost use Rattle.asl_parts.specs.Bodies.{body_of};
 ghost use Rattle.asl_json.specs.Meaning.{value_in};
 ghost use Rattle.asl_members.specs.Shown.{path_shown};
 ghost use Rattle.asl_schema.specs.Members.{is_among};
 ghost use Rattle.asl_parts.specs.Member.{outcome_names, outcome_object};
 
+use crate::processor::{Processor, Selector, as_item_selector, as_parameters, template_json};
 use asl_json::{Json, Members};
 use asl_members::{Count, PathField, read_optional};
 use asl_parts::{Body, Common, Outcome, and, with_optional, with_path};
@@ -27,9 +29,9 @@ pub struct Map {
     pub(crate) input_path: PathField,
     pub(crate) items_path: Option<RefPath>,
     pub(crate) max_concurrency: Option<Count>,
-    pub(crate) parameters: Option<Template>,
-    /// Its `Iterator`.
-    pub iterator: Body,
+    pub(crate) selector: Option<Selector>,
+    /// The machine that it runs for each item, in its spelling.
+    pub processor: Processor,
     pub(crate) outcome: Outcome,
 }
 
@@ -41,10 +43,21 @@ impl Drop for Map {
             input_path: _input_path,
             items_path: _items_path,
             max_concurrency: _max_concurrency,
-            parameters: _parameters,
-            iterator: _iterator,
+            selector: _selector,
+            processor: _processor,
             outcome: _outcome,
         } = self;
+    }
+}
+
+/// The template, in either spelling.
+fn template_of(selector: &Option<Selector>) -> Option<&Template>
+    ensures { option_map (λ x. x.now) result ≡ selector_shown selector.now }
+{
+    match selector {
+        Some(Selector::Parameters(template)) => Some(template),
+        Some(Selector::ItemSelector(template)) => Some(template),
+        None => None,
     }
 }
 
@@ -70,18 +83,18 @@ impl Map {
         self.max_concurrency.as_ref()
     }
 
-    /// `Parameters`.
-    pub fn parameters(&self) -> Option<&Template>
-        ensures { (t : List Named) → option_map (λ x. x.now) result ≡ value_in (codes "Parameters") (map_object t self.now) }
+    /// `Parameters` or `ItemSelector`: the template for the inputs of iterations.
+    pub fn item_selector(&self) -> Option<&Template>
+        ensures { (t : List Named) → option_map (λ x. x.now) result ≡ selector_in (map_object t self.now) }
     {
-        self.parameters.as_ref()
+        template_of(&self.selector)
     }
 
-    /// `Iterator`.
-    pub fn iterator(&self) -> &Body
-        ensures { (t : List Named) → Some (body_of t result.now) ≡ value_in (codes "Iterator") (map_object t self.now) }
+    /// `Iterator` or `ItemProcessor`: the machine that is run for each item.
+    pub fn item_processor(&self) -> &Body
+        ensures { (t : List Named) → (k : List ℕ) → is_among k machine_names ≡ true → value_in k (body_of t result.now) ≡ member_in k (processor_in (map_object t self.now)) }
     {
-        &self.iterator
+        self.processor.machine()
     }
 
     /// What becomes of its result or its error.
@@ -92,31 +105,40 @@ impl Map {
     }
 
     /// Compiles a state with its machine, which stands in a table already.
-    pub fn read(alloc: Global, members: &Members, iterator: Body) -> Result<Map, AllocError>
+    pub fn read(alloc: Global, members: &Members, processor: Processor) -> Result<Map, AllocError>
         requires { IsOfKind map_kind members.now }
-        ensures iterator { IfOk result (λ x. x.iterator ≡ iterator) }
-        ensures object { IfOk result (λ x. (t : List Named) → Some (body_of t iterator) ≡ kept_at (codes "Iterator") part_sort (pairs members.now) → map_object t x ≡ canon state_sort (dict (pairs members.now))) }
+        ensures processor { IfOk result (λ x. x.processor ≡ processor) }
+        ensures object { IfOk result (λ x. (t : List Named) → as_iterator processor (machine_shown t processor) ≡ kept_at (codes "Iterator") machine_sort (pairs members.now) → as_item_processor processor (machine_shown t processor) ≡ kept_at (codes "ItemProcessor") processor_sort (pairs members.now) → map_object t x ≡ canon state_sort (dict (pairs members.now))) }
     {
         Ok(Map {
             common: Common::read(alloc, members)?,
             input_path: PathField::read(alloc, members.find("InputPath"))?,
             items_path: read_optional(alloc, members.find("ItemsPath"))?,
             max_concurrency: read_optional(alloc, members.find("MaxConcurrency"))?,
-            parameters: read_optional(alloc, members.find("Parameters"))?,
-            iterator,
+            selector: Selector::read(
+                alloc,
+                members.find("Parameters"),
+                members.find("ItemSelector"),
+            )?,
+            processor,
             outcome: Outcome::read(alloc, members)?,
         })
     }
 
     /// Its canonical object over a table, given its machine.
-    pub fn json(&self, alloc: Global, iterator: Json) -> Result<Json, AllocError>
-        ensures { IfOk result (λ j. (t : List Named) → data_of iterator ≡ body_of t self.now.iterator → data_of j ≡ map_object t self.now) }
+    pub fn json(&self, alloc: Global, machine: Json) -> Result<Json, AllocError>
+        ensures { IfOk result (λ j. (t : List Named) → data_of machine ≡ machine_shown t self.now.processor → data_of j ≡ map_object t self.now) }
     {
         let own = with_path(alloc, Vec::new(alloc), "InputPath", &self.input_path)?;
         let own = with_optional(alloc, own, "ItemsPath", &self.items_path)?;
         let own = with_optional(alloc, own, "MaxConcurrency", &self.max_concurrency)?;
-        let own = with_optional(alloc, own, "Parameters", &self.parameters)?;
-        let own = and(own, "Iterator", Some(iterator))?;
+        let parameters = template_json(alloc, as_parameters(&self.selector))?;
+        let own = and(own, "Parameters", parameters)?;
+        let item_selector = template_json(alloc, as_item_selector(&self.selector))?;
+        let own = and(own, "ItemSelector", item_selector)?;
+        let (iterator, item_processor) = self.processor.named(machine);
+        let own = and(own, "Iterator", iterator)?;
+        let own = and(own, "ItemProcessor", item_processor)?;
         let own = self.outcome.entries(alloc, own)?;
         self.common.object(alloc, "Map", own)
     }

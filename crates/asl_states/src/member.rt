@@ -11,6 +11,7 @@ use crate::fail::{Fail, Reason};
 use crate::map::Map;
 use crate::parallel::Parallel;
 use crate::pass::Pass;
+use crate::processor::{as_item_selector, as_parameters};
 use crate::state::State;
 use crate::succeed::Succeed;
 use crate::task::Task;
@@ -213,7 +214,8 @@ impl Map {
         ensures { (t : List Named) → option_map (λ x. x.now) result ≡ template_member member.now (map_object t self.now) }
     {
         match member {
-            "Parameters" => template_in(&self.parameters),
+            "Parameters" => as_parameters(&self.selector),
+            "ItemSelector" => as_item_selector(&self.selector),
             "ResultSelector" => template_in(&self.outcome.result_selector),
             _ => None,
         }
@@ -263,7 +265,7 @@ impl State {
         }
     }
 
-    /// The template of its own member of this name: of `Parameters` and `ResultSelector`. `None` for any other name, and where
+    /// The template of its own member of this name: of `Parameters`, `ItemSelector` and `ResultSelector`. `None` for any other name, and where
     /// the state has no such member. Takes no memory.
     pub fn template(&self, member: &str) -> Option<&Template>
         ensures { (t : List Named) → option_map (λ x. x.now) result ≡ template_member member.now (state_of t self.now) }

@@ -1,6 +1,6 @@
 -- The members of a Context Object.
 use Rattle.std.proofs.Common.{ℕ, ◌≡◌, List, [], ◌∷◌, ◌++◌, codes, refl, sym, ap, ◌∙◌}
-use Rattle.std.specs.Prelude.{Option, Some, option_map, slice_get}
+use Rattle.std.specs.Prelude.{Some, option_map, slice_get}
 use Rattle.asl_json.specs.Data.{Data, null}
 use Rattle.asl_json.specs.Access.{with_value}
 use Rattle.asl_json.specs.declared.value.Json.TheVariants.{Dict}

@@ -1,5 +1,5 @@
 -- The Context Object (Step Functions Developer Guide, "Accessing execution data from the Context object").
-use Rattle.std.specs.Prelude.{ℕ, if◌then◌else◌, pos, List, [], ◌∷◌, ◌++◌, ◌≡◌, codes, min, sum, ◌^◌, ◌-◌}
+use Rattle.std.specs.Prelude.{ℕ, if◌then◌else◌, pos, List, [], ◌∷◌, ◌++◌, ◌≡◌, codes, min, sum, ◌^◌, ◌-◌, Option, None, Some}
 use Rattle.std.specs.Fmt.{decimal, signed_decimal}
 use Rattle.asl_json.specs.Data.{Data, number, text, dict, pairs}
 use Rattle.asl_json.specs.View.{data_of}
@@ -31,6 +31,15 @@ retry_count uses = min (sum uses) (10 ^ 18 - 1)
 abbrev pub state_of : ℕ → Record → Data
 state_of now r = dict (pairs ((codes "Name", text (name_in r)) ∷ (codes "EnteredTime", text (stamp_of (entered_at now r))) ∷ (codes "RetryCount", number (signed_decimal (pos (retry_count (uses_in r))))) ∷ []))
 
+-- ---- what an iteration of a Map has besides: its number and its item
+
+abbrev pub item_of : ℕ × Data → Data
+item_of i = dict (pairs ((codes "Index", number (signed_decimal (pos i.0))) ∷ (codes "Value", i.1) ∷ []))
+
+abbrev pub map_part : Option (ℕ × Data) → List (List ℕ × Data)
+map_part None = []
+map_part (Some i) = (codes "Map", dict (pairs ((codes "Item", item_of i) ∷ []))) ∷ []
+
 -- ---- what a Task has besides
 
 -- where a service would send its answer: the execution, the state, and how often the state was invoked before
@@ -49,7 +58,7 @@ abbrev pub members_with : Facts → List (List ℕ × Data) → List (List ℕ �
 members_with f rest = (codes "Execution", execution_of f) ∷ (codes "StateMachine", state_machine_of f) ∷ rest
 
 unfoldable pub context_of : Facts → Seen → Data
-context_of f v = dict (pairs (members_with f ((codes "State", state_of v.moment v.current) ∷ task_part f v)))
+context_of f v = dict (pairs (members_with f ((codes "State", state_of v.moment v.current) ∷ (map_part v.iteration ++ task_part f v))))
 
 -- ---- and as it is kept
 

@@ -14,7 +14,7 @@ use Rattle.asl_steps.specs.declared.record.ErrorOut.{ErrorOut}
 use Rattle.asl_steps.specs.Records.{is_finished}
 use Rattle.asl_steps.specs.Seen.{Seen}
 use Rattle.asl_steps.specs.Bounds.{is_forked, are_kept, AreFew, IsBounded}
-use Rattle.asl_steps.specs.Rows.{idle, iteration_event, told_begin, entering, unstarted, beginning_by, beginning, retrying, pausing, moved, ended, told_success, left, failed, told_failure, failing, is_within_limit, over_limit, leaving}
+use Rattle.asl_steps.specs.Rows.{idle, iteration_event, told_begin, entering, unstarted, beginning_by, retrying, pausing, moved, ended, told_success, left, failed, told_failure, failing, is_within_limit, over_limit, leaving}
 
 -- what a row may have done before the state is left or fails
 pub record IsSoFar (invoking : Bool) (done : Progress) : Type 0 where

@@ -11,13 +11,13 @@ use Rattle.asl_history.specs.declared.kind.EventKind.TheVariants.{ExecutionSucce
 use Rattle.asl_steps.specs.declared.effect.Effect.{Effect}
 use Rattle.asl_steps.specs.declared.effect.Progress.{Progress}
 use Rattle.asl_steps.specs.declared.effect.Draft.{Draft}
-use Rattle.asl_steps.specs.declared.effect.Children.TheVariants.{Kept}
+use Rattle.asl_steps.specs.declared.effect.Children.TheVariants.{Kept, Forked as Made}
 use Rattle.asl_steps.specs.declared.effect.Ended.{Ended}
 use Rattle.asl_steps.specs.declared.effect.Ended.TheVariants.{Succeeded, Failed as EndedFailed}
 use Rattle.asl_steps.specs.declared.record.Record.{Record}
 use Rattle.asl_steps.specs.declared.record.Record.TheVariants.{New, Ready, Pausing, Again, Forked, Done, Failed}
 use Rattle.asl_steps.specs.declared.record.ErrorOut.{ErrorOut}
-use Rattle.asl_steps.specs.Records.{name_in, entered_at, uses_in, uses_after}
+use Rattle.asl_steps.specs.Records.{name_in, entered_at, uses_in, uses_from, uses_after}
 use Rattle.asl_steps.specs.Seen.{Seen}
 
 abbrev pub draft : EventKind → List ℕ → Json → Draft
@@ -88,6 +88,19 @@ abbrev pub retrying : Seen → Progress → Json → ℕ → ℕ → ℕ → Eff
 retrying v done x n i until = record {
   after = Again (name_in v.current) x (entered_at v.moment v.current) (uses_after n i (uses_in v.current)) until;
   children = done.children;
+  raises = done.raises;
+  events = done.events;
+  outcome = None;
+}
+
+-- ---- a state forks
+
+-- the state waits for these branches. It keeps its raw input x, when it was entered, and how often each of its so many retriers
+-- was used; items are a Map's
+abbrev pub forking : Seen → Progress → Json → ℕ → List Data → List Record → Effect
+forking v done x retriers items branches = record {
+  after = Forked (name_in v.current) x (entered_at v.moment v.current) (uses_from retriers (uses_in v.current)) items;
+  children = Made branches;
   raises = done.raises;
   events = done.events;
   outcome = None;

@@ -8,7 +8,7 @@ ghost use Rattle.asl_json.specs.View.{data_of};
 ghost use Rattle.asl_time.specs.StampText.{stamp_of};
 ghost use Rattle.asl_steps.specs.Records.{entered_at, uses_in};
 ghost use Rattle.asl_steps.specs.Seen.{seen};
-ghost use Rattle.asl_steps.specs.Context.{execution_id as spec_execution_id, execution_of, state_machine_of, retry_count as spec_retry_count, state_of as spec_state_of, token_of, task_part, members_with, context_of, IsAbout};
+ghost use Rattle.asl_steps.specs.Context.{execution_id as spec_execution_id, execution_of, state_machine_of, retry_count as spec_retry_count, state_of as spec_state_of, item_of as spec_item_of, map_part, token_of, task_part, members_with, context_of, IsAbout};
 
 use crate::facts::Facts;
 use crate::record::{Record, Uses};
@@ -176,6 +176,33 @@ fn state_of(alloc: Global, current: &Record, now: Moment) -> Result<Json, AllocE
     Ok(Json::Dict(members))
 }
 
+/// `Item`, of an iteration of this number over this item.
+fn item_of(alloc: Global, number: u32, value: &Json) -> Result<Json, AllocError>
+    ensures { IfOk result (λ v. data_of v ≡ spec_item_of (number, data_of value.now)) }
+{
+    let index = Json::Num(Dec::of_whole(alloc, i128::from(number))?);
+    let members = with(alloc, Members::new(alloc), "Index", index)?;
+    let members = with(alloc, members, "Value", value.try_clone(alloc)?)?;
+    Ok(Json::Dict(members))
+}
+
+/// These members, and `Map` where the branch is in an iteration of one.
+fn with_map(
+    alloc: Global,
+    members: Members,
+    iteration: Option<(u32, &Json)>,
+) -> Result<Members, AllocError>
+    requires { has_key (codes "Map") members ≡ false }
+    ensures { IfOk result (λ ms. ms ≡ members ++ map_part (option_map (λ i. (i.0, data_of i.1.now)) iteration.entry)) }
+{
+    let Some((number, value)) = iteration else {
+        return Ok(members);
+    };
+    let item = item_of(alloc, number, value)?;
+    let map = with(alloc, Members::new(alloc), "Item", item)?;
+    with(alloc, members, "Map", Json::Dict(map))
+}
+
 /// The token of a Task, as a value.
 fn token(alloc: Global, facts: &Facts, visit: &Visit) -> Result<Json, AllocError>
     ensures { IfOk result (λ v. data_of v ≡ text (token_of facts.now (seen visit.now))) }
@@ -272,6 +299,7 @@ impl Context {
     {
         let state = state_of(alloc, visit.current, visit.moment)?;
         let members = with(alloc, unfixed(alloc)?, "State", state)?;
+        let members = with_map(alloc, members, visit.iteration)?;
         let members = with_task(alloc, members, &self.facts, visit)?;
         let Ok(before) = mem::replace(&mut self.value, Json::Null).into_members() else {
             unreachable!();

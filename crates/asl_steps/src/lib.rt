@@ -17,7 +17,7 @@ pub use effect::{Children, Draft, Drafts, Effect, Ended, Progress, Records};
 pub use facts::Facts;
 pub use record::{ErrorOut, Record, Uses};
 pub use rows::{
-    beginning, entering, error_output, failing, idle, is_within_limit, leaving, over_limit,
-    pausing, raise_at, retrying, telling, unstarted, zeros,
+    beginning, entering, error_output, failing, forking, idle, is_within_limit, leaving,
+    over_limit, pausing, raise_at, retrying, telling, unstarted, zeros,
 };
 pub use visit::Visit;

@@ -2,14 +2,14 @@
 ghost use Rattle.std.specs.Prelude.{◌≡◌, ◌↔◌, ◌<◌, ◌+◌, ◌^◌, ◌++◌, replicate, slice_set, ◌∷◌, [], Some, None, List, ℕ, length, slice_index, IfOk, IsTrue, option_map, codes};
 ghost use Rattle.asl_steps.specs.Records.{name_in, uses_in, uses_from};
 ghost use Rattle.asl_steps.specs.Seen.{seen};
-ghost use Rattle.asl_steps.specs.Rows.{idle as spec_idle, number_at, index_of, iteration_event as spec_iteration_event, told_begin, told_success, told_failure, left as spec_left, is_within_limit as spec_is_within_limit, over_limit as spec_over_limit, leaving as spec_leaving, failing as spec_failing, error_output as spec_error_output, entering as spec_entering, unstarted as spec_unstarted, beginning as spec_beginning, telling as spec_telling, retrying as spec_retrying, pausing as spec_pausing, moved as spec_moved, ended as spec_ended, failed as spec_failed};
+ghost use Rattle.asl_steps.specs.Rows.{idle as spec_idle, number_at, index_of, iteration_event as spec_iteration_event, told_begin, told_success, told_failure, left as spec_left, is_within_limit as spec_is_within_limit, over_limit as spec_over_limit, leaving as spec_leaving, failing as spec_failing, error_output as spec_error_output, entering as spec_entering, unstarted as spec_unstarted, beginning as spec_beginning, telling as spec_telling, retrying as spec_retrying, forking as spec_forking, pausing as spec_pausing, moved as spec_moved, ended as spec_ended, failed as spec_failed};
 
 use crate::context::entered_at;
-use crate::effect::{Children, Drafts, Effect, Ended, Progress};
+use crate::effect::{Children, Drafts, Effect, Ended, Progress, Records};
 use crate::record::{ErrorOut, Record, Uses};
 use crate::visit::Visit;
 use asl_history::{EventKind, Place};
-use asl_json::{Dec, Json, Members, Name, Shared, Txt};
+use asl_json::{Dec, Items, Json, Members, Name, Shared, Txt};
 use asl_time::Moment;
 use std::alloc::{AllocError, Global};
 
@@ -217,6 +217,42 @@ pub fn retrying(
             until,
         },
         children,
+        raises,
+        events,
+        outcome: None,
+    })
+}
+
+/// The state waits for these branches. It keeps its raw input, when it was entered, and how often each of its so many retriers
+/// was used. The items are a Map's.
+pub fn forking(
+    alloc: Global,
+    visit: &Visit,
+    done: Progress,
+    input: &Shared,
+    retriers: usize,
+    items: Items,
+    branches: Records,
+) -> Result<Effect, AllocError>
+    ensures { IfOk result (λ e. e ≡ spec_forking (seen visit.now) done input.now retriers items branches) }
+{
+    let Progress {
+        children: _children,
+        raises,
+        events,
+    } = done;
+    let counts = uses_from(alloc, retriers, visit.current.uses())?;
+    let state = name_of(alloc, visit.current)?;
+    let entered = entered_at(visit.current, visit.moment);
+    Ok(Effect {
+        after: Record::Forked {
+            state,
+            input: input.try_clone()?,
+            since: entered,
+            uses: Uses { counts },
+            items,
+        },
+        children: Children::Forked(branches),
         raises,
         events,
         outcome: None,

@@ -1,7 +1,7 @@
 // What a step may read.
 use crate::record::Record;
 use asl_history::Place;
-use asl_json::Name;
+use asl_json::{Json, Name};
 use asl_mock::Case;
 use asl_time::Moment;
 
@@ -16,6 +16,8 @@ pub struct Visit<'a> {
     pub children: &'a [&'a Record],
     /// The name of the Map of which the branch is an iteration.
     pub forker: Option<&'a Name>,
+    /// The number and the item of the innermost iteration of a Map that the branch is in.
+    pub iteration: Option<(u32, &'a Json)>,
     /// Whether the state invokes a service: it is a Task.
     pub invokes: bool,
     /// How often the state was invoked before, in the whole execution.

@@ -1,5 +1,5 @@
 use Rattle.std.proofs.Common.{◌∙◌, arith, refl, sym, subst, ap, List}
-use Rattle.std.specs.Prelude.{Option, Some, IfSome, codes, option_map}
+use Rattle.std.specs.Prelude.{Option, Some, IfSome, is_some, codes, option_map}
 use Rattle.asl_json.specs.Data.{Data, dict, list, pairs, chain, depth, members_depth, items_depth}
 use Rattle.asl_json.specs.View.{data_of}
 use Rattle.asl_schema.specs.declared.sort.Sort.TheVariants as sort
@@ -11,49 +11,64 @@ use Rattle.asl_schema.proofs.Inside.{clean}
 use Rattle.asl_schema.proofs.Parts.{items_clean, item_clean, states_clean, state_clean}
 use Rattle.asl_schema.proofs.Required.{parallel_branches, map_iterator}
 use Rattle.asl_json.proofs.Sounding.{item_depth, member_depth}
-use Rattle.asl_members.specs.Readable.{IsText}
+use Rattle.asl_members.specs.Readable.{IsText, IsProcessorConfig}
 use Rattle.asl_members.proofs.Fitting.{fit, text_fits}
 use Rattle.asl_members.proofs.Retrying.{not_none, value_there}
 use Rattle.asl_def.specs.Built.{HasRoom, Grows, IsBody}
-use Rattle.asl_parts.proofs.Fits.{none_there, some_there, of_kind, of_none}
-use Rattle.asl_def.proofs.Builds.{on_ok, comment_fits, start_is_there, states_are_there, states_room, body_grows, body_shows, value_depth, branches_room, iterator_room, parallel_grows, map_grows, parallel_is, map_is, leaf_grows, room_as, grows_as, state_as, own_room, own_step, own_all, own_fit, states_grow, states_stand, body_room, bodies_few, bodies_step, bodies_all, bodies_grow}
+use Rattle.asl_parts.proofs.Fits.{none_there, some_there, clean_in, of_kind, of_none}
+use Rattle.asl_def.proofs.Builds.{on_ok, machine_clean, processor_clean, config_fits, machine_room, grows_inside, machine_grows, compiled, body_shows, value_depth, branches_room, iterator_room, item_processor_room, parallel_grows, iterator_grows, item_processor_grows, parallel_is, iterator_clean, item_processor_clean, iterator_stands, item_processor_stands, leaf_grows, room_as, grows_as, state_as, own_room, own_step, own_all, own_fit, states_grow, states_stand, body_room, bodies_few, bodies_step, bodies_all, bodies_grow}
 use Rattle.asl_def.proofs.build.+build.Goals as goal
 
 pub body-read_optional-requires : goal.body-read_optional-requires
-body-read_optional-requires t c = subst (λ (o : Option Data). IfSome o IsText) (sym c.find.ensures) (fit sort.Text IsText (λ d. text_fits sort.Text d refl) _ (comment_fits (pairs c.args.members.now) c.requires.clean))
+body-read_optional-requires t c = subst (λ (o : Option Data). IfSome o IsText) (sym c.find.ensures) (fit sort.Text IsText (λ d. text_fits sort.Text d refl) _ c.requires.machine.comment)
 
 pub body-read-requires : goal.body-read-requires
-body-read-requires t c = subst (IsThere sort.Target) (sym c.find-2.ensures) (start_is_there (pairs c.args.members.now) c.requires.clean)
+body-read-requires t c = subst (IsThere sort.Target) (sym c.find-2.ensures) c.requires.machine.start
 
 pub body-unreachable-requires : goal.body-unreachable-requires
-body-unreachable-requires t c = not_none sort.States _ (rw c.in_default.is at c.find-3.ensures) (states_are_there (pairs c.args.members.now) c.requires.clean)
+body-unreachable-requires t c = not_none sort.States _ (rw c.in_default.is at c.find-3.ensures) c.requires.machine.states
 
 pub body-object_in-requires : goal.body-object_in-requires
-body-object_in-requires t c = form_fits (value_there sort.States _ (data_of c.in-Some.own.now) (rw c.in-Some.is at c.find-3.ensures) (states_are_there (pairs c.args.members.now) c.requires.clean))
+body-object_in-requires t c = form_fits (value_there sort.States _ (data_of c.in-Some.own.now) (rw c.in-Some.is at c.find-3.ensures) c.requires.machine.states)
 
 pub body-states-requires : goal.body-states-requires
-body-states-requires t c = (omega (arith, value_depth (codes "States") (pairs c.args.members.now) (dict (pairs c.object_in.result.now)) (sym (rw c.in-Some.is at c.find-3.ensures) ∙ ap Some c.object_in.ensures)), (subst (IsClean sort.States) c.object_in.ensures (value_there sort.States _ (data_of c.in-Some.own.now) (rw c.in-Some.is at c.find-3.ensures) (states_are_there (pairs c.args.members.now) c.requires.clean)), states_room c.args.table.now (pairs c.args.members.now) (dict (pairs c.object_in.result.now)) (sym (rw c.in-Some.is at c.find-3.ensures) ∙ ap Some c.object_in.ensures) c.requires.room))
+body-states-requires t c = (omega (arith, value_depth (codes "States") (pairs c.args.members.now) (dict (pairs c.object_in.result.now)) (sym (rw c.in-Some.is at c.find-3.ensures) ∙ ap Some c.object_in.ensures)), (subst (IsClean sort.States) c.object_in.ensures (value_there sort.States _ (data_of c.in-Some.own.now) (rw c.in-Some.is at c.find-3.ensures) c.requires.machine.states), c.requires.room.own (dict (pairs c.object_in.result.now)) (sym (rw c.in-Some.is at c.find-3.ensures) ∙ ap Some c.object_in.ensures)))
 
 pub body-returns-clause-grows : goal.body-returns-clause-grows
-body-returns-clause-grows t c = body_grows c.args.table.now c.states.new.table (pairs c.args.members.now) (pairs c.object_in.result.now) (sym (rw c.in-Some.is at c.find-3.ensures) ∙ ap Some c.object_in.ensures) c.in_ok-span.ensures.grows
+body-returns-clause-grows t c = grows_inside c.args.table.now c.states.new.table (pairs c.args.members.now) (pairs c.object_in.result.now) (sym (rw c.in-Some.is at c.find-3.ensures) ∙ ap Some c.object_in.ensures) c.in_ok-span.ensures.grows
 
 pub body-returns-clause-body : goal.body-returns-clause-body
-body-returns-clause-body t c = body_shows c.states.new.table (pairs c.args.members.now) c.object_in.result.now _ c.in_ok-span.span (c.in_ok-comment.ensures ∙ c.find.ensures) (c.in_ok-start.ensures ∙ c.find-2.ensures) (sym (rw c.in-Some.is at c.find-3.ensures) ∙ ap Some c.object_in.ensures) c.in_ok-span.ensures.span refl refl
+body-returns-clause-body t c = compiled c.states.new.table (pairs c.args.members.now) c.object_in.result.now _ c.in_ok-span.span (c.in_ok-comment.ensures ∙ c.find.ensures) (c.in_ok-start.ensures ∙ c.find-2.ensures) (sym (rw c.in-Some.is at c.find-3.ensures) ∙ ap Some c.object_in.ensures) c.in_ok-span.ensures.span refl refl
 
-pub map-unreachable-requires : goal.map-unreachable-requires
-map-unreachable-requires t c = none_there c.requires.kind.names sort.Machine _ _ (ap (option_map (λ v. data_of v.now)) c.in_default.is) c.find.ensures (map_iterator c.requires.kind.names (pairs c.args.members.now) c.requires.kind.inside)
+pub map-object_in-machine-requires : goal.map-object_in-machine-requires
+map-object_in-machine-requires t c = form_fits (item_processor_clean c.args.members.now (data_of c.in-Some.processor.now) c.requires.kind (rw c.in-Some.is at c.find.ensures))
 
-pub map-object_in-requires : goal.map-object_in-requires
-map-object_in-requires t c = form_fits (some_there c.requires.kind.names sort.Machine _ _ (data_of c.in-Some.iterator.now) (ap (option_map (λ v. data_of v.now)) c.in-Some.is) c.find.ensures (map_iterator c.requires.kind.names (pairs c.args.members.now) c.requires.kind.inside))
+pub map-read_optional-requires : goal.map-read_optional-requires
+map-read_optional-requires t c = subst (λ (o : Option Data). IfSome o IsProcessorConfig) (sym c.find-in-Some.ensures) (fit sort.ProcessorConfig IsProcessorConfig (λ d h. h) _ (config_fits (pairs c.object_in-machine.result.now) (subst (IsClean sort.ItemProcessor) c.object_in-machine.ensures (item_processor_clean c.args.members.now (data_of c.in-Some.processor.now) c.requires.kind (rw c.in-Some.is at c.find.ensures)))))
 
 pub map-body-requires : goal.map-body-requires
-map-body-requires t c = (omega (arith, value_depth (codes "Iterator") (pairs c.args.members.now) (dict (pairs c.object_in.result.now)) (sym (rw c.in-Some.is at c.find.ensures) ∙ ap Some c.object_in.ensures)), (subst (IsClean sort.Machine) c.object_in.ensures (some_there c.requires.kind.names sort.Machine _ _ (data_of c.in-Some.iterator.now) (ap (option_map (λ v. data_of v.now)) c.in-Some.is) c.find.ensures (map_iterator c.requires.kind.names (pairs c.args.members.now) c.requires.kind.inside)), iterator_room c.args.table.now c.args.members.now (dict (pairs c.object_in.result.now)) c.requires.kind (sym (rw c.in-Some.is at c.find.ensures) ∙ ap Some c.object_in.ensures) c.requires.room))
+map-body-requires t c = (omega (arith, value_depth (codes "ItemProcessor") (pairs c.args.members.now) (dict (pairs c.object_in-machine.result.now)) (sym (rw c.in-Some.is at c.find.ensures) ∙ ap Some c.object_in-machine.ensures)), (processor_clean (pairs c.object_in-machine.result.now) (subst (IsClean sort.ItemProcessor) c.object_in-machine.ensures (item_processor_clean c.args.members.now (data_of c.in-Some.processor.now) c.requires.kind (rw c.in-Some.is at c.find.ensures))), item_processor_room c.args.table.now c.args.members.now c.object_in-machine.result.now c.requires.kind (sym (rw c.in-Some.is at c.find.ensures) ∙ ap Some c.object_in-machine.ensures) c.requires.room))
+
+pub map-returns-in-Some-clause-grows : goal.map-returns-in-Some-clause-grows
+map-returns-in-Some-clause-grows t c = on_ok c.read.result _ (item_processor_grows c.args.table.now c.body.new.table c.args.members.now (pairs c.object_in-machine.result.now) c.requires.kind (sym (rw c.in-Some.is at c.find.ensures) ∙ ap Some c.object_in-machine.ensures) (processor_clean (pairs c.object_in-machine.result.now) (subst (IsClean sort.ItemProcessor) c.object_in-machine.ensures (item_processor_clean c.args.members.now (data_of c.in-Some.processor.now) c.requires.kind (rw c.in-Some.is at c.find.ensures)))) c.in_ok-body.ensures.grows)
+
+pub map-returns-in-Some-clause-state : goal.map-returns-in-Some-clause-state
+map-returns-in-Some-clause-state t c = item_processor_stands c.read.result c.body.new.table c.args.members.now c.object_in-machine.result.now c.in_ok-config.config c.in_ok-body.body c.requires.kind (sym (rw c.in-Some.is at c.find.ensures) ∙ ap Some c.object_in-machine.ensures) c.in_ok-body.ensures.body (c.in_ok-config.ensures ∙ c.find-in-Some.ensures) c.read.ensures.processor c.read.ensures.object
+
+pub map-unreachable-requires : goal.map-unreachable-requires
+map-unreachable-requires t c = none_there c.requires.kind.names sort.Machine _ _ (ap (option_map (λ v. data_of v.now)) c.in_default-find.is) c.find-2.ensures (map_iterator c.requires.kind.names (pairs c.args.members.now) c.requires.kind.inside (ap is_some (sym (rw c.in_default.is at c.find.ensures))))
+
+pub map-object_in-requires : goal.map-object_in-requires
+map-object_in-requires t c = form_fits (iterator_clean c.args.members.now (data_of c.in-Some-find.iterator.now) c.requires.kind (rw c.in-Some-find.is at c.find-2.ensures))
+
+pub map-body-requires-2 : goal.map-body-requires-2
+map-body-requires-2 t c = (omega (arith, value_depth (codes "Iterator") (pairs c.args.members.now) (dict (pairs c.object_in.result.now)) (sym (rw c.in-Some-find.is at c.find-2.ensures) ∙ ap Some c.object_in.ensures)), (machine_clean (pairs c.object_in.result.now) (subst (IsClean sort.Machine) c.object_in.ensures (iterator_clean c.args.members.now (data_of c.in-Some-find.iterator.now) c.requires.kind (rw c.in-Some-find.is at c.find-2.ensures))), iterator_room c.args.table.now c.args.members.now c.object_in.result.now c.requires.kind (sym (rw c.in-Some-find.is at c.find-2.ensures) ∙ ap Some c.object_in.ensures) c.requires.room))
 
 pub map-returns-clause-grows : goal.map-returns-clause-grows
-map-returns-clause-grows t c = on_ok c.read.result _ (map_grows c.args.table.now c.body.new.table c.args.members.now (pairs c.object_in.result.now) c.requires.kind (sym (rw c.in-Some.is at c.find.ensures) ∙ ap Some c.object_in.ensures) c.in_ok-iterator.ensures.grows)
+map-returns-clause-grows t c = on_ok c.read-2.result _ (iterator_grows c.args.table.now c.body-2.new.table c.args.members.now (pairs c.object_in.result.now) c.requires.kind (sym (rw c.in-Some-find.is at c.find-2.ensures) ∙ ap Some c.object_in.ensures) (sym (rw c.in_default.is at c.find.ensures)) (machine_clean (pairs c.object_in.result.now) (subst (IsClean sort.Machine) c.object_in.ensures (iterator_clean c.args.members.now (data_of c.in-Some-find.iterator.now) c.requires.kind (rw c.in-Some-find.is at c.find-2.ensures)))) c.in_ok-body-2.ensures.grows)
 
 pub map-returns-clause-state : goal.map-returns-clause-state
-map-returns-clause-state t c = map_is c.read.result c.body.new.table c.args.members.now (dict (pairs c.object_in.result.now)) c.in_ok-iterator.iterator (sym (rw c.in-Some.is at c.find.ensures) ∙ ap Some c.object_in.ensures) c.in_ok-iterator.ensures.body c.read.ensures.iterator c.read.ensures.object
+map-returns-clause-state t c = iterator_stands c.read-2.result c.body-2.new.table c.args.members.now c.object_in.result.now c.in_ok-body-2.body (sym (rw c.in-Some-find.is at c.find-2.ensures) ∙ ap Some c.object_in.ensures) (sym (rw c.in_default.is at c.find.ensures)) c.in_ok-body-2.ensures.body c.read-2.ensures.processor c.read-2.ensures.object
 
 pub parallel-unreachable-requires : goal.parallel-unreachable-requires
 parallel-unreachable-requires t c = none_there c.requires.kind.names sort.Machines _ _ (ap (option_map (λ v. data_of v.now)) c.in_default.is) c.find.ensures (parallel_branches c.requires.kind.names (pairs c.args.members.now) c.requires.kind.inside)
@@ -158,13 +173,13 @@ pub bodies-body-requires : goal.bodies-body-requires
 bodies-body-requires t c = (
   omega (arith, item_depth c.values-values.result.now c.loop-value.value-index c.value-item.result c.loop-value-test.true c.value-item.is, ap (λ (vs : List Data). items_depth (chain vs)) c.values-values.ensures, ap depth c.object_in.ensures),
   (
-    subst (IsClean sort.Machine) c.object_in.ensures (clean (item_clean c.requires.clean.names sort.Machine c.values-values.result.now c.loop-value.value-index c.value-item.result (subst (AreItemsClean c.requires.clean.names sort.Machine) (sym c.values-values.ensures) (items_clean c.requires.clean.names sort.Machines c.args.machines.now refl c.requires.clean.is)) c.loop-value-test.true c.value-item.is)),
-    subst (HasRoom c.loop-value.table sort.Machine) c.object_in.ensures (body_room c.args.table.now c.loop-value.table c.args.machines.now c.values-values.result.now c.loop-value.value-index c.value-item.result c.loop-value.bodies.items c.requires.room c.values-values.ensures c.loop-value-test.true c.value-item.is c.loop-value.invariant),
+    machine_clean (pairs c.object_in.result.now) (subst (IsClean sort.Machine) c.object_in.ensures (clean (item_clean c.requires.clean.names sort.Machine c.values-values.result.now c.loop-value.value-index c.value-item.result (subst (AreItemsClean c.requires.clean.names sort.Machine) (sym c.values-values.ensures) (items_clean c.requires.clean.names sort.Machines c.args.machines.now refl c.requires.clean.is)) c.loop-value-test.true c.value-item.is))),
+    machine_room c.loop-value.table (pairs c.object_in.result.now) (subst (HasRoom c.loop-value.table sort.Machine) c.object_in.ensures (body_room c.args.table.now c.loop-value.table c.args.machines.now c.values-values.result.now c.loop-value.value-index c.value-item.result c.loop-value.bodies.items c.requires.room c.values-values.ensures c.loop-value-test.true c.value-item.is c.loop-value.invariant)),
   ),
 )
 
 pub bodies-loop-value-preserved : goal.bodies-loop-value-preserved
-bodies-loop-value-preserved t c = bodies_step c.args.table.now c.loop-value.table c.body.new.table c.loop-value.bodies.items c.push.new.self.items c.in_ok-body.body c.values-values.result.now c.loop-value.value-index c.value-item.result c.loop-value.invariant (subst (λ (d : Data). Grows sort.Machine d c.loop-value.table c.body.new.table) (sym c.object_in.ensures) c.in_ok-body.ensures.grows) (subst (λ (d : Data). IsBody c.body.new.table d c.in_ok-body.body) (sym c.object_in.ensures) c.in_ok-body.ensures.body) c.loop-value-test.true c.value-item.is c.in_ok-push.ensures.items
+bodies-loop-value-preserved t c = bodies_step c.args.table.now c.loop-value.table c.body.new.table c.loop-value.bodies.items c.push.new.self.items c.in_ok-body.body c.values-values.result.now c.loop-value.value-index c.value-item.result c.loop-value.invariant (subst (λ (d : Data). Grows sort.Machine d c.loop-value.table c.body.new.table) (sym c.object_in.ensures) (machine_grows c.loop-value.table c.body.new.table (pairs c.object_in.result.now) (machine_clean (pairs c.object_in.result.now) (subst (IsClean sort.Machine) c.object_in.ensures (clean (item_clean c.requires.clean.names sort.Machine c.values-values.result.now c.loop-value.value-index c.value-item.result (subst (AreItemsClean c.requires.clean.names sort.Machine) (sym c.values-values.ensures) (items_clean c.requires.clean.names sort.Machines c.args.machines.now refl c.requires.clean.is)) c.loop-value-test.true c.value-item.is)))) c.in_ok-body.ensures.grows)) (subst (λ (d : Data). IsBody c.body.new.table d c.in_ok-body.body) (sym c.object_in.ensures) (body_shows c.body.new.table (pairs c.object_in.result.now) c.in_ok-body.body c.in_ok-body.ensures.body)) c.loop-value-test.true c.value-item.is c.in_ok-push.ensures.items
 
 pub bodies-returns-clause-grows : goal.bodies-returns-clause-grows
 bodies-returns-clause-grows t c = bodies_grow c.args.table.now c.loop-value.table c.args.machines.now c.loop-value.bodies.items (bodies_all c.args.table.now c.loop-value.table c.args.machines.now c.values-values.result.now c.loop-value.value-index c.loop-value.bodies.items c.loop-value.invariant c.loop-value-test.false c.values-values.ensures)

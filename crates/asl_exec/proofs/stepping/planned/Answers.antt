@@ -16,6 +16,7 @@ returns-clause-effect c =
     (seen-is d c.args.case.now c.args.run.now c.args.place.now c.args.now r _ refl c.held-current.ensures
     (ap (map (λ r. r.now)) c.deref.ensures.value ∙ c.in_ok-children.ensures ∙ c.requires)
     c.forker_at.ensures
+    c.iteration_at.ensures
     (c.invokes_in.ensures (states_of d) ∙ ap invokes_by object)
     (c.count.ensures ∙ ap (count_of c.args.run.now.counts) (c.state_of-number.ensures.number ∙ ap (number_in d) c.held-current.ensures))
     refl refl)

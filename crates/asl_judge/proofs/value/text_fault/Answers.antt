@@ -15,6 +15,9 @@ returns-in-Version c = subst (λ s. Judges (text_demands (spot_of c.args.spot) s
 pub returns-in-QueryLanguage : goal.returns-in-QueryLanguage
 returns-in-QueryLanguage c = subst (λ s. Judges (text_demands (spot_of c.args.spot) s c.args.text.now) c.unless-in-QueryLanguage.result) (sym c.in-QueryLanguage.is) (supported_judged _ c.eq-in-QueryLanguage.result c.unless-in-QueryLanguage.result c.eq-in-QueryLanguage.ensures c.unless-in-QueryLanguage.ensures)
 
+pub returns-in-Mode : goal.returns-in-Mode
+returns-in-Mode c = subst (λ s. Judges (text_demands (spot_of c.args.spot) s c.args.text.now) c.unless-in-Mode.result) (sym c.in-Mode.is) (supported_judged _ c.eq-in-Mode.result c.unless-in-Mode.result c.eq-in-Mode.ensures c.unless-in-Mode.ensures)
+
 pub returns-in-Target : goal.returns-in-Target
 returns-in-Target c = subst (λ s. Judges (text_demands (spot_of c.args.spot) s c.args.text.now) c.unless-in-Target.result) (sym c.in-Target.is) (named_judged _ c.contains.result c.unless-in-Target.result c.contains.ensures c.unless-in-Target.ensures)
 

@@ -1,6 +1,7 @@
 use Rattle.std.proofs.Common.{◌+◌, ◌∙◌, ◌∷◌, ◌++◌, ap, sym, subst, arith, List, ℕ, [], length, take}
 use Rattle.asl_json.specs.Keys.{Knows}
 use Rattle.std.specs.Prelude.{nat_eq, option_map}
+use Rattle.std.specs.HashSet.{contains_text}
 use Rattle.asl_json.specs.Data.{Data, pairs, chain, members_depth, items_depth}
 use Rattle.asl_json.specs.View.{data_of, members_of}
 use Rattle.asl_schema.specs.Code.{shape_seen}
@@ -10,6 +11,7 @@ use Rattle.asl_schema.specs.First.{Answers, better, under_step}
 use Rattle.asl_judge.proofs.Walking.{items_step, items_end, members_step, members_end, last_item, members_more}
 use Rattle.asl_json.proofs.Sounding.{item_depth, member_depth}
 use Rattle.asl_judge.proofs.Objects.{list_whole, object_whole, parts_answered}
+use Rattle.asl_judge.proofs.Machines.{machine_inside}
 use Rattle.asl_judge.proofs.walk.+walk.Goals as goal
 
 pub check-returns-in_ok-inside-in-List : goal.check-returns-in_ok-inside-in-List
@@ -55,6 +57,10 @@ check_members-returns t c =
     let p = spot_of c.args.spot in
     let sh = shape_seen c.args.shape in
     subst (λ (xs : List (List ℕ × Data)). Answers (member_claims p sh [] 0 (pairs xs)) c.loop-i.best) c.members-pairs.ensures.members (members_end p sh _ c.loop-i.best c.members-pairs.result.now c.loop-i.i c.loop-i-test.false c.loop-i.invariant.0)
+
+pub check_inside-returns-in_ok-names-in-Definition : goal.check_inside-returns-in_ok-names-in-Definition
+check_inside-returns-in_ok-names-in-Definition t c =
+    machine_inside c.check_members.result (spot_of c.args.spot) (contains_text c.in_ok-names-in-Definition.names) c.one_deeper.result c.args.sort (shape_seen c.args.shape) (pairs c.args.members.now) (pairs (members_of c.members.result.now)) c.in-Definition.is (ap pairs c.members.ensures.members) c.in_ok-names-in-Definition.ensures c.one_deeper.ensures c.check_members.ensures
 
 pub check_object-returns : goal.check_object-returns
 check_object-returns t c =

@@ -40,7 +40,7 @@ returns-in-Some-stands-clause-stopped t c =
     let k = c.in-Some-child_of.child.now in
     let g = get-is c.deref.result.now c.self.inside.children.items c.in-Some.number (option_copied c.child_of.result) (Some k) c.deref.ensures.value c.child_of.ensures (ap option_copied c.in-Some-child_of.is) in
     let s = stopped-by c.args.self.now h c.self.inside.children.items c.args.place.now c.in-Some.number c.in-Some.deeper.now k c.self.view_is c.in-Some.ensures.some g in
-    c.above.ensures.stopped ∙ rw (c.is_failed.ensures, c.held.ensures, c.self.invariant.failed_is, c.in-Some-stands.ensures.stopped) refl ∙ sym s
+    c.above.ensures.stopped ∙ rw (c.is_failed.ensures, c.held.ensures, c.self.invariant.counts.failed_is, c.in-Some-stands.ensures.stopped) refl ∙ sym s
 
 pub returns-in-Some-stands-clause-previous : goal.returns-in-Some-stands-clause-previous
 returns-in-Some-stands-clause-previous t c =

@@ -7,4 +7,4 @@ pub returns : goal.returns
 returns c =
     let h : Held = record { place = c.self.inside.place; current = c.self.inside.held; at = c.self.inside.at; under = c.self.inside.under } in
     let b = busy-root c.args.self.now h c.self.inside.children.items [] c.self.view_is refl in
-    rw (b, ← c.self.invariant.undone_is, ← c.self.invariant.failed_is) c.is_waiting.ensures
+    rw (b, ← c.self.invariant.counts.undone_is, ← c.self.invariant.counts.failed_is) c.is_waiting.ensures

@@ -5,9 +5,9 @@ use Rattle.asl_frames.specs.Branches.{record_at, branches_after}
 use Rattle.asl_frames.specs.Trees.{branches_of, nodes_of}
 use Rattle.asl_frames.specs.Changes.{litter_of, change, nodes_after}
 use Rattle.asl_frames.proofs.Changing.{branches-applied}
-use Rattle.asl_run.specs.World.{World, events_after}
+use Rattle.asl_run.specs.World.{World, events_after, outcome_after}
 use Rattle.asl_run.specs.Telling.{last_id}
-use Rattle.asl_run.proofs.Sound.{there-node, sound-after, nodes-same, last-same}
+use Rattle.asl_run.proofs.Sound.{there-node, sound-after, goes-on, nodes-same, last-same}
 use Rattle.asl_history.specs.declared.event.Event.{Event}
 use Rattle.asl_run.proofs.Telling.{told-at, all-at}
 use Rattle.asl_run.proofs.run.Run.apply.Goals as goal
@@ -31,8 +31,9 @@ invariant_of-self-2 c =
     let nodes : nodes_of c.apply.new.self ≡ nodes_after p (change e.after (last_id (length e.events) (length all)) (litter_of p e.children)) (nodes_of c.self.inside.root)
     = nodes-same p e.after c.last_id-latest.result _ c.in_ok-offspring.offspring _ (nodes_of c.self.inside.root) _ c.apply.ensures (last-same _ _ _ _ _ c.last_id-latest.ensures c.count_of_drafts-count.ensures (ap (length {A = Event}) told)) c.in_ok-offspring.ensures in
     let room : length old ≤ 24992 = subst (λ (w : World). length w.events ≤ 24992) (sym c.self.view_is) c.requires.room in
-    rw (nodes, c.raise.ensures, told)
-    (sound-after p c.args.state c.args.moment e (nodes_of c.self.inside.root) c.self.inside.counts.items old c.self.invariant (there-node c.self.inside.root p there) room c.requires.few c.requires.tells c.requires.changes_tell)
+    rw (nodes, c.raise.ensures, told, c.outcome_after.ensures, c.replace-before.ensures.value)
+    (sound-after p c.args.state c.args.moment e (nodes_of c.self.inside.root) c.self.inside.counts.items old c.self.inside.outcome (outcome_after e.outcome c.self.inside.outcome) c.self.invariant (there-node c.self.inside.root p there) room c.requires.few c.requires.tells c.requires.changes_tell
+    (goes-on p e (last_id (length e.events) (length all)) c.self.inside.root c.self.inside.outcome c.self.invariant.goes c.requires.ends))
 
 pub returns-clause-ok : goal.returns-clause-ok
 returns-clause-ok c =

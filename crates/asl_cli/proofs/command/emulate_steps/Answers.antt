@@ -1,0 +1,21 @@
+use Rattle.asl_cli.proofs.command.emulate_steps.Goals as goal
+
+pub returns-in-Ok-clause-emulated : goal.returns-in-Ok-clause-emulated
+returns-in-Ok-clause-emulated g c =
+    let one = rw c.as_slice.ensures.value at c.in-Ok.ensures.run in
+    let two = rw c.as_slice-2.ensures.value at one in
+    let three = rw c.as_slice-3.ensures.value at two in
+    let four = rw c.as_slice-4.ensures.value at three in
+    record {
+      definition = c.in_ok-definition.definition.items;
+      mocks = c.in_ok-mocks.mocks.items;
+      input = c.in_ok-input.input.items;
+      steps = c.in_ok-steps.steps.items;
+      given = (
+        c.in_ok-definition.ensures.given,
+        c.in_ok-definition.ensures.kept _ _ c.in_ok-mocks.ensures.given,
+        c.in_ok-definition.ensures.kept _ _ (c.in_ok-mocks.ensures.kept _ _ c.in_ok-input.ensures.given),
+      );
+      given_steps = c.in_ok-definition.ensures.kept _ _ (c.in_ok-mocks.ensures.kept _ _ (c.in_ok-input.ensures.kept _ _ c.in_ok-steps.ensures.given));
+      is_run = four;
+    }

@@ -1,0 +1,15 @@
+use Rattle.std.proofs.lemmas.Result.{err_from_is_err_and}
+use Rattle.asl_setup.proofs.Refusing.{case_refused, input_refused}
+use Rattle.asl_setup.proofs.setup.Setup.read.Goals as goal
+
+pub returns-in_err-case-clause-fault : goal.returns-in_err-case-clause-fault
+returns-in_err-case-clause-fault c =
+    let refused = case_refused c.args.definition.now c.args.mocks.now c.args.chosen.now c.args.input.now c.in_ok-machine.machine c.in_ok-file.file c.in_err-case.field-0.0 c.in_ok-machine.ensures.found c.in_ok-file.ensures.found c.in_err-case.ensures.fault in
+    let told = err_from_is_err_and c.from_residual-in_err-case.result c.from_residual-in_err-case.ensures.1 in
+    rw (told.1, told.2) refused
+
+pub returns-in_err-input-clause-fault : goal.returns-in_err-input-clause-fault
+returns-in_err-input-clause-fault c =
+    let refused = input_refused c.args.definition.now c.args.mocks.now c.args.chosen.now c.args.input.now c.in_ok-machine.machine c.in_ok-file.file c.in_ok-case.case c.in_err-input.field-0.0 c.in_ok-machine.ensures.found c.in_ok-file.ensures.found c.in_ok-case.ensures.found c.in_err-input.ensures.fault in
+    let told = err_from_is_err_and c.from_residual-in_err-input.result c.from_residual-in_err-input.ensures.1 in
+    rw (told.1, told.2) refused
