@@ -3,7 +3,7 @@
 #![tactic(auto)]
 
 use asl_cli::{refuse_words, run_words};
-use asl_host::{Machine, Stream, given};
+use asl_host::{HostFiles, Stream, given};
 use std::process::ExitCode;
 use std::thread::Builder;
 
@@ -16,7 +16,7 @@ fn program(rt: HostRuntime) -> u8 {
     let alloc = rt.alloc();
     let mut out = Stream::new(rt.stdout());
     let mut err = Stream::new(rt.stderr());
-    let mut files = Machine::new(&rt);
+    let mut files = HostFiles::new(&rt);
     match given(&rt) {
         Ok(words) => run_words(alloc, words.as_slice(), &mut files, &mut out, &mut err),
         Err(fault) => refuse_words(alloc, fault, &mut err),

@@ -4,7 +4,7 @@ use Rattle.std.specs.Prelude.{Some}
 use Rattle.std.proofs.lemmas.List.{drop_more, drop_all}
 use Rattle.asl_json.specs.Data.{Pairs, pairs}
 use Rattle.asl_json.specs.Same.{bytes_eq}
-use Rattle.asl_json.specs.SameLaws.{bytes_refl}
+use Rattle.asl_json.specs.private.SameLaws.{bytes_refl}
 use Rattle.asl_json.specs.Meaning.{value_at}
 use Rattle.asl_json.specs.View.{data_of, members_of}
 use Rattle.asl_json.specs.declared.value.Member.{Member}

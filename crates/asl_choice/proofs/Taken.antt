@@ -5,7 +5,7 @@ use Rattle.std.proofs.lemmas.List.{append_cancel_left}
 use Rattle.asl_choice.specs.declared.pattern.Token.{Token}
 use Rattle.asl_choice.specs.declared.pattern.Token.TheVariants.{Byte, Star}
 use Rattle.asl_choice.specs.Patterns.{backslash, token_of, tokens, escaped, Fits}
-use Rattle.asl_choice.specs.Taking.{bytes_then, IsStopped, over, star, broken, AreTaken, IsFront}
+use Rattle.asl_choice.specs.private.Taking.{bytes_then, IsStopped, over, star, broken, AreTaken, IsFront}
 
 -- ---- bytes
 

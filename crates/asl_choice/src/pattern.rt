@@ -2,7 +2,7 @@
 ghost use Rattle.std.specs.Prelude.{◌≡◌, ◌<◌, ◌≤◌, ◌↔◌, ◌∷◌, [], ℕ, List, true, false, length, IfSome, IsNone, IsTrue};
 ghost use Rattle.asl_choice.specs.declared.pattern.Token.TheVariants.{Byte, Star};
 ghost use Rattle.asl_choice.specs.Patterns.{tokens, escaped as escaped_tokens, has_open_escape as is_open, Fits, fits as decided};
-ghost use Rattle.asl_choice.specs.Taking.{IsStopped, IsFront};
+ghost use Rattle.asl_choice.specs.private.Taking.{IsStopped, IsFront};
 
 /// What stands first in a pattern.
 #[derive(Clone, Copy)]

@@ -44,7 +44,7 @@ pub(crate) enum Condition {
 impl Model for Rule {
     ghost use Rattle.std.specs.Prelude.{List, ℕ};
     ghost use Rattle.asl_json.specs.Data.{Data, members_size};
-    ghost use Rattle.asl_json.specs.Code.{coded_members};
+    ghost use Rattle.asl_json.specs.private.Code.{coded_members};
 
     ghost Value = { List (List ℕ × Data) };
 
@@ -56,7 +56,7 @@ impl Model for Rule {
 
     ghost size = { members_size };
 
-    ghost use Rattle.asl_choice.specs.Falls.{rule_falls};
+    ghost use Rattle.asl_choice.specs.private.Falls.{rule_falls};
 
     ghost size_decreases = { λ a h. rule_falls a.comment a.condition };
 }
@@ -146,15 +146,9 @@ fn started(alloc: Global, comment: &Option<Txt>) -> Result<Members, AllocError>
 {
     let mut members = Members::new(alloc);
     if let Some(comment) = comment {
-        members.push(key(alloc, "Comment")?, comment.json(alloc)?)?;
+        members.push(Txt::of(alloc, "Comment")?, comment.json(alloc)?)?;
     }
     Ok(members)
-}
-
-fn key(alloc: Global, name: &str) -> Result<Txt, AllocError>
-    ensures { IfOk result (λ k. k ≡ name.now) }
-{
-    Ok(Txt::new(String::from_str(alloc, name)?))
 }
 
 /// These members and one more.
@@ -189,7 +183,7 @@ fn test_members(alloc: Global, comment: &Option<Txt>, test: &Test) -> Result<Mem
         comparison,
     } = test;
     let variable = variable.json(alloc)?;
-    let members = commented(alloc, comment, key(alloc, "Variable")?, variable)?;
+    let members = commented(alloc, comment, Txt::of(alloc, "Variable")?, variable)?;
     with(
         members,
         comparison.operator().name(alloc)?,
@@ -208,15 +202,15 @@ fn condition_members(
     match condition {
         Condition::And(rules) => {
             let value = rules_value(alloc, rules)?;
-            commented(alloc, comment, key(alloc, "And")?, value)
+            commented(alloc, comment, Txt::of(alloc, "And")?, value)
         }
         Condition::Or(rules) => {
             let value = rules_value(alloc, rules)?;
-            commented(alloc, comment, key(alloc, "Or")?, value)
+            commented(alloc, comment, Txt::of(alloc, "Or")?, value)
         }
         Condition::Not(rule) => {
             let value = rule_value(alloc, rule)?;
-            commented(alloc, comment, key(alloc, "Not")?, value)
+            commented(alloc, comment, Txt::of(alloc, "Not")?, value)
         }
         Condition::Test(test) => test_members(alloc, comment, test),
     }

@@ -25,18 +25,12 @@ impl From<AllocError> for Fault {
     }
 }
 
-pub(crate) fn text(alloc: Global, text: &str) -> Result<Txt, AllocError>
-    ensures { IfOk result (λ t. t ≡ text.now) }
-{
-    Ok(Txt::new(String::from_str(alloc, text)?))
-}
-
 /// An error with its cause.
 pub(crate) fn failure(alloc: Global, error: &str, cause: Txt) -> Result<ErrorOut, AllocError>
     ensures { IfOk result (λ e. e ≡ spec_failure error.now cause) }
 {
     Ok(ErrorOut {
-        error: Some(text(alloc, error)?),
+        error: Some(Txt::of(alloc, error)?),
         cause: Some(cause),
     })
 }
@@ -57,7 +51,7 @@ fn no_place(alloc: Global) -> Result<ErrorOut, AllocError>
     failure(
         alloc,
         "States.ResultPathMatchFailure",
-        text(alloc, "ResultPath: no place")?,
+        Txt::of(alloc, "ResultPath: no place")?,
     )
 }
 
@@ -65,7 +59,7 @@ fn no_place(alloc: Global) -> Result<ErrorOut, AllocError>
 pub fn raised(alloc: Global, error: &str, cause: &str) -> Fault
     ensures { IsRaised (spec_failure error.now cause.now) result }
 {
-    let cause = match text(alloc, cause) {
+    let cause = match Txt::of(alloc, cause) {
         Ok(cause) => cause,
         Err(_) => return Fault::Memory,
     };

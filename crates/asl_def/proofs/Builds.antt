@@ -39,7 +39,7 @@ use Rattle.asl_parts.specs.Bodies.{body_of, bodies_of, processor_of, IsWithin, A
 use Rattle.asl_states.specs.Show.{state_of, parallel_object, map_object, body_in, machine_shown, as_iterator, as_item_processor, StateIsWithin}
 use Rattle.asl_def.specs.Machines.{all_states}
 use Rattle.asl_parts.specs.Built.{IsOfKind}
-use Rattle.asl_def.specs.Built.{HasRoom, HasRoomInside, HasRoomFor, Grows, GrowsInside, IsMachine, IsCompiled, IsBody, AreBodies, IsState, IsSpan, AreOwn, OwnAreWithin, row_in, rows_in, canon_row, canon_rows, tally}
+use Rattle.asl_def.specs.private.Built.{HasRoom, HasRoomInside, HasRoomFor, Grows, GrowsInside, IsMachine, IsCompiled, IsBody, AreBodies, IsState, IsSpan, AreOwn, OwnAreWithin, row_in, rows_in, canon_row, canon_rows, tally}
 use Rattle.asl_def.proofs.Tables.{state_of-append, bodies_of-append}
 use Rattle.asl_def.proofs.Tally.{tally-append, own_once, tally-rows, tally_member, inner, tally_states, inner_at, within_items, tally_items, items_at}
 use Rattle.asl_def.proofs.Gathers.{has_machines, no_states, parallel_states, iterator_states, processor_states, machine_states, item_processor_states, kept_there, kept_none, items_all, machines_states, items_all-push, inner_all, inner_all-push, own_states_are, canon_states}

@@ -5,7 +5,7 @@ use Rattle.std.specs.Cmp.Lexicographic.{same_text}
 use Rattle.std.specs.Fmt.{decimal}
 use Rattle.asl_json.specs.Data.{Data, Pairs, no_members, member, chain, pairs}
 use Rattle.asl_json.specs.Same.{bytes_eq}
-use Rattle.asl_json.specs.SameLaws.{bytes_refl}
+use Rattle.asl_json.specs.private.SameLaws.{bytes_refl}
 use Rattle.asl_json.specs.Meaning.{value_at}
 use Rattle.asl_json.specs.Distinct.{has_key}
 use Rattle.asl_json.specs.View.{data_of, items_of, members_of}
@@ -18,7 +18,7 @@ use Rattle.asl_schema.specs.Members.{Shape, shape_of, sort_at, is_among}
 use Rattle.asl_schema.specs.First.{Each, Hold}
 use Rattle.asl_schema.specs.States.{Named as StateNamed, further, own_name, states_in, item_states, member_states, unique_claims}
 use Rattle.asl_schema.specs.Canon.{Named}
-use Rattle.asl_def.specs.Built.{tally, canon_rows}
+use Rattle.asl_def.specs.private.Built.{tally, canon_rows}
 
 pub tally-append : {A : Type 0} (k : List ℕ) (xs ys : List (List ℕ × A)) → tally k (xs ++ ys) ≡ tally k xs + tally k ys
 tally-append k [] ys = omega arith

@@ -22,7 +22,7 @@ use Rattle.asl_parts.specs.Bodies.{machine_of, IsWithin}
 use Rattle.asl_states.specs.Show.{state_of}
 use Rattle.asl_def.specs.Machines.{all_states, states_of, state_object, state_number, state_count, number_at}
 use Rattle.asl_def.specs.Whole.{IsWhole}
-use Rattle.asl_def.specs.Built.{HasRoom, Grows, IsSpan, canon_rows}
+use Rattle.asl_def.specs.private.Built.{HasRoom, Grows, IsSpan, canon_rows}
 use Rattle.asl_def.proofs.Tally.{unique_once}
 use Rattle.asl_def.proofs.Gathers.{definition_states, canon_states}
 use Rattle.asl_states.proofs.Canonical.{definition_is, kept_so}

@@ -1,6 +1,5 @@
 pub mod Machines
-pub mod Table
-pub mod Built
 pub mod Whole
 pub mod Answer
 pub mod Own
+pub mod private

@@ -12,7 +12,7 @@ ghost use Rattle.asl_schema.specs.Members.{kind_named as spec_kind_named};
 ghost use Rattle.asl_schema.specs.Canon.{Named, canon};
 ghost use Rattle.asl_schema.specs.Clean.{IsClean};
 ghost use Rattle.asl_parts.specs.Built.{IsOfKind};
-ghost use Rattle.asl_def.specs.Built.{Grows, GrowsInside, HasRoom, HasRoomInside, HasRoomFor, IsMachine, IsCompiled, AreBodies, IsState, IsSpan, AreOwn, rows_in};
+ghost use Rattle.asl_def.specs.private.Built.{Grows, GrowsInside, HasRoom, HasRoomInside, HasRoomFor, IsMachine, IsCompiled, AreBodies, IsState, IsSpan, AreOwn, rows_in};
 
 use crate::table::Table;
 use asl_json::{Items, Json, Members};

@@ -51,7 +51,7 @@ pub(crate) fn states_json(
         let Some((name, state)) = table.at(number) else {
             unreachable!();
         };
-        let name = Txt::new(String::from_str(alloc, name.as_str())?);
+        let name = Txt::of(alloc, name.as_str())?;
         let state = state_json(alloc, table, number, state)?;
         members.push(name, state)?;
     }

@@ -59,7 +59,7 @@ impl Drop for Machine {
 
 impl Model for Machine {
     ghost use Rattle.asl_json.specs.Data.{Data};
-    ghost use Rattle.asl_json.specs.Code.{coded_data};
+    ghost use Rattle.asl_json.specs.private.Code.{coded_data};
 
     ghost Value = { Data };
 

@@ -27,13 +27,13 @@ impl Drop for Table {
 impl Model for Table {
     ghost use Rattle.std.specs.Prelude.{List, ℕ};
     ghost use Rattle.asl_json.specs.Data.{Data};
-    ghost use Rattle.asl_json.specs.Code.{coded_members};
+    ghost use Rattle.asl_json.specs.private.Code.{coded_members};
 
     ghost Value = { List (List ℕ × Data) };
 
     ghost coded = { coded_members };
 
-    ghost use Rattle.asl_def.specs.Table.{named, IsTable};
+    ghost use Rattle.asl_def.specs.private.Table.{named, IsTable};
 
     ghost view = { named };
 

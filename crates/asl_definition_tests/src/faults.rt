@@ -194,6 +194,14 @@ const STATES: &[(&str, &str)] = &[
         "F12 AllNotLast /States/A/Retry/0/ErrorEquals",
     ),
     (
+        r#""Type":"Task","Resource":"r","End":true,"Catch":[{"ErrorEquals":["States.ALL"],"Next":"A"},{"ErrorEquals":["E"],"Next":"A"}]"#,
+        "F12 AllNotLast /States/A/Catch/0/ErrorEquals",
+    ),
+    (
+        r#""Type":"Task","Resource":"r","End":true,"Catch":[{"ErrorEquals":["E","States.ALL"],"Next":"A"}]"#,
+        "F12 AllNotLast /States/A/Catch/0/ErrorEquals",
+    ),
+    (
         r#""Type":"Task","Resource":"r","End":true,"Retry":[{"ErrorEquals":[]}]"#,
         "F7 Range /States/A/Retry/0/ErrorEquals",
     ),
@@ -536,8 +544,8 @@ fn spelling(level: usize) -> &'static str {
     "Iterator"
 }
 
-/// So many machines in one another, in canonical form.
-pub(crate) fn nested(alloc: Global, machines: usize) -> Option<String> {
+/// So many machines in one another, in canonical form. The innermost has one state of these members.
+fn nested_with(alloc: Global, machines: usize, members: &str) -> Option<String> {
     let mut text = String::new(alloc);
     for level in 1..machines {
         write!(
@@ -547,12 +555,20 @@ pub(crate) fn nested(alloc: Global, machines: usize) -> Option<String> {
         )
         .ok()?;
     }
-    text.push_str(r#"{"StartAt":"Z","States":{"Z":{"Type":"Succeed"}}}"#)
-        .ok()?;
+    write!(
+        text,
+        "{{\"StartAt\":\"Z\",\"States\":{{\"Z\":{{{members}}}}}}}"
+    )
+    .ok()?;
     for _ in 1..machines {
         text.push_str(r#","End":true}}}"#).ok()?;
     }
     Some(text)
+}
+
+/// So many machines in one another, in canonical form.
+pub(crate) fn nested(alloc: Global, machines: usize) -> Option<String> {
+    nested_with(alloc, machines, r#""Type":"Succeed""#)
 }
 
 fn is_told_at_the_seventeenth(line: &str) -> bool {
@@ -571,6 +587,50 @@ fn sixteen_machines(rt: HostRuntime) -> Result<(), Fail> {
         "{}",
         line.as_str()
     );
+    Ok(())
+}
+
+// What is inside the seventeenth is searched all the same.
+#[test]
+fn lower_number_inside_the_seventeenth_machine(rt: HostRuntime) -> Result<(), Fail> {
+    let text = nested_with(rt.alloc(), 17, r#""Type":"Succeed","End":true"#).ok_or("memory")?;
+    let line = told(rt.alloc(), text.as_str()).ok_or("memory")?;
+    assert!(rt;
+        line.as_str()
+            .starts_with("F4 UnknownField /States/A1/Iterator/")
+            && line.as_str().ends_with("/ItemProcessor/States/Z/End"),
+        "{}",
+        line.as_str()
+    );
+    Ok(())
+}
+
+/// A definition of one state whose name is this character, so many times.
+fn named(alloc: Global, character: char, count: usize) -> Option<String> {
+    let mut name = String::new(alloc);
+    for _ in 0..count {
+        name.push(character).ok()?;
+    }
+    let name = name.as_str();
+    format!(in alloc;
+        "{{\"StartAt\":\"{name}\",\"States\":{{\"{name}\":{{\"Type\":\"Succeed\"}}}}}}"
+    ).ok()
+}
+
+// Characters count, and not the bytes of their UTF-8.
+#[test]
+fn names_have_at_most_80_characters(rt: HostRuntime) -> Result<(), Fail> {
+    for character in ['a', 'é', '€', '😀'] {
+        let most = named(rt.alloc(), character, 80).ok_or("memory")?;
+        assert!(rt; is_told(rt.alloc(), most.as_str(), "ok"), "{character}");
+        let more = named(rt.alloc(), character, 81).ok_or("memory")?;
+        let line = told(rt.alloc(), more.as_str()).ok_or("memory")?;
+        assert!(rt;
+            line.as_str().starts_with("F7 Range /States/"),
+            "{}",
+            line.as_str()
+        );
+    }
     Ok(())
 }
 

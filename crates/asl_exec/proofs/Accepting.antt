@@ -5,9 +5,9 @@ use Rattle.asl_json.specs.Data.{Data}
 use Rattle.asl_steps.specs.declared.facts.Facts.{Facts}
 use Rattle.asl_steps.specs.declared.record.Record.{Record}
 use Rattle.asl_steps.specs.Bounds.{IsBounded}
-use Rattle.asl_steps.specs.Laws.{idle-bounded}
+use Rattle.asl_steps.specs.private.Laws.{idle-bounded}
 use Rattle.asl_steps.specs.Seen.{Seen}
-use Rattle.asl_kinds.specs.Laws.{state-bounded}
+use Rattle.asl_kinds.specs.private.Laws.{state-bounded}
 use Rattle.asl_mock.specs.Answers.{Case}
 use Rattle.asl_steps.specs.declared.effect.Effect.{Effect}
 use Rattle.asl_frames.specs.Branches.{record_at, children_at, forker_at, iteration_at}

@@ -3,3 +3,4 @@ pub mod Views
 pub mod RunText
 pub mod Emulations
 pub mod Driving
+pub mod Laws

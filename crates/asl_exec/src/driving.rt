@@ -1,6 +1,6 @@
 // Runs without a list of steps: what comes next is stepped.
 ghost use Rattle.std.specs.Prelude.{◌≡◌, ◌≤◌, IfOk, IfErr, OnOk, OnErr, Some, option_map, is_some};
-ghost use Rattle.asl_run.specs.Picking.{first_at, pick, picked};
+ghost use Rattle.asl_run.specs.Picking.{first_at, pick, picked, CanBeDone};
 ghost use Rattle.asl_exec.specs.Steps.{limits_in};
 ghost use Rattle.asl_exec.specs.Driving.{chosen as spec_chosen, after, driven, driven_steps, end_of};
 ghost use Rattle.asl_exec.specs.Views.{setup_of, world_of};
@@ -43,9 +43,11 @@ impl Execution {
         self.run.first(self, moment)
     }
 
-    /// What comes next: a step at the first place that isn't refused at the last moment, else the least moment that is awaited.
+    /// What comes next: a step at the first place that isn't refused at the last moment, else the least moment that is awaited. While
+    /// the execution runs and its history isn't full, there is one of both.
     pub fn next(&self) -> Next<'_>
-        ensures { picked result ≡ pick (limits_in (setup_of self.now).machine) (world_of self.now) }
+        ensures picked { picked result ≡ pick (limits_in (setup_of self.now).machine) (world_of self.now) }
+        ensures done { CanBeDone (limits_in (setup_of self.now).machine) (world_of self.now) (picked result) }
     {
         self.run.next(self)
     }

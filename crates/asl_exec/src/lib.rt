@@ -1,13 +1,14 @@
 //! Executions: worlds that go on by steps at places, and the text of a whole run.
 //!
 //! Modules in reading order: `execution` is what an execution has, `stepping` opens and steps one, `driving` takes the steps
-//! that come next, `printing` prints a run, and `emulation` is a whole run, from texts to text.
+//! that come next, `printing` prints a run, `emulation` is a whole run, from texts to text, and `laws` says that texts have one.
 //! What an execution begins with and the refusals of texts are published from the crates below.
 #![tactic(auto)]
 
 mod driving;
 mod emulation;
 mod execution;
+mod laws;
 mod printing;
 mod stepping;
 
@@ -16,3 +17,4 @@ pub use asl_setup::{EmulateFault, Setup, StepAt};
 pub use driving::Ended;
 pub use emulation::{Emulated, emulate, emulate_driven};
 pub use execution::Execution;
+pub use laws::texts_have_one_run;

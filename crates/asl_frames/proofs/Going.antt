@@ -9,7 +9,7 @@ use Rattle.asl_steps.specs.Records.{is_failed, is_done, is_finished}
 use Rattle.asl_frames.specs.Branches.{children_at, is_busy}
 use Rattle.asl_frames.specs.Trees.{Held, Family, branches_of, count_undone, count_failed, one_if}
 use Rattle.asl_frames.specs.Turns.{is_full, Turn, comes_first}
-use Rattle.asl_frames.specs.Resting.{IsResting}
+use Rattle.asl_frames.specs.private.Resting.{IsResting}
 use Rattle.asl_frames.specs.declared.resting.Resting.{Resting}
 use Rattle.asl_frames.proofs.Reading.{fam, busy-root}
 use Rattle.asl_frames.proofs.Keeping.{undone-over}

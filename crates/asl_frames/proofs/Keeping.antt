@@ -10,7 +10,7 @@ use Rattle.asl_steps.specs.declared.record.Record.{Record}
 use Rattle.asl_steps.specs.declared.record.Record.TheVariants.{New, Ready, Pausing, Again, Forked, Done, Failed}
 use Rattle.asl_steps.specs.Records.{is_done}
 use Rattle.asl_frames.specs.Trees.{Family, below_of, count_undone, one_if}
-use Rattle.asl_frames.specs.Resting.{waits, IsOver, IsIdle, IsResting}
+use Rattle.asl_frames.specs.private.Resting.{waits, IsOver, IsIdle, IsResting}
 use Rattle.asl_frames.specs.declared.resting.Resting.{Resting}
 use Rattle.asl_frames.proofs.Counts.{undone-more, undone-few, undone-from}
 

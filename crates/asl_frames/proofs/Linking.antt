@@ -12,7 +12,7 @@ use Rattle.asl_steps.specs.declared.effect.Children.TheVariants.{Kept, Removed, 
 use Rattle.asl_frames.specs.Branches.{Branch, same_place, first_of, record_at}
 use Rattle.asl_frames.specs.Trees.{Held, Node, node_of, below_of, plain}
 use Rattle.asl_frames.specs.Changes.{newborns, kids_of, Change, grown, litter, touched, node_after, nodes_after}
-use Rattle.asl_frames.specs.Links.{known, latest, is_there, KnowUpTo, IsLinked}
+use Rattle.asl_frames.specs.private.Links.{known, latest, is_there, KnowUpTo, IsLinked}
 use Rattle.asl_frames.proofs.Reading.{eq-true, latest-append}
 use Rattle.asl_frames.proofs.Changing.{after_held}
 

@@ -12,7 +12,7 @@ use Rattle.asl_steps.specs.declared.record.Record.{Record}
 use Rattle.asl_steps.specs.Records.{is_failed, is_done}
 use Rattle.asl_frames.specs.Branches.{Branch, same_place, first_of, record_at, children_at, is_stopped, is_busy}
 use Rattle.asl_frames.specs.Trees.{Held, Spot, Family, Node, pushed, below_of, branch_of, branches_of, node_of, nodes_of, count_undone, count_failed, one_if}
-use Rattle.asl_frames.specs.Links.{known, latest}
+use Rattle.asl_frames.specs.private.Links.{known, latest}
 
 pub neq-false : (i k : ℕ) → i ≢ k → (i == k) ≡ false
 neq-false i k n = grind (arith, common_steps)

@@ -32,12 +32,12 @@ impl Model for Frame {
     ghost use Rattle.std.specs.Prelude.{List, length, ◌∷◌, ◌+◌};
     ghost use Rattle.std.proofs.Common.{arith};
     ghost use Rattle.asl_frames.specs.Trees.{Held, Family, below_of, most-below};
-    ghost use Rattle.asl_frames.specs.Resting.{AreKept};
+    ghost use Rattle.asl_frames.specs.private.Resting.{AreKept};
 
     ghost Value = { Family };
 
     ghost use Rattle.std.specs.Coded.{codes};
-    ghost use Rattle.asl_json.specs.Code.{coded_data};
+    ghost use Rattle.asl_json.specs.private.Code.{coded_data};
     ghost use Rattle.asl_json.specs.contracts.value.Json as json;
 
     ghost coded = { Prim.hlevel (codes, coded_data, json.the_row.coded) };
@@ -108,7 +108,7 @@ impl Frame {
 fn records_of(alloc: Global, frames: &[Frame]) -> Result<Vec<&Record>, AllocError>
     ensures { IfOk result (λ v. map (λ r. r.now) v.items ≡ map (λ f. f.head.current) frames.now) }
 {
-    let mut records = Vec::new(alloc);
+    let mut records = Vec::with_capacity(alloc, frames.len())?;
     for frame in frames {
         records.push(frame.held())?;
     }

@@ -27,7 +27,7 @@ impl Model for Offspring {
     ghost Value = { Litter };
 
     ghost use Rattle.std.specs.Coded.{codes};
-    ghost use Rattle.asl_json.specs.Code.{coded_data};
+    ghost use Rattle.asl_json.specs.private.Code.{coded_data};
     ghost use Rattle.asl_json.specs.contracts.value.Json as json;
 
     ghost coded = { Prim.hlevel (codes, coded_data, json.the_row.coded) };
@@ -59,7 +59,7 @@ fn newborns(alloc: Global, place: &Place, records: Records) -> Result<Vec<Frame>
     requires { length records ≤ 10 ^ 9 }
     ensures { IfOk result (λ fs. fs.items ≡ newborns place.now 0 records) }
 {
-    let mut frames = Vec::new(alloc);
+    let mut frames = Vec::with_capacity(alloc, records.list.len())?;
     let mut number = 0u32;
     for current in records.list {
         frames.push(newborn(alloc, place, number, current)?)?;

@@ -1,6 +1,6 @@
 // The children at rest, which a walk may skip.
 ghost use Rattle.std.specs.Prelude.{◌≡◌, ◌≤◌, ◌<◌, ◌+◌, ◌^◌, ◌&&◌, not, true, List, [], min, nat_eq, IfSome, if◌then◌else◌, length};
-ghost use Rattle.asl_frames.specs.Resting.{waits as spec_waits, IsIdle, IsResting};
+ghost use Rattle.asl_frames.specs.private.Resting.{waits as spec_waits, IsIdle, IsResting};
 ghost use Rattle.asl_frames.specs.Trees.{Family, one_if};
 
 use crate::frame::Frame;

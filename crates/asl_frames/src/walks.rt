@@ -4,9 +4,9 @@ ghost use Rattle.asl_json.specs.View.{data_of};
 ghost use Rattle.std.specs.Option.{option_copied};
 ghost use Rattle.asl_steps.specs.Records.{is_failed};
 ghost use Rattle.asl_frames.specs.Branches.{record_at, children_at, is_stopped, map_in as spec_map_in, forker_at, iteration_in, iteration_at, elders_at, undone_in};
-ghost use Rattle.asl_frames.specs.Resting.{IsResting};
+ghost use Rattle.asl_frames.specs.private.Resting.{IsResting};
 ghost use Rattle.asl_frames.specs.Trees.{branches_of, nodes_of, one_if, count_undone};
-ghost use Rattle.asl_frames.specs.Links.{latest};
+ghost use Rattle.asl_frames.specs.private.Links.{latest};
 
 use crate::frame::Frame;
 use crate::offspring::undone_of;
@@ -65,7 +65,7 @@ fn item_of(current: &Record, number: u32) -> Option<(u32, &Json)>
     let Record::Forked { items, .. } = current else {
         return None;
     };
-    let item = items.get(number as usize)?;
+    let item = items.values().get(number as usize)?;
     Some((number, item))
 }
 
@@ -86,7 +86,7 @@ pub(crate) fn map_in(current: &Record) -> Option<&Name>
     ensures { option_map (λ n. n.now) result ≡ spec_map_in current.now }
 {
     match current {
-        Record::Forked { state, items, .. } if items.len() > 0 => Some(state),
+        Record::Forked { state, items, .. } if !items.values().is_empty() => Some(state),
         _ => None,
     }
 }

@@ -7,8 +7,8 @@ use Rattle.asl_json.specs.Data.{Data, chain}
 use Rattle.asl_json.specs.Meaning.{same}
 use Rattle.asl_json.specs.View.{data_of, items_of}
 use Rattle.asl_json.specs.declared.value.Json.{Json}
-use Rattle.asl_functions.specs.Marks.{mark, IsApart, AreApart}
-use Rattle.asl_functions.specs.Links.{later, latest_of, links_behind, AreLinked}
+use Rattle.asl_functions.specs.private.Marks.{mark, IsApart, AreApart}
+use Rattle.asl_functions.specs.private.Links.{later, latest_of, links_behind, AreLinked}
 use Rattle.asl_functions.proofs.Marking.{unlike_marks}
 
 -- ---- the latest item of a mark

@@ -11,11 +11,11 @@ use Rattle.asl_json.specs.Distinct.{Members, has_key, AreDistinct}
 use Rattle.asl_json.specs.Meaning.{count, value_at, same, same_items, each_in}
 use Rattle.asl_json.specs.Number.{units_of}
 use Rattle.asl_json.specs.Same.{bool_eq, bytes_eq}
-use Rattle.asl_json.specs.SameLaws.{bytes_refl}
+use Rattle.asl_json.specs.private.SameLaws.{bytes_refl}
 use Rattle.asl_json.specs.View.{data_of, items_of}
 use Rattle.asl_json.specs.declared.value.Json.{Json}
 use Rattle.asl_functions.specs.declared.mark.TheConstants.{MODULUS, TRUE, FALSE, TEXT, LIST, DICT}
-use Rattle.asl_functions.specs.Marks.{blended, joined, added, text_mark, mark, items_mark, members_mark, IsApart, AreApart, HasApart}
+use Rattle.asl_functions.specs.private.Marks.{blended, joined, added, text_mark, mark, items_mark, members_mark, IsApart, AreApart, HasApart}
 
 abbrev of_member : List ℕ → Data → ℕ
 of_member k d = joined (text_mark TEXT k) (mark d)

@@ -2,14 +2,12 @@ pub mod Names
 pub mod Outcome
 pub mod Converting
 pub mod Lists
-pub mod Marks
-pub mod Links
 pub mod Letters
 pub mod Format
 pub mod Texts
 pub mod Coding
 pub mod Merge
-pub mod Places
 pub mod Apply
 pub mod Gives
 pub mod Seen
+pub mod private

@@ -5,7 +5,7 @@ ghost use Rattle.asl_json.specs.Meaning.{same as spec_same};
 ghost use Rattle.asl_json.specs.View.{data_of, items_of};
 ghost use Rattle.asl_functions.specs.Gives.{Gives};
 ghost use Rattle.asl_functions.specs.Lists.{kept_with};
-ghost use Rattle.asl_functions.specs.Marks.{mark as spec_mark};
+ghost use Rattle.asl_functions.specs.private.Marks.{mark as spec_mark};
 
 use crate::fault::EvalFault;
 use crate::mark::mark;
@@ -28,10 +28,10 @@ impl Model for Kept {
     ghost use Rattle.std.specs.Prelude.{List, nat_eq};
     ghost use Rattle.std.specs.Coded.{coded_list};
     ghost use Rattle.std.specs.HashMap.{get};
-    ghost use Rattle.asl_json.specs.Code.{coded_data};
+    ghost use Rattle.asl_json.specs.private.Code.{coded_data};
     ghost use Rattle.asl_json.specs.Data.{Data};
     ghost use Rattle.asl_json.specs.View.{items_of};
-    ghost use Rattle.asl_functions.specs.Links.{AreLinked};
+    ghost use Rattle.asl_functions.specs.private.Links.{AreLinked};
 
     ghost Value = { List Data };
 

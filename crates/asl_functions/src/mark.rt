@@ -3,7 +3,7 @@ ghost use Rattle.std.specs.Prelude.{◌≡◌, ◌<◌, ◌%◌};
 ghost use Rattle.std.specs.Int.RustNames.{unsigned_abs};
 ghost use Rattle.asl_json.specs.Data.{chain, pairs};
 ghost use Rattle.asl_json.specs.View.{data_of};
-ghost use Rattle.asl_functions.specs.Marks.{blended as spec_blended, joined as spec_joined, added as spec_added, text_mark as spec_text_mark, mark as spec_mark, items_mark as spec_items_mark, members_mark as spec_members_mark, IsApart, AreApart, HasApart};
+ghost use Rattle.asl_functions.specs.private.Marks.{blended as spec_blended, joined as spec_joined, added as spec_added, text_mark as spec_text_mark, mark as spec_mark, items_mark as spec_items_mark, members_mark as spec_members_mark, IsApart, AreApart, HasApart};
 
 use asl_json::{Items, Json, Members};
 
@@ -29,7 +29,7 @@ const LIST: u64 = 7;
 const DICT: u64 = 11;
 
 /// The mark of parts in order: of those so far and the next.
-#[tactic(auto, unfolding(crate::specs::Marks::blended))]
+#[tactic(auto, unfolding(crate::specs::private::Marks::blended))]
 fn blended(mark: u64, part: u64) -> u64
     requires so_far { mark < MODULUS }
     requires next { part < MODULUS }
@@ -40,7 +40,7 @@ fn blended(mark: u64, part: u64) -> u64
 }
 
 /// The mark of a member: of its key and its value.
-#[tactic(auto, unfolding(crate::specs::Marks::joined))]
+#[tactic(auto, unfolding(crate::specs::private::Marks::joined))]
 fn joined(key: u64, value: u64) -> u64
     requires key { key < MODULUS }
     requires value { value < MODULUS }
@@ -51,7 +51,7 @@ fn joined(key: u64, value: u64) -> u64
 }
 
 /// The mark of members in any order: of those so far and one more.
-#[tactic(auto, unfolding(crate::specs::Marks::added))]
+#[tactic(auto, unfolding(crate::specs::private::Marks::added))]
 fn added(mark: u64, member: u64) -> u64
     requires so_far { mark < MODULUS }
     requires member { member < MODULUS }

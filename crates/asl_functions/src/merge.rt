@@ -4,7 +4,7 @@ ghost use Rattle.asl_json.specs.Data.{Data};
 ghost use Rattle.asl_json.specs.View.{data_of, members_of};
 ghost use Rattle.asl_functions.specs.Gives.{Gives};
 ghost use Rattle.asl_functions.specs.Merge.{with_member, merged as spec_merged, false_in, json_merge as spec_json_merge};
-ghost use Rattle.asl_functions.specs.Places.{HasPlaces};
+ghost use Rattle.asl_functions.specs.private.Places.{HasPlaces};
 
 use crate::convert::object;
 use crate::fault::{EvalFault, Reason};

@@ -2,3 +2,4 @@ pub mod Numerals
 pub mod Steps
 pub mod Links
 pub mod Pieces
+pub mod Cutting

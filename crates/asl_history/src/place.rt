@@ -1,7 +1,9 @@
 // Places of branches.
-ghost use Rattle.std.specs.Prelude.{◌≡◌, ◌↔◌, ◌<◌, ◌^◌, [], ◌∷◌, ◌++◌, List, ℕ, IfOk, IfSome, OnOk, IsTrue, string_bytes};
+ghost use Rattle.std.specs.Prelude.{◌≡◌, ◌↔◌, ◌<◌, ◌^◌, [], ◌∷◌, ◌++◌, List, ℕ, IfOk, IfSome, OnOk, OnErr, IsTrue, string_bytes};
+ghost use Rattle.asl_json.specs.private.Buffers.{Keeps};
 ghost use Rattle.asl_history.specs.Places.{IsPlace, is_prefix, is_child, is_beside, place_text, steps_text};
 
+use crate::appending::{put_decimal, whole_or_none};
 use crate::number::read_step;
 use std::alloc::{AllocError, Global};
 use std::marker::Model;
@@ -120,14 +122,17 @@ impl Place {
         Ok(out)
     }
 
-    /// Appends the text of the place. The error is that memory ran out.
+    /// Appends the text of the place. The error is that memory ran out, and then nothing is appended.
     pub fn put(&self, out: &mut String) -> Result<(), AllocError>
-        ensures { OnOk result (string_bytes out.new ≡ string_bytes out.old ++ place_text self.now) }
+        ensures ok { OnOk result (string_bytes out.new ≡ string_bytes out.old ++ place_text self.now) }
+        ensures err { OnErr result (string_bytes out.new ≡ string_bytes out.old) }
     {
         if self.is_root() {
             return out.push('/');
         }
-        put_steps(out, &self.numbers)
+        let len = out.as_str().len();
+        let appended = put_steps(out, &self.numbers);
+        whole_or_none(out, len, appended)
     }
 }
 
@@ -152,12 +157,14 @@ impl Eq for Place {
     ghost laws = { nat_list_eq_equiv };
 }
 
-/// Appends a slash and a number for each.
+/// Appends a slash and a number for each. Where memory runs out, some of them may be there.
 fn put_steps(out: &mut String, numbers: &[u32]) -> Result<(), AllocError>
-    ensures { OnOk result (string_bytes out.new ≡ string_bytes out.old ++ steps_text numbers.now) }
+    ensures ok { OnOk result (string_bytes out.new ≡ string_bytes out.old ++ steps_text numbers.now) }
+    ensures kept { Keeps (string_bytes out.old) (string_bytes out.new) }
 {
     for number in numbers {
-        write!(out, "/{number}")?;
+        out.push('/')?;
+        put_decimal(out, u64::from(*number))?;
     }
     Ok(())
 }

@@ -38,18 +38,18 @@ pub trait Files {
 
 /// The machine's files.
 #[derive(Drop)]
-pub struct Machine<'a, R> {
+pub struct HostFiles<'a, R> {
     rt: &'a R,
 }
 
-impl<'a, R: rt::Files> Machine<'a, R> {
+impl<'a, R: rt::Files> HostFiles<'a, R> {
     /// The files that a runtime opens.
-    pub fn new(rt: &'a R) -> Machine<'a, R> {
-        Machine { rt }
+    pub fn new(rt: &'a R) -> HostFiles<'a, R> {
+        HostFiles { rt }
     }
 }
 
-impl<'a, R: rt::Files> Files for Machine<'a, R> {
+impl<'a, R: rt::Files> Files for HostFiles<'a, R> {
     // Nothing is known of what the machine's files give, and any may be lacking.
     ghost gives = { λ _ _ _. ⊤ };
 

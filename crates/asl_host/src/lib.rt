@@ -11,7 +11,7 @@ mod taken;
 mod telling;
 mod words;
 
-pub use files::{Files, MOST_BYTES, Machine, ReadFault, read_whole};
+pub use files::{Files, HostFiles, MOST_BYTES, ReadFault, read_whole};
 pub use streams::Stream;
 pub use telling::{tell_fault, write_piece};
 pub use words::{DefinitionWords, GivenFault, RunWords, Words, given, malformed_word, read_words};

@@ -5,19 +5,19 @@ use Rattle.std.proofs.lemmas.List.{append-nil}
 use Rattle.std.proofs.lemmas.Bool.{eq-eqb}
 use Rattle.asl_json.specs.Data.{Data, null, number}
 use Rattle.asl_json.specs.Grammar.{null_word}
-use Rattle.asl_json.specs.Machine.{part_behind}
+use Rattle.asl_json.specs.private.Machine.{part_behind}
 use Rattle.asl_json.specs.declared.number.Part.{Part}
 use Rattle.asl_json.specs.declared.number.Part.TheVariants.{Start}
 use Rattle.asl_json.proofs.Numerals.{part_onto, ending, ending_accepted}
 use Rattle.asl_path.specs.declared.step.Root.{Root}
 use Rattle.asl_path.specs.declared.step.Step.{Step}
 use Rattle.asl_path.specs.Grammar.{IsPrefix as IsPathPrefix}
-use Rattle.asl_path.specs.Steps.{steps}
+use Rattle.asl_path.specs.private.Steps.{steps}
 use Rattle.asl_path.proofs.Judging.{Judged as PathJudged, path_judged}
 use Rattle.asl_intrinsic.specs.Tree.{Argument, Frame, constant, quoted, path, call, arguments}
 use Rattle.asl_intrinsic.specs.Grammar.{is_name_byte, is_escaped, IsPrefix}
 use Rattle.asl_intrinsic.specs.Fronts.{AwaitsArgument}
-use Rattle.asl_intrinsic.specs.Steps.{Mode, prefix, naming, named, opening, wanting, word, chars, escape, figure, along, ended, is_part, is_begun, is_number_front, is_path_front, run_by}
+use Rattle.asl_intrinsic.specs.private.Steps.{Mode, prefix, naming, named, opening, wanting, word, chars, escape, figure, along, ended, is_part, is_begun, is_number_front, is_path_front, run_by}
 use Rattle.asl_intrinsic.proofs.Stretches.{goes, alike, prefix_on, name_begins, name_off, named_opens, word_on, word_ends}
 use Rattle.asl_intrinsic.proofs.Leaves.{quote_ends, escape_on, figure_run, fits_on, along_run, along_whole, path_prefix}
 use Rattle.asl_intrinsic.proofs.Turns.{bracket_closes, bracket_ends}

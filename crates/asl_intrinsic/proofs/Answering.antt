@@ -3,12 +3,12 @@ use Rattle.std.proofs.Common.{◌≡◌, ℕ, ◌-◌, true, List, [], length, r
 use Rattle.std.specs.Prelude.{Result, Ok, Err, Option, Some, None}
 use Rattle.asl_intrinsic.specs.Tree.{Argument}
 use Rattle.asl_intrinsic.specs.Grammar.{states_word, SpellsCall, Fits}
-use Rattle.asl_intrinsic.specs.Steps.{prefix, heard}
+use Rattle.asl_intrinsic.specs.private.Steps.{prefix, heard}
 use Rattle.asl_intrinsic.specs.Faults.{IsWrongAt, IsFirstWrong, IsFaultOf, IsCall, IsMisfit, first_fault}
 use Rattle.asl_intrinsic.specs.Laws.{Means}
 use Rattle.asl_intrinsic.specs.Values.{value_by}
-use Rattle.asl_intrinsic.specs.Keeps.{KeepsOne, Tells}
-use Rattle.asl_intrinsic.specs.Hears.{HearsTree}
+use Rattle.asl_intrinsic.specs.private.Keeps.{KeepsOne, Tells}
+use Rattle.asl_intrinsic.specs.private.Hears.{HearsTree}
 use Rattle.asl_intrinsic.specs.declared.call.Argument as code
 use Rattle.asl_intrinsic.specs.declared.frame.Wrong.{Wrong}
 use Rattle.asl_intrinsic.specs.declared.expr.CallFault.{CallFault}

@@ -3,7 +3,7 @@ use Rattle.std.proofs.Common.{◌≡◌, ◌==◌, ℕ, suc, Bool, true, false, 
 use Rattle.std.specs.Prelude.{Result, Ok, Err, Option, Some, None, ◌||◌}
 use Rattle.std.proofs.lemmas.Bool.{eqb-true}
 use Rattle.asl_json.specs.Number.{IsNumeral, is_digit, is_point, is_mark, is_sign}
-use Rattle.asl_json.specs.Machine.{part_behind, next_part, leading, marked, pointed}
+use Rattle.asl_json.specs.private.Machine.{part_behind, next_part, leading, marked, pointed}
 use Rattle.asl_json.specs.declared.number.Part.{Part}
 use Rattle.asl_json.specs.declared.number.Part.TheVariants.{Start, Minus, Nought, Whole, Point, Fraction, Mark, Sign, Exponent}
 use Rattle.asl_json.proofs.Numerals.{part_none, numeral_accepted, numeral_some}
@@ -12,9 +12,9 @@ use Rattle.asl_path.specs.declared.step.Root.TheVariants.{Input, Context}
 use Rattle.asl_path.specs.declared.step.Step.{Step}
 use Rattle.asl_path.specs.declared.step.Step.TheVariants.{Name}
 use Rattle.asl_path.specs.Grammar.{SpellsRoot, IsPath, is_name_byte, is_digit as is_digit_of_paths}
-use Rattle.asl_path.specs.Steps.{Mode, between, dot, name, bracket, quoted, closing, digits, Next, go, stop, begin_step, advance, finish, onward, run, with_root, from_root, steps}
+use Rattle.asl_path.specs.private.Steps.{Mode, between, dot, name, bracket, quoted, closing, digits, Next, go, stop, begin_step, advance, finish, onward, run, with_root, from_root, steps}
 use Rattle.asl_path.proofs.Passing.{path_passes}
-use Rattle.asl_intrinsic.specs.Leads.{is_behind}
+use Rattle.asl_intrinsic.specs.private.Leads.{is_behind}
 use Rattle.asl_intrinsic.proofs.Leaves.{Stops, EndsFront}
 
 -- what may follow an argument

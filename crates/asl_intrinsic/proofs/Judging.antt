@@ -5,14 +5,14 @@ use Rattle.std.proofs.lemmas.List.{append-nil, length-append}
 use Rattle.asl_json.specs.Data.{number}
 use Rattle.asl_json.specs.Number.{IsNumeral, is_over}
 use Rattle.asl_json.specs.Open.{EndsNumber}
-use Rattle.asl_json.specs.Machine.{next_part}
+use Rattle.asl_json.specs.private.Machine.{next_part}
 use Rattle.asl_json.specs.declared.number.Part.{Part}
 use Rattle.asl_json.proofs.Numerals.{part_push, part_longest}
 use Rattle.asl_intrinsic.specs.Tree.{Argument, Frame, constant, path}
 use Rattle.asl_intrinsic.specs.Grammar.{states_word, SpellsCall, IsSpelled, IsPrefix}
 use Rattle.asl_intrinsic.specs.Fronts.{AwaitsArgument}
 use Rattle.asl_intrinsic.specs.Faults.{EndsAt}
-use Rattle.asl_intrinsic.specs.Steps.{Mode, prefix, naming, named, opening, wanting, word, chars, escape, figure, along, ended, Next, go, stop, is_number_front, is_number, is_path, in_figure, step_by, whole, finish_by, onward, run_by, heard}
+use Rattle.asl_intrinsic.specs.private.Steps.{Mode, prefix, naming, named, opening, wanting, word, chars, escape, figure, along, ended, Next, go, stop, is_number_front, is_number, is_path, in_figure, step_by, whole, finish_by, onward, run_by, heard}
 use Rattle.asl_intrinsic.proofs.Leaves.{IsPart, front_on}
 use Rattle.asl_intrinsic.proofs.Stopping.{stops_there}
 use Rattle.asl_intrinsic.proofs.Reaching.{Reached, Holds, step_reaches, finish_spells, number_spelled, at_start}

@@ -11,7 +11,7 @@ use Rattle.asl_intrinsic.specs.Tree.{Argument, Frame}
 use Rattle.asl_intrinsic.specs.Grammar.{states_word, IsSpelled, IsPrefix, Fits}
 use Rattle.asl_intrinsic.specs.Fronts.{SpellsBefore, OpensCall, Opens}
 use Rattle.asl_intrinsic.specs.Faults.{EndsAt, SyntaxAt, NumberAt, IsWrongAt, IsFirstWrong}
-use Rattle.asl_intrinsic.specs.Steps.{Mode, prefix, opening, wanting, ended, run, heard}
+use Rattle.asl_intrinsic.specs.private.Steps.{Mode, prefix, opening, wanting, ended, run, heard}
 use Rattle.asl_intrinsic.proofs.Stretches.{spaces_pass}
 use Rattle.asl_intrinsic.proofs.Leaves.{IsPart, Stops, figure_run, over_on}
 use Rattle.asl_intrinsic.proofs.Turns.{comma_wants}

@@ -8,7 +8,7 @@ use Rattle.std.proofs.lemmas.Str.{IsCharBoundary-from_take, IsCharBoundary-befor
 use Rattle.asl_json.specs.Data.{null, boolean, number}
 use Rattle.asl_json.specs.Number.{IsNumeral, is_over}
 use Rattle.asl_json.specs.Grammar.{null_word, true_word, false_word}
-use Rattle.asl_json.specs.Machine.{part_behind, next_part, may_end}
+use Rattle.asl_json.specs.private.Machine.{part_behind, next_part, may_end}
 use Rattle.asl_json.specs.declared.number.Part.{Part}
 use Rattle.asl_json.specs.declared.number.Part.TheVariants.{Start}
 use Rattle.asl_json.proofs.Numerals.{part_none, part_append, part_is_numeral}
@@ -16,15 +16,15 @@ use Rattle.asl_json.proofs.Figures.{number_utf8}
 use Rattle.asl_path.specs.declared.step.Root.{Root}
 use Rattle.asl_path.specs.declared.step.Step.{Step}
 use Rattle.asl_path.specs.Grammar.{IsPath, IsPrefix}
-use Rattle.asl_path.specs.Leads.{NotFirst}
+use Rattle.asl_path.specs.private.Leads.{NotFirst}
 use Rattle.asl_path.specs.Faults.{FaultAt, EndsAt}
-use Rattle.asl_path.specs.Steps.{steps}
+use Rattle.asl_path.specs.private.Steps.{steps}
 use Rattle.asl_path.proofs.Passing.{path_passes}
 use Rattle.asl_path.proofs.Judging.{Judged, path_judged, path_faultless}
 use Rattle.asl_intrinsic.specs.Tree.{Argument, constant, quoted, path, Frame}
-use Rattle.asl_intrinsic.specs.Steps.{Mode, prefix, word, chars, escape, figure, along, ended, Next, go, stop, is_part, is_number_front, is_number, is_begun, is_read, is_path_front, is_path, in_chars, in_escape, in_ended, in_figure, in_along, begins, step_by, step, whole, onward, run_by, run}
+use Rattle.asl_intrinsic.specs.private.Steps.{Mode, prefix, word, chars, escape, figure, along, ended, Next, go, stop, is_part, is_number_front, is_number, is_begun, is_read, is_path_front, is_path, in_chars, in_escape, in_ended, in_figure, in_along, begins, step_by, step, whole, onward, run_by, run}
 use Rattle.asl_intrinsic.specs.Grammar.{states_word, is_escaped}
-use Rattle.asl_intrinsic.specs.Leads.{IsQuotedLen, IsPathLen, is_behind, is_stray, first_is, begun}
+use Rattle.asl_intrinsic.specs.private.Leads.{IsQuotedLen, IsPathLen, is_behind, is_stray, first_is, begun}
 use Rattle.asl_intrinsic.proofs.Stretches.{goes, halts, halts_back, alike}
 
 -- ---- texts

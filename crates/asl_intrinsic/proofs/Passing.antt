@@ -6,14 +6,14 @@ use Rattle.std.proofs.lemmas.Bool.{eqb-true}
 use Rattle.asl_json.specs.Data.{Data, null, boolean, number, text, list, dict}
 use Rattle.asl_json.specs.Number.{IsNumeral, is_over, is_digit}
 use Rattle.asl_json.specs.Grammar.{null_word, true_word, false_word}
-use Rattle.asl_json.specs.Machine.{next_part, leading}
+use Rattle.asl_json.specs.private.Machine.{next_part, leading}
 use Rattle.asl_json.specs.declared.number.Part.TheVariants.{Start}
 use Rattle.asl_json.proofs.Numerals.{numeral_accepted, numeral_some}
-use Rattle.asl_path.specs.Leads.{NotFirst}
+use Rattle.asl_path.specs.private.Leads.{NotFirst}
 use Rattle.asl_intrinsic.specs.Tree.{Argument, Frame, constant, quoted, path, call, Arguments, none, argument, arguments}
 use Rattle.asl_intrinsic.specs.Grammar.{states_word, is_name_byte, AreSpaces, is_escaped, is_inside, is_escape, SpellsConstant, SpellsHead, Spaced, SpellsArgument, SpellsArguments, SpellsMore, SpellsCall, Fits, FitAll, FitsConstant}
-use Rattle.asl_intrinsic.specs.Steps.{Mode, prefix, named, opening, wanting, chars, escape, figure, along, ended, Next, go, in_prefix, in_word, begins, step_by, onward, run_by}
-use Rattle.asl_intrinsic.specs.Leads.{begun_by}
+use Rattle.asl_intrinsic.specs.private.Steps.{Mode, prefix, named, opening, wanting, chars, escape, figure, along, ended, Next, go, in_prefix, in_word, begins, step_by, onward, run_by}
+use Rattle.asl_intrinsic.specs.private.Leads.{begun_by}
 use Rattle.asl_intrinsic.proofs.Stretches.{goes, spaces_pass, name_some, named_space, named_opens}
 use Rattle.asl_intrinsic.proofs.Leaves.{char_on, backslash_on, quote_ends, escape_on, figure_run, fits_on, over_on, along_run, along_whole, path_prefix, quote_begins, dollar_begins, figure_begins}
 use Rattle.asl_intrinsic.proofs.Turns.{opening_space, wanting_space, ended_space, opening_begins, wanting_begins, comma_wants, bracket_ends, bracket_closes}

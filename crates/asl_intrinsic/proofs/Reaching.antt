@@ -6,20 +6,20 @@ use Rattle.std.proofs.lemmas.Bool.{eqb-true}
 use Rattle.asl_json.specs.Data.{Data, null, boolean, number}
 use Rattle.asl_json.specs.Number.{IsNumeral, is_over}
 use Rattle.asl_json.specs.Grammar.{null_word, true_word, false_word}
-use Rattle.asl_json.specs.Machine.{part_behind}
+use Rattle.asl_json.specs.private.Machine.{part_behind}
 use Rattle.asl_json.specs.declared.number.Part.{Part}
 use Rattle.asl_json.specs.declared.number.Part.TheVariants.{Start}
 use Rattle.asl_json.proofs.Numerals.{part_is_numeral}
 use Rattle.asl_path.specs.declared.step.Root.{Root}
 use Rattle.asl_path.specs.declared.step.Step.{Step}
 use Rattle.asl_path.specs.Grammar.{Each, Joined, IsPath}
-use Rattle.asl_path.specs.Steps.{steps}
+use Rattle.asl_path.specs.private.Steps.{steps}
 use Rattle.asl_path.proofs.Fronts.{each_push}
 use Rattle.asl_path.proofs.Judging.{read_spells}
 use Rattle.asl_intrinsic.specs.Tree.{Argument, Frame, constant, quoted, path, call, Arguments, arguments}
 use Rattle.asl_intrinsic.specs.Grammar.{states_word, is_name_byte, is_space, AreSpaces, is_escaped, is_inside, is_escape, SpellsConstant, SpellsHead, Spaced, SpellsArgument, SpellsArguments, SpellsMore, SpellsCall}
 use Rattle.asl_intrinsic.specs.Fronts.{SpellsBefore, OpensCall, Opens}
-use Rattle.asl_intrinsic.specs.Steps.{Mode, prefix, naming, named, opening, wanting, word, chars, escape, figure, along, ended, Next, go, stop, ends_part, is_number_front, is_number, is_read, is_path_front, is_path, closes, in_prefix, in_named, in_naming, in_word, in_chars, in_escape, in_ended, in_figure, in_along, begins, in_opening, in_wanting, step_by, finish_by, onward, run_by}
+use Rattle.asl_intrinsic.specs.private.Steps.{Mode, prefix, naming, named, opening, wanting, word, chars, escape, figure, along, ended, Next, go, stop, ends_part, is_number_front, is_number, is_read, is_path_front, is_path, closes, in_prefix, in_named, in_naming, in_word, in_chars, in_escape, in_ended, in_figure, in_along, begins, in_opening, in_wanting, step_by, finish_by, onward, run_by}
 
 -- ---- what stands behind the open calls
 

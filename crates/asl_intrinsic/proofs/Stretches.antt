@@ -6,12 +6,12 @@ use Rattle.std.specs.Str.{IsAscii, IsUtf8, IsCharBoundary}
 use Rattle.std.proofs.lemmas.Str.{IsUtf8-from_ascii, IsCharBoundary-from_take}
 use Rattle.asl_json.specs.Data.{Data}
 use Rattle.asl_path.specs.Grammar.{Each}
-use Rattle.asl_path.specs.Leads.{NotFirst}
+use Rattle.asl_path.specs.private.Leads.{NotFirst}
 use Rattle.asl_path.proofs.Stretch.{not_first}
 use Rattle.asl_intrinsic.specs.Tree.{constant, Frame}
-use Rattle.asl_intrinsic.specs.Steps.{Mode, prefix, naming, named, opening, word, ended, Next, go, stop, in_prefix, in_naming, in_named, in_word, step_by, step, onward, run_by, run}
+use Rattle.asl_intrinsic.specs.private.Steps.{Mode, prefix, naming, named, opening, word, ended, Next, go, stop, in_prefix, in_naming, in_named, in_word, step_by, step, onward, run_by, run}
 use Rattle.asl_intrinsic.specs.Grammar.{is_name_byte, states_word, is_space}
-use Rattle.asl_intrinsic.specs.Leads.{Fails, after_word, Led, Skips}
+use Rattle.asl_intrinsic.specs.private.Leads.{Fails, after_word, Led, Skips}
 use Rattle.asl_intrinsic.specs.declared.front.Halt.{Halt}
 use Rattle.asl_intrinsic.specs.declared.front.Halt.TheVariants.{At, Memory}
 

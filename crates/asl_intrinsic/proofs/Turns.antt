@@ -2,17 +2,17 @@
 use Rattle.std.proofs.Common.{◌≡◌, ◌<◌, ◌==◌, ℕ, suc, Bool, false, List, [], ◌∷◌, ◌++◌, length, reverse, refl, sym, ◌∙◌, ap, subst, arith}
 use Rattle.std.specs.Prelude.{Result, Ok, Err, IfOk, IfErr, MatchResult}
 use Rattle.std.proofs.lemmas.List.{reverse-append, length-reverse}
-use Rattle.asl_path.specs.Leads.{NotFirst}
+use Rattle.asl_path.specs.private.Leads.{NotFirst}
 use Rattle.asl_intrinsic.specs.Tree.{Argument, call, arguments, Frame}
-use Rattle.asl_intrinsic.specs.Steps.{Mode, opening, wanting, ended, Next, go, stop, begins, closes, in_opening, in_wanting, in_ended, step, onward, run_by, run}
-use Rattle.asl_intrinsic.specs.Leads.{Fails, begun, Skips}
+use Rattle.asl_intrinsic.specs.private.Steps.{Mode, opening, wanting, ended, Next, go, stop, begins, closes, in_opening, in_wanting, in_ended, step, onward, run_by, run}
+use Rattle.asl_intrinsic.specs.private.Leads.{Fails, begun, Skips}
 use Rattle.asl_intrinsic.specs.Grammar.{is_space}
-use Rattle.asl_intrinsic.specs.Keeps.{Keeps, KeepsAll}
+use Rattle.asl_intrinsic.specs.private.Keeps.{Keeps, KeepsAll}
 use Rattle.asl_intrinsic.specs.declared.frame.Open.{Open}
 use Rattle.asl_intrinsic.specs.declared.front.Halt.{Halt}
 use Rattle.asl_intrinsic.specs.declared.front.Halt.TheVariants.{Memory}
 use Rattle.asl_intrinsic.specs.declared.reading.Reader.{Reader}
-use Rattle.asl_intrinsic.specs.Hears.{Hears}
+use Rattle.asl_intrinsic.specs.private.Hears.{Hears}
 use Rattle.asl_intrinsic.proofs.Stretches.{goes, halts, skipped}
 
 -- ---- the open calls

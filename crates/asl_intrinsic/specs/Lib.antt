@@ -2,13 +2,7 @@ pub mod Tree
 pub mod Grammar
 pub mod Fronts
 pub mod Calls
-pub mod Code
-pub mod View
-pub mod Falls
-pub mod Steps
 pub mod Faults
-pub mod Leads
-pub mod Keeps
-pub mod Hears
 pub mod Values
 pub mod Laws
+pub mod private

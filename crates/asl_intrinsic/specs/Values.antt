@@ -5,7 +5,7 @@ use Rattle.asl_functions.specs.declared.fault.EvalFault.TheVariants.{PathMissing
 use Rattle.asl_intrinsic.specs.Tree.{Argument}
 use Rattle.asl_functions.specs.Outcome.{Outcome}
 use Rattle.asl_intrinsic.specs.Calls.{value_of}
-use Rattle.asl_intrinsic.specs.Steps.{heard}
+use Rattle.asl_intrinsic.specs.private.Steps.{heard}
 
 -- of what was heard; a text that is no call names nothing
 abbrev pub value_by : Result Argument ℕ → Data → Data → Outcome Data

@@ -29,19 +29,19 @@ pub(crate) struct Arguments {
 impl Model for Arguments {
     ghost use Rattle.std.specs.Prelude.{List};
     ghost use Rattle.asl_intrinsic.specs.Tree.{Argument, list_size};
-    ghost use Rattle.asl_intrinsic.specs.Code.{coded_arguments};
+    ghost use Rattle.asl_intrinsic.specs.private.Code.{coded_arguments};
 
     ghost Value = { List Argument };
 
     ghost coded = { coded_arguments };
 
-    ghost use Rattle.asl_intrinsic.specs.View.{trees_of};
+    ghost use Rattle.asl_intrinsic.specs.private.View.{trees_of};
 
     ghost view = { λ a. trees_of a.list.items };
 
     ghost size = { list_size };
 
-    ghost use Rattle.asl_intrinsic.specs.Falls.{arguments_fall};
+    ghost use Rattle.asl_intrinsic.specs.private.Falls.{arguments_fall};
 
     ghost size_decreases = { λ a h. arguments_fall a.list.items };
 }

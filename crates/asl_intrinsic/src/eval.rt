@@ -8,7 +8,7 @@ ghost use Rattle.asl_functions.specs.Letters.{meant};
 ghost use Rattle.asl_functions.specs.Gives.{Gives};
 ghost use Rattle.asl_functions.specs.Seen.{seen, all_seen};
 ghost use Rattle.asl_intrinsic.specs.Tree.{arguments};
-ghost use Rattle.asl_intrinsic.specs.View.{tree_of};
+ghost use Rattle.asl_intrinsic.specs.private.View.{tree_of};
 ghost use Rattle.asl_intrinsic.specs.Calls.{apply_named as spec_apply_named, first_written as spec_written, is_context, found, value_of, values_of};
 
 use crate::call::{Argument, Arguments};

@@ -1,11 +1,11 @@
 // Calls that were read.
 ghost use Rattle.std.specs.Prelude.{◌≡◌, IfOk, IfErr};
-ghost use Rattle.asl_intrinsic.specs.Steps.{heard};
+ghost use Rattle.asl_intrinsic.specs.private.Steps.{heard};
 ghost use Rattle.asl_json.specs.View.{data_of};
 ghost use Rattle.asl_functions.specs.Gives.{Gives};
 ghost use Rattle.asl_intrinsic.specs.Values.{ev};
-ghost use Rattle.asl_intrinsic.specs.Leads.{Fails};
-ghost use Rattle.asl_intrinsic.specs.Keeps.{Tells};
+ghost use Rattle.asl_intrinsic.specs.private.Leads.{Fails};
+ghost use Rattle.asl_intrinsic.specs.private.Keeps.{Tells};
 ghost use Rattle.asl_intrinsic.specs.Faults.{IsCall, IsFaultOf};
 
 use crate::call::Argument;
@@ -54,8 +54,8 @@ impl Drop for Expr {
 
 impl Model for Expr {
     ghost use Rattle.std.specs.Prelude.{List, ℕ, ◌≡◌, Ok, None};
-    ghost use Rattle.asl_intrinsic.specs.View.{tree_of};
-    ghost use Rattle.asl_intrinsic.specs.Steps.{heard as heard_as};
+    ghost use Rattle.asl_intrinsic.specs.private.View.{tree_of};
+    ghost use Rattle.asl_intrinsic.specs.private.Steps.{heard as heard_as};
     ghost use Rattle.asl_intrinsic.specs.Faults.{first_fault};
 
     ghost Value = { List ℕ };

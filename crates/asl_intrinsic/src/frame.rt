@@ -1,7 +1,7 @@
 // Open calls, and what is kept of their arguments.
 ghost use Rattle.std.specs.Prelude.{◌≡◌, ◌+◌, min, suc, ◌++◌, ◌∷◌, [], IfOk, IfErr};
 ghost use Rattle.asl_intrinsic.specs.Tree.{Argument as Tree, call, arguments, Frame};
-ghost use Rattle.asl_intrinsic.specs.Keeps.{Keeps, KeepsOne};
+ghost use Rattle.asl_intrinsic.specs.private.Keeps.{Keeps, KeepsOne};
 ghost use Rattle.std.specs.Prelude.{ℕ, List};
 ghost use Rattle.asl_intrinsic.specs.declared.front.Halt.{Halt};
 

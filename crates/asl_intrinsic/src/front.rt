@@ -1,11 +1,11 @@
 // What stands in front of a text.
 ghost use Rattle.std.specs.Prelude.{◌≡◌, ◌<◌, ◌≤◌, ◌∷◌, [], List, true, false, length, take, slice_index, nat_eq, IfOk, IfErr, IfSome, IfNone, Ok};
 ghost use Rattle.asl_path.specs.Grammar.{Each};
-ghost use Rattle.asl_path.specs.Leads.{NotFirst};
-ghost use Rattle.asl_intrinsic.specs.Steps.{prefix, opening, run};
+ghost use Rattle.asl_path.specs.private.Leads.{NotFirst};
+ghost use Rattle.asl_intrinsic.specs.private.Steps.{prefix, opening, run};
 ghost use Rattle.asl_intrinsic.specs.Tree.{Frame};
 ghost use Rattle.asl_intrinsic.specs.Grammar.{is_name_byte as name_byte, states_word};
-ghost use Rattle.asl_intrinsic.specs.Leads.{Leads, Skips, is_ascii, after_word as spec_after_word};
+ghost use Rattle.asl_intrinsic.specs.private.Leads.{Leads, Skips, is_ascii, after_word as spec_after_word};
 
 use std::alloc::{AllocError, AllocFailed};
 

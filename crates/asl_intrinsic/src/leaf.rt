@@ -3,12 +3,12 @@ ghost use Rattle.std.specs.Prelude.{◌≡◌, ◌<◌, ◌≤◌, ◌∷◌, []
 ghost use Rattle.asl_json.specs.Data.{null as spec_null, boolean};
 ghost use Rattle.asl_json.specs.Grammar.{null_word};
 ghost use Rattle.asl_path.specs.Grammar.{Each};
-ghost use Rattle.asl_intrinsic.specs.Steps.{chars, word, figure, along, ended, run};
+ghost use Rattle.asl_intrinsic.specs.private.Steps.{chars, word, figure, along, ended, run};
 ghost use Rattle.asl_intrinsic.specs.Tree.{Frame};
 ghost use Rattle.asl_intrinsic.specs.Grammar.{is_escaped as escaped};
-ghost use Rattle.asl_intrinsic.specs.View.{tree_of};
+ghost use Rattle.asl_intrinsic.specs.private.View.{tree_of};
 ghost use Rattle.asl_intrinsic.specs.Faults.{first_fault};
-ghost use Rattle.asl_intrinsic.specs.Leads.{Leads, Fails, IsQuotedLen, IsPathLen, is_behind as behind_argument, is_stray as stray, is_ascii, begun, first_is};
+ghost use Rattle.asl_intrinsic.specs.private.Leads.{Leads, Fails, IsQuotedLen, IsPathLen, is_behind as behind_argument, is_stray as stray, is_ascii, begun, first_is};
 ghost use Rattle.asl_intrinsic.specs.declared.front.Halt.{Halt};
 
 use crate::call::Argument;
@@ -59,7 +59,7 @@ fn quoted(alloc: Global, text: &str) -> Result<(Argument, &str), Halt>
 {
     let end = quoted_len(text.as_bytes())?;
     let (inside, rest) = text.split_at(end);
-    let spelled = Txt::new(String::from_str(alloc, inside)?);
+    let spelled = Txt::of(alloc, inside)?;
     Ok((Argument::Quoted(spelled), &rest[1..]))
 }
 

@@ -1,12 +1,12 @@
 // Reading a call from left to right, with the open calls in a list.
 ghost use Rattle.std.specs.Prelude.{◌≡◌, ◌<◌, ◌≤◌, ◌+◌, ◌*◌, ◌∷◌, ◌++◌, [], ℕ, List, suc, length, reverse, false, IfOk, IfErr, MatchResult, Result, Ok};
-ghost use Rattle.asl_path.specs.Leads.{NotFirst};
+ghost use Rattle.asl_path.specs.private.Leads.{NotFirst};
 ghost use Rattle.asl_intrinsic.specs.Tree.{Argument as Tree, call, arguments, Frame};
-ghost use Rattle.asl_intrinsic.specs.Steps.{opening, ended, heard, run};
-ghost use Rattle.asl_intrinsic.specs.Leads.{Fails, begun};
+ghost use Rattle.asl_intrinsic.specs.private.Steps.{opening, ended, heard, run};
+ghost use Rattle.asl_intrinsic.specs.private.Leads.{Fails, begun};
 ghost use Rattle.asl_intrinsic.specs.Grammar.{is_space};
-ghost use Rattle.asl_intrinsic.specs.Keeps.{KeepsOne, KeepsAll};
-ghost use Rattle.asl_intrinsic.specs.Hears.{Hears, HearsTree, waits};
+ghost use Rattle.asl_intrinsic.specs.private.Keeps.{KeepsOne, KeepsAll};
+ghost use Rattle.asl_intrinsic.specs.private.Hears.{Hears, HearsTree, waits};
 ghost use Rattle.asl_intrinsic.specs.declared.front.Halt.{Halt};
 
 use crate::call::Argument;

@@ -6,7 +6,7 @@ use Rattle.std.proofs.lemmas.Grind.{pow_more}
 use Rattle.std.proofs.lemmas.Bool.{cases_lt, eqb-true}
 use Rattle.std.proofs.Math.Nat.{mul_comm, mul_assoc, pow-suc, one-le-pow, pow-le-pow_right, mul-mod_left, mul-div_cancel, le-mul_of_pos_right, mul-le-mul_left, le_of_mul-le-mul_right, zero-div, zero-mod}
 use Rattle.asl_json.specs.Number.{AreDigits, integer, fraction, exponent, is_negative, unsigned, raised, lowered, digits_value, dividend, divisor, amount_of, amount_limit, max_number_len, is_over}
-use Rattle.asl_json.specs.Places.{IsStripped, IsShifted, IsUnshiftable, dividend_of, divisor_of, IsAmount, IsBeyond}
+use Rattle.asl_json.specs.private.Places.{IsStripped, IsShifted, IsUnshiftable, dividend_of, divisor_of, IsAmount, IsBeyond}
 use Rattle.asl_json.proofs.Figures.{value_append, value_zeros, digits_take, digits_both, no_tens}
 
 -- ---- powers of ten

@@ -4,7 +4,7 @@ use Rattle.std.proofs.lemmas.List.{length-take, take_all, take_at, take-take, le
 use Rattle.std.proofs.lemmas.Str.{IsCharBoundary-from_take}
 use Rattle.std.specs.Str.{IsUtf8}
 use Rattle.std.specs.String.Boundary.{IsSplitPoint}
-use Rattle.asl_json.specs.Buffers.{Keeps}
+use Rattle.asl_json.specs.private.Buffers.{Keeps}
 
 pub keeps_same : (a b : List ℕ) → b ≡ a → Keeps a b
 keeps_same a b e = record { front = take_all (length a) b (omega (arith, ap length e)) ∙ e }

@@ -1,8 +1,8 @@
 -- What is read as a whole, against the grammar.
 use Rattle.std.proofs.Common.{◌≡◌, ℕ, ◌<◌, ◌≤◌, true, List, [], ◌∷◌, length, Ok, Err, refl, subst, ◌∙◌, arith}
 use Rattle.asl_json.specs.Data.{Data}
-use Rattle.asl_json.specs.Machine.{value, after, in_after, fault, walk, run}
-use Rattle.asl_json.specs.Leads.{NoSpaceFirst, Skips}
+use Rattle.asl_json.specs.private.Machine.{value, after, in_after, fault, walk, run}
+use Rattle.asl_json.specs.private.Leads.{NoSpaceFirst, Skips}
 use Rattle.asl_json.specs.Reads.{Reads}
 use Rattle.asl_json.specs.declared.fault.Kind.TheVariants.{Syntax}
 use Rattle.asl_json.proofs.JudgingLemmas.{Judged, run_judged}

@@ -5,8 +5,8 @@ use Rattle.std.proofs.lemmas.List.{append-nil}
 use Rattle.std.specs.Char.{digit_value, InScalarRange}
 use Rattle.std.specs.Char.Utf16.{is_high_surrogate, is_low_surrogate, surrogate_pair_char}
 use Rattle.asl_json.specs.Text.{quote, backslash, letter_u, is_plain, ArePlain, is_letter, letter_value, is_hex, Quad, quad, digits_of, AreHex, unit_of, escape, begins_low}
-use Rattle.asl_json.specs.Chars.{Within, bare, slash, unit_0, unit_1, unit_2, unit_3, half, half_slash, low_0, low_1, low_2, low_3, WantsHex, Inside, goes, ends, breaks, lone, on_unit, in_text, Textual, closed, told, text_run}
-use Rattle.asl_json.specs.Leads.{Breaks, FirstIsNot, NoPlainFirst, HexFirst, IsUnit, IsLowUnit, IsPartner}
+use Rattle.asl_json.specs.private.Chars.{Within, bare, slash, unit_0, unit_1, unit_2, unit_3, half, half_slash, low_0, low_1, low_2, low_3, WantsHex, Inside, goes, ends, breaks, lone, on_unit, in_text, Textual, closed, told, text_run}
+use Rattle.asl_json.specs.private.Leads.{Breaks, FirstIsNot, NoPlainFirst, HexFirst, IsUnit, IsLowUnit, IsPartner}
 use Rattle.asl_json.specs.declared.fault.Kind.TheVariants as kinds
 use Rattle.asl_json.specs.declared.fault.Stop.{Stop}
 use Rattle.asl_json.specs.declared.fault.Stop.TheVariants as stops

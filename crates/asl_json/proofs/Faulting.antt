@@ -9,8 +9,8 @@ use Rattle.std.specs.Str.Lossy.{utf8_valid_len}
 use Rattle.asl_json.specs.Data.{Data}
 use Rattle.asl_json.specs.View.{data_of}
 use Rattle.asl_json.specs.Text.{quote}
-use Rattle.asl_json.specs.Machine.{value, failed, run}
-use Rattle.asl_json.specs.Leads.{Fails}
+use Rattle.asl_json.specs.private.Machine.{value, failed, run}
+use Rattle.asl_json.specs.private.Leads.{Fails}
 use Rattle.asl_json.specs.Open.{FaultAt}
 use Rattle.asl_json.specs.Reads.{Reads}
 use Rattle.asl_json.specs.Limits.{max_len}

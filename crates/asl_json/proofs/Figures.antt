@@ -6,8 +6,8 @@ use Rattle.std.proofs.lemmas.Str.{IsUtf8-from_ascii}
 use Rattle.std.proofs.lemmas.Str.Ascii.{IsAscii-nil}
 use Rattle.std.specs.Str.{IsUtf8}
 use Rattle.asl_json.specs.Number.{is_digit, is_point, is_mark, is_sign, AreDigits, IsDigits, magnitude, unsigned, IsInt, IsFrac, IsExp, IsNumeral, before, behind, significand, integer, fraction, digits_value}
-use Rattle.asl_json.specs.Places.{AreZeros, EndsAboveZero, IsStripped}
-use Rattle.asl_json.specs.Machine.{leading, marked, pointed, next_part, part_behind}
+use Rattle.asl_json.specs.private.Places.{AreZeros, EndsAboveZero, IsStripped}
+use Rattle.asl_json.specs.private.Machine.{leading, marked, pointed, next_part, part_behind}
 use Rattle.asl_json.specs.declared.number.Part.{Part}
 use Rattle.asl_json.specs.declared.number.Part.TheVariants.{Start, Minus, Nought, Whole, Point, Fraction, Mark, Sign, Exponent}
 use Rattle.asl_json.proofs.Numerals.{part_none, numeral_accepted, digit_no_point, digit_no_mark, point_no_mark}

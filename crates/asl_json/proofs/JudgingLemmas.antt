@@ -4,11 +4,11 @@ use Rattle.std.proofs.lemmas.List.{append-nil, length-append}
 use Rattle.asl_json.specs.Data.{Data, null, boolean, number, text, list, dict, Chain, no_items, item, chain, Pairs, no_members, member, pairs}
 use Rattle.asl_json.specs.Grammar.{comma, colon, open_bracket, close_bracket, open_brace, close_brace, null_word, is_space, Joined, Spells, IsText, IsPrefix}
 use Rattle.asl_json.specs.Text.{quote, SpellsText, lone_spelled}
-use Rattle.asl_json.specs.Chars.{Within, Inside, goes, ends, breaks, lone, in_text}
+use Rattle.asl_json.specs.private.Chars.{Within, Inside, goes, ends, breaks, lone, in_text}
 use Rattle.std.proofs.lemmas.Bool.{and_parts}
 use Rattle.asl_json.proofs.Texts.{OpenText, text_closes, no_chars}
 use Rattle.asl_json.specs.Number.{is_over}
-use Rattle.asl_json.specs.Machine.{next_part, may_end, grown, Mode, value, word, chars, figure, after, first, key, key_chars, behind_key, Next, go, stop, deepens, closes, in_judged, in_value, in_word, chars_next, in_chars, in_figure, in_after, in_first, in_key, key_chars_next, in_key_chars, in_behind_key, fault, failed, step, ended, onward, finish, walk, judgement, run}
+use Rattle.asl_json.specs.private.Machine.{next_part, may_end, grown, Mode, value, word, chars, figure, after, first, key, key_chars, behind_key, Next, go, stop, deepens, closes, in_judged, in_value, in_word, chars_next, in_chars, in_figure, in_after, in_first, in_key, key_chars_next, in_key_chars, in_behind_key, fault, failed, step, ended, onward, finish, walk, judgement, run}
 use Rattle.asl_json.specs.Distinct.{Members, has_key}
 use Rattle.asl_json.specs.Limits.{max_depth, Allowed, AllowedItems, AllowedMembers}
 use Rattle.asl_json.specs.Open.{Frame, in_list, in_dict, IsOpen, AwaitsKey, EndsAt, DepthAt, LoneAt, DuplicateAt, FaultAt, IsFault, NumberAt}

@@ -4,9 +4,9 @@ use Rattle.std.proofs.lemmas.List.{append-nil}
 use Rattle.asl_json.specs.Data.{Data, number, chain, pairs}
 use Rattle.asl_json.specs.Grammar.{comma, colon, open_bracket, close_bracket, open_brace, close_brace, is_space}
 use Rattle.asl_json.specs.Text.{quote}
-use Rattle.asl_json.specs.Chars.{Inside, goes, ends, breaks, lone, in_text}
+use Rattle.asl_json.specs.private.Chars.{Inside, goes, ends, breaks, lone, in_text}
 use Rattle.asl_json.specs.Number.{is_over}
-use Rattle.asl_json.specs.Machine.{next_part, may_end, grown, Mode, value, word, chars, figure, after, first, key, key_chars, behind_key, Next, go, stop, deepens, closes, in_judged, in_value, in_word, chars_next, in_chars, in_figure, in_after, in_first, in_key, key_chars_next, in_key_chars, in_behind_key, failed, step, ended, onward, finish, walk, judgement, run}
+use Rattle.asl_json.specs.private.Machine.{next_part, may_end, grown, Mode, value, word, chars, figure, after, first, key, key_chars, behind_key, Next, go, stop, deepens, closes, in_judged, in_value, in_word, chars_next, in_chars, in_figure, in_after, in_first, in_key, key_chars_next, in_key_chars, in_behind_key, failed, step, ended, onward, finish, walk, judgement, run}
 use Rattle.asl_json.specs.Distinct.{Members, has_key}
 use Rattle.asl_json.specs.Open.{Frame, in_list, in_dict}
 use Rattle.asl_json.specs.Limits.{max_depth, Allowed, AllowedItems, AllowedMembers}

@@ -14,7 +14,7 @@ use Rattle.asl_json.specs.Distinct.{Members, has_key}
 use Rattle.asl_json.specs.Keys.{HasKeys, AreKeys, Knows, texts_in}
 use Rattle.asl_json.specs.View.{data_of, member_of, members_of}
 use Rattle.asl_json.specs.declared.value.Member.{Member}
-use Rattle.asl_json.specs.SameLaws.{bytes_refl}
+use Rattle.asl_json.specs.private.SameLaws.{bytes_refl}
 
 pub has_key-push : (k : List ℕ) (ms : Members) (m : List ℕ × Data) → has_key k (ms ++ m ∷ []) ≡ (has_key k ms || bytes_eq k m.0)
 has_key-push k [] m = or_off (bytes_eq k m.0)

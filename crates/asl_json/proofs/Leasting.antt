@@ -6,10 +6,10 @@ use Rattle.asl_json.specs.Data.{Data, number}
 use Rattle.asl_json.specs.Distinct.{Members, has_key}
 use Rattle.asl_json.specs.Grammar.{open_bracket, open_brace, is_space, IsText, IsPrefix}
 use Rattle.asl_json.specs.Text.{quote, backslash, letter_u, quad, SpellsChars, Lone, low, high, high_letter, high_first, high_second, lone_spelled}
-use Rattle.asl_json.specs.Chars.{bare, slash, in_text, broken, text_run}
+use Rattle.asl_json.specs.private.Chars.{bare, slash, in_text, broken, text_run}
 use Rattle.asl_json.proofs.Texts.{OpenText, chars_reach, run_lone}
 use Rattle.asl_json.specs.Limits.{max_depth}
-use Rattle.asl_json.specs.Machine.{Mode, value, chars, after, first, key, key_chars, Next, go, stop, deepens, in_value, in_chars, in_key, in_key_chars, fault, failed, step, onward, walk, judgement, run, reach}
+use Rattle.asl_json.specs.private.Machine.{Mode, value, chars, after, first, key, key_chars, Next, go, stop, deepens, in_value, in_chars, in_key, in_key_chars, fault, failed, step, onward, walk, judgement, run, reach}
 use Rattle.asl_json.specs.Number.{IsNumeral}
 use Rattle.asl_json.specs.Open.{Frame, in_list, IsOpen, opens, EndsAt, SyntaxAt, DepthAt, IsInString, LoneAt, DuplicateAt, NumberAt, FaultAt, AwaitsKey}
 use Rattle.asl_json.specs.declared.fault.Fault.{Fault}

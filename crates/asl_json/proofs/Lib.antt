@@ -30,3 +30,4 @@ pub mod Sounding
 pub mod Fitting
 pub mod Plainly
 pub mod Buffers
+pub mod Sharing

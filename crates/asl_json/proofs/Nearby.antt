@@ -5,7 +5,7 @@ use Rattle.asl_json.specs.Data.{Data, pairs}
 use Rattle.asl_json.specs.Distinct.{Members, has_key, AreDistinct}
 use Rattle.asl_json.specs.Meaning.{value_at}
 use Rattle.asl_json.specs.Same.{bytes_eq}
-use Rattle.asl_json.specs.SameLaws.{bytes_refl}
+use Rattle.asl_json.specs.private.SameLaws.{bytes_refl}
 use Rattle.std.proofs.lemmas.List.{get_or-map, length-map}
 use Rattle.asl_json.specs.View.{data_of, member_of, members_of}
 use Rattle.asl_json.specs.declared.value.Member.{Member}

@@ -3,9 +3,9 @@ use Rattle.std.proofs.Common.{◌≡◌, ℕ, zero, suc, ◌+◌, ◌≤◌, ◌
 use Rattle.std.proofs.lemmas.List.{length-append, take-append-drop}
 use Rattle.asl_json.specs.Data.{number}
 use Rattle.asl_json.specs.Number.{IsNumeral, is_over}
-use Rattle.asl_json.specs.Machine.{value, figure, after, next_part, may_end, in_judged, in_figure, failed, walk, judgement, run}
+use Rattle.asl_json.specs.private.Machine.{value, figure, after, next_part, may_end, in_judged, in_figure, failed, walk, judgement, run}
 use Rattle.asl_json.specs.Open.{Frame, EndsNumber}
-use Rattle.asl_json.specs.Leads.{begins, IsNumberFront}
+use Rattle.asl_json.specs.private.Leads.{begins, IsNumberFront}
 use Rattle.asl_json.specs.declared.fault.Kind.TheVariants.{Syntax, Number}
 use Rattle.asl_json.specs.declared.number.Part.{Part}
 use Rattle.asl_json.specs.declared.number.Part.TheVariants.{Start}

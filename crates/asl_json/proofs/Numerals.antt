@@ -2,7 +2,7 @@
 use Rattle.std.proofs.Common.{◌≡◌, ℕ, Bool, true, false, cond, ◌==◌, List, [], ◌∷◌, ◌++◌, Option, Some, None, refl, sym, ap, subst, ◌∙◌, append_assoc, arith, ◌⊎◌, inl, inr}
 use Rattle.std.proofs.lemmas.Bool.{eqb-true}
 use Rattle.asl_json.specs.Number.{is_digit, is_point, is_mark, is_sign, AreDigits, IsDigits, unsigned, IsInt, IsFrac, IsExp, IsUnsigned, IsNumeral}
-use Rattle.asl_json.specs.Machine.{leading, marked, pointed, next_part, part_behind, may_end}
+use Rattle.asl_json.specs.private.Machine.{leading, marked, pointed, next_part, part_behind, may_end}
 use Rattle.asl_json.specs.Open.{EndsNumber}
 use Rattle.asl_json.specs.declared.number.Part.{Part}
 use Rattle.asl_json.specs.declared.number.Part.TheVariants.{Start, Minus, Nought, Whole, Point, Fraction, Mark, Sign, Exponent}

@@ -5,14 +5,14 @@ use Rattle.std.proofs.lemmas.Bool.{eqb-true}
 use Rattle.asl_json.specs.Data.{Data, null, boolean, number, text, list, dict, Chain, no_items, item, chain, Pairs, no_members, member, pairs}
 use Rattle.asl_json.specs.Grammar.{comma, colon, open_bracket, close_bracket, open_brace, close_brace, null_word, true_word, false_word, is_space, AreSpaces, SpellsKey, Padded, IsMember, Spells, SpellsItems, SpellsMoreItems, SpellsMembers, SpellsMore, IsText}
 use Rattle.asl_json.specs.Text.{quote, SpellsChars, SpellsText}
-use Rattle.asl_json.specs.Chars.{Within, bare, Inside, goes, ends, breaks, lone, in_text}
+use Rattle.asl_json.specs.private.Chars.{Within, bare, Inside, goes, ends, breaks, lone, in_text}
 use Rattle.asl_json.proofs.Texts.{inside_then, text_reach, goes_is, chars_reach}
 use Rattle.asl_json.specs.Number.{is_digit, is_point, is_mark, is_sign, IsNumeral, is_over}
-use Rattle.asl_json.specs.Machine.{leading, marked, pointed, next_part, part_behind, may_end, Mode, value, word, chars, figure, after, first, key, key_chars, behind_key, go, deepens, closes, in_judged, in_value, in_word, chars_next, in_chars, in_figure, in_after, in_first, in_key, key_chars_next, in_key_chars, in_behind_key, step, Outcome, onward, walk, judgement, run}
+use Rattle.asl_json.specs.private.Machine.{leading, marked, pointed, next_part, part_behind, may_end, Mode, value, word, chars, figure, after, first, key, key_chars, behind_key, go, deepens, closes, in_judged, in_value, in_word, chars_next, in_chars, in_figure, in_after, in_first, in_key, key_chars_next, in_key_chars, in_behind_key, step, Outcome, onward, walk, judgement, run}
 use Rattle.asl_json.specs.Distinct.{Members, has_key}
 use Rattle.asl_json.specs.Open.{Frame, in_list, in_dict}
 use Rattle.asl_json.specs.Limits.{Allowed, AllowedItems, AllowedMembers}
-use Rattle.asl_json.specs.Leads.{begins}
+use Rattle.asl_json.specs.private.Leads.{begins}
 use Rattle.asl_json.specs.declared.number.Part.{Part}
 use Rattle.asl_json.specs.declared.number.Part.TheVariants.{Start, Minus, Nought, Whole, Point, Fraction, Mark, Sign, Exponent}
 use Rattle.asl_json.proofs.Numerals.{part_none, some_is, IsPart, numeral_accepted, numeral_some}

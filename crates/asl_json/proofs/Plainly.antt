@@ -1,7 +1,7 @@
 -- The amount of a number that has no exponent and few digits behind the point.
 use Rattle.std.proofs.Common.{◌≡◌, ℕ, ◌+◌, ◌-◌, ◌*◌, ◌^◌, ◌/◌, ◌%◌, ◌≤◌, ◌<◌, List, [], ◌++◌, length, sym, ap, subst, ◌∙◌, arith}
 use Rattle.asl_json.specs.Number.{digits_value, lowered, amount_limit}
-use Rattle.asl_json.specs.Places.{IsAmount, IsBeyond, dividend_of, divisor_of}
+use Rattle.asl_json.specs.private.Places.{IsAmount, IsBeyond, dividend_of, divisor_of}
 use Rattle.asl_json.proofs.Amounts.{whole_rest, whole_quotient, scaled_above}
 
 -- what its digits mean in units

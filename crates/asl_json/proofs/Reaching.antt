@@ -6,9 +6,9 @@ use Rattle.asl_json.specs.Data.{Data, null, boolean, number, text, list, dict, n
 use Rattle.asl_json.specs.Number.{IsNumeral, is_over}
 use Rattle.asl_json.specs.Grammar.{comma, colon, open_bracket, close_bracket, open_brace, close_brace, is_space, AreSpaces, SpellsKey, Padded, IsMember, Joined, Behind, Spells, SpellsItems, SpellsMoreItems, SpellsMembers, SpellsMore}
 use Rattle.asl_json.specs.Text.{quote, SpellsChars, SpellsText, Lone, IsLone, lone_spelled}
-use Rattle.asl_json.specs.Chars.{Within, bare, Inside, goes, ends, breaks, lone, in_text}
+use Rattle.asl_json.specs.private.Chars.{Within, bare, Inside, goes, ends, breaks, lone, in_text}
 use Rattle.asl_json.proofs.Texts.{OpenText, TextHolds, LoneEnd, text_opens, text_step}
-use Rattle.asl_json.specs.Machine.{next_part, may_end, grown, Mode, value, word, chars, figure, after, first, key, key_chars, behind_key, Next, go, stop, deepens, closes, in_judged, in_value, in_word, chars_next, in_chars, in_figure, in_after, in_first, in_key, key_chars_next, in_key_chars, in_behind_key, step}
+use Rattle.asl_json.specs.private.Machine.{next_part, may_end, grown, Mode, value, word, chars, figure, after, first, key, key_chars, behind_key, Next, go, stop, deepens, closes, in_judged, in_value, in_word, chars_next, in_chars, in_figure, in_after, in_first, in_key, key_chars_next, in_key_chars, in_behind_key, step}
 use Rattle.asl_json.specs.Distinct.{Members, has_key}
 use Rattle.asl_json.specs.Limits.{max_depth}
 use Rattle.asl_json.specs.Open.{EndsNumber, Frame, in_list, in_dict, SpellsFrontItems, OpensItem, SpellsFront, Opened, OpensMember, IsOpen, AwaitsKey, IsInString, opens}

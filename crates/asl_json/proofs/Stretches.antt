@@ -5,14 +5,14 @@ use Rattle.std.proofs.lemmas.Bool.{or_parts}
 use Rattle.asl_json.specs.Data.{Data, null, boolean, text, list, dict, chain, pairs}
 use Rattle.asl_json.specs.Grammar.{comma, colon, open_bracket, close_bracket, open_brace, close_brace, is_space, AreSpaces}
 use Rattle.asl_json.specs.Text.{quote, SpellsChars}
-use Rattle.asl_json.specs.Chars.{Within, bare, Inside, goes, ends, breaks, lone, in_text, Textual, closed, broken, text_onward, text_run}
+use Rattle.asl_json.specs.private.Chars.{Within, bare, Inside, goes, ends, breaks, lone, in_text, Textual, closed, broken, text_onward, text_run}
 use Rattle.asl_json.proofs.Texts.{chars_reach, run_reach, run_step}
-use Rattle.asl_json.specs.Machine.{Mode, value, word, chars, after, first, key, key_chars, behind_key, Next, go, stop, leading, next_part, grown, deepens, closes, in_value, in_word, chars_next, in_chars, in_after, in_first, in_key, key_chars_next, in_key_chars, in_behind_key, fault, failed, step, onward, walk, judgement, run}
+use Rattle.asl_json.specs.private.Machine.{Mode, value, word, chars, after, first, key, key_chars, behind_key, Next, go, stop, leading, next_part, grown, deepens, closes, in_value, in_word, chars_next, in_chars, in_after, in_first, in_key, key_chars_next, in_key_chars, in_behind_key, fault, failed, step, onward, walk, judgement, run}
 use Rattle.asl_json.specs.Distinct.{Members, has_key}
 use Rattle.asl_json.specs.Limits.{max_depth}
 use Rattle.asl_json.specs.Open.{Frame, in_list, in_dict}
 use Rattle.asl_json.specs.Number.{is_digit}
-use Rattle.asl_json.specs.Leads.{Fails, Breaks, NoSpaceFirst, begins, FirstIsNot, NotClosed, WantsValue, Skips}
+use Rattle.asl_json.specs.private.Leads.{Fails, Breaks, NoSpaceFirst, begins, FirstIsNot, NotClosed, WantsValue, Skips}
 use Rattle.asl_json.specs.declared.number.Part.TheVariants.{Start}
 use Rattle.asl_json.specs.declared.fault.Fault.{Fault}
 use Rattle.asl_json.specs.declared.fault.Stop.{Stop}

@@ -5,7 +5,7 @@ use Rattle.std.proofs.lemmas.Bool.{and_from, and_parts, eq-eqb, eqb-true, false_
 use Rattle.std.specs.Char.{digit_value}
 use Rattle.std.specs.Char.Utf16.{is_high_surrogate, is_low_surrogate, surrogate_pair_char}
 use Rattle.asl_json.specs.Text.{quote, backslash, letter_u, is_plain, is_letter, is_hex, Quad, quad, digits_of, AreHex, unit_of, begins_low, Piece, plain, short, single, pair, IsPiece, escape, spelled, meant, ArePieces, all_spelled, all_meant, SpellsChars, SpellsText, Lone, low, high, high_letter, high_first, high_second, IsHigh, IsLone, lone_spelled}
-use Rattle.asl_json.specs.Chars.{Within, bare, slash, unit_0, unit_1, unit_2, unit_3, half, half_slash, low_0, low_1, low_2, low_3, Inside, goes, ends, breaks, lone, on_unit, in_text, closed, told, text_onward, text_run}
+use Rattle.asl_json.specs.private.Chars.{Within, bare, slash, unit_0, unit_1, unit_2, unit_3, half, half_slash, low_0, low_1, low_2, low_3, Inside, goes, ends, breaks, lone, on_unit, in_text, closed, told, text_onward, text_run}
 use Rattle.asl_json.specs.declared.fault.Kind.TheVariants as kinds
 
 -- ---- bytes

@@ -3,7 +3,7 @@ use Rattle.std.proofs.Common.{◌≡◌, false, ℕ, true, List, [], ◌∷◌, 
 use Rattle.std.proofs.lemmas.List.{map_push}
 use Rattle.asl_json.specs.Data.{Data}
 use Rattle.asl_json.specs.View.{data_of, items_of, member_of, members_of}
-use Rattle.asl_json.specs.Machine.{value, after, first, key, run}
+use Rattle.asl_json.specs.private.Machine.{value, after, first, key, run}
 use Rattle.asl_json.specs.Open.{Frame, in_dict}
 use Rattle.asl_json.specs.Distinct.{has_key, AreDistinct, distinct_push}
 use Rattle.asl_json.specs.declared.value.Json.{Json}

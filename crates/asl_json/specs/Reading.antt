@@ -3,7 +3,7 @@ use Rattle.std.specs.Prelude.{◌≡◌, ℕ, List, [], length, nat_lt, true, Op
 use Rattle.std.specs.Result.{result_ok}
 use Rattle.asl_json.specs.Data.{Data}
 use Rattle.asl_json.specs.Limits.{max_len}
-use Rattle.asl_json.specs.Machine.{value, run}
+use Rattle.asl_json.specs.private.Machine.{value, run}
 use Rattle.asl_json.specs.declared.fault.JsonFault.{JsonFault}
 use Rattle.asl_json.specs.declared.fault.JsonFault.TheVariants.{Syntax, Duplicate, Depth, Number, Size, Utf8, OutOfMemory}
 

@@ -1,9 +1,9 @@
 // Reaching a part of a value, to read it or to change it in place.
-ghost use Rattle.std.specs.Prelude.{◌≡◌, ◌∷◌, ◌++◌, ◌<◌, [], false, length, option_map, slice_get, OnOk, OnErr};
+ghost use Rattle.std.specs.Prelude.{◌≡◌, ◌∷◌, ◌++◌, ◌<◌, [], false, length, option_map, slice_get, IfOk, OnOk, OnErr};
 ghost use Rattle.asl_json.specs.View.{data_of, items_of, members_of};
 ghost use Rattle.asl_json.specs.Distinct.{has_key, AreDistinct};
 ghost use Rattle.asl_json.specs.Access.{key_index};
-ghost use Rattle.asl_json.specs.Lending.{LendsValue, LendsItem};
+ghost use Rattle.asl_json.specs.private.Lending.{LendsValue, LendsItem};
 ghost use Rattle.std.specs.Borrow.{sem};
 
 use crate::value::{Items, Json, Member, Members, Txt};
@@ -17,6 +17,15 @@ impl Members {
         Members {
             members: Vec::new(alloc),
         }
+    }
+
+    /// No members, with room for so many. The error is that memory ran out.
+    pub fn with_capacity(alloc: Global, capacity: usize) -> Result<Members, AllocError>
+        ensures { IfOk result (λ m. m ≡ []) }
+    {
+        Ok(Members {
+            members: Vec::with_capacity(alloc, capacity)?,
+        })
     }
 
     /// The members, in order.

@@ -54,7 +54,7 @@ fn equals_members(a: &Members, b: &Members) -> bool
 }
 
 impl PartialEq for Json {
-    ghost use Rattle.asl_json.specs.SameLaws.{json_equal, json_laws};
+    ghost use Rattle.asl_json.specs.private.SameLaws.{json_equal, json_laws};
 
     ghost eq = { json_equal };
 
@@ -66,7 +66,7 @@ impl PartialEq for Json {
 }
 
 impl Eq for Json {
-    ghost use Rattle.asl_json.specs.SameLaws.{json_equivalence};
+    ghost use Rattle.asl_json.specs.private.SameLaws.{json_equivalence};
 
     ghost laws = { json_equivalence };
 }

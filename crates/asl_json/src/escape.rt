@@ -5,9 +5,9 @@ ghost use Rattle.std.specs.Str.{IsUtf8};
 ghost use Rattle.std.specs.Char.{InScalarRange};
 ghost use Rattle.std.specs.Char.Utf16.{is_high_surrogate as spec_high, is_low_surrogate as spec_low, surrogate_pair_char};
 ghost use Rattle.asl_json.specs.Text.{quote, backslash, letter_u, is_plain as spec_plain, is_letter, letter_value, Quad};
-ghost use Rattle.asl_json.specs.Chars.{Within, bare, slash, unit_0, half, half_slash, low_0, WantsHex, text_run};
-ghost use Rattle.asl_json.specs.Machine.{fault};
-ghost use Rattle.asl_json.specs.Leads.{FirstIsNot, HexFirst, Breaks, IsUnit, IsLowUnit, IsPartner};
+ghost use Rattle.asl_json.specs.private.Chars.{Within, bare, slash, unit_0, half, half_slash, low_0, WantsHex, text_run};
+ghost use Rattle.asl_json.specs.private.Machine.{fault};
+ghost use Rattle.asl_json.specs.private.Leads.{FirstIsNot, HexFirst, Breaks, IsUnit, IsLowUnit, IsPartner};
 
 use crate::fault::{Fault, Kind, Stop};
 use crate::front::{after_byte, first_byte, is_plain, syntax};

@@ -3,8 +3,8 @@ ghost use Rattle.std.specs.Prelude.{◌≡◌, ◌<◌, ◌≤◌, ◌∷◌, �
 ghost use Rattle.std.specs.Str.{IsUtf8};
 ghost use Rattle.asl_json.specs.Grammar.{is_space as spec_space, AreSpaces};
 ghost use Rattle.asl_json.specs.Text.{is_plain as spec_plain, ArePlain};
-ghost use Rattle.asl_json.specs.Machine.{fault};
-ghost use Rattle.asl_json.specs.Leads.{Skips, FirstIsNot, NoPlainFirst};
+ghost use Rattle.asl_json.specs.private.Machine.{fault};
+ghost use Rattle.asl_json.specs.private.Leads.{Skips, FirstIsNot, NoPlainFirst};
 
 use crate::fault::{Fault, Kind, Stop};
 use crate::value::Txt;
@@ -174,7 +174,7 @@ pub(crate) fn txt(alloc: Global, bytes: &[u8]) -> Result<Txt, AllocError>
     requires { IsUtf8 bytes.now }
     ensures { IfOk result (λ t. t ≡ bytes.now) }
 {
-    Ok(Txt::new(String::from_str(alloc, as_text(bytes))?))
+    Txt::of(alloc, as_text(bytes))
 }
 
 /// Appends bytes to a text.

@@ -32,7 +32,7 @@ pub use keys::Keys;
 pub use number::{Part, longest_number};
 pub use pointer::Pointer;
 pub use sameness::same;
-pub use shared::{Name, Shared};
+pub use shared::{Name, Shared, SharedItems};
 pub use sound::every_value_is_sound;
 pub use value::{Dec, Items, Json, Member, Members, Txt, clone_text};
 pub use writing::{put, put_quoted, write};

@@ -4,8 +4,8 @@ ghost use Rattle.std.specs.Str.{IsUtf8};
 ghost use Rattle.asl_json.specs.Data.{number as spec_number};
 ghost use Rattle.asl_json.specs.Number.{is_digit as spec_digit, IsNumeral, is_over};
 ghost use Rattle.asl_json.specs.Open.{Frame};
-ghost use Rattle.asl_json.specs.Machine.{value, after, run, leading as spec_leading, marked as spec_marked, pointed as spec_pointed, next_part as spec_next, part_behind, may_end as spec_end};
-ghost use Rattle.asl_json.specs.Leads.{Fails, Leads, begins, IsNumberFront};
+ghost use Rattle.asl_json.specs.private.Machine.{value, after, run, leading as spec_leading, marked as spec_marked, pointed as spec_pointed, next_part as spec_next, part_behind, may_end as spec_end};
+ghost use Rattle.asl_json.specs.private.Leads.{Fails, Leads, begins, IsNumberFront};
 
 use crate::fault::{Fault, Kind, Stop};
 use crate::front::{as_text, syntax};
@@ -52,7 +52,7 @@ pub(crate) fn begins_number(bytes: &[u8]) -> bool
 }
 
 /// How a number goes on with its first digit.
-#[tactic(auto, unfolding(crate::specs::Machine::leading))]
+#[tactic(auto, unfolding(crate::specs::private::Machine::leading))]
 fn leading(byte: u8) -> Option<Part>
     ensures { result ≡ spec_leading byte }
 {
@@ -67,7 +67,7 @@ fn leading(byte: u8) -> Option<Part>
 }
 
 /// How it goes on with an exponent.
-#[tactic(auto, unfolding(crate::specs::Machine::marked))]
+#[tactic(auto, unfolding(crate::specs::private::Machine::marked))]
 fn marked(byte: u8) -> Option<Part>
     ensures { result ≡ spec_marked byte }
 {
@@ -79,7 +79,7 @@ fn marked(byte: u8) -> Option<Part>
 }
 
 /// How it goes on with a point or an exponent.
-#[tactic(auto, unfolding(crate::specs::Machine::pointed))]
+#[tactic(auto, unfolding(crate::specs::private::Machine::pointed))]
 fn pointed(byte: u8) -> Option<Part>
     ensures { result ≡ spec_pointed byte }
 {
@@ -90,7 +90,7 @@ fn pointed(byte: u8) -> Option<Part>
 }
 
 /// How much of a number there is behind one byte more, where a number may go on with it.
-#[tactic(auto, unfolding(crate::specs::Machine::next_part))]
+#[tactic(auto, unfolding(crate::specs::private::Machine::next_part))]
 fn next_part(part: Part, byte: u8) -> Option<Part>
     ensures { result ≡ spec_next part byte }
 {

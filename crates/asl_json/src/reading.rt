@@ -8,9 +8,9 @@ ghost use Rattle.asl_json.specs.View.{data_of, members_of};
 ghost use Rattle.asl_json.specs.Distinct.{has_key};
 ghost use Rattle.asl_json.specs.Limits.{max_depth};
 ghost use Rattle.asl_json.specs.Open.{Frame, in_list, in_dict};
-ghost use Rattle.asl_json.specs.Machine.{fault, value, key, first, after, word, run};
-ghost use Rattle.asl_json.specs.Leads.{NoSpaceFirst, begins, FirstIsNot, NotClosed, WantsValue, Breaks, Leads};
-ghost use Rattle.asl_json.specs.Chars.{bare, closed, text_run};
+ghost use Rattle.asl_json.specs.private.Machine.{fault, value, key, first, after, word, run};
+ghost use Rattle.asl_json.specs.private.Leads.{NoSpaceFirst, begins, FirstIsNot, NotClosed, WantsValue, Breaks, Leads};
+ghost use Rattle.asl_json.specs.private.Chars.{bare, closed, text_run};
 ghost use Rattle.asl_json.specs.Keys.{Knows};
 
 use crate::escape::escaped;

@@ -1,7 +1,7 @@
 // What numbers mean, in units of 10^-9.
 ghost use Rattle.std.specs.Prelude.{◌≡◌, ℕ, ◌+◌, ◌*◌, ◌-◌, ◌^◌, ◌<◌, ◌≤◌, ◌++◌, [], min, true, false, cond, pos, neg_ℤ, length, take, drop, slice_index, IfSome, MatchOption};
 ghost use Rattle.asl_json.specs.Number.{is_digit as spec_digit, is_point as spec_point, is_mark as spec_mark, is_sign as spec_sign, AreDigits, IsNumeral, is_negative as spec_negative, magnitude, unsigned as spec_unsigned, before, behind, raised as spec_raised, lowered as spec_lowered, digits_value, amount_limit, is_over, units_of};
-ghost use Rattle.asl_json.specs.Places.{AreZeros, EndsAboveZero, IsStripped, IsShifted, IsUnshiftable, IsAmount, IsBeyond};
+ghost use Rattle.asl_json.specs.private.Places.{AreZeros, EndsAboveZero, IsStripped, IsShifted, IsUnshiftable, IsAmount, IsBeyond};
 
 /// How many bytes a number may have.
 const MAX_LEN: usize = 40;

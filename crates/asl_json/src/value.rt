@@ -118,7 +118,7 @@ pub struct Member {
 impl Model for Items {
     ghost use Rattle.std.specs.Prelude.{List};
     ghost use Rattle.asl_json.specs.Data.{Data, items_size};
-    ghost use Rattle.asl_json.specs.Code.{coded_items};
+    ghost use Rattle.asl_json.specs.private.Code.{coded_items};
 
     ghost Value = { List Data };
 
@@ -130,7 +130,7 @@ impl Model for Items {
 
     ghost size = { items_size };
 
-    ghost use Rattle.asl_json.specs.Falls.{items_fall};
+    ghost use Rattle.asl_json.specs.private.Falls.{items_fall};
 
     ghost size_decreases = { λ a h. items_fall a.values.items };
 }
@@ -138,7 +138,7 @@ impl Model for Items {
 impl Model for Members {
     ghost use Rattle.std.specs.Prelude.{List, [], ℕ};
     ghost use Rattle.asl_json.specs.Data.{Data, members_size};
-    ghost use Rattle.asl_json.specs.Code.{coded_members};
+    ghost use Rattle.asl_json.specs.private.Code.{coded_members};
 
     ghost Value = { List (List ℕ × Data) };
 
@@ -154,7 +154,7 @@ impl Model for Members {
 
     ghost size = { members_size };
 
-    ghost use Rattle.asl_json.specs.Falls.{members_fall};
+    ghost use Rattle.asl_json.specs.private.Falls.{members_fall};
 
     ghost size_decreases = { λ a h. members_fall a.members.items };
 }
@@ -164,6 +164,15 @@ impl Txt {
         ensures { result ≡ string_bytes string }
     {
         Txt { string }
+    }
+
+    /// A copy of a text. The error is that memory ran out.
+    pub fn of(alloc: Global, text: &str) -> Result<Txt, AllocError>
+        ensures { IfOk result (λ t. t ≡ text.now) }
+    {
+        Ok(Txt {
+            string: String::from_str(alloc, text)?,
+        })
     }
 
     pub fn as_str(&self) -> &str
@@ -191,9 +200,7 @@ impl Txt {
     pub fn try_clone(&self, alloc: Global) -> Result<Txt, AllocError>
         ensures { IfOk result (λ t. t ≡ self.now) }
     {
-        Ok(Txt {
-            string: String::from_str(alloc, self.as_str())?,
-        })
+        Txt::of(alloc, self.as_str())
     }
 }
 
@@ -337,7 +344,7 @@ impl Items {
     pub fn try_clone(&self, alloc: Global) -> Result<Items, AllocError>
         ensures { IfOk result (λ v. v ≡ self.now) }
     {
-        let mut values = Vec::new(alloc);
+        let mut values = Vec::with_capacity(alloc, self.len())?;
         for v in &self.values {
             values.push(v.try_clone(alloc)?)?;
         }
@@ -350,7 +357,7 @@ impl Members {
     pub fn try_clone(&self, alloc: Global) -> Result<Members, AllocError>
         ensures { IfOk result (λ v. v ≡ self.now) }
     {
-        let mut members = Vec::new(alloc);
+        let mut members = Vec::with_capacity(alloc, self.members.len())?;
         for m in &self.members {
             let key = m.key.try_clone(alloc)?;
             let value = m.value.try_clone(alloc)?;

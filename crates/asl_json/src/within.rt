@@ -4,7 +4,7 @@ ghost use Rattle.asl_json.specs.View.{data_of};
 ghost use Rattle.asl_json.specs.Data.{pairs, chain};
 ghost use Rattle.asl_json.specs.Text.{is_plain};
 ghost use Rattle.asl_json.specs.Compact.{separator, escaped_byte, escaped, quoted, compact, compact_items, compact_members};
-ghost use Rattle.asl_json.specs.Room.{Leaves};
+ghost use Rattle.asl_json.specs.private.Room.{Leaves};
 
 use crate::front::{first_byte, split_plain};
 use crate::value::{Items, Json, Members};

@@ -7,7 +7,7 @@ ghost use Rattle.asl_json.specs.Text.{backslash, is_plain};
 ghost use Rattle.std.specs.Char.{digit_char};
 ghost use Rattle.std.specs.Str.{IsUtf8};
 ghost use Rattle.std.specs.String.Boundary.{IsSplitPoint};
-ghost use Rattle.asl_json.specs.Buffers.{Keeps};
+ghost use Rattle.asl_json.specs.private.Buffers.{Keeps};
 ghost use Rattle.asl_json.specs.Wrong.{ReadsAs};
 ghost use Rattle.asl_json.specs.Compact.{separator, escaped_control, escaped_byte, escaped, quoted, compact, compact_items, compact_members, IsReadable};
 

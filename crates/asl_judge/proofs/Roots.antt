@@ -4,7 +4,7 @@ use Rattle.std.specs.Prelude.{Some, None, Option, Result, Ok, Err, is_some, true
 use Rattle.asl_path.specs.declared.step.Root.{Root}
 use Rattle.asl_path.specs.declared.step.Root.TheVariants.{Input, Context}
 use Rattle.asl_path.specs.declared.step.Step.{Step}
-use Rattle.asl_path.specs.Steps.{steps}
+use Rattle.asl_path.specs.private.Steps.{steps}
 use Rattle.asl_path.specs.Grammar.{IsPath, StartsFrom}
 use Rattle.asl_path.specs.Faults.{FaultAt}
 use Rattle.asl_path.proofs.Passing.{path_passes}

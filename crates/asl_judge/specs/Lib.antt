@@ -1,2 +1,2 @@
-pub mod Spots
 pub mod Laws
+pub mod private

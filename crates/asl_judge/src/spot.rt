@@ -1,6 +1,6 @@
 // Where a value stands.
 ghost use Rattle.std.specs.Prelude.{◌≡◌};
-ghost use Rattle.asl_judge.specs.Spots.{spot_of};
+ghost use Rattle.asl_judge.specs.private.Spots.{spot_of};
 ghost use Rattle.asl_schema.specs.Claims.{one_deeper, at_item as spec_at_item, max_machines};
 
 use std::collections::HashSet;

@@ -2,7 +2,7 @@
 ghost use Rattle.std.specs.Prelude.{◌++◌, ℕ, List, IfOk};
 ghost use Rattle.asl_json.specs.View.{data_of};
 ghost use Rattle.asl_json.specs.Data.{pairs, chain};
-ghost use Rattle.asl_schema.specs.Code.{shape_seen};
+ghost use Rattle.asl_schema.specs.private.Code.{shape_seen};
 ghost use Rattle.asl_schema.specs.Members.{sort_at as spec_sort_at};
 ghost use Rattle.asl_schema.specs.States.{Has, Finds, own_name, states_in, item_states, member_states};
 

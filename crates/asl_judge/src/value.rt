@@ -4,7 +4,7 @@ ghost use Rattle.asl_json.specs.Whole.{whole_of};
 ghost use Rattle.asl_json.specs.Number.{units_of};
 ghost use Rattle.asl_json.specs.View.{data_of};
 ghost use Rattle.asl_json.specs.Data.{chain};
-ghost use Rattle.asl_judge.specs.Spots.{spot_of};
+ghost use Rattle.asl_judge.specs.private.Spots.{spot_of};
 ghost use Rattle.asl_schema.specs.Demands.{form_of as spec_form_of, is_of as spec_is_of, path, place, call, timestamp};
 ghost use Rattle.asl_schema.specs.Claims.{root_in, is_input as spec_is_input, is_name as spec_is_name, is_jitter as spec_is_jitter, path_or_call, is_template as spec_is_template, is_nonempty as spec_is_nonempty, item_count, has_all as spec_has_all, is_last as spec_is_last, spot_demands, form_demand, text_demands, number_demands, list_demands, value_demands, demands, is_between_whole, is_between, is_list as spec_is_list, is_object as spec_is_object};
 ghost use Rattle.asl_schema.specs.First.{Judges, sooner as spec_sooner, unless as spec_unless};

@@ -1,6 +1,8 @@
 -- The iterations of a Map, one after another.
-use Rattle.std.proofs.Common.{ℕ, ◌≡◌, ◌+◌, List, [], ◌∷◌, ◌++◌, refl, sym, ap, append_assoc, append-nil}
-use Rattle.std.specs.Prelude.{Option, Ok, Err, codes}
+use Rattle.std.proofs.Common.{ℕ, ◌≡◌, ◌≤◌, ◌+◌, ◌∙◌, List, [], ◌∷◌, ◌++◌, drop, length, refl, sym, ap, append_assoc, append-nil}
+use Rattle.std.specs.Prelude.{Option, Some, Ok, Err, codes, slice_get}
+use Rattle.std.proofs.lemmas.List.{drop_more, drop_all}
+use Rattle.std.proofs.lemmas.Option.{slice_get_within, get_or_from_slice_get}
 use Rattle.asl_json.specs.Data.{Data}
 use Rattle.asl_json.specs.declared.value.Json.{Json}
 use Rattle.asl_steps.specs.declared.facts.Facts.{Facts}
@@ -14,6 +16,10 @@ use Rattle.asl_handle.specs.Decisions.{items_in}
 use Rattle.asl_history.specs.declared.kind.EventKind.TheVariants.{MapStateStarted}
 use Rattle.asl_steps.specs.declared.effect.Progress.{Progress}
 use Rattle.asl_steps.specs.Rows.{forking, telling}
+use Rattle.asl_data.specs.Gives.{Gives}
+use Rattle.asl_data.specs.Paths.{Given}
+use Rattle.asl_data.specs.declared.fault.Fault.{Fault}
+use Rattle.asl_data.specs.declared.fault.Fault.TheVariants.{Memory, Raised}
 use Rattle.asl_kinds.specs.Forks.{GivenRecords, new_before, item_input, iterations}
 use Rattle.asl_kinds.specs.Table.{length_body, map_forks}
 
@@ -23,18 +29,33 @@ behind done (Ok rs) = Ok (done ++ rs)
 behind done (Err e) = Err e
 
 -- one more is made
-pub one-made : (done : List Record) (start : List ℕ) (x : Json) (others : GivenRecords) → behind done (new_before start (Ok x) others) ≡ behind (done ++ New start x ∷ []) others
+one-made : (done : List Record) (start : List ℕ) (x : Json) (others : GivenRecords) → behind done (new_before start (Ok x) others) ≡ behind (done ++ New start x ∷ []) others
 one-made done start x (Ok rs) = ap (λ (z : List Record). Ok z) (sym (append_assoc done (New start x ∷ []) rs))
 one-made done start x (Err e) = refl
 
-pub next-made : (done : List Record) (start : List ℕ) (t : Option Data) (y : Json) (f : Facts) (v : Seen) (i : ℕ) (d : Data) (ds : List Data) (x : Json) → item_input t y f v i d ≡ Ok x → behind done (iterations start t y f v i (d ∷ ds)) ≡ behind (done ++ New start x ∷ []) (iterations start t y f v (i + 1) ds)
+next-made : (done : List Record) (start : List ℕ) (t : Option Data) (y : Json) (f : Facts) (v : Seen) (i : ℕ) (d : Data) (ds : List Data) (x : Json) → item_input t y f v i d ≡ Ok x → behind done (iterations start t y f v i (d ∷ ds)) ≡ behind (done ++ New start x ∷ []) (iterations start t y f v (i + 1) ds)
 next-made done start t y f v i d ds x e = rw e (one-made done start x (iterations start t y f v (i + 1) ds))
 
-pub next-fails : (done : List Record) (start : List ℕ) (t : Option Data) (y : Json) (f : Facts) (v : Seen) (i : ℕ) (d : Data) (ds : List Data) (e : ErrorOut) → item_input t y f v i d ≡ Err e → behind done (iterations start t y f v i (d ∷ ds)) ≡ Err e
+next-fails : (done : List Record) (start : List ℕ) (t : Option Data) (y : Json) (f : Facts) (v : Seen) (i : ℕ) (d : Data) (ds : List Data) (e : ErrorOut) → item_input t y f v i d ≡ Err e → behind done (iterations start t y f v i (d ∷ ds)) ≡ Err e
 next-fails done start t y f v i d ds e is = rw is refl
 
-pub all-made : (done : List Record) (start : List ℕ) (t : Option Data) (y : Json) (f : Facts) (v : Seen) (i : ℕ) → behind done (iterations start t y f v i []) ≡ Ok done
-all-made done start t y f v i = ap (λ (z : List Record). Ok z) (append-nil done)
+-- the item of a number comes first of those from it on
+rest-with : (ds : List Data) (i : ℕ) (d : Data) → Some d ≡ slice_get ds i → drop i ds ≡ d ∷ drop (i + 1) ds
+rest-with ds i d e = drop_more ds i d (slice_get_within ds i d (sym e)) ∙ ap (λ (z : Data). z ∷ drop (i + 1) ds) (get_or_from_slice_get ds i d d (sym e))
+
+pub made-from : (done : List Record) (start : List ℕ) (t : Option Data) (y : Json) (f : Facts) (v : Seen) (i : ℕ) (d : Data) (ds : List Data) (x : Json) → Some d ≡ slice_get ds i → item_input t y f v i d ≡ Ok x → behind done (iterations start t y f v i (drop i ds)) ≡ behind (done ++ New start x ∷ []) (iterations start t y f v (i + 1) (drop (i + 1) ds))
+made-from done start t y f v i d ds x is e = rw (rest-with ds i d is) (next-made done start t y f v i d (drop (i + 1) ds) x e)
+
+pub fails-from : (done : List Record) (start : List ℕ) (t : Option Data) (y : Json) (f : Facts) (v : Seen) (i : ℕ) (d : Data) (ds : List Data) (e : ErrorOut) → Some d ≡ slice_get ds i → item_input t y f v i d ≡ Err e → behind done (iterations start t y f v i (drop i ds)) ≡ Err e
+fails-from done start t y f v i d ds e is fails = rw (rest-with ds i d is) (next-fails done start t y f v i d (drop (i + 1) ds) e fails)
+
+-- an input that can't be made is told of the iterations
+pub fault_told : (g : Given) (h : GivenRecords) (fault : Fault) → ((e : ErrorOut) → g ≡ Err e → h ≡ Err e) → Gives g (Err fault) → Gives h (Err fault)
+fault_told g h Memory more k = tt
+fault_told g h (Raised e) more k = more e k
+
+pub all-made : (done : List Record) (start : List ℕ) (t : Option Data) (y : Json) (f : Facts) (v : Seen) (i : ℕ) (ds : List Data) → length ds ≤ i → behind done (iterations start t y f v i (drop i ds)) ≡ Ok done
+all-made done start t y f v i ds past = rw (drop_all i ds past) (ap (λ (z : List Record). Ok z) (append-nil done))
 
 -- what a Map makes of its items is what its object says
 pub forked_over : (d : Data) (v : Seen) (done told : Progress) (started x : Json) (n : ℕ) (items : List Data) (rs : List Record)

@@ -1,4 +1,4 @@
 pub mod Members
 pub mod Forks
 pub mod Table
-pub mod Laws
+pub mod private

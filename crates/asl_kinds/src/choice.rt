@@ -98,7 +98,7 @@ impl StateKind for Choice {
     ghost use Rattle.std.specs.Prelude.{false};
     ghost use Rattle.asl_states.specs.Show.{choice_object};
     ghost use Rattle.asl_kinds.specs.Table.{choice_effect};
-    ghost use Rattle.asl_kinds.specs.Laws.{choice-lawful};
+    ghost use Rattle.asl_kinds.specs.private.Laws.{choice-lawful};
 
     ghost effect = { λ k. choice_effect (choice_object k) };
 

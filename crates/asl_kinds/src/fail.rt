@@ -76,7 +76,7 @@ impl StateKind for Fail {
     ghost use Rattle.std.specs.Prelude.{false};
     ghost use Rattle.asl_states.specs.Show.{fail_object};
     ghost use Rattle.asl_kinds.specs.Table.{fail_effect};
-    ghost use Rattle.asl_kinds.specs.Laws.{fail-lawful};
+    ghost use Rattle.asl_kinds.specs.private.Laws.{fail-lawful};
 
     ghost effect = { λ k. fail_effect (fail_object k) };
 

@@ -64,7 +64,7 @@ fn output_of(branch: &Record) -> Option<&Shared>
 fn outputs(alloc: Global, branches: &[&Record]) -> Result<Option<Items>, AllocError>
     ensures { IfOk result (λ o. o ≡ spec_outputs (map (λ r. r.now) branches.now)) }
 {
-    let mut outputs = Vec::new(alloc);
+    let mut outputs = Vec::with_capacity(alloc, branches.len())?;
     for branch in branches {
         let Some(output) = output_of(branch) else {
             return Ok(None);

@@ -15,9 +15,9 @@ ghost use Rattle.asl_steps.specs.declared.record.Record.TheVariants.{New};
 use crate::joining::{forked, join};
 use crate::kind::StateKind;
 use crate::raising::{count_of, raise};
-use asl_data::{Fault, copied, filled, missing, part_of, taken};
+use asl_data::{Fault, filled, missing, part_of, taken};
 use asl_history::EventKind;
-use asl_json::{Dec, Items, Json, Members, Name, Shared, Txt};
+use asl_json::{Dec, Json, Members, Name, Shared, SharedItems, Txt};
 use asl_states::Map;
 use asl_steps::{
     Context, Effect, Progress, Record, Records, Visit, beginning, forking, idle, telling,
@@ -46,12 +46,12 @@ fn list_of(
 }
 
 /// The items of a list that a Map can go over.
-fn listed(alloc: Global, list: &Json) -> Result<Items, Fault>
-    ensures given { Gives (spec_listed list.now) result }
+fn listed(alloc: Global, list: Shared) -> Result<SharedItems, Fault>
+    ensures given { Gives (spec_listed list) result }
     ensures few { IfOk result (λ ds. length ds ≤ 999_999_999) }
 {
-    match list {
-        Json::List(items) if items.len() <= MOST_ITEMS => Ok(items.try_clone(alloc)?),
+    match list.get() {
+        Json::List(items) if items.len() <= MOST_ITEMS => Ok(SharedItems::of(alloc, list)?),
         _ => Err(missing(alloc, "ItemsPath")),
     }
 }
@@ -62,22 +62,22 @@ fn item_input(
     template: Option<&Template>,
     effective: &Shared,
     number: u32,
-    item: &Json,
+    item: Shared,
     visit: &Visit,
     context: &mut Context,
 ) -> Result<Shared, Fault>
-    ensures given { Gives (item_input (option_map (λ t. t.now) template.entry) effective.now context.old.facts (seen visit.now) number (data_of item.now)) result }
+    ensures given { Gives (item_input (option_map (λ t. t.now) template.entry) effective.now context.old.facts (seen visit.now) number (data_of item)) result }
     ensures facts { context.new.facts ≡ context.old.facts }
 {
     let Some(template) = template else {
-        return Ok(copied(alloc, item)?);
+        return Ok(item);
     };
     let visit = Visit {
         place: visit.place,
         current: visit.current,
         children: visit.children,
         forker: visit.forker,
-        iteration: Some((number, item)),
+        iteration: Some((number, item.get())),
         invokes: visit.invokes,
         count: visit.count,
         case: visit.case,
@@ -106,7 +106,7 @@ fn iterations(
     start: &Name,
     template: Option<&Template>,
     effective: &Shared,
-    items: &Items,
+    items: &SharedItems,
     visit: &Visit,
     context: &mut Context,
 ) -> Result<Records, Fault>
@@ -115,25 +115,24 @@ fn iterations(
     ensures few { IfOk result (λ rs. length rs ≡ length items.now) }
     ensures facts { context.new.facts ≡ context.old.facts }
 {
-    let values = items.values();
-    let mut list = Vec::new(alloc);
-    let mut number = 0u32;
-    for item in values {
+    let count = items.values().len();
+    let mut list = Vec::with_capacity(alloc, count)?;
+    for number in 0..count as u32 {
+        let item = items.item(number)?;
         let input = item_input(alloc, template, effective, number, item, visit, context)?;
         add(&mut list, start, input)?;
-        number += 1;
     }
     Ok(Records { list })
 }
 
 /// What is told of the start: how many iterations there are.
-fn length_body(alloc: Global, items: &Items) -> Result<Shared, AllocError>
+fn length_body(alloc: Global, items: &SharedItems) -> Result<Shared, AllocError>
     requires { length items.now ≤ 999_999_999 }
     ensures { IfOk result (λ v. v ≡ spec_length_body items.now) }
 {
-    let mut members = Members::new(alloc);
-    let length = Json::Num(Dec::of_whole(alloc, items.len() as i128)?);
-    members.push(Txt::new(String::from_str(alloc, "length")?), length)?;
+    let mut members = Members::with_capacity(alloc, 1)?;
+    let length = Json::Num(Dec::of_whole(alloc, items.values().len() as i128)?);
+    members.push(Txt::of(alloc, "length")?, length)?;
     Ok(Shared::new(alloc, Json::Dict(members))?)
 }
 
@@ -144,14 +143,14 @@ fn fork_of(
     input: &Shared,
     visit: &Visit,
     context: &mut Context,
-) -> Result<(Items, Records), Fault>
+) -> Result<(SharedItems, Records), Fault>
     ensures given { Gives (spec_fork_of (map_object [] map.now) context.old.facts (seen visit.now) input.now) result }
     ensures few { IfOk result (λ r. (length r.0 ≤ 999_999_999) × (length r.1 ≡ length r.0)) }
     ensures facts { context.new.facts ≡ context.old.facts }
 {
     let effective = taken(alloc, "InputPath", map.input_path(), input, visit, context)?;
     let list = list_of(alloc, map, &effective, visit, context)?;
-    let items = listed(alloc, &list)?;
+    let items = listed(alloc, list)?;
     let start = Name::new(alloc, map.item_processor().start.name.as_str())?;
     let template = map.item_selector();
     let iterations = iterations(alloc, &start, template, &effective, &items, visit, context)?;
@@ -165,7 +164,7 @@ fn forks(
     visit: &Visit,
     done: Progress,
     input: &Shared,
-    items: Items,
+    items: SharedItems,
     iterations: Records,
 ) -> Result<Effect, AllocError>
     requires items { length items ≤ 999_999_999 }
@@ -208,7 +207,7 @@ impl StateKind for Map {
     ghost use Rattle.asl_kinds.specs.Table.{map_effect, limit_in};
     ghost use Rattle.asl_json.specs.Meaning.{value_in};
     ghost use Rattle.std.specs.Prelude.{codes};
-    ghost use Rattle.asl_kinds.specs.Laws.{map-bounded};
+    ghost use Rattle.asl_kinds.specs.private.Laws.{map-bounded};
 
     ghost effect = { λ k. map_effect (map_object [] k) };
 

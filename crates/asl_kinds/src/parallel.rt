@@ -13,7 +13,7 @@ use crate::making::effective;
 use crate::raising::{count_of, raise};
 use asl_data::{Fault, empty_object};
 use asl_history::EventKind;
-use asl_json::{Items, Name, Shared};
+use asl_json::{Name, Shared, SharedItems};
 use asl_states::{Bodies, Parallel};
 use asl_steps::{
     Context, Effect, Progress, Record, Records, Visit, beginning, forking, idle, telling,
@@ -51,7 +51,7 @@ fn forks(
     let done = telling(alloc, visit, done, EventKind::ParallelStateStarted, started)?;
     let retriers = count_of(parallel.outcome().retry());
     let branches = branches(alloc, parallel.branches(), effective)?;
-    let items = Items::of_values(Vec::new(alloc));
+    let items = SharedItems::none();
     forking(alloc, visit, done, input, retriers, items, branches)
 }
 
@@ -83,7 +83,7 @@ impl StateKind for Parallel {
     ghost use Rattle.std.specs.Prelude.{[], false};
     ghost use Rattle.asl_states.specs.Show.{parallel_object};
     ghost use Rattle.asl_kinds.specs.Table.{parallel_effect};
-    ghost use Rattle.asl_kinds.specs.Laws.{parallel-bounded};
+    ghost use Rattle.asl_kinds.specs.private.Laws.{parallel-bounded};
 
     ghost effect = { λ k. parallel_effect (parallel_object [] k) };
 

@@ -49,7 +49,7 @@ impl StateKind for Pass {
     ghost use Rattle.std.specs.Prelude.{false};
     ghost use Rattle.asl_states.specs.Show.{pass_object};
     ghost use Rattle.asl_kinds.specs.Table.{pass_effect};
-    ghost use Rattle.asl_kinds.specs.Laws.{pass-lawful};
+    ghost use Rattle.asl_kinds.specs.private.Laws.{pass-lawful};
 
     ghost effect = { λ k. pass_effect (pass_object k) };
 

@@ -9,7 +9,7 @@ impl StateKind for State {
     ghost use Rattle.std.specs.Prelude.{[]};
     ghost use Rattle.asl_states.specs.Show.{state_of};
     ghost use Rattle.asl_kinds.specs.Table.{state_effect, invokes, slots};
-    ghost use Rattle.asl_kinds.specs.Laws.{state-bounded};
+    ghost use Rattle.asl_kinds.specs.private.Laws.{state-bounded};
 
     ghost effect = { λ k. state_effect (state_of [] k) };
 

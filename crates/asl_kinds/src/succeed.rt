@@ -48,7 +48,7 @@ impl StateKind for Succeed {
     ghost use Rattle.std.specs.Prelude.{false};
     ghost use Rattle.asl_states.specs.Show.{succeed_object};
     ghost use Rattle.asl_kinds.specs.Table.{succeed_effect};
-    ghost use Rattle.asl_kinds.specs.Laws.{succeed-lawful};
+    ghost use Rattle.asl_kinds.specs.private.Laws.{succeed-lawful};
 
     ghost effect = { λ k. succeed_effect (succeed_object k) };
 

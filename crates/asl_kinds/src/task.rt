@@ -138,7 +138,7 @@ impl StateKind for Task {
     ghost use Rattle.std.specs.Prelude.{true};
     ghost use Rattle.asl_states.specs.Show.{task_object};
     ghost use Rattle.asl_kinds.specs.Table.{task_effect};
-    ghost use Rattle.asl_kinds.specs.Laws.{task-lawful};
+    ghost use Rattle.asl_kinds.specs.private.Laws.{task-lawful};
 
     ghost effect = { λ k. task_effect (task_object k) };
 

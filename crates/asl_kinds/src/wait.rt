@@ -106,7 +106,7 @@ impl StateKind for Wait {
     ghost use Rattle.std.specs.Prelude.{false};
     ghost use Rattle.asl_states.specs.Show.{wait_object};
     ghost use Rattle.asl_kinds.specs.Table.{wait_effect};
-    ghost use Rattle.asl_kinds.specs.Laws.{wait-lawful};
+    ghost use Rattle.asl_kinds.specs.private.Laws.{wait-lawful};
 
     ghost effect = { λ k. wait_effect (wait_object k) };
 

@@ -26,7 +26,7 @@ pub fn object(alloc: Global, entries: Vec<Entry>) -> Result<Json, AllocError>
     for entry in entries {
         let Entry { name, value } = entry;
         if let Some(value) = value {
-            let name = Txt::new(String::from_str(alloc, name)?);
+            let name = Txt::of(alloc, name)?;
             members.push(name, value)?;
         }
     }

@@ -23,7 +23,7 @@ impl Compiled for JitterStrategy {
             JitterStrategy::Full => "FULL",
             JitterStrategy::None => "NONE",
         };
-        Ok(Json::Text(Txt::new(String::from_str(alloc, text)?)))
+        Ok(Json::Text(Txt::of(alloc, text)?))
     }
 }
 

@@ -98,7 +98,7 @@ impl Compiled for PathOrCall {
             PathOrCall::Path(path) => path.text(),
             PathOrCall::Call(call) => call.text(),
         };
-        Ok(Json::Text(Txt::new(String::from_str(alloc, text)?)))
+        Ok(Json::Text(Txt::of(alloc, text)?))
     }
 }
 

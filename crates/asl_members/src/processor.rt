@@ -22,7 +22,7 @@ impl Compiled for Mode {
         let text = match self {
             Mode::Inline => "INLINE",
         };
-        Ok(Json::Text(Txt::new(String::from_str(alloc, text)?)))
+        Ok(Json::Text(Txt::of(alloc, text)?))
     }
 }
 

@@ -81,7 +81,7 @@ impl Drop for Retriers {
 impl Model for Retriers {
     ghost use Rattle.std.specs.Prelude.{List};
     ghost use Rattle.asl_json.specs.Data.{Data};
-    ghost use Rattle.asl_json.specs.Code.{coded_items};
+    ghost use Rattle.asl_json.specs.private.Code.{coded_items};
     ghost use Rattle.asl_members.specs.Shown.{retrier_objects};
 
     ghost Value = { List Data };

@@ -7,7 +7,7 @@ use Rattle.std.specs.String.{string_eq}
 use Rattle.asl_mock.specs.Tables.{named}
 use Rattle.asl_mock.specs.Answers.{Response, Case}
 use Rattle.asl_mock.specs.Equal.{response_equal, state_equal, case_equal}
-use Rattle.asl_mock.specs.EqualLaws.{case_decides}
+use Rattle.asl_mock.specs.private.EqualLaws.{case_decides}
 
 module _ {Z : Type 0} where
   -- two tables are equal, entry by entry, where what they hold is

@@ -5,7 +5,7 @@ use Rattle.asl_mock.specs.Places.{Place, first_of}
 use Rattle.asl_mock.specs.Gives.{Gives}
 use Rattle.asl_json.specs.Data.{Data}
 use Rattle.asl_mock.specs.Answers.{with_answer}
-use Rattle.asl_mock.specs.Apart.{AreApart, any_has, Added}
+use Rattle.asl_mock.specs.private.Apart.{AreApart, any_has, Added}
 use Rattle.asl_mock.specs.declared.key.Span.{Span}
 use Rattle.asl_mock.specs.declared.response.Ranged.{Ranged}
 use Rattle.std.specs.declared.vec.Vec.{Vec}

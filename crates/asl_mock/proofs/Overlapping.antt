@@ -12,7 +12,7 @@ use Rattle.asl_mock.specs.Places.{Place, under, first_of}
 use Rattle.asl_mock.specs.Form.{unless}
 use Rattle.asl_mock.specs.Answers.{placed, with_answer, answer_of, answers_on, response_of}
 use Rattle.asl_mock.specs.Faults.{have_a_number, overlap, meets, is_apart, overlaps_behind}
-use Rattle.asl_mock.specs.Apart.{AreApart, any_has}
+use Rattle.asl_mock.specs.private.Apart.{AreApart, any_has}
 use Rattle.asl_mock.specs.declared.key.Span.{Span}
 use Rattle.asl_mock.specs.declared.response.Ranged.{Ranged}
 

@@ -8,7 +8,7 @@ use Rattle.std.proofs.lemmas.List.{get_or_default}
 use Rattle.asl_json.specs.Data.{Data}
 use Rattle.asl_mock.specs.Answers.{placed, with_answer, answer_of, has_number, first_with}
 use Rattle.asl_mock.specs.Faults.{have_a_number}
-use Rattle.asl_mock.specs.Apart.{EachRanged, AreApart, Meets, IsGap, any_has}
+use Rattle.asl_mock.specs.private.Apart.{EachRanged, AreApart, Meets, IsGap, any_has}
 use Rattle.asl_mock.specs.declared.key.Span.{Span}
 use Rattle.asl_mock.specs.declared.response.Answer.{Answer}
 use Rattle.asl_mock.specs.declared.response.Ranged.{Ranged}

@@ -4,10 +4,8 @@ pub mod Form
 pub mod Tables
 pub mod Answers
 pub mod Faults
-pub mod Apart
 pub mod Gives
-pub mod Shared
 pub mod Told
 pub mod Lines
 pub mod Equal
-pub mod EqualLaws
+pub mod private

@@ -42,7 +42,7 @@ impl Model for Case {
 
     ghost coded = { Prim.hlevel (codes, json.the_row.coded) };
 
-    ghost use Rattle.asl_mock.specs.Shared.{shared_states};
+    ghost use Rattle.asl_mock.specs.private.Shared.{shared_states};
 
     ghost view = { λ a. shared_states a.states };
 }
@@ -101,7 +101,7 @@ impl Case {
 /// at the same ranges of numbers. The spelling of a value counts.
 impl PartialEq for Case {
     ghost use Rattle.asl_mock.specs.Equal.{case_equal};
-    ghost use Rattle.asl_mock.specs.EqualLaws.{case_laws};
+    ghost use Rattle.asl_mock.specs.private.EqualLaws.{case_laws};
 
     ghost eq = { case_equal };
 
@@ -122,7 +122,7 @@ impl PartialEq for Case {
 }
 
 impl Eq for Case {
-    ghost use Rattle.asl_mock.specs.EqualLaws.{case_equivalence};
+    ghost use Rattle.asl_mock.specs.private.EqualLaws.{case_equivalence};
 
     ghost laws = { case_equivalence };
 }

@@ -42,7 +42,7 @@ impl Place {
         ensures { IfOk result (λ p. p ≡ key.now ∷ self) }
     {
         let Place { mut names } = self;
-        names.push(Txt::new(String::from_str(alloc, key)?))?;
+        names.push(Txt::of(alloc, key)?)?;
         Ok(Place { names })
     }
 

@@ -3,7 +3,7 @@ ghost use Rattle.std.specs.Prelude.{◌≡◌, ◌≤◌, ◌<◌, ℕ, IfOk, If
 ghost use Rattle.asl_json.specs.View.{data_of};
 ghost use Rattle.asl_mock.specs.Key.{span_in as spec_span_in};
 ghost use Rattle.asl_mock.specs.Answers.{first_with};
-ghost use Rattle.asl_mock.specs.Apart.{AreApart, Meets, IsGap, Added};
+ghost use Rattle.asl_mock.specs.private.Apart.{AreApart, Meets, IsGap, Added};
 ghost use Rattle.asl_mock.specs.declared.response.Ranged.{Ranged};
 
 use crate::key::{Span, span_in};

@@ -29,7 +29,7 @@ impl Drop for Answer {
 
 impl PartialEq for Answer {
     ghost use Rattle.asl_mock.specs.Equal.{answer_equal};
-    ghost use Rattle.asl_mock.specs.EqualLaws.{answer_laws};
+    ghost use Rattle.asl_mock.specs.private.EqualLaws.{answer_laws};
 
     ghost eq = { answer_equal };
 
@@ -53,7 +53,7 @@ impl PartialEq for Answer {
 }
 
 impl Eq for Answer {
-    ghost use Rattle.asl_mock.specs.EqualLaws.{answer_equivalence};
+    ghost use Rattle.asl_mock.specs.private.EqualLaws.{answer_equivalence};
 
     ghost laws = { answer_equivalence };
 }
@@ -67,7 +67,7 @@ pub struct Ranged {
 
 impl PartialEq for Ranged {
     ghost use Rattle.asl_mock.specs.Equal.{ranged_equal};
-    ghost use Rattle.asl_mock.specs.EqualLaws.{ranged_laws};
+    ghost use Rattle.asl_mock.specs.private.EqualLaws.{ranged_laws};
 
     ghost eq = { ranged_equal };
 
@@ -81,7 +81,7 @@ impl PartialEq for Ranged {
 }
 
 impl Eq for Ranged {
-    ghost use Rattle.asl_mock.specs.EqualLaws.{ranged_equivalence};
+    ghost use Rattle.asl_mock.specs.private.EqualLaws.{ranged_equivalence};
 
     ghost laws = { ranged_equivalence };
 }

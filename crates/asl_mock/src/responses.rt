@@ -6,7 +6,7 @@ ghost use Rattle.asl_mock.specs.Tables.{named};
 ghost use Rattle.asl_mock.specs.Places.{in_each};
 ghost use Rattle.asl_mock.specs.Answers.{first_with, response_of, responses_of};
 ghost use Rattle.asl_mock.specs.Faults.{overlaps_behind, overlaps_in};
-ghost use Rattle.asl_mock.specs.Apart.{AreApart};
+ghost use Rattle.asl_mock.specs.private.Apart.{AreApart};
 ghost use Rattle.asl_mock.specs.Gives.{Gives};
 
 use crate::place::Place;
@@ -34,7 +34,7 @@ impl Drop for Response {
 impl Model for Response {
     ghost use Rattle.std.specs.Prelude.{List};
     ghost use Rattle.std.specs.Arc.{arc_value};
-    ghost use Rattle.asl_mock.specs.Apart.{AreApart};
+    ghost use Rattle.asl_mock.specs.private.Apart.{AreApart};
     ghost use Rattle.asl_mock.specs.declared.response.Ranged.{Ranged};
 
     ghost Value = { List Ranged };
@@ -76,7 +76,7 @@ impl Response {
 
 impl PartialEq for Response {
     ghost use Rattle.asl_mock.specs.Equal.{response_equal};
-    ghost use Rattle.asl_mock.specs.EqualLaws.{response_laws};
+    ghost use Rattle.asl_mock.specs.private.EqualLaws.{response_laws};
 
     ghost eq = { response_equal };
 
@@ -88,7 +88,7 @@ impl PartialEq for Response {
 }
 
 impl Eq for Response {
-    ghost use Rattle.asl_mock.specs.EqualLaws.{response_equivalence};
+    ghost use Rattle.asl_mock.specs.private.EqualLaws.{response_equivalence};
 
     ghost laws = { response_equivalence };
 }

@@ -52,7 +52,7 @@ impl Drop for Catchers {
 impl Model for Catchers {
     ghost use Rattle.std.specs.Prelude.{List};
     ghost use Rattle.asl_json.specs.Data.{Data};
-    ghost use Rattle.asl_json.specs.Code.{coded_items};
+    ghost use Rattle.asl_json.specs.private.Code.{coded_items};
 
     ghost Value = { List Data };
 

@@ -49,7 +49,7 @@ impl Common {
         requires { are_apart [] (common_members kind.now self.now ++ entries_of own.items) ≡ true }
         ensures { IfOk result (λ j. data_of j ≡ shown_object (common_members kind.now self.now ++ entries_of own.items)) }
     {
-        let kind = Json::Text(Txt::new(String::from_str(alloc, kind)?));
+        let kind = Json::Text(Txt::of(alloc, kind)?);
         let comment = json_optional(alloc, &self.comment)?;
         let query_language = json_optional(alloc, &self.query_language)?;
         let common = vec![in alloc;

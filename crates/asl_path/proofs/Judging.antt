@@ -8,7 +8,7 @@ use Rattle.asl_path.specs.declared.step.Root.TheVariants.{Input, Context}
 use Rattle.asl_path.specs.declared.step.Step.{Step}
 use Rattle.asl_path.specs.Grammar.{SpellsRoot, SpellsPath, IsPath, IsPrefix}
 use Rattle.asl_path.specs.Faults.{EndsAt, FaultAt}
-use Rattle.asl_path.specs.Steps.{Mode, between, dot, name, bracket, quoted, closing, digits, Next, go, stop, begin_step, advance, finish, onward, run, with_root, from_root, steps}
+use Rattle.asl_path.specs.private.Steps.{Mode, between, dot, name, bracket, quoted, closing, digits, Next, go, stop, begin_step, advance, finish, onward, run, with_root, from_root, steps}
 use Rattle.asl_path.proofs.Passing.{path_passes}
 use Rattle.asl_path.proofs.Fronts.{Reached, Holds, GoesOn, advance_reaches, reached_goes_on, finish_spells}
 

@@ -15,7 +15,7 @@ use Rattle.asl_path.specs.declared.put.Opened.TheVariants.{Item, Member}
 use Rattle.asl_path.specs.declared.path.PutFault.{PutFault}
 use Rattle.asl_path.specs.declared.path.PutFault.TheVariants.{NoMatch, OutOfMemory}
 use Rattle.asl_path.specs.Walk.{put_child, put}
-use Rattle.asl_path.specs.Opened.{IsOpen, AreOpen, plug, rebuilt, Lacks, StepsInto, TakesOut, Reaches, Along, IsPut}
+use Rattle.asl_path.specs.private.Opened.{IsOpen, AreOpen, plug, rebuilt, Lacks, StepsInto, TakesOut, Reaches, Along, IsPut}
 use Rattle.asl_path.proofs.Walking.{map_map, value_of, index_within, name_missing, put_found, put_missing, item_put, item_missing}
 
 -- ---- one part is taken out

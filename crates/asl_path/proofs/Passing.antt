@@ -7,8 +7,8 @@ use Rattle.asl_path.specs.declared.step.Root.TheVariants.{Input, Context}
 use Rattle.asl_path.specs.declared.step.Step.{Step}
 use Rattle.asl_path.specs.declared.step.Step.TheVariants.{Name, Index}
 use Rattle.asl_path.specs.Grammar.{single_quote, double_quote, is_digit, is_name_byte, Each, number_from, SpellsQuoted, SpellsIndex, SpellsStep, SpellsSteps, SpellsPath}
-use Rattle.asl_path.specs.Steps.{between, bracket, quoted, digits, go, stop, run, with_root, from_root, steps}
-use Rattle.asl_path.specs.Leads.{NotFirst}
+use Rattle.asl_path.specs.private.Steps.{between, bracket, quoted, digits, go, stop, run, with_root, from_root, steps}
+use Rattle.asl_path.specs.private.Leads.{NotFirst}
 use Rattle.asl_path.proofs.Stretch.{on, dot_some, quoted_run, quote_closes, digits_end, less_than}
 
 stop_no_name : is_name_byte 46 ≡ false

@@ -4,7 +4,7 @@ use Rattle.std.specs.Prelude.{Result, Ok, Err}
 use Rattle.asl_json.specs.Data.{Data}
 use Rattle.asl_path.specs.declared.step.Root.{Root}
 use Rattle.asl_path.specs.declared.step.Step.{Step}
-use Rattle.asl_path.specs.Steps.{steps}
+use Rattle.asl_path.specs.private.Steps.{steps}
 use Rattle.asl_path.specs.Paths.{at_by, put_by}
 use Rattle.asl_path.specs.Walk.{at}
 use Rattle.asl_path.specs.Grammar.{SpellsPath, IsPath}

@@ -8,9 +8,9 @@ use Rattle.std.proofs.lemmas.List.{append-nil, take-append-drop}
 use Rattle.asl_path.specs.declared.step.Step.{Step}
 use Rattle.asl_path.specs.declared.step.Step.TheVariants.{Name, Index}
 use Rattle.asl_path.specs.Grammar.{is_name_byte, is_between, is_digit}
-use Rattle.asl_path.specs.Steps.{between, dot, name, bracket, quoted, closing, digits, Next, go, stop, begin_step, onward, run}
+use Rattle.asl_path.specs.private.Steps.{between, dot, name, bracket, quoted, closing, digits, Next, go, stop, begin_step, onward, run}
 use Rattle.asl_path.specs.Grammar.{Each}
-use Rattle.asl_path.specs.Leads.{NotFirst}
+use Rattle.asl_path.specs.private.Leads.{NotFirst}
 
 pub each_more : (p : ℕ → Bool) (xs : List ℕ) (i : ℕ) → i < length xs → Each p (take i xs) → p (get_or xs i 0) ≡ true → Each p (take (i + 1) xs)
 each_more p xs i lt h e = rw add-one (more xs i lt h e)

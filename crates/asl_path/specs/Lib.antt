@@ -3,6 +3,4 @@ pub mod Walk
 pub mod Paths
 pub mod Faults
 pub mod Laws
-pub mod Steps
-pub mod Leads
-pub mod Opened
+pub mod private

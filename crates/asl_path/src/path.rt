@@ -2,9 +2,9 @@
 ghost use Rattle.std.specs.Prelude.{◌≡◌, Some, IfOk, IfErr, option_map};
 ghost use Rattle.asl_json.specs.View.{data_of};
 ghost use Rattle.asl_path.specs.Grammar.{IsPath, StartsFrom};
-ghost use Rattle.asl_path.specs.Steps.{steps};
+ghost use Rattle.asl_path.specs.private.Steps.{steps};
 ghost use Rattle.asl_path.specs.Paths.{part_at, with_part};
-ghost use Rattle.asl_path.specs.Leads.{Fails};
+ghost use Rattle.asl_path.specs.private.Leads.{Fails};
 ghost use Rattle.asl_path.specs.Faults.{IsFaultOf, HandsBack};
 
 use crate::put::put_at;
@@ -59,7 +59,7 @@ impl Drop for RefPath {
 
 impl Model for RefPath {
     ghost use Rattle.std.specs.Prelude.{List, ℕ, ◌≡◌, Ok};
-    ghost use Rattle.asl_path.specs.Steps.{steps as steps_of};
+    ghost use Rattle.asl_path.specs.private.Steps.{steps as steps_of};
 
     ghost Value = { List ℕ };
 

@@ -6,7 +6,7 @@ ghost use Rattle.asl_json.specs.Data.{Data, null, list, dict, chain, pairs, no_m
 ghost use Rattle.asl_json.specs.declared.value.Json.{Json};
 ghost use Rattle.asl_path.specs.declared.step.Step.{Step};
 ghost use Rattle.asl_path.specs.Walk.{put};
-ghost use Rattle.asl_path.specs.Opened.{IsOpen, AreOpen, plug, rebuilt, Lacks, IsMet, Reaches, Along, IsPut};
+ghost use Rattle.asl_path.specs.private.Opened.{IsOpen, AreOpen, plug, rebuilt, Lacks, IsMet, Reaches, Along, IsPut};
 
 use crate::path::PutFault;
 use crate::step::Step;

@@ -2,9 +2,9 @@
 ghost use Rattle.std.specs.Prelude.{◌≡◌, ◌<◌, ◌≤◌, ◌+◌, ◌^◌, ◌∷◌, ◌++◌, [], ℕ, List, true, false, length, take, slice_index, nat_eq, IfOk, IfErr, IfSome, IfNone, Ok};
 ghost use Rattle.std.specs.Str.{IsUtf8};
 ghost use Rattle.asl_path.specs.Grammar.{is_name_byte as name_byte, is_digit as spec_digit, is_between as between_quotes};
-ghost use Rattle.asl_path.specs.Steps.{digits, run, between, dot, bracket, quoted as mode_quoted, steps};
+ghost use Rattle.asl_path.specs.private.Steps.{digits, run, between, dot, bracket, quoted as mode_quoted, steps};
 ghost use Rattle.asl_path.specs.Grammar.{Each};
-ghost use Rattle.asl_path.specs.Leads.{Leads, NotFirst};
+ghost use Rattle.asl_path.specs.private.Leads.{Leads, NotFirst};
 ghost use Rattle.asl_path.specs.declared.step.Step.{Step};
 
 use crate::step::{Root, Step};

@@ -12,7 +12,7 @@ use Rattle.asl_steps.specs.declared.record.Record.{Record}
 use Rattle.asl_frames.specs.Branches.{record_at}
 use Rattle.asl_frames.specs.Trees.{Node, Family, branches_of, nodes_of}
 use Rattle.asl_frames.specs.Changes.{Litter, litter_of, change, nodes_after}
-use Rattle.asl_frames.specs.Links.{is_there, IsLinked}
+use Rattle.asl_frames.specs.private.Links.{is_there, IsLinked}
 use Rattle.asl_frames.proofs.Changing.{plain-nodes}
 use Rattle.asl_frames.proofs.Linking.{Tell, links-kept, links-still, there-is, kids-unknown}
 use Rattle.asl_frames.proofs.Placing.{placed-after}
@@ -24,8 +24,8 @@ use Rattle.asl_steps.specs.declared.effect.Ended.TheVariants.{Succeeded as Ended
 use Rattle.asl_run.specs.declared.outcome.Outcome.{Outcome}
 use Rattle.asl_run.specs.declared.outcome.Outcome.TheVariants.{TimedOut}
 use Rattle.asl_run.specs.World.{raised, counts_after, events_after, is_over, outcome_after, timeout_error}
-use Rattle.asl_run.specs.Telling.{last_id}
-use Rattle.asl_run.specs.Sound.{IsSound, is_going}
+use Rattle.asl_run.specs.private.Telling.{last_id}
+use Rattle.asl_run.specs.private.Sound.{IsSound, is_going}
 use Rattle.asl_run.proofs.Telling.{events-length, all-history, all-told}
 
 set-bound : (xs : List ℕ) (i v k m : ℕ) → v ≤ m → get_or xs k 0 ≤ m → get_or (set xs i v) k 0 ≤ m

@@ -8,7 +8,7 @@ use Rattle.asl_history.proofs.Links.{IsHistory-more, last_along, last_elsewhere}
 use Rattle.asl_steps.specs.declared.effect.Draft.{Draft}
 use Rattle.asl_frames.proofs.Linking.{IsToldAt}
 use Rattle.asl_run.specs.World.{events_after}
-use Rattle.asl_run.specs.Telling.{placed, AllAt, told_after}
+use Rattle.asl_run.specs.private.Telling.{placed, AllAt, told_after}
 
 pub told-at : (p : List ℕ) (now : ℕ) (ds : List Draft) (es : List Event) → told_after now (placed p ds) es ≡ events_after p now ds es
 told-at p now [] es = refl

@@ -1,6 +1,5 @@
 pub mod World
 pub mod Refusals
-pub mod Sound
-pub mod Telling
 pub mod Lines
 pub mod Picking
+pub mod private

@@ -1,5 +1,6 @@
 // The lines that tell of a run.
-ghost use Rattle.std.specs.Prelude.{◌≡◌, ◌∷◌, ◌++◌, [], OnOk, string_bytes};
+ghost use Rattle.std.specs.Prelude.{◌≡◌, ◌∷◌, ◌++◌, [], OnOk, OnErr, string_bytes};
+ghost use Rattle.asl_json.specs.private.Buffers.{Keeps};
 ghost use Rattle.asl_json.specs.View.{data_of};
 ghost use Rattle.asl_json.specs.Compact.{compact};
 ghost use Rattle.asl_time.specs.StampText.{stamp_of};
@@ -11,10 +12,10 @@ use crate::outcome::Outcome;
 use crate::refusal::Refusal;
 use crate::run::Run;
 use crate::time_limit::timeout_error;
-use asl_history::{History, Place, put_line};
+use asl_history::{History, Place, put_line, put_moment, whole_or_none};
 use asl_json::{Json, put};
 use asl_steps::{ErrorOut, error_output};
-use asl_time::{Moment, put_stamp};
+use asl_time::Moment;
 use std::alloc::{AllocError, Global};
 
 impl Refusal {
@@ -46,28 +47,31 @@ impl Refusal {
     }
 }
 
-/// Appends a space and the stamp of a moment.
-fn put_moment(out: &mut String, moment: Moment) -> Result<(), AllocError>
-    ensures { OnOk result (string_bytes out.new ≡ string_bytes out.old ++ 32 ∷ stamp_of moment) }
+/// Appends a space and the stamp of a moment. Where memory runs out, the space may be there.
+fn put_until(out: &mut String, moment: Moment) -> Result<(), AllocError>
+    ensures ok { OnOk result (string_bytes out.new ≡ string_bytes out.old ++ 32 ∷ stamp_of moment) }
+    ensures kept { Keeps (string_bytes out.old) (string_bytes out.new) }
 {
     out.push(' ')?;
-    put_stamp(out, moment)
+    put_moment(out, moment)
 }
 
-/// Appends why a step was refused.
+/// Appends why a step was refused. Where memory runs out, a part of it may be there.
 fn put_refusal(out: &mut String, refusal: Refusal) -> Result<(), AllocError>
-    ensures { OnOk result (string_bytes out.new ≡ string_bytes out.old ++ with_stamp (refusal_words refusal) (awaited refusal)) }
+    ensures ok { OnOk result (string_bytes out.new ≡ string_bytes out.old ++ with_stamp (refusal_words refusal) (awaited refusal)) }
+    ensures kept { Keeps (string_bytes out.old) (string_bytes out.new) }
 {
     out.push_str(refusal.words())?;
     match refusal.awaited() {
         None => Ok(()),
-        Some(until) => put_moment(out, until),
+        Some(until) => put_until(out, until),
     }
 }
 
-/// Appends `ok`, or why a step was refused.
+/// Appends `ok`, or why a step was refused. Where memory runs out, a part of it may be there.
 fn put_reply(out: &mut String, reply: Option<Refusal>) -> Result<(), AllocError>
-    ensures { OnOk result (string_bytes out.new ≡ string_bytes out.old ++ reply_text reply) }
+    ensures ok { OnOk result (string_bytes out.new ≡ string_bytes out.old ++ reply_text reply) }
+    ensures kept { Keeps (string_bytes out.old) (string_bytes out.new) }
 {
     match reply {
         None => out.push_str("ok"),
@@ -75,9 +79,21 @@ fn put_reply(out: &mut String, reply: Option<Refusal>) -> Result<(), AllocError>
     }
 }
 
-/// Appends the line of a step: `step`, the place, and `ok` or why it was refused. The error is that memory ran out.
+/// Appends the line of a step: `step`, the place, and `ok` or why it was refused. The error is that memory ran out, and then
+/// nothing is appended.
 pub fn put_step(out: &mut String, place: &Place, reply: Option<Refusal>) -> Result<(), AllocError>
-    ensures { OnOk result (string_bytes out.new ≡ string_bytes out.old ++ step_line place.now reply) }
+    ensures ok { OnOk result (string_bytes out.new ≡ string_bytes out.old ++ step_line place.now reply) }
+    ensures err { OnErr result (string_bytes out.new ≡ string_bytes out.old) }
+{
+    let len = out.as_str().len();
+    let appended = put_step_parts(out, place, reply);
+    whole_or_none(out, len, appended)
+}
+
+/// Appends the line of a step. Where memory runs out, a part of it may be there.
+fn put_step_parts(out: &mut String, place: &Place, reply: Option<Refusal>) -> Result<(), AllocError>
+    ensures ok { OnOk result (string_bytes out.new ≡ string_bytes out.old ++ step_line place.now reply) }
+    ensures kept { Keeps (string_bytes out.old) (string_bytes out.new) }
 {
     out.push_str("step ")?;
     place.put(out)?;
@@ -86,9 +102,10 @@ pub fn put_step(out: &mut String, place: &Place, reply: Option<Refusal>) -> Resu
     out.push('\n')
 }
 
-/// Appends the lines of a history.
+/// Appends the lines of a history. Where memory runs out, some of them may be there.
 fn put_history(out: &mut String, history: &History) -> Result<(), AllocError>
-    ensures { OnOk result (string_bytes out.new ≡ string_bytes out.old ++ history_text history.now.events) }
+    ensures ok { OnOk result (string_bytes out.new ≡ string_bytes out.old ++ history_text history.now.events) }
+    ensures kept { Keeps (string_bytes out.old) (string_bytes out.new) }
 {
     for event in history.events() {
         put_line(out, event)?;
@@ -96,30 +113,33 @@ fn put_history(out: &mut String, history: &History) -> Result<(), AllocError>
     Ok(())
 }
 
-/// Appends a status and the data that it has.
+/// Appends a status and the data that it has. Where memory runs out, the status may be there.
 fn put_data(out: &mut String, status: &str, value: &Json) -> Result<(), AllocError>
-    ensures { OnOk result (string_bytes out.new ≡ string_bytes out.old ++ (status.now ++ compact (data_of value.now))) }
+    ensures ok { OnOk result (string_bytes out.new ≡ string_bytes out.old ++ (status.now ++ compact (data_of value.now))) }
+    ensures kept { Keeps (string_bytes out.old) (string_bytes out.new) }
 {
     out.push_str(status)?;
     put(out, value)
 }
 
-/// Appends a status and the error output.
+/// Appends a status and the error output. Where memory runs out, the status may be there.
 fn put_failure(
     alloc: Global,
     out: &mut String,
     status: &str,
     error: &ErrorOut,
 ) -> Result<(), AllocError>
-    ensures { OnOk result (string_bytes out.new ≡ string_bytes out.old ++ (status.now ++ compact (data_of (spec_error_output error.now)))) }
+    ensures ok { OnOk result (string_bytes out.new ≡ string_bytes out.old ++ (status.now ++ compact (data_of (spec_error_output error.now)))) }
+    ensures kept { Keeps (string_bytes out.old) (string_bytes out.new) }
 {
     let output = error_output(alloc, error)?;
     put_data(out, status, &output)
 }
 
-/// Appends the status, and the output or the error output.
+/// Appends the status, and the output or the error output. Where memory runs out, a part of it may be there.
 fn put_outcome(alloc: Global, out: &mut String, outcome: &Outcome) -> Result<(), AllocError>
-    ensures { OnOk result (string_bytes out.new ≡ string_bytes out.old ++ status_text outcome.now) }
+    ensures ok { OnOk result (string_bytes out.new ≡ string_bytes out.old ++ status_text outcome.now) }
+    ensures kept { Keeps (string_bytes out.old) (string_bytes out.new) }
 {
     match outcome {
         Outcome::Running => out.push_str("status RUNNING"),
@@ -132,9 +152,10 @@ fn put_outcome(alloc: Global, out: &mut String, outcome: &Outcome) -> Result<(),
     }
 }
 
-/// Appends the line of the outcome.
+/// Appends the line of the outcome. Where memory runs out, a part of it may be there.
 fn put_status(alloc: Global, out: &mut String, outcome: &Outcome) -> Result<(), AllocError>
-    ensures { OnOk result (string_bytes out.new ≡ string_bytes out.old ++ status_line outcome.now) }
+    ensures ok { OnOk result (string_bytes out.new ≡ string_bytes out.old ++ status_line outcome.now) }
+    ensures kept { Keeps (string_bytes out.old) (string_bytes out.new) }
 {
     put_outcome(alloc, out, outcome)?;
     out.push('\n')
@@ -147,9 +168,20 @@ pub fn is_success(outcome: &Outcome) -> bool
     matches!(outcome, Outcome::Succeeded(_))
 }
 
-/// Appends the history and the status. The error is that memory ran out.
+/// Appends the history and the status. The error is that memory ran out, and then nothing is appended.
 pub fn put_end(alloc: Global, out: &mut String, run: &Run) -> Result<(), AllocError>
-    ensures { OnOk result (string_bytes out.new ≡ string_bytes out.old ++ end_text run.now) }
+    ensures ok { OnOk result (string_bytes out.new ≡ string_bytes out.old ++ end_text run.now) }
+    ensures err { OnErr result (string_bytes out.new ≡ string_bytes out.old) }
+{
+    let len = out.as_str().len();
+    let ended = put_end_parts(alloc, out, run);
+    whole_or_none(out, len, ended)
+}
+
+/// Appends the history and the status. Where memory runs out, a part of it may be there.
+fn put_end_parts(alloc: Global, out: &mut String, run: &Run) -> Result<(), AllocError>
+    ensures ok { OnOk result (string_bytes out.new ≡ string_bytes out.old ++ end_text run.now) }
+    ensures kept { Keeps (string_bytes out.old) (string_bytes out.new) }
 {
     put_history(out, run.history())?;
     put_status(alloc, out, run.outcome())

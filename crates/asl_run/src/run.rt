@@ -6,9 +6,9 @@ ghost use Rattle.asl_steps.specs.Records.{is_finished};
 ghost use Rattle.asl_json.specs.View.{data_of};
 ghost use Rattle.asl_frames.specs.Branches.{record_at, children_at, forker_at, iteration_at};
 ghost use Rattle.asl_frames.specs.Trees.{branches_of, nodes_of};
-ghost use Rattle.asl_frames.specs.Links.{ArePlaced, latest};
+ghost use Rattle.asl_frames.specs.private.Links.{ArePlaced, latest};
 ghost use Rattle.asl_run.specs.World.{world_with, counts_after, outcome_after, count_of, is_over, is_late as spec_is_late, timed_out};
-ghost use Rattle.asl_run.specs.Telling.{placed, AllAt, told_after, last_id};
+ghost use Rattle.asl_run.specs.private.Telling.{placed, AllAt, told_after, last_id};
 ghost use Rattle.asl_run.specs.Refusals.{refusal_of, opening_at};
 
 use crate::outcome::Outcome;
@@ -53,12 +53,12 @@ impl Drop for Run {
 impl Model for Run {
     ghost use Rattle.asl_frames.specs.Trees.{branches_of, nodes_of};
     ghost use Rattle.asl_run.specs.World.{World};
-    ghost use Rattle.asl_run.specs.Sound.{IsSound};
+    ghost use Rattle.asl_run.specs.private.Sound.{IsSound};
 
     ghost Value = { World };
 
     ghost use Rattle.std.specs.Coded.{codes};
-    ghost use Rattle.asl_json.specs.Code.{coded_data};
+    ghost use Rattle.asl_json.specs.private.Code.{coded_data};
     ghost use Rattle.asl_json.specs.contracts.value.Json as json;
 
     ghost coded = { Prim.hlevel (codes, coded_data, json.the_row.coded) };

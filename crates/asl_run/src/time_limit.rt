@@ -13,7 +13,7 @@ use std::alloc::{AllocError, Global};
 pub(crate) fn timeout_error(alloc: Global) -> Result<ErrorOut, AllocError>
     ensures { IfOk result (λ e. e ≡ spec_timeout_error) }
 {
-    let name = Txt::new(String::from_str(alloc, "States.Timeout")?);
+    let name = Txt::of(alloc, "States.Timeout")?;
     Ok(ErrorOut {
         error: Some(name),
         cause: None,

@@ -4,7 +4,7 @@ use crate::shown::{line_of, record_text};
 use asl_def::Machine;
 use asl_exec::{Execution, Next, Outcome, Refusal};
 use asl_history::{EventKind, History, Place};
-use asl_json::{Items, Json, Name, Shared, read, write};
+use asl_json::{Json, Name, Shared, SharedItems, read, write};
 use asl_kinds::StateKind;
 use asl_run::put_step;
 use asl_setup::{Emulation, Setup};
@@ -84,7 +84,7 @@ fn forker_at<'a>(branches: &'a [Branch], place: &Place) -> Option<&'a Name> {
     for branch in branches {
         if branch.place.is_parent_of(place) {
             return match &branch.current {
-                Record::Forked { state, items, .. } if items.len() > 0 => Some(state),
+                Record::Forked { state, items, .. } if !items.values().is_empty() => Some(state),
                 _ => None,
             };
         }
@@ -107,9 +107,9 @@ fn iteration_at<'a>(branches: &'a [Branch], place: &Place) -> Option<(u32, &'a J
 }
 
 /// The item of this number.
-fn item_of(items: &Items, number: Option<u32>) -> Option<(u32, &Json)> {
+fn item_of(items: &SharedItems, number: Option<u32>) -> Option<(u32, &Json)> {
     let number = number?;
-    Some((number, items.get(number as usize)?))
+    Some((number, items.values().get(number as usize)?))
 }
 
 /// How many branches beside the one at a place, with lower numbers, aren't done.

@@ -330,7 +330,7 @@ fn a_test_case_changes_nothing_of_a_run_without_tasks(rt: HostRuntime) -> Result
 }
 
 fn text(alloc: Global, text: &str) -> Option<Txt> {
-    Some(Txt::new(String::from_str(alloc, text).ok()?))
+    Some(Txt::of(alloc, text).ok()?)
 }
 
 /// The machine of the two states.

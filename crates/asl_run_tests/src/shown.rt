@@ -1,6 +1,6 @@
 // Records and events as texts, so that tests can compare them.
 use asl_history::{Event, put_line};
-use asl_json::{Json, Name, Shared, put};
+use asl_json::{Name, Shared, SharedItems, put};
 use asl_steps::{ErrorOut, Record, Uses, error_output};
 use asl_time::Moment;
 use std::alloc::Global;
@@ -27,6 +27,20 @@ fn put_uses(out: &mut String, uses: &Uses) -> Result<(), Fail> {
         behind = ",";
     }
     if uses.counts.is_empty() {
+        out.push_str(behind)?;
+    }
+    Ok(out.push(']')?)
+}
+
+/// Appends the items of a Map.
+fn put_items(out: &mut String, items: &SharedItems) -> Result<(), Fail> {
+    let mut behind = " [";
+    for item in items.values() {
+        out.push_str(behind)?;
+        put(out, item)?;
+        behind = ",";
+    }
+    if items.values().is_empty() {
         out.push_str(behind)?;
     }
     Ok(out.push(']')?)
@@ -83,8 +97,7 @@ fn put_record(alloc: Global, out: &mut String, record: &Record) -> Result<(), Fa
             put_state(out, state, input)?;
             put_moment(out, *since)?;
             put_uses(out, uses)?;
-            out.push(' ')?;
-            Ok(put(out, &Json::List(items.try_clone(alloc)?))?)
+            put_items(out, items)
         }
         Record::Done(output) => {
             out.push_str("Done ")?;

@@ -7,7 +7,7 @@ use Rattle.asl_json.specs.Meaning.{value_at, count}
 use Rattle.asl_json.specs.Number.{units_of}
 use Rattle.asl_json.specs.Whole.{whole_of}
 use Rattle.asl_json.specs.Distinct.{Members}
-use Rattle.asl_path.specs.Steps.{steps}
+use Rattle.asl_path.specs.private.Steps.{steps}
 use Rattle.asl_path.specs.declared.step.Root.{Root}
 use Rattle.asl_path.specs.declared.step.Root.TheVariants.{Input, Context}
 use Rattle.asl_path.specs.declared.step.Step.{Step as PathStep}

@@ -4,7 +4,7 @@ pub mod Claims
 pub mod First
 pub mod States
 pub mod Faults
-pub mod Code
 pub mod Pointers
 pub mod Canon
 pub mod Clean
+pub mod private

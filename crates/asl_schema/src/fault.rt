@@ -111,7 +111,7 @@ impl Model for Fault {
 
     ghost Value = { FaultKind × List Step };
 
-    ghost use Rattle.asl_schema.specs.Code.{seen};
+    ghost use Rattle.asl_schema.specs.private.Code.{seen};
 
     ghost view = { seen };
 }
@@ -139,7 +139,7 @@ impl Fault {
         ensures { IfOk result (λ f. f ≡ (self.0, step at name.now ∷ self.1)) }
     {
         let mut steps = self.steps;
-        let name = Txt::new(String::from_str(alloc, name)?);
+        let name = Txt::of(alloc, name)?;
         steps.push(Step { at, name })?;
         Ok(Fault {
             kind: self.kind,

@@ -3,7 +3,7 @@ ghost use Rattle.std.specs.Prelude.{◌≡◌, [], map, option_map};
 ghost use Rattle.asl_json.specs.View.{data_of, members_of};
 ghost use Rattle.asl_json.specs.Data.{pairs};
 ghost use Rattle.asl_json.specs.Meaning.{value_at};
-ghost use Rattle.asl_schema.specs.Code.{row_of, rows_of, groups_of, shape_seen};
+ghost use Rattle.asl_schema.specs.private.Code.{row_of, rows_of, groups_of, shape_seen};
 ghost use Rattle.asl_schema.specs.declared.sort.Sort.{Sort};
 ghost use Rattle.asl_schema.specs.Members.{shape_of as spec_shape_of, kind_rows as spec_kind_rows, kind_groups as spec_kind_groups, kind_of as spec_kind_of, kind_named as spec_kind_named, shape_in as spec_shape_in, sort_at as spec_sort_at, other_sort as spec_other_sort, item_sort as spec_item_sort, is_among as spec_is_among, sort_in, unsupported_names, part_sort as spec_part_sort};
 

@@ -1,5 +1,6 @@
 mod FileLines
 mod StepLines
 mod StepsRead
-mod OneReading
+pub mod OneReading
 pub mod Refusing
+pub mod OneRun

@@ -10,7 +10,7 @@ use Rattle.asl_setup.specs.declared.fault.EmulateFault.{EmulateFault}
 use Rattle.asl_setup.specs.declared.fault.EmulateFault.TheVariants.{Definition, Mocks, Case, Input, StepLine, OutOfMemory}
 use Rattle.asl_setup.specs.Chosen.{case_chosen, IsCase}
 use Rattle.asl_setup.specs.Emulations.{AreSetupTextsOf, IsSetupRefused, by_case, by_input, IsRefused, by_setup, by_steps}
-use Rattle.asl_setup.specs.Texts.{IsDefinition, IsInputOf, IsNoCase, IsBadCase, IsBadInput, AreBadSteps, Unless}
+use Rattle.asl_setup.specs.Texts.{IsDefinition, IsNoCase, IsBadCase, IsBadInput, AreBadSteps, Unless}
 
 carried : (P Q : EmulateFault → Type 0) → ((f : EmulateFault) → P f → Q f) → (f : EmulateFault) → Unless P f → Unless Q f
 carried P Q h (Definition e) p = h (Definition e) p

@@ -125,10 +125,10 @@ pub(crate) fn setup_for(
     let (name_of_machine, _) = names_in(chosen);
     Ok(Setup {
         machine,
-        name_of_machine: Txt::new(String::from_str(alloc, name_of_machine)?),
+        name_of_machine: Txt::of(alloc, name_of_machine)?,
         case,
         input: Shared::new(alloc, input)?,
-        name: Txt::new(String::from_str(alloc, execution_name(chosen))?),
+        name: Txt::of(alloc, execution_name(chosen))?,
         start,
     })
 }

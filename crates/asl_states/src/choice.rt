@@ -55,7 +55,7 @@ impl Drop for ChoiceRules {
 impl Model for ChoiceRules {
     ghost use Rattle.std.specs.Prelude.{List};
     ghost use Rattle.asl_json.specs.Data.{Data};
-    ghost use Rattle.asl_json.specs.Code.{coded_items};
+    ghost use Rattle.asl_json.specs.private.Code.{coded_items};
 
     ghost Value = { List Data };
 
@@ -116,7 +116,7 @@ impl Compiled for ChoiceRule {
 
     fn json(&self, alloc: Global) -> Result<Json, AllocError> {
         let mut members = self.rule.members(alloc)?;
-        let name = Txt::new(String::from_str(alloc, "Next")?);
+        let name = Txt::of(alloc, "Next")?;
         members.push(name, self.next.json(alloc)?)?;
         Ok(Json::Dict(members))
     }

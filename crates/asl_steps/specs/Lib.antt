@@ -3,4 +3,4 @@ pub mod Seen
 pub mod Context
 pub mod Rows
 pub mod Bounds
-pub mod Laws
+pub mod private

@@ -45,7 +45,7 @@ impl Model for Context {
     ghost Value = { Scene };
 
     ghost use Rattle.std.specs.Coded.{codes as coded_codes};
-    ghost use Rattle.asl_json.specs.Code.{coded_data};
+    ghost use Rattle.asl_json.specs.private.Code.{coded_data};
     ghost use Rattle.asl_json.specs.contracts.value.Json as json;
 
     ghost coded = { Prim.hlevel (coded_codes, coded_data, json.the_row.coded) };
@@ -61,7 +61,7 @@ fn with(alloc: Global, members: Members, key: &str, value: Json) -> Result<Membe
     ensures { IfOk result (λ ms. ms ≡ members ++ (key.now, data_of value) ∷ []) }
 {
     let mut members = members;
-    members.push(Txt::new(String::from_str(alloc, key)?), value)?;
+    members.push(Txt::of(alloc, key)?, value)?;
     Ok(members)
 }
 
@@ -69,7 +69,7 @@ fn with(alloc: Global, members: Members, key: &str, value: Json) -> Result<Membe
 fn told(alloc: Global, told: &str) -> Result<Json, AllocError>
     ensures { IfOk result (λ v. data_of v ≡ text told.now) }
 {
-    Ok(Json::Text(Txt::new(String::from_str(alloc, told)?)))
+    Ok(Json::Text(Txt::of(alloc, told)?))
 }
 
 /// The stamp of a moment as a value.

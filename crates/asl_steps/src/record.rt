@@ -2,7 +2,7 @@
 ghost use Rattle.std.specs.Prelude.{◌≡◌, IfOk, option_map};
 ghost use Rattle.asl_steps.specs.Records.{is_failed as spec_is_failed, is_done as spec_is_done, state_in, name_in, entering_with, beginning_with, pausing_with, uses_in};
 
-use asl_json::{Items, Name, Shared, Txt, clone_text};
+use asl_json::{Name, Shared, SharedItems, Txt, clone_text};
 use asl_time::Moment;
 use std::alloc::{AllocError, Global};
 use std::marker::Model;
@@ -76,7 +76,7 @@ pub enum Record {
         input: Shared,
         since: Moment,
         uses: Uses,
-        items: Items,
+        items: SharedItems,
     },
     /// Ended with this output.
     Done(Shared),
@@ -191,7 +191,7 @@ impl Record {
                 input: input.try_clone()?,
                 since: *since,
                 uses: uses.try_clone(alloc)?,
-                items: items.try_clone(alloc)?,
+                items: items.try_clone()?,
             },
             Record::Done(output) => Record::Done(output.try_clone()?),
             Record::Failed(error) => Record::Failed(error.try_clone(alloc)?),

@@ -9,7 +9,7 @@ use crate::effect::{Children, Drafts, Effect, Ended, Progress, Records};
 use crate::record::{ErrorOut, Record, Uses};
 use crate::visit::Visit;
 use asl_history::{EventKind, Place};
-use asl_json::{Dec, Items, Json, Members, Name, Shared, Txt};
+use asl_json::{Dec, Json, Members, Name, Shared, SharedItems, Txt};
 use asl_time::Moment;
 use std::alloc::{AllocError, Global};
 
@@ -24,12 +24,6 @@ pub fn idle(alloc: Global, current: &Record) -> Result<Effect, AllocError>
         events: Drafts::new(alloc),
         outcome: None,
     })
-}
-
-fn text(alloc: Global, text: &str) -> Result<Txt, AllocError>
-    ensures { IfOk result (λ t. t ≡ text.now) }
-{
-    Ok(Txt::new(String::from_str(alloc, text)?))
 }
 
 /// The name of the state that a branch is in.
@@ -57,9 +51,9 @@ fn number_of(place: &Place) -> u32
 fn index_of(alloc: Global, place: &Place) -> Result<Shared, AllocError>
     ensures { IfOk result (λ v. v ≡ index_of place.now) }
 {
-    let mut members = Members::new(alloc);
+    let mut members = Members::with_capacity(alloc, 1)?;
     let number = Json::Num(Dec::of_whole(alloc, i128::from(number_of(place)))?);
-    members.push(text(alloc, "index")?, number)?;
+    members.push(Txt::of(alloc, "index")?, number)?;
     Ok(Shared::new(alloc, Json::Dict(members))?)
 }
 
@@ -231,7 +225,7 @@ pub fn forking(
     done: Progress,
     input: &Shared,
     retriers: usize,
-    items: Items,
+    items: SharedItems,
     branches: Records,
 ) -> Result<Effect, AllocError>
     ensures { IfOk result (λ e. e ≡ spec_forking (seen visit.now) done input.now retriers items branches) }
@@ -383,12 +377,15 @@ fn left(
 pub fn error_output(alloc: Global, error: &ErrorOut) -> Result<Json, AllocError>
     ensures { IfOk result (λ v. v ≡ spec_error_output error.now) }
 {
-    let mut members = Members::new(alloc);
+    let mut members = Members::with_capacity(alloc, 2)?;
     if let Some(name) = &error.error {
-        members.push(text(alloc, "Error")?, Json::Text(name.try_clone(alloc)?))?;
+        members.push(Txt::of(alloc, "Error")?, Json::Text(name.try_clone(alloc)?))?;
     }
     if let Some(cause) = &error.cause {
-        members.push(text(alloc, "Cause")?, Json::Text(cause.try_clone(alloc)?))?;
+        members.push(
+            Txt::of(alloc, "Cause")?,
+            Json::Text(cause.try_clone(alloc)?),
+        )?;
     }
     Ok(Json::Dict(members))
 }
@@ -466,8 +463,8 @@ pub fn over_limit(alloc: Global) -> Result<ErrorOut, AllocError>
     ensures { IfOk result (λ e. e ≡ spec_over_limit) }
 {
     Ok(ErrorOut {
-        error: Some(text(alloc, "States.DataLimitExceeded")?),
-        cause: Some(text(alloc, "data limit")?),
+        error: Some(Txt::of(alloc, "States.DataLimitExceeded")?),
+        cause: Some(Txt::of(alloc, "data limit")?),
     })
 }
 

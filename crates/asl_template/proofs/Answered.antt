@@ -8,7 +8,7 @@ use Rattle.asl_intrinsic.specs.declared.expr.CallFault.{CallFault}
 use Rattle.asl_intrinsic.specs.declared.expr.CallFault.TheVariants.{OutOfMemory as NoMemory}
 use Rattle.asl_template.specs.Faults.{Rule, no_text, beside, path, call, Claim, claims, Each, Holds, IsTemplate}
 use Rattle.asl_template.specs.Places.{pointer_text}
-use Rattle.asl_template.specs.Broken.{Found, Says, IsFound}
+use Rattle.asl_template.specs.private.Broken.{Found, Says, IsFound}
 use Rattle.asl_template.specs.Answer.{Tells, Carries, IsTold, IsAnswer}
 use Rattle.asl_template.specs.declared.fault.Kind.{Kind}
 use Rattle.asl_template.specs.declared.fault.Kind.TheVariants as kind

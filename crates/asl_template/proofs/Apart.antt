@@ -6,7 +6,7 @@ use Rattle.asl_json.specs.Data.{Data}
 use Rattle.asl_json.specs.Same.{bytes_eq}
 use Rattle.asl_json.specs.Distinct.{Members, has_key, AreDistinct}
 use Rattle.asl_template.specs.Names.{name_of, named}
-use Rattle.asl_template.specs.View.{field_data, fields_data}
+use Rattle.asl_template.specs.private.View.{field_data, fields_data}
 use Rattle.asl_template.specs.declared.part.Field.{Field}
 
 abbrev pub keys : Members → List (List ℕ)

@@ -5,7 +5,7 @@ use Rattle.asl_json.specs.Data.{Data, text}
 use Rattle.asl_json.specs.Same.{bytes_eq, equal}
 use Rattle.asl_json.proofs.Knowing.{bytes_eq-flip}
 use Rattle.asl_template.specs.Names.{mark, name_before}
-use Rattle.asl_template.specs.View.{field_data, Fits}
+use Rattle.asl_template.specs.private.View.{field_data, Fits}
 use Rattle.asl_template.specs.declared.part.Part.{Part}
 use Rattle.asl_template.specs.declared.part.Field.{Field}
 use Rattle.asl_template.specs.declared.part.Field.TheVariants.{Kept}

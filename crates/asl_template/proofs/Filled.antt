@@ -8,7 +8,7 @@ use Rattle.asl_json.specs.declared.value.Json.{Json}
 use Rattle.asl_path.specs.Paths.{part_at}
 use Rattle.asl_intrinsic.specs.Values.{ev}
 use Rattle.asl_template.specs.Names.{mark, name_before, name_of}
-use Rattle.asl_template.specs.View.{part_data, parts_data, field_data, fields_data, Fits, AllFit}
+use Rattle.asl_template.specs.private.View.{part_data, parts_data, field_data, fields_data, Fits, AllFit}
 use Rattle.asl_template.specs.Filling.{Outcome, and_then, is_path, is_on_context, found, called, computed, chosen, fill, fill_items, fill_members}
 use Rattle.asl_template.specs.Gives.{Gives}
 use Rattle.asl_template.specs.declared.fill.FillFault.{FillFault}

@@ -5,7 +5,7 @@ use Rattle.std.proofs.lemmas.Bool.Decides.{nat_tests}
 use Rattle.std.proofs.lemmas.List.{map-append}
 use Rattle.asl_path.specs.declared.step.Step.{Step}
 use Rattle.asl_template.specs.Faults.{Rule, no_text, beside, path, call, Claim, number_of, IsBroken, under, Each, Holds, IsFirst, double_claims}
-use Rattle.asl_template.specs.Broken.{Found, number_of_kind, better, under_read, taken, Says, IsFound, Reads, judged_read}
+use Rattle.asl_template.specs.private.Broken.{Found, number_of_kind, better, under_read, taken, Says, IsFound, Reads, judged_read}
 use Rattle.asl_template.specs.declared.fault.Kind.{Kind}
 use Rattle.asl_template.specs.declared.fault.Kind.TheVariants.{NotText, Both, PathText, CallText}
 

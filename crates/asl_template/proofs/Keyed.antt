@@ -4,7 +4,7 @@ use Rattle.std.specs.Prelude.{map, Option, Some, None}
 use Rattle.std.specs.Cmp.Lexicographic.{same_text}
 use Rattle.asl_json.specs.Data.{pairs}
 use Rattle.asl_json.specs.Same.{bytes_eq}
-use Rattle.asl_json.specs.SameLaws.{bytes_refl}
+use Rattle.asl_json.specs.private.SameLaws.{bytes_refl}
 use Rattle.asl_json.specs.Distinct.{Members, has_key, AreDistinct}
 use Rattle.asl_template.specs.Names.{mark, name_before, first_of, name_of, named, has_name, is_double}
 use Rattle.asl_template.specs.Faults.{Claim, double_claims, member_claims, Each, Holds}

@@ -11,9 +11,9 @@ use Rattle.asl_path.specs.declared.step.Step.{Step}
 use Rattle.asl_path.specs.declared.step.Step.TheVariants.{Name, Index}
 use Rattle.asl_template.specs.Names.{name_before, is_double}
 use Rattle.asl_template.specs.Filling.{chosen}
-use Rattle.asl_template.specs.View.{part_data, field_data, Fits, AllFit}
+use Rattle.asl_template.specs.private.View.{part_data, field_data, Fits, AllFit}
 use Rattle.asl_template.specs.Faults.{Claim, under, text_claim, double_claims, claims, item_claims, member_claims}
-use Rattle.asl_template.specs.Broken.{Found, under_read, taken, judged_read, Reads}
+use Rattle.asl_template.specs.private.Broken.{Found, under_read, taken, judged_read, Reads}
 use Rattle.asl_template.specs.declared.part.Part.{Part}
 use Rattle.asl_template.specs.declared.part.Field.{Field}
 use Rattle.asl_template.proofs.First.{reads_under, reads_taken, reads_judged}

@@ -19,9 +19,9 @@ use Rattle.asl_intrinsic.specs.declared.expr.CallFault.{CallFault}
 use Rattle.asl_intrinsic.specs.declared.expr.CallFault.TheVariants.{OutOfMemory as NoCallMemory}
 use Rattle.asl_template.specs.Names.{mark, name_before, named}
 use Rattle.asl_template.specs.Filling.{is_path, chosen}
-use Rattle.asl_template.specs.View.{field_data, AllFit, IsObject}
+use Rattle.asl_template.specs.private.View.{field_data, AllFit, IsObject}
 use Rattle.asl_template.specs.Faults.{Rule, no_text, path, call, Claim, IsBroken, text_claim, member_claims}
-use Rattle.asl_template.specs.Broken.{Found, Says, IsFound, Reads}
+use Rattle.asl_template.specs.private.Broken.{Found, Says, IsFound, Reads}
 use Rattle.asl_template.specs.declared.fault.Kind.{Kind}
 use Rattle.asl_template.specs.declared.fault.Kind.TheVariants.{NotText, PathText, CallText}
 use Rattle.asl_template.specs.declared.part.Field.{Field}

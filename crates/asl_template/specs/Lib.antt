@@ -1,10 +1,7 @@
 pub mod Names
 pub mod Filling
-pub mod View
-pub mod Falls
 pub mod Gives
 pub mod Faults
-pub mod Broken
 pub mod Places
 pub mod Answer
-pub mod SameLaws
+pub mod private

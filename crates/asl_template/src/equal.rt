@@ -3,7 +3,7 @@ ghost use Rattle.std.specs.Prelude.{◌≡◌, ◌&&◌, ◌++◌};
 ghost use Rattle.asl_json.specs.Data.{chain, pairs, text as spec_text};
 ghost use Rattle.asl_json.specs.Same.{equal, equal_items, equal_members, bytes_eq};
 ghost use Rattle.asl_template.specs.Names.{mark};
-ghost use Rattle.asl_template.specs.View.{part_data, field_data, Fits};
+ghost use Rattle.asl_template.specs.private.View.{part_data, field_data, Fits};
 
 use crate::part::{Field, Fields, Part, Parts};
 use asl_json::Txt;

@@ -1,7 +1,7 @@
 // Why a value is no template.
 ghost use Rattle.std.specs.Prelude.{◌≡◌, ◌∷◌, ◌++◌, [], IfOk, reverse};
 ghost use Rattle.asl_path.specs.declared.step.Step.TheVariants.{Name, Index};
-ghost use Rattle.asl_template.specs.Broken.{number_of_kind, better as spec_better, under_read, taken, listed, judged_read};
+ghost use Rattle.asl_template.specs.private.Broken.{number_of_kind, better as spec_better, under_read, taken, listed, judged_read};
 ghost use Rattle.asl_template.specs.Places.{pointer_text, step_part};
 ghost use Rattle.asl_template.specs.Answer.{Carries};
 
@@ -65,7 +65,7 @@ impl Model for Fault {
 
     ghost Value = { Kind × List Step };
 
-    ghost use Rattle.asl_template.specs.Broken.{seen};
+    ghost use Rattle.asl_template.specs.private.Broken.{seen};
 
     ghost view = { seen };
 }
@@ -173,7 +173,7 @@ pub(crate) fn under_name<T: Drop>(
     match read {
         Ok(part) => Ok(Ok(part)),
         Err(fault) => {
-            let name = Txt::new(String::from_str(alloc, name)?);
+            let name = Txt::of(alloc, name)?;
             Ok(Err(fault.under(Step::Name(name))?))
         }
     }

@@ -5,7 +5,7 @@ ghost use Rattle.asl_json.specs.Data.{chain, pairs};
 ghost use Rattle.asl_path.specs.Paths.{part_at};
 ghost use Rattle.asl_intrinsic.specs.Values.{ev};
 ghost use Rattle.asl_template.specs.Names.{mark, name_before, name_of};
-ghost use Rattle.asl_template.specs.View.{part_data, field_data, Fits};
+ghost use Rattle.asl_template.specs.private.View.{part_data, field_data, Fits};
 ghost use Rattle.asl_template.specs.Gives.{Gives};
 ghost use Rattle.asl_template.specs.Filling.{is_on_context as starts_from_context, found, word_of as spec_word_of, called, computed, chosen, fill as spec_fill, fill_items, fill_members};
 

@@ -1,7 +1,7 @@
 // A template that was read. Contracts see it as the value that it was read from.
 ghost use Rattle.std.specs.Prelude.{◌≡◌, IfOk};
 ghost use Rattle.asl_template.specs.Names.{name_of};
-ghost use Rattle.asl_template.specs.View.{field_data, Fits};
+ghost use Rattle.asl_template.specs.private.View.{field_data, Fits};
 
 use asl_intrinsic::Expr;
 use asl_json::{Dec, Txt};
@@ -50,19 +50,19 @@ pub(crate) enum Field {
 impl Model for Parts {
     ghost use Rattle.std.specs.Prelude.{List};
     ghost use Rattle.asl_json.specs.Data.{Data, items_size};
-    ghost use Rattle.asl_json.specs.Code.{coded_items};
+    ghost use Rattle.asl_json.specs.private.Code.{coded_items};
 
     ghost Value = { List Data };
 
     ghost coded = { coded_items };
 
-    ghost use Rattle.asl_template.specs.View.{parts_data};
+    ghost use Rattle.asl_template.specs.private.View.{parts_data};
 
     ghost view = { λ a. parts_data a.parts.items };
 
     ghost size = { items_size };
 
-    ghost use Rattle.asl_template.specs.Falls.{parts_fall};
+    ghost use Rattle.asl_template.specs.private.Falls.{parts_fall};
 
     ghost size_decreases = { λ a h. parts_fall a.parts.items };
 }
@@ -70,13 +70,13 @@ impl Model for Parts {
 impl Model for Fields {
     ghost use Rattle.std.specs.Prelude.{List, ℕ};
     ghost use Rattle.asl_json.specs.Data.{Data, members_size};
-    ghost use Rattle.asl_json.specs.Code.{coded_members};
+    ghost use Rattle.asl_json.specs.private.Code.{coded_members};
 
     ghost Value = { List (List ℕ × Data) };
 
     ghost coded = { coded_members };
 
-    ghost use Rattle.asl_template.specs.View.{fields_data, IsObject};
+    ghost use Rattle.asl_template.specs.private.View.{fields_data, IsObject};
 
     ghost view = { λ a. fields_data a.fields.items };
 
@@ -84,7 +84,7 @@ impl Model for Fields {
 
     ghost size = { members_size };
 
-    ghost use Rattle.asl_template.specs.Falls.{fields_fall};
+    ghost use Rattle.asl_template.specs.private.Falls.{fields_fall};
 
     ghost size_decreases = { λ a h. fields_fall a.fields.items };
 }

@@ -5,10 +5,10 @@ ghost use Rattle.asl_json.specs.Distinct.{Members};
 ghost use Rattle.asl_json.specs.View.{data_of, items_of, member_of, members_of};
 ghost use Rattle.asl_json.specs.Keys.{Knows};
 ghost use Rattle.asl_template.specs.Names.{mark, name_before as spec_name_before, is_double as spec_is_double};
-ghost use Rattle.asl_template.specs.View.{part_data, field_data, fields_data, Fits};
+ghost use Rattle.asl_template.specs.private.View.{part_data, field_data, fields_data, Fits};
 ghost use Rattle.asl_template.specs.Filling.{is_path as begins_path, chosen};
 ghost use Rattle.asl_template.specs.Faults.{text_claim, double_claims, claims, item_claims, member_claims};
-ghost use Rattle.asl_template.specs.Broken.{Reads};
+ghost use Rattle.asl_template.specs.private.Broken.{Reads};
 
 use crate::fault::{Fault, Kind, judged, take_in, under_index, under_name};
 use crate::name::{marked, name_before};
@@ -26,12 +26,6 @@ pub fn is_path(text: &str) -> bool
     bytes.len() >= 1 && bytes[0] == b'$'
 }
 
-fn own_text(alloc: Global, text: &str) -> Result<Txt, AllocError>
-    ensures { IfOk result (λ t. t ≡ text.now) }
-{
-    Ok(Txt::new(String::from_str(alloc, text)?))
-}
-
 /// A computed member of this name whose text is to be a path.
 fn path_field(alloc: Global, name: &str, text: &str) -> Result<Result<Field, Fault>, AllocError>
     requires { begins_path text.now ≡ true }
@@ -39,7 +33,7 @@ fn path_field(alloc: Global, name: &str, text: &str) -> Result<Result<Field, Fau
     ensures fits { IfOk result (λ r. IfOk r Fits) }
 {
     match RefPath::read(alloc, text) {
-        Ok(path) => Ok(Ok(Field::Path(own_text(alloc, name)?, path))),
+        Ok(path) => Ok(Ok(Field::Path(Txt::of(alloc, name)?, path))),
         Err(PathFault::PathProfile(at)) => Ok(Err(Fault::here(alloc, Kind::PathText(at)))),
         Err(PathFault::OutOfMemory) => Err(AllocError),
     }
@@ -52,7 +46,7 @@ fn call_field(alloc: Global, name: &str, text: &str) -> Result<Result<Field, Fau
     ensures fits { IfOk result (λ r. IfOk r Fits) }
 {
     match Expr::read(alloc, text) {
-        Ok(call) => Ok(Ok(Field::Call(own_text(alloc, name)?, call))),
+        Ok(call) => Ok(Ok(Field::Call(Txt::of(alloc, name)?, call))),
         Err(fault) => match fault {
             CallFault::OutOfMemory => Err(AllocError),
             fault => Ok(Err(Fault::here(alloc, Kind::CallText(fault)))),

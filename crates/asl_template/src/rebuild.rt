@@ -2,7 +2,7 @@
 ghost use Rattle.std.specs.Prelude.{◌≡◌, IfOk};
 ghost use Rattle.asl_json.specs.View.{data_of};
 ghost use Rattle.asl_template.specs.Names.{mark};
-ghost use Rattle.asl_template.specs.View.{part_data, field_data};
+ghost use Rattle.asl_template.specs.private.View.{part_data, field_data};
 
 use crate::name::marked;
 use crate::part::{Field, Fields, Part, Parts};
@@ -26,7 +26,7 @@ impl Field {
 fn text_value(alloc: Global, text: &str) -> Result<Json, AllocError>
     ensures { IfOk result (λ v. v ≡ Json.Text text.now) }
 {
-    Ok(Json::Text(Txt::new(String::from_str(alloc, text)?)))
+    Ok(Json::Text(Txt::of(alloc, text)?))
 }
 
 /// The value that a part was read from.

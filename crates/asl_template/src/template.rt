@@ -5,8 +5,8 @@ ghost use Rattle.asl_template.specs.Faults.{IsTemplate};
 ghost use Rattle.asl_template.specs.Answer.{IsAnswer};
 ghost use Rattle.asl_template.specs.Filling.{fill as spec_fill};
 ghost use Rattle.asl_template.specs.Gives.{Gives};
-ghost use Rattle.asl_template.specs.Broken.{Reads};
-ghost use Rattle.asl_template.specs.View.{part_data};
+ghost use Rattle.asl_template.specs.private.Broken.{Reads};
+ghost use Rattle.asl_template.specs.private.View.{part_data};
 
 use crate::equal::equals;
 use crate::fault::TemplateFault;
@@ -38,9 +38,9 @@ impl Drop for Template {
 
 impl Model for Template {
     ghost use Rattle.asl_json.specs.Data.{Data};
-    ghost use Rattle.asl_template.specs.View.{part_data};
+    ghost use Rattle.asl_template.specs.private.View.{part_data};
     ghost use Rattle.asl_template.specs.Faults.{IsTemplate};
-    ghost use Rattle.asl_json.specs.Code.{coded_data};
+    ghost use Rattle.asl_json.specs.private.Code.{coded_data};
 
     ghost Value = { Data };
 
@@ -54,7 +54,7 @@ impl Model for Template {
 /// Two templates are equal where they were read from equal values, spelling and order of members included.
 impl PartialEq for Template {
     ghost use Rattle.asl_json.specs.Same.{equal};
-    ghost use Rattle.asl_template.specs.SameLaws.{equal_laws};
+    ghost use Rattle.asl_template.specs.private.SameLaws.{equal_laws};
 
     ghost eq = { equal };
 
@@ -66,7 +66,7 @@ impl PartialEq for Template {
 }
 
 impl Eq for Template {
-    ghost use Rattle.asl_template.specs.SameLaws.{equal_equivalence};
+    ghost use Rattle.asl_template.specs.private.SameLaws.{equal_equivalence};
 
     ghost laws = { equal_equivalence };
 }

@@ -14,7 +14,7 @@ const ROOM: usize = 1 << 30;
 /// A value in an object and that in a list.
 fn wrapped(alloc: Global, value: Json) -> Option<Json> {
     let mut members = Members::new(alloc);
-    let key = Txt::new(String::from_str(alloc, "k").ok()?);
+    let key = Txt::of(alloc, "k").ok()?;
     if members.position("k").is_none() {
         members.push(key, value).ok()?;
     }

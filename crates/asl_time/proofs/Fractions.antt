@@ -6,7 +6,7 @@ use Rattle.std.proofs.lemmas.Bool.Decides.{nat_tests}
 use Rattle.std.specs.List.{All}
 use Rattle.std.specs.Str.Parse.{AllDigits, digits_value}
 use Rattle.asl_time.specs.Timestamp.{secfrac, IsOffset, IsRoundedUp}
-use Rattle.asl_time.specs.Parts.{BeginsWithFraction}
+use Rattle.asl_time.specs.private.Parts.{BeginsWithFraction}
 use Rattle.asl_time.proofs.Offsets.{offset_opens}
 
 pub AllDigits-from_all : (ds : List ℕ) → All (λ c. digit_value c < 10) ds → AllDigits 10 ds

@@ -6,7 +6,7 @@ use Rattle.jiff_core.proofs.SignedLemmas.{signed_arith, one_part}
 use Rattle.jiff_core.specs.declared.civil.date.Date.{Date}
 use Rattle.jiff_core.specs.declared.civil.time.Time.{Time}
 use Rattle.asl_time.specs.Stamp.{digits, full_date, whole_time}
-use Rattle.asl_time.specs.Parts.{BeginsWithDate, BeginsWithTime}
+use Rattle.asl_time.specs.private.Parts.{BeginsWithDate, BeginsWithTime}
 use Rattle.asl_time.proofs.Spelling.{digits_one}
 
 -- two digits behind a mark, and what follows

@@ -10,7 +10,7 @@ use Rattle.jiff_core.specs.declared.civil.time.Time.{Time}
 use Rattle.jiff_core.specs.declared.civil.datetime.DateTime.{DateTime}
 use Rattle.asl_time.specs.Stamp.{full_date, whole_time}
 use Rattle.asl_time.specs.Timestamp.{secfrac, IsOffset, IsTimestamp}
-use Rattle.asl_time.specs.Parts.{BeginsWithDate, BeginsWithTime, BeginsWithFraction}
+use Rattle.asl_time.specs.private.Parts.{BeginsWithDate, BeginsWithTime, BeginsWithFraction}
 use Rattle.asl_time.proofs.Parts.{marked, marked_one, after_year, after_hour, date_opens, time_opens, year_from_abs, year_small, day_small}
 use Rattle.asl_time.proofs.Offsets.{offset_one}
 

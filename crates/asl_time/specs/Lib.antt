@@ -3,4 +3,4 @@ pub mod StampText
 pub mod Timestamp
 pub mod Fields
 pub mod Delay
-pub mod Parts
+pub mod private

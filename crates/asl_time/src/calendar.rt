@@ -2,7 +2,7 @@
 ghost use Rattle.std.specs.Prelude.{◌≡◌, ◌≤◌, ◌<◌, ◌+◌, ◌^◌, ℕ, List, IfSome, IfNone, pos};
 ghost use Rattle.jiff_core.specs.declared.civil.date.Date.{Date};
 ghost use Rattle.jiff_core.specs.declared.civil.time.Time.{Time};
-ghost use Rattle.asl_time.specs.Parts.{BeginsWithDate, BeginsWithTime};
+ghost use Rattle.asl_time.specs.private.Parts.{BeginsWithDate, BeginsWithTime};
 
 use crate::digits::{read_digits, read_two};
 use jiff_core::civil::{Date, Time};

@@ -4,7 +4,7 @@ ghost use Rattle.std.specs.Char.{digit_value};
 ghost use Rattle.std.specs.List.{All};
 ghost use Rattle.std.specs.Str.Parse.{AllDigits};
 ghost use Rattle.asl_time.specs.Timestamp.{IsOffset, IsRoundedUp};
-ghost use Rattle.asl_time.specs.Parts.{BeginsWithFraction};
+ghost use Rattle.asl_time.specs.private.Parts.{BeginsWithFraction};
 
 use crate::digits::after_byte;
 

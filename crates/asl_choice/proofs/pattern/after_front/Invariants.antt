@@ -1,6 +1,6 @@
 use Rattle.std.proofs.Common.{◌≤◌, length}
 use Rattle.asl_choice.specs.Patterns.{tokens}
-use Rattle.asl_choice.specs.Taking.{AreTaken}
+use Rattle.asl_choice.specs.private.Taking.{AreTaken}
 use Rattle.asl_choice.proofs.pattern.after_front.Given as goal
 
 abbrev pub invariant-loop-byte : goal.invariant-loop-byte

@@ -1,4 +1,4 @@
-use Rattle.asl_choice.specs.Taking.{star, broken}
+use Rattle.asl_choice.specs.private.Taking.{star, broken}
 use Rattle.std.proofs.Common.{◌∙◌, ap, ◌∷◌}
 use Rattle.asl_choice.specs.declared.pattern.Token.{Token}
 use Rattle.asl_choice.specs.Patterns.{tokens}

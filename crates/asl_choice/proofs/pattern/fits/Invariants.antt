@@ -1,7 +1,7 @@
 use Rattle.std.proofs.Common.{length}
 use Rattle.std.specs.Prelude.{◌↔◌}
 use Rattle.asl_choice.specs.Patterns.{tokens, Fits}
-use Rattle.asl_choice.specs.Taking.{IsStopped}
+use Rattle.asl_choice.specs.private.Taking.{IsStopped}
 use Rattle.asl_choice.proofs.pattern.fits.Given as goal
 
 abbrev pub invariant-loop-behind : goal.invariant-loop-behind

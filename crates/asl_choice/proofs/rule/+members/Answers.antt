@@ -23,23 +23,23 @@ rules_value-rule_value-requires t c =
 pub Rule::members-returns-clause-no_next : goal.Rule::members-returns-clause-no_next
 Rule::members-returns-clause-no_next t c = subst (λ (ms : Members). has_key (codes "Next") ms ≡ false) c.self.view_is (no_next c.self.inside.comment c.self.inside.condition)
 
-pub condition_members-returns-in_ok-key-in-And : goal.condition_members-returns-in_ok-key-in-And
-condition_members-returns-in_ok-key-in-And t c = connective_shown c.commented.result c.args.comment.now c.in_ok-key-in-And.field-0 (codes "And") (data_of c.in_ok-value-in-And.value) (rule_list c.in-And.rules.items) c.args.condition.now c.in_ok-key-in-And.ensures (c.in_ok-value-in-And.ensures) (ap condition_named c.in-And.is) c.commented.ensures
+pub condition_members-returns-in_ok-of-in-And : goal.condition_members-returns-in_ok-of-in-And
+condition_members-returns-in_ok-of-in-And t c = connective_shown c.commented.result c.args.comment.now c.in_ok-of-in-And.field-0 (codes "And") (data_of c.in_ok-value-in-And.value) (rule_list c.in-And.rules.items) c.args.condition.now c.in_ok-of-in-And.ensures (c.in_ok-value-in-And.ensures) (ap condition_named c.in-And.is) c.commented.ensures
 
 pub condition_members-commented-requires : goal.condition_members-commented-requires
-condition_members-commented-requires t c = named_apart c.in_ok-key-in-And.field-0 (codes "And") c.args.comment.now c.in_ok-key-in-And.ensures refl
+condition_members-commented-requires t c = named_apart c.in_ok-of-in-And.field-0 (codes "And") c.args.comment.now c.in_ok-of-in-And.ensures refl
 
-pub condition_members-returns-in_ok-key-in-Or : goal.condition_members-returns-in_ok-key-in-Or
-condition_members-returns-in_ok-key-in-Or t c = connective_shown c.commented-in-Or.result c.args.comment.now c.in_ok-key-in-Or.field-0 (codes "Or") (data_of c.in_ok-value-in-Or.value) (rule_list c.in-Or.rules.items) c.args.condition.now c.in_ok-key-in-Or.ensures (c.in_ok-value-in-Or.ensures) (ap condition_named c.in-Or.is) c.commented-in-Or.ensures
+pub condition_members-returns-in_ok-of-in-Or : goal.condition_members-returns-in_ok-of-in-Or
+condition_members-returns-in_ok-of-in-Or t c = connective_shown c.commented-in-Or.result c.args.comment.now c.in_ok-of-in-Or.field-0 (codes "Or") (data_of c.in_ok-value-in-Or.value) (rule_list c.in-Or.rules.items) c.args.condition.now c.in_ok-of-in-Or.ensures (c.in_ok-value-in-Or.ensures) (ap condition_named c.in-Or.is) c.commented-in-Or.ensures
 
 pub condition_members-commented-requires-in-Or : goal.condition_members-commented-requires-in-Or
-condition_members-commented-requires-in-Or t c = named_apart c.in_ok-key-in-Or.field-0 (codes "Or") c.args.comment.now c.in_ok-key-in-Or.ensures refl
+condition_members-commented-requires-in-Or t c = named_apart c.in_ok-of-in-Or.field-0 (codes "Or") c.args.comment.now c.in_ok-of-in-Or.ensures refl
 
-pub condition_members-returns-in_ok-key-in-Not : goal.condition_members-returns-in_ok-key-in-Not
-condition_members-returns-in_ok-key-in-Not t c = connective_shown c.commented-in-Not.result c.args.comment.now c.in_ok-key-in-Not.field-0 (codes "Not") (data_of c.in_ok-value-in-Not.value) (rule_object c.in-Not.rule.value) c.args.condition.now c.in_ok-key-in-Not.ensures (c.in_ok-value-in-Not.ensures ∙ ap rule_object c.deref.ensures) (ap condition_named c.in-Not.is) c.commented-in-Not.ensures
+pub condition_members-returns-in_ok-of-in-Not : goal.condition_members-returns-in_ok-of-in-Not
+condition_members-returns-in_ok-of-in-Not t c = connective_shown c.commented-in-Not.result c.args.comment.now c.in_ok-of-in-Not.field-0 (codes "Not") (data_of c.in_ok-value-in-Not.value) (rule_object c.in-Not.rule.value) c.args.condition.now c.in_ok-of-in-Not.ensures (c.in_ok-value-in-Not.ensures ∙ ap rule_object c.deref.ensures) (ap condition_named c.in-Not.is) c.commented-in-Not.ensures
 
 pub condition_members-commented-requires-in-Not : goal.condition_members-commented-requires-in-Not
-condition_members-commented-requires-in-Not t c = named_apart c.in_ok-key-in-Not.field-0 (codes "Not") c.args.comment.now c.in_ok-key-in-Not.ensures refl
+condition_members-commented-requires-in-Not t c = named_apart c.in_ok-of-in-Not.field-0 (codes "Not") c.args.comment.now c.in_ok-of-in-Not.ensures refl
 
 pub condition_members-returns-in-Test : goal.condition_members-returns-in-Test
 condition_members-returns-in-Test t c = shown_ok c.test_members.result _ _ (sym (ap (λ x. rule_named c.args.comment.now x) c.in-Test.is)) c.test_members.ensures

@@ -1,6 +1,6 @@
 use Rattle.std.specs.Vec.Iter.{into_iter_items}
 use Rattle.std.specs.Prelude.{◌++◌}
-use Rattle.asl_def.specs.Built.{rows_in}
+use Rattle.asl_def.specs.private.Built.{rows_in}
 use Rattle.asl_def.proofs.Builds.{IsPushed}
 use Rattle.asl_def.proofs.build.push_all.Given as goal
 

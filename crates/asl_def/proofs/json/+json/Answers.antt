@@ -13,9 +13,9 @@ pub states_json-loop-number-init : goal.states_json-loop-number-init
 states_json-loop-number-init t c = (rw c.new-members.ensures (walk_begins c.args.table.now c.args.first (omega (arith, c.requires))), omega arith)
 
 pub states_json-push-requires : goal.states_json-push-requires
-states_json-push-requires t c = rw (c.new-name.ensures ∙ c.in_ok-from_str.ensures.ok ∙ c.as_str.ensures.value) (next_is_new c.args.table.now c.args.first c.loop-number.number c.loop-number.members (string_bytes c.in-Some.name.now, state_of c.args.table.now c.in-Some.state.now) c.names_differ.ensures c.loop-number.invariant.0 c.in-Some.ensures.some)
+states_json-push-requires t c = rw (c.in_ok-name.ensures ∙ c.as_str.ensures.value) (next_is_new c.args.table.now c.args.first c.loop-number.number c.loop-number.members (string_bytes c.in-Some.name.now, state_of c.args.table.now c.in-Some.state.now) c.names_differ.ensures c.loop-number.invariant.0 c.in-Some.ensures.some)
 
 pub states_json-loop-number-preserved : goal.states_json-loop-number-preserved
 states_json-loop-number-preserved t c =
-    let goes_on = walk_goes_on c.args.table.now c.args.first c.loop-number.number c.loop-number.members c.push.new.self (string_bytes c.in-Some.name.now, state_of c.args.table.now c.in-Some.state.now) _ _ c.loop-number.invariant.0 c.in-Some.ensures.some (c.new-name.ensures ∙ c.in_ok-from_str.ensures.ok ∙ c.as_str.ensures.value) c.in_ok-state.ensures c.in_ok-push.ensures.ok in
+    let goes_on = walk_goes_on c.args.table.now c.args.first c.loop-number.number c.loop-number.members c.push.new.self (string_bytes c.in-Some.name.now, state_of c.args.table.now c.in-Some.state.now) _ _ c.loop-number.invariant.0 c.in-Some.ensures.some (c.in_ok-name.ensures ∙ c.as_str.ensures.value) c.in_ok-state.ensures c.in_ok-push.ensures.ok in
     (rw (add-one c.loop-number.number) goes_on, omega (arith, c.loop-number-test.true))

@@ -9,7 +9,7 @@ use Rattle.asl_schema.proofs.Kept.{form_fits}
 use Rattle.asl_members.specs.Readable.{IsText}
 use Rattle.asl_members.proofs.Fitting.{fit, text_fits}
 use Rattle.asl_members.proofs.Retrying.{not_none, value_there}
-use Rattle.asl_def.specs.Built.{Grows}
+use Rattle.asl_def.specs.private.Built.{Grows}
 use Rattle.asl_schema.specs.Canon.{Named}
 use Rattle.asl_parts.proofs.Heads.{comment_fits}
 use Rattle.asl_def.proofs.Wholes.{members_clean, start_is_there, states_are_there, empty_room, definition_shows, whole}

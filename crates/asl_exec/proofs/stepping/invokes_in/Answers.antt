@@ -1,5 +1,5 @@
 use Rattle.std.proofs.Common.{[], ◌∙◌}
-use Rattle.asl_kinds.specs.Laws.{any_table_invokes}
+use Rattle.asl_kinds.specs.private.Laws.{any_table_invokes}
 use Rattle.asl_exec.proofs.stepping.invokes_in.Goals as goal
 
 pub returns-in-Some : goal.returns-in-Some

@@ -1,6 +1,6 @@
 use Rattle.std.proofs.Common.{◌≡◌, ◌<◌, drop}
 use Rattle.asl_functions.specs.declared.mark.TheConstants.{MODULUS, TEXT}
-use Rattle.asl_functions.specs.Marks.{text_mark}
+use Rattle.asl_functions.specs.private.Marks.{text_mark}
 use Rattle.asl_functions.proofs.mark.text_mark.Given as goal
 
 abbrev pub invariant-loop-byte : goal.invariant-loop-byte

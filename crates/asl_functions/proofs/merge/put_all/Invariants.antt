@@ -1,7 +1,7 @@
 use Rattle.std.proofs.Common.{◌≡◌, drop}
 use Rattle.asl_json.specs.View.{members_of}
 use Rattle.asl_functions.specs.Merge.{merged}
-use Rattle.asl_functions.specs.Places.{HasPlaces}
+use Rattle.asl_functions.specs.private.Places.{HasPlaces}
 use Rattle.asl_functions.proofs.merge.put_all.Given as goal
 
 abbrev pub invariant-loop-member : goal.invariant-loop-member

@@ -1,6 +1,6 @@
 use Rattle.std.proofs.Common.{subst}
-use Rattle.asl_intrinsic.specs.Steps.{heard}
-use Rattle.asl_intrinsic.specs.Leads.{Fails}
+use Rattle.asl_intrinsic.specs.private.Steps.{heard}
+use Rattle.asl_intrinsic.specs.private.Leads.{Fails}
 use Rattle.asl_intrinsic.proofs.Least.{left_within, first_wrong}
 use Rattle.asl_intrinsic.proofs.expr.at_place.Goals as goal
 

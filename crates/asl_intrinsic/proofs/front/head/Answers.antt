@@ -1,7 +1,7 @@
 use Rattle.std.proofs.Common.{◌∷◌, [], ℕ, List, take, ap, sym, ◌∙◌, subst}
 use Rattle.std.proofs.lemmas.Result.{err_from_is_err_and}
 use Rattle.std.specs.Str.{IsCharBoundary}
-use Rattle.asl_intrinsic.specs.Steps.{opening, run}
+use Rattle.asl_intrinsic.specs.private.Steps.{opening, run}
 use Rattle.asl_intrinsic.specs.Grammar.{states_word}
 use Rattle.asl_intrinsic.proofs.Stretches.{prefix_fails, name_boundary, head_nameless, head_named, bracket_opens, bracket_lacks}
 use Rattle.asl_intrinsic.proofs.front.head.Goals as goal

@@ -1,7 +1,7 @@
 use Rattle.std.proofs.Common.{length, ◌≤◌}
 use denote.Shadow.{shadow}
 use denote.Text.{Utf8}
-use Rattle.asl_intrinsic.specs.Leads.{Led}
+use Rattle.asl_intrinsic.specs.private.Leads.{Led}
 use Rattle.asl_intrinsic.proofs.front.skip_spaces.Given as goal
 
 abbrev pub invariant-loop-behind : goal.invariant-loop-behind

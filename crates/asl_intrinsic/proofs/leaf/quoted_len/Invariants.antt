@@ -1,5 +1,5 @@
 use Rattle.std.proofs.Common.{◌≡◌, ◌≤◌, ◌-◌, [], length, take, drop, List}
-use Rattle.asl_intrinsic.specs.Steps.{chars, run}
+use Rattle.asl_intrinsic.specs.private.Steps.{chars, run}
 use Rattle.asl_intrinsic.specs.Tree.{Frame}
 use Rattle.asl_intrinsic.proofs.leaf.quoted_len.Given as goal
 

@@ -1,7 +1,7 @@
 use Rattle.std.proofs.Common.{suc, length, refl, sym, ◌∙◌}
 use Rattle.std.proofs.lemmas.Result.{err_from_is_err_and}
-use Rattle.asl_intrinsic.specs.View.{tree_of}
-use Rattle.asl_intrinsic.specs.Steps.{prefix, run, ended}
+use Rattle.asl_intrinsic.specs.private.View.{tree_of}
+use Rattle.asl_intrinsic.specs.private.Steps.{prefix, run, ended}
 use Rattle.asl_intrinsic.specs.Grammar.{states_word}
 use Rattle.asl_intrinsic.proofs.Stretches.{fails_along}
 use Rattle.asl_intrinsic.proofs.Leaves.{begun_call}

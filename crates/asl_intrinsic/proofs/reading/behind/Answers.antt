@@ -1,5 +1,5 @@
 use Rattle.std.proofs.Common.{true, ◌∷◌, [], ◌++◌, refl, ◌∙◌, arith}
-use Rattle.asl_intrinsic.specs.Steps.{wanting}
+use Rattle.asl_intrinsic.specs.private.Steps.{wanting}
 use Rattle.asl_intrinsic.proofs.Turns.{comma_wants, bracket_ends, neither_follows}
 use Rattle.asl_intrinsic.proofs.reading.behind.Goals as goal
 

@@ -1,7 +1,7 @@
 use Rattle.std.proofs.Common.{rules, ◌≡◌, ◌∷◌, ℕ, suc, length, refl, sym, subst, ◌∙◌}
 use Rattle.asl_intrinsic.specs.Tree.{call, arguments}
-use Rattle.asl_intrinsic.specs.Steps.{ended}
-use Rattle.asl_intrinsic.specs.Keeps.{Keeps, KeepsOne}
+use Rattle.asl_intrinsic.specs.private.Steps.{ended}
+use Rattle.asl_intrinsic.specs.private.Keeps.{Keeps, KeepsOne}
 use Rattle.asl_intrinsic.proofs.Turns.{popped, levels}
 use Rattle.asl_intrinsic.proofs.reading.close.Goals as goal
 

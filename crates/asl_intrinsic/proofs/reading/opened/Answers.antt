@@ -1,5 +1,5 @@
 use Rattle.std.proofs.Common.{◌∷◌, [], suc, length, refl, arith}
-use Rattle.asl_intrinsic.specs.Steps.{opening}
+use Rattle.asl_intrinsic.specs.private.Steps.{opening}
 use Rattle.asl_intrinsic.proofs.Turns.{pushed}
 use Rattle.asl_intrinsic.proofs.reading.opened.Goals as goal
 

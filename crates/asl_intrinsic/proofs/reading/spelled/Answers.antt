@@ -1,6 +1,6 @@
 use Rattle.std.proofs.Common.{rules, ◌≡◌, [], List, reverse, sym, subst, ◌∙◌}
-use Rattle.asl_intrinsic.specs.Steps.{heard}
-use Rattle.asl_intrinsic.specs.Keeps.{KeepsAll}
+use Rattle.asl_intrinsic.specs.private.Steps.{heard}
+use Rattle.asl_intrinsic.specs.private.Keeps.{KeepsAll}
 use Rattle.asl_intrinsic.specs.declared.frame.Open.{Open}
 use Rattle.asl_intrinsic.proofs.Turns.{no_calls, nothing_follows, alone_goes}
 use Rattle.asl_intrinsic.proofs.reading.spelled.Goals as goal

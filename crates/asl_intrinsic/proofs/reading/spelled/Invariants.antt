@@ -1,5 +1,5 @@
-use Rattle.asl_intrinsic.specs.Steps.{heard}
-use Rattle.asl_intrinsic.specs.Hears.{Hears, waits}
+use Rattle.asl_intrinsic.specs.private.Steps.{heard}
+use Rattle.asl_intrinsic.specs.private.Hears.{Hears, waits}
 use Rattle.asl_intrinsic.proofs.reading.spelled.Given as goal
 
 abbrev pub invariant-loop-alloc : goal.invariant-loop-alloc

@@ -1,7 +1,7 @@
 use Rattle.std.proofs.Common.{true, ◌<◌, ℕ, List, suc, length, reverse, subst, ◌∙◌, ap}
-use Rattle.asl_intrinsic.specs.Steps.{opening, run}
+use Rattle.asl_intrinsic.specs.private.Steps.{opening, run}
 use Rattle.asl_intrinsic.specs.Tree.{Frame}
-use Rattle.asl_intrinsic.specs.Keeps.{KeepsOne, KeepsAll}
+use Rattle.asl_intrinsic.specs.private.Keeps.{KeepsOne, KeepsAll}
 use Rattle.asl_intrinsic.proofs.Turns.{split, levels, opening_goes, opening_wants, wanting_goes, ended_goes, bracket_closes}
 use Rattle.asl_intrinsic.proofs.reading.turn.Goals as goal
 

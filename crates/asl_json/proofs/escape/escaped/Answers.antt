@@ -1,5 +1,5 @@
 use Rattle.std.proofs.Common.{◌∙◌}
-use Rattle.asl_json.specs.Chars.{slash}
+use Rattle.asl_json.specs.private.Chars.{slash}
 use Rattle.asl_json.specs.Text.{letter_u}
 use Rattle.asl_json.proofs.Escapes.{breaks_along, breaks_through, reads_through, none_left, not_first, to_unit, letter_read, no_letter, letter_ascii}
 use Rattle.asl_json.proofs.escape.escaped.Goals as goal

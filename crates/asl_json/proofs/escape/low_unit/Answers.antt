@@ -1,6 +1,6 @@
 use Rattle.std.proofs.Common.{length, arith, sym, ap, ◌∙◌, eq-eqb}
 use Rattle.std.proofs.lemmas.Result.{err_from_is_err_and}
-use Rattle.asl_json.specs.Chars.{low_1, low_2, low_3}
+use Rattle.asl_json.specs.private.Chars.{low_1, low_2, low_3}
 use Rattle.std.proofs.lemmas.Bool.{ne_eqb}
 use Rattle.asl_json.proofs.Escapes.{breaks_along, begins_by, low_first_digit, low_first_alone, low_second_digit, low_second_alone, low_third_digit, is_low_unit}
 use Rattle.asl_json.proofs.escape.low_unit.Goals as goal

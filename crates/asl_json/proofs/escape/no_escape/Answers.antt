@@ -1,5 +1,5 @@
 use Rattle.std.proofs.Common.{sym, ◌∙◌}
-use Rattle.asl_json.specs.Chars.{half}
+use Rattle.asl_json.specs.private.Chars.{half}
 use Rattle.asl_json.specs.Text.{backslash}
 use Rattle.asl_json.proofs.Escapes.{none_left, not_first, no_escape_alone, no_escape_breaks}
 use Rattle.asl_json.proofs.escape.no_escape.Goals as goal

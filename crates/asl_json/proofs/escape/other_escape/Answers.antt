@@ -1,4 +1,4 @@
-use Rattle.asl_json.specs.Chars.{half_slash}
+use Rattle.asl_json.specs.private.Chars.{half_slash}
 use Rattle.asl_json.specs.Text.{letter_u}
 use Rattle.asl_json.proofs.Escapes.{none_left, not_first, letter_alone, letter_breaks}
 use Rattle.asl_json.proofs.escape.other_escape.Goals as goal

@@ -1,6 +1,6 @@
 use Rattle.std.proofs.Common.{length, arith, sym, ap, ◌∙◌}
 use Rattle.std.proofs.lemmas.Result.{err_from_is_err_and}
-use Rattle.asl_json.specs.Chars.{unit_1, unit_2, unit_3}
+use Rattle.asl_json.specs.private.Chars.{unit_1, unit_2, unit_3}
 use Rattle.asl_json.proofs.Escapes.{breaks_along, begins_by, first_digit, second_digit, second_alone, third_digit, is_unit}
 use Rattle.asl_json.proofs.escape.unit.Goals as goal
 

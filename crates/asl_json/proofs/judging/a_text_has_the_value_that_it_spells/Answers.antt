@@ -3,7 +3,7 @@ use Rattle.std.specs.Str.{IsUtf8}
 use Rattle.std.specs.Result.{result_ok}
 use Rattle.asl_json.specs.Data.{Data}
 use Rattle.asl_json.specs.Limits.{max_len}
-use Rattle.asl_json.specs.Machine.{value, run}
+use Rattle.asl_json.specs.private.Machine.{value, run}
 use Rattle.asl_json.specs.Reading.{value_read}
 use Rattle.asl_json.specs.Wrong.{ReadsAs}
 use Rattle.asl_json.specs.declared.fault.Fault.{Fault}

@@ -1,5 +1,5 @@
 use Rattle.std.proofs.Common.{◌≡◌, ◌≤◌, ◌-◌, length, take, Some}
-use Rattle.asl_json.specs.Machine.{part_behind}
+use Rattle.asl_json.specs.private.Machine.{part_behind}
 use Rattle.asl_json.specs.declared.number.Part.TheVariants.{Start}
 use Rattle.asl_json.proofs.number.longest_number.Given as goal
 

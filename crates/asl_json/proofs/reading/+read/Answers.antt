@@ -2,11 +2,11 @@ use Rattle.std.proofs.Common.{ℕ, List, [], ◌∷◌, ◌++◌, true, length, 
 use Rattle.std.proofs.lemmas.Result.{err_from_is_err_and}
 use Rattle.asl_json.specs.Data.{Data, list, dict, chain, pairs}
 use Rattle.asl_json.specs.View.{data_of, items_of, members_of}
-use Rattle.asl_json.specs.Machine.{key, after, value, run}
+use Rattle.asl_json.specs.private.Machine.{key, after, value, run}
 use Rattle.asl_json.specs.Open.{in_list, in_dict}
 use Rattle.asl_json.specs.Distinct.{Members}
 use Rattle.asl_json.specs.Keys.{Knows}
-use Rattle.asl_json.specs.Leads.{WantsValue}
+use Rattle.asl_json.specs.private.Leads.{WantsValue}
 use Rattle.asl_json.specs.declared.value.Member.{Member}
 use Rattle.asl_json.proofs.Fronts.{skips_shorter}
 use Rattle.asl_json.proofs.Turns.{one_member, pushed, pushed_item, still_distinct}

@@ -1,12 +1,12 @@
 use Rattle.std.proofs.Common.{◌≡◌, ◌+◌, ◌*◌, ◌≤◌, length, List, true, ◌∷◌}
 use Rattle.std.specs.Str.{IsUtf8}
 use Rattle.asl_json.specs.View.{items_of, members_of}
-use Rattle.asl_json.specs.Machine.{value, key, first, run}
+use Rattle.asl_json.specs.private.Machine.{value, key, first, run}
 use Rattle.asl_json.specs.Limits.{max_depth}
 use Rattle.asl_json.specs.Open.{Frame, in_list}
 use Rattle.asl_json.specs.Distinct.{AreDistinct}
 use Rattle.asl_json.specs.Keys.{Knows}
-use Rattle.asl_json.specs.Leads.{WantsValue}
+use Rattle.asl_json.specs.private.Leads.{WantsValue}
 use Rattle.std.specs.Prelude.{[]}
 use Rattle.asl_json.proofs.reading.+read.Given as goal
 

@@ -1,7 +1,7 @@
 use Rattle.std.proofs.Common.{◌≡◌, ◌≤◌, length, []}
 use Rattle.std.specs.Prelude.{string_bytes}
 use Rattle.std.specs.Str.{IsUtf8}
-use Rattle.asl_json.specs.Chars.{bare, text_run}
+use Rattle.asl_json.specs.private.Chars.{bare, text_run}
 use Rattle.asl_json.proofs.reading.escaped_text.Given as goal
 
 abbrev pub invariant-loop-content : goal.invariant-loop-content

@@ -1,5 +1,5 @@
 use Rattle.std.proofs.Common.{◌≡◌, ℕ, ◌+◌, ◌-◌, take, subst, arith}
-use Rattle.asl_json.specs.Places.{EndsAboveZero}
+use Rattle.asl_json.specs.private.Places.{EndsAboveZero}
 use Rattle.asl_json.proofs.Figures.{ends_above}
 use Rattle.asl_json.proofs.units.significant_len.Goals as goal
 

@@ -1,5 +1,5 @@
 use Rattle.std.proofs.Common.{length, drop, ◌≤◌}
-use Rattle.asl_json.specs.Places.{AreZeros}
+use Rattle.asl_json.specs.private.Places.{AreZeros}
 use Rattle.asl_json.proofs.units.significant_len.Given as goal
 
 abbrev pub invariant-loop-end : goal.invariant-loop-end

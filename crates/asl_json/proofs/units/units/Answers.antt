@@ -3,7 +3,7 @@ use Rattle.std.specs.Prelude.{List, ℕ, Bool, pos, neg_ℤ}
 use mir.Syntax.{w128}
 use Rattle.std.proofs.lemmas.Int.{to_z-of_z}
 use Rattle.asl_json.specs.Number.{AreDigits, unsigned, is_point, is_mark, before, behind, fraction, exponent, is_negative}
-use Rattle.asl_json.specs.Places.{IsAmount, IsBeyond}
+use Rattle.asl_json.specs.private.Places.{IsAmount, IsBeyond}
 use Rattle.asl_json.proofs.Figures.{numeral_parts, parts_length}
 use Rattle.asl_json.proofs.Amounts.{over_long, over_beyond, fits_amount}
 use Rattle.asl_json.proofs.units.units.Goals as goal

@@ -2,7 +2,7 @@ use Rattle.std.proofs.Common.{◌≡◌, ◌∙◌, ◌++◌, ap, subst, arith, 
 use Rattle.std.specs.Prelude.{IfOk}
 use Rattle.asl_json.specs.Data.{Data, pairs, chain, members_depth, items_depth}
 use Rattle.asl_json.specs.View.{data_of}
-use Rattle.asl_schema.specs.Code.{shape_seen}
+use Rattle.asl_schema.specs.private.Code.{shape_seen}
 use Rattle.asl_schema.specs.Claims.{step}
 use Rattle.asl_schema.specs.First.{IsFirst}
 use Rattle.asl_schema.specs.Members.{sort_at}

@@ -1,7 +1,7 @@
 use Rattle.std.proofs.Common.{ℕ, List, ◌+◌, ◌*◌, drop}
 use Rattle.asl_json.specs.Data.{pairs, chain, depth, members_depth, items_depth}
 use Rattle.asl_json.specs.View.{data_of, items_of, members_of}
-use Rattle.asl_schema.specs.Code.{shape_seen}
+use Rattle.asl_schema.specs.private.Code.{shape_seen}
 use Rattle.asl_schema.specs.States.{Has, item_states, member_states}
 use Rattle.asl_judge.proofs.Doubles.{Continues}
 use Rattle.asl_judge.proofs.states.+states.Given as goal

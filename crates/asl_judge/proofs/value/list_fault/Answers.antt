@@ -1,6 +1,6 @@
 use Rattle.std.proofs.Common.{sym, subst, ◌∷◌, []}
 use Rattle.asl_json.specs.Data.{chain}
-use Rattle.asl_judge.specs.Spots.{spot_of}
+use Rattle.asl_judge.specs.private.Spots.{spot_of}
 use Rattle.asl_schema.specs.Demands.{in_range, last}
 use Rattle.asl_schema.specs.Claims.{list_demands, is_nonempty, is_last}
 use Rattle.asl_schema.specs.First.{Judges}

@@ -1,6 +1,6 @@
 use Rattle.std.proofs.Common.{sym, subst, ap, refl, ◌∙◌, ◌∷◌, [], not}
 use Rattle.asl_json.specs.View.{data_of}
-use Rattle.asl_judge.specs.Spots.{spot_of}
+use Rattle.asl_judge.specs.private.Spots.{spot_of}
 use Rattle.asl_schema.specs.Demands.{alone}
 use Rattle.asl_schema.specs.Claims.{spot_demands, form_demand, value_demands, demands}
 use Rattle.asl_schema.specs.First.{Judges, sooner}

@@ -1,6 +1,6 @@
 use Rattle.std.proofs.Common.{refl, sym, subst}
 use Rattle.std.specs.Prelude.{Some, false}
-use Rattle.asl_judge.specs.Spots.{spot_of}
+use Rattle.asl_judge.specs.private.Spots.{spot_of}
 use Rattle.asl_schema.specs.Claims.{spot_demands}
 use Rattle.asl_schema.specs.Demands.{supported, known}
 use Rattle.asl_schema.specs.First.{Judges}

@@ -4,8 +4,8 @@ use Rattle.std.specs.Prelude.{nat_eq, option_map}
 use Rattle.std.specs.HashSet.{contains_text}
 use Rattle.asl_json.specs.Data.{Data, pairs, chain, members_depth, items_depth}
 use Rattle.asl_json.specs.View.{data_of, members_of}
-use Rattle.asl_schema.specs.Code.{shape_seen}
-use Rattle.asl_judge.specs.Spots.{spot_of}
+use Rattle.asl_schema.specs.private.Code.{shape_seen}
+use Rattle.asl_judge.specs.private.Spots.{spot_of}
 use Rattle.asl_schema.specs.Claims.{claims, item_claims, member_claims, heres, group_demands, step}
 use Rattle.asl_schema.specs.First.{Answers, better, under_step}
 use Rattle.asl_judge.proofs.Walking.{items_step, items_end, members_step, members_end, last_item, members_more}

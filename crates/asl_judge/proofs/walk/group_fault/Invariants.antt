@@ -2,7 +2,7 @@ use Rattle.std.proofs.Common.{drop}
 use Rattle.asl_json.specs.Data.{pairs}
 use Rattle.asl_json.specs.View.{members_of}
 use Rattle.asl_schema.specs.Claims.{group_demands}
-use Rattle.asl_schema.specs.Code.{groups_of}
+use Rattle.asl_schema.specs.private.Code.{groups_of}
 use Rattle.asl_judge.proofs.Walking.{Decides}
 use Rattle.asl_judge.proofs.walk.group_fault.Given as goal
 

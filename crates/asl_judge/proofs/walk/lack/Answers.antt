@@ -1,7 +1,7 @@
 use Rattle.std.proofs.Common.{ap, sym, ◌∙◌, ◌∷◌}
 use Rattle.asl_json.specs.Data.{pairs}
 use Rattle.asl_json.specs.View.{data_of, members_of}
-use Rattle.asl_schema.specs.Code.{row_of}
+use Rattle.asl_schema.specs.private.Code.{row_of}
 use Rattle.asl_schema.specs.Claims.{step}
 use Rattle.asl_judge.proofs.Walking.{row_told, not_there}
 use Rattle.asl_judge.proofs.walk.lack.Goals as goal

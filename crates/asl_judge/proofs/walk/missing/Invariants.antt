@@ -3,7 +3,7 @@ use Rattle.asl_json.specs.Data.{pairs}
 use Rattle.asl_json.specs.View.{members_of}
 use Rattle.asl_json.specs.Meaning.{count}
 use Rattle.asl_schema.specs.Claims.{row_claims}
-use Rattle.asl_schema.specs.Code.{rows_of}
+use Rattle.asl_schema.specs.private.Code.{rows_of}
 use Rattle.asl_judge.proofs.Walking.{Goes}
 use Rattle.asl_judge.proofs.walk.missing.Given as goal
 

@@ -2,9 +2,9 @@ use Rattle.std.proofs.Common.{[], codes, refl, false}
 use Rattle.std.specs.Prelude.{Err}
 use Rattle.asl_history.specs.declared.kind.EventKind.TheVariants.{MapStateEntered, MapStateExited}
 use Rattle.asl_parts.specs.Member.{outcome_object}
-use Rattle.asl_steps.specs.Laws.{IsSoFar, beginning-so-far}
+use Rattle.asl_steps.specs.private.Laws.{IsSoFar, beginning-so-far}
 use Rattle.asl_steps.specs.Seen.{seen}
-use Rattle.asl_kinds.specs.Laws.{fits_as, fork_settled-lawful}
+use Rattle.asl_kinds.specs.private.Laws.{fits_as, fork_settled-lawful}
 use Rattle.asl_kinds.proofs.map.begins.Goals as goal
 
 pub returns-in-Err-Raised-clause-effect : goal.returns-in-Err-Raised-clause-effect

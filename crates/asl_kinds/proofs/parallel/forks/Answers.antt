@@ -1,12 +1,11 @@
 use Rattle.std.proofs.Common.{[], codes, refl, subst, ap, ◌∙◌, ◌≡◌}
 use Rattle.std.specs.Prelude.{IfOk}
-use Rattle.asl_json.specs.View.{items_of}
 use Rattle.asl_handle.specs.Decisions.{items_in}
 use Rattle.asl_schema.specs.Claims.{item_count}
 use Rattle.asl_states.specs.Show.{parallel_object}
 use Rattle.asl_steps.specs.declared.effect.Effect.{Effect}
 use Rattle.asl_steps.specs.Seen.{seen}
-use Rattle.asl_kinds.specs.Laws.{starts_of}
+use Rattle.asl_kinds.specs.private.Laws.{starts_of}
 use Rattle.asl_kinds.proofs.Branching.{forked_as}
 use Rattle.asl_kinds.proofs.parallel.forks.Goals as goal
 
@@ -16,7 +15,7 @@ returns-clause-effect c =
     c.in_ok-done.ensures
     c.in_ok-started.ensures
     (c.count_of-retriers.ensures ∙ ap (λ o. item_count (items_in o)) (c.retry.ensures ∙ c.outcome.ensures [] (codes "Retry") refl))
-    (c.of_values-items.ensures ∙ ap items_of c.new.ensures.items)
+    c.none-items.ensures
     c.in_ok-branches.ensures.ready
     (starts_of [] c.branches.result.now _ (c.branches.ensures []))
     in

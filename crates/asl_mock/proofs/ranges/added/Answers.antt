@@ -1,7 +1,7 @@
 use Rattle.std.proofs.Common.{◌≡◌, ◌∙◌, sym, ap, subst}
 use Rattle.std.specs.Prelude.{Some, List}
 use Rattle.asl_mock.specs.Key.{span_in as spec_span_in}
-use Rattle.asl_mock.specs.Apart.{Meets, any_has}
+use Rattle.asl_mock.specs.private.Apart.{Meets, any_has}
 use Rattle.asl_mock.specs.declared.response.Ranged.{Ranged}
 use Rattle.asl_mock.proofs.Spots.{met_has_one, more_there}
 use Rattle.asl_mock.proofs.ranges.added.Goals as goal

@@ -1,5 +1,5 @@
 use Rattle.std.proofs.Common.{refl}
-use Rattle.asl_path.specs.Steps.{steps}
+use Rattle.asl_path.specs.private.Steps.{steps}
 use Rattle.asl_path.proofs.Spelling.{meaning, meaningless}
 use Rattle.asl_path.proofs.Judging.{fault_once, path_faultless}
 use Rattle.asl_path.proofs.laws.a_path_has_one_meaning.Goals as goal

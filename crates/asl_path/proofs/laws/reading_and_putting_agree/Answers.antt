@@ -1,4 +1,4 @@
-use Rattle.asl_path.specs.Steps.{steps}
+use Rattle.asl_path.specs.private.Steps.{steps}
 use Rattle.asl_path.proofs.Spelling.{there_by, last_by, same_by, rest_by, place_by}
 use Rattle.asl_path.proofs.Passing.{path_passes}
 use Rattle.asl_path.proofs.laws.reading_and_putting_agree.Goals as goal

@@ -1,6 +1,6 @@
 use Rattle.std.proofs.Common.{subst}
-use Rattle.asl_path.specs.Steps.{steps}
-use Rattle.asl_path.specs.Leads.{Fails}
+use Rattle.asl_path.specs.private.Steps.{steps}
+use Rattle.asl_path.specs.private.Leads.{Fails}
 use Rattle.asl_path.proofs.Judging.{left_within, fault_at}
 use Rattle.asl_path.proofs.path.fault_of.Goals as goal
 

@@ -1,7 +1,7 @@
 use Rattle.std.proofs.Common.{◌∙◌, ap, sym, subst, List}
 use Rattle.asl_json.specs.View.{data_of}
 use Rattle.asl_path.specs.declared.put.Opened.{Opened}
-use Rattle.asl_path.specs.Opened.{AreOpen, rebuilt}
+use Rattle.asl_path.specs.private.Opened.{AreOpen, rebuilt}
 use Rattle.asl_path.proofs.Opening.{are_pop, rebuilt_push}
 use Rattle.asl_path.proofs.put.close_all.Goals as goal
 

@@ -1,6 +1,6 @@
 use Rattle.std.proofs.Common.{◌≡◌}
 use Rattle.asl_json.specs.View.{data_of}
-use Rattle.asl_path.specs.Opened.{AreOpen, rebuilt}
+use Rattle.asl_path.specs.private.Opened.{AreOpen, rebuilt}
 use Rattle.asl_path.proofs.put.close_all.Given as goal
 
 abbrev pub invariant-loop-outer : goal.invariant-loop-outer

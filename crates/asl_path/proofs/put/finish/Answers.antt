@@ -1,6 +1,6 @@
 use Rattle.std.proofs.Common.{subst, ap, ◌∙◌}
 use Rattle.std.specs.Prelude.{Err}
-use Rattle.asl_path.specs.Opened.{IsPut}
+use Rattle.asl_path.specs.private.Opened.{IsPut}
 use Rattle.asl_path.proofs.Opening.{finish_none, finish_memory}
 use Rattle.asl_path.proofs.put.finish.Goals as goal
 

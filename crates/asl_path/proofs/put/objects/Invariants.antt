@@ -1,6 +1,6 @@
 use Rattle.std.proofs.Common.{length}
 use Rattle.asl_json.specs.Data.{dict, no_members}
-use Rattle.asl_path.specs.Opened.{Reaches}
+use Rattle.asl_path.specs.private.Opened.{Reaches}
 use Rattle.asl_path.proofs.put.objects.Given as goal
 
 abbrev pub invariant-loop-step : goal.invariant-loop-step

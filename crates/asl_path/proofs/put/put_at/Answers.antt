@@ -1,7 +1,7 @@
 use Rattle.std.proofs.Common.{refl, sym, subst, List}
 use Rattle.asl_json.specs.View.{data_of}
 use Rattle.asl_path.specs.declared.put.Opened.{Opened}
-use Rattle.asl_path.specs.Opened.{Along}
+use Rattle.asl_path.specs.private.Opened.{Along}
 use Rattle.asl_path.proofs.Opening.{down, put_back, lacking_is, nothing_is, end_is}
 use Rattle.asl_path.proofs.put.put_at.Goals as goal
 

@@ -1,6 +1,6 @@
 use Rattle.std.proofs.Common.{length}
 use Rattle.asl_json.specs.View.{data_of}
-use Rattle.asl_path.specs.Opened.{Along}
+use Rattle.asl_path.specs.private.Opened.{Along}
 use Rattle.asl_path.proofs.put.put_at.Given as goal
 
 abbrev pub invariant-loop-step : goal.invariant-loop-step

@@ -3,7 +3,7 @@ use Rattle.std.specs.Prelude.{List, ℕ}
 use Rattle.std.proofs.lemmas.List.{take_rest}
 use Rattle.asl_path.specs.declared.step.Step.TheVariants.{Name}
 use Rattle.asl_path.specs.Grammar.{is_name_byte}
-use Rattle.asl_path.specs.Steps.{run, between}
+use Rattle.asl_path.specs.private.Steps.{run, between}
 use Rattle.asl_path.proofs.Stretch.{name_cut, dot_reads, not_first}
 use Rattle.asl_path.proofs.read.dotted.Goals as goal
 

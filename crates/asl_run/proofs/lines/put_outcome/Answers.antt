@@ -6,7 +6,7 @@ use Rattle.asl_steps.specs.Rows.{error_output}
 use Rattle.asl_steps.specs.declared.record.ErrorOut.{ErrorOut}
 use Rattle.asl_run.proofs.lines.put_outcome.Goals as goal
 
-pub returns-in_ok-error-in-TimedOut : goal.returns-in_ok-error-in-TimedOut
-returns-in_ok-error-in-TimedOut c =
+pub returns-in_ok-error-in-TimedOut-clause-ok : goal.returns-in_ok-error-in-TimedOut-clause-ok
+returns-in_ok-error-in-TimedOut-clause-ok c =
     rw c.in-TimedOut.is
-    (subst (λ (e : ErrorOut). OnOk c.put_failure-in-TimedOut.result (string_bytes c.put_failure-in-TimedOut.new.out ≡ string_bytes c.args.out.now ++ (codes "status TIMED_OUT " ++ compact (data_of (error_output e))))) c.in_ok-error-in-TimedOut.ensures c.put_failure-in-TimedOut.ensures)
+    (subst (λ (e : ErrorOut). OnOk c.put_failure-in-TimedOut.result (string_bytes c.put_failure-in-TimedOut.new.out ≡ string_bytes c.args.out.now ++ (codes "status TIMED_OUT " ++ compact (data_of (error_output e))))) c.in_ok-error-in-TimedOut.ensures c.put_failure-in-TimedOut.ensures.ok)

@@ -1,5 +1,5 @@
 use Rattle.std.proofs.Common.{ap, append_assoc}
-use Rattle.asl_run.specs.Telling.{placed}
+use Rattle.asl_run.specs.private.Telling.{placed}
 use Rattle.asl_run.proofs.run.placed.Goals as goal
 
 pub loop-draft-init : goal.loop-draft-init

@@ -1,6 +1,6 @@
 use Rattle.std.proofs.Common.{◌≡◌, ◌++◌}
 use Rattle.std.specs.Vec.Iter.{into_iter_items}
-use Rattle.asl_run.specs.Telling.{placed}
+use Rattle.asl_run.specs.private.Telling.{placed}
 use Rattle.asl_run.proofs.run.placed.Given as goal
 
 abbrev pub invariant-loop-draft : goal.invariant-loop-draft

@@ -1,7 +1,7 @@
 use Rattle.std.proofs.Common.{◌≡◌, ◌≤◌}
 use Rattle.std.specs.Vec.Iter.{into_iter_items, into_iter_len}
 use Rattle.asl_history.specs.Events.{previous_id, IsHistory}
-use Rattle.asl_run.specs.Telling.{AllAt, told_after}
+use Rattle.asl_run.specs.private.Telling.{AllAt, told_after}
 use Rattle.asl_run.proofs.run.tell.Given as goal
 
 abbrev pub invariant-loop-at : goal.invariant-loop-at

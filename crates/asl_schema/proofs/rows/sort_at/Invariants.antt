@@ -1,6 +1,6 @@
 use Rattle.std.proofs.Common.{◌≡◌, drop}
 use Rattle.asl_schema.specs.Members.{sort_in}
-use Rattle.asl_schema.specs.Code.{rows_of}
+use Rattle.asl_schema.specs.private.Code.{rows_of}
 use Rattle.asl_schema.proofs.rows.sort_at.Given as goal
 
 abbrev pub invariant-loop-row : goal.invariant-loop-row

@@ -1,5 +1,5 @@
 use Rattle.std.proofs.Common.{ap}
-use Rattle.asl_template.specs.View.{field_data}
+use Rattle.asl_template.specs.private.View.{field_data}
 use Rattle.asl_template.proofs.Equality.{computed_kept, named_apart}
 use Rattle.asl_template.proofs.equal.is_computed.Goals as goal
 

@@ -4,7 +4,7 @@ use Rattle.asl_json.specs.Data.{Data, pairs, chain, depth, items_depth, members_
 use Rattle.asl_json.specs.View.{data_of}
 use Rattle.asl_json.specs.Distinct.{AreDistinct, has_key}
 use Rattle.asl_template.specs.Names.{named}
-use Rattle.asl_template.specs.View.{AllFit, part_data, parts_data, field_data, fields_data}
+use Rattle.asl_template.specs.private.View.{AllFit, part_data, parts_data, field_data, fields_data}
 use Rattle.asl_template.specs.Filling.{fill_items, fill_members, is_on_context}
 use Rattle.asl_template.specs.declared.part.Field.{Field}
 use Rattle.asl_template.proofs.Filled.{path_field, call_field, fit_at, parts_step, parts_end, fields_step, fields_end}

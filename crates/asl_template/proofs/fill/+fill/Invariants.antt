@@ -1,7 +1,7 @@
 use Rattle.std.proofs.Common.{◌≡◌, ◌+◌, ◌*◌, take}
 use Rattle.asl_json.specs.Data.{chain, pairs, depth, items_depth, members_depth}
 use Rattle.asl_json.specs.View.{data_of, items_of}
-use Rattle.asl_template.specs.View.{part_data, parts_data, field_data, fields_data}
+use Rattle.asl_template.specs.private.View.{part_data, parts_data, field_data, fields_data}
 use Rattle.asl_template.specs.Names.{named}
 use Rattle.asl_template.specs.Filling.{fill_items, fill_members}
 use Rattle.asl_template.proofs.Filled.{items_behind, members_behind, rest_of, rest_of_fields}

@@ -6,7 +6,7 @@ use Rattle.asl_json.specs.Distinct.{AreDistinct}
 use Rattle.asl_path.specs.declared.step.Step.TheVariants.{Name}
 use Rattle.asl_template.specs.Names.{name_before, is_double}
 use Rattle.asl_template.specs.Faults.{claims}
-use Rattle.asl_template.specs.Broken.{listed, under_read}
+use Rattle.asl_template.specs.private.Broken.{listed, under_read}
 use Rattle.asl_json.specs.Keys.{Knows}
 use Rattle.asl_template.proofs.Within.{item_within, member_within}
 use Rattle.asl_template.proofs.Reading.{parts_read, fields_read, fields_fit, members_more}

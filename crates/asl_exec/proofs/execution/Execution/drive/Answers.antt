@@ -1,4 +1,4 @@
-use Rattle.std.proofs.Common.{◌≡◌, ◌≤◌, ◌∙◌, ap, sym, false, true, arith}
+use Rattle.std.proofs.Common.{◌≡◌, ◌≤◌, ◌∙◌, ap, false, true, arith}
 use Rattle.std.specs.Prelude.{is_some}
 use Rattle.asl_exec.specs.Driving.{chosen, after, end_of}
 use Rattle.asl_exec.specs.Views.{setup_of, world_of}

@@ -1,11 +1,10 @@
-use Rattle.std.proofs.Common.{◌≡◌, [], false, true, sym, ◌∙◌, ap, subst, max, ℕ, Some, None}
+use Rattle.std.proofs.Common.{◌≡◌, false, true, sym, ◌∙◌, ap, subst, max, ℕ}
 use Rattle.std.specs.Prelude.{OnOk}
-use Rattle.asl_steps.specs.Bounds.{IsBounded}
-use Rattle.asl_frames.specs.Branches.{forker_at, record_at}
+use Rattle.asl_frames.specs.Branches.{forker_at}
 use Rattle.asl_frames.specs.Turns.{limit_of}
 use Rattle.asl_run.specs.World.{World, is_late, timed_out, world_with}
 use Rattle.asl_run.proofs.Accepting.{accepted-room, has_place, goes_there}
-use Rattle.asl_exec.specs.Steps.{limits_in, step, invokes_by, object_in, effect_in, seen_at}
+use Rattle.asl_exec.specs.Steps.{limits_in, step, seen_at}
 use Rattle.asl_exec.proofs.Accepting.{effect-bounded, step_taken, step_late, applied}
 use Rattle.asl_exec.proofs.execution.Execution.take.Goals as goal
 

@@ -1,6 +1,6 @@
 use Rattle.std.proofs.Common.{List, subst, arith, ◌≡◌, ◌≤◌, ◌<◌, length, ap, sym, ◌∙◌, refl, slice_get, Some}
 use Rattle.asl_steps.specs.Records.{is_done, is_failed}
-use Rattle.asl_frames.specs.Resting.{IsResting}
+use Rattle.asl_frames.specs.private.Resting.{IsResting}
 use Rattle.asl_frames.specs.Trees.{Held, Family}
 use Rattle.asl_frames.specs.Changes.{Litter, change}
 use Rattle.asl_frames.proofs.Counts.{undone-one, failed-one, undone-few, failed-few, get-at, counted-set}

@@ -1,5 +1,5 @@
 use Rattle.std.proofs.Common.{◌-◌, length}
-use Rattle.asl_frames.specs.Resting.{IsResting}
+use Rattle.asl_frames.specs.private.Resting.{IsResting}
 use Rattle.asl_frames.proofs.resting.Resting.extended.Given as goal
 
 abbrev pub invariant-loop-resting : goal.invariant-loop-resting

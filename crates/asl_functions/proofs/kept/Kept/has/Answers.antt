@@ -4,7 +4,7 @@ use Rattle.std.specs.List.{list_any}
 use Rattle.asl_json.specs.Data.{Data}
 use Rattle.asl_json.specs.Meaning.{same}
 use Rattle.asl_json.specs.View.{data_of, items_of}
-use Rattle.asl_functions.specs.Links.{latest_of}
+use Rattle.asl_functions.specs.private.Links.{latest_of}
 use Rattle.asl_functions.proofs.Linking.{left_count, left_start, left_none, left_next, left_falls, met, met_within, met_same, links_count, items_count}
 use Rattle.asl_functions.proofs.kept.Kept.has.Goals as goal
 

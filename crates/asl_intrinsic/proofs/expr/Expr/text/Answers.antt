@@ -1,6 +1,6 @@
 use Rattle.std.proofs.Common.{subst}
 use Rattle.asl_intrinsic.specs.Faults.{IsCall}
-use Rattle.asl_intrinsic.specs.View.{tree_of}
+use Rattle.asl_intrinsic.specs.private.View.{tree_of}
 use Rattle.asl_intrinsic.proofs.Answering.{heard_call}
 use Rattle.asl_intrinsic.proofs.expr.Expr.text.Goals as goal
 

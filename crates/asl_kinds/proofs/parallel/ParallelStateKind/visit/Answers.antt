@@ -6,7 +6,7 @@ use Rattle.asl_states.specs.Show.{parallel_object}
 use Rattle.asl_steps.specs.Context.{context_of}
 use Rattle.asl_steps.specs.declared.effect.Effect.{Effect}
 use Rattle.asl_steps.specs.Seen.{seen}
-use Rattle.asl_kinds.specs.Laws.{joined-lawful, joined-alike, fits_as}
+use Rattle.asl_kinds.specs.private.Laws.{joined-lawful, joined-alike, fits_as}
 use Rattle.asl_kinds.proofs.parallel.ParallelStateKind.visit.Goals as goal
 
 pub returns-clause-effect : goal.returns-clause-effect

@@ -3,7 +3,7 @@ use Rattle.asl_states.specs.Show.{pass_object}
 use Rattle.asl_steps.specs.Context.{context_of}
 use Rattle.asl_steps.specs.Seen.{seen}
 use Rattle.asl_kinds.specs.Members.{pass_output}
-use Rattle.asl_kinds.specs.Laws.{pass-lawful, fits_as}
+use Rattle.asl_kinds.specs.private.Laws.{pass-lawful, fits_as}
 use Rattle.asl_kinds.proofs.pass.PassStateKind.visit.Goals as goal
 
 pub returns-clause-effect : goal.returns-clause-effect

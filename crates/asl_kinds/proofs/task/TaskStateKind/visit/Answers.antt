@@ -2,7 +2,7 @@ use Rattle.std.specs.Prelude.{option_map}
 use Rattle.asl_states.specs.Show.{task_object}
 use Rattle.asl_steps.specs.Context.{context_of}
 use Rattle.asl_steps.specs.Seen.{seen}
-use Rattle.asl_kinds.specs.Laws.{IsInvoked, invoked-is, answered-lawful, fits_as}
+use Rattle.asl_kinds.specs.private.Laws.{IsInvoked, invoked-is, answered-lawful, fits_as}
 use Rattle.asl_kinds.proofs.task.TaskStateKind.visit.Goals as goal
 
 pub returns-in_ok-done-in-Ok-clause-fits : goal.returns-in_ok-done-in-Ok-clause-fits

@@ -1,7 +1,7 @@
 use Rattle.std.proofs.Common.{◌≡◌, ◌∙◌, ap, sym}
 use Rattle.asl_mock.specs.Tables.{named}
 use Rattle.asl_mock.specs.Equal.{case_equal}
-use Rattle.asl_mock.specs.Shared.{shared_states}
+use Rattle.asl_mock.specs.private.Shared.{shared_states}
 use Rattle.asl_mock.proofs.Equals.{entries_equal, says_same}
 use Rattle.asl_mock.proofs.case.CasePartialEq.eq.Goals as goal
 

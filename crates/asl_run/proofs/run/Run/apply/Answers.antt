@@ -6,7 +6,7 @@ use Rattle.asl_frames.specs.Trees.{branches_of, nodes_of}
 use Rattle.asl_frames.specs.Changes.{litter_of, change, nodes_after}
 use Rattle.asl_frames.proofs.Changing.{branches-applied}
 use Rattle.asl_run.specs.World.{World, events_after, outcome_after}
-use Rattle.asl_run.specs.Telling.{last_id}
+use Rattle.asl_run.specs.private.Telling.{last_id}
 use Rattle.asl_run.proofs.Sound.{there-node, sound-after, goes-on, nodes-same, last-same}
 use Rattle.asl_history.specs.declared.event.Event.{Event}
 use Rattle.asl_run.proofs.Telling.{told-at, all-at}

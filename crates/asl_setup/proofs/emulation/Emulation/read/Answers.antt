@@ -1,5 +1,5 @@
 use Rattle.std.proofs.lemmas.Result.{err_from_is_err_and}
-use Rattle.asl_setup.proofs.Refusing.{setup_refused, steps_refused}
+use Rattle.asl_setup.proofs.Refusing.{steps_refused}
 use Rattle.asl_setup.proofs.emulation.Emulation.read.Goals as goal
 
 pub returns-in_err-steps-clause-fault : goal.returns-in_err-steps-clause-fault

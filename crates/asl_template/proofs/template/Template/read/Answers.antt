@@ -1,8 +1,8 @@
 use Rattle.std.proofs.Common.{subst}
 use Rattle.asl_json.specs.View.{data_of}
 use Rattle.asl_template.specs.Faults.{claims}
-use Rattle.asl_template.specs.Broken.{Reads}
-use Rattle.asl_template.specs.View.{part_data}
+use Rattle.asl_template.specs.private.Broken.{Reads}
+use Rattle.asl_template.specs.private.View.{part_data}
 use Rattle.asl_template.proofs.Answered.{answered, refused}
 use Rattle.asl_template.proofs.template.Template.read.Goals as goal
 

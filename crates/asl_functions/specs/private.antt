@@ -1,0 +1,4 @@
+-- Words that only proofs need.
+pub mod Marks
+pub mod Links
+pub mod Places

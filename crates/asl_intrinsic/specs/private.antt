@@ -1,0 +1,8 @@
+-- Words that only proofs need.
+pub mod Code
+pub mod View
+pub mod Falls
+pub mod Steps
+pub mod Leads
+pub mod Keeps
+pub mod Hears

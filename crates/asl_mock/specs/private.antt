@@ -1,0 +1,4 @@
+-- Words that only proofs need.
+pub mod Apart
+pub mod Shared
+pub mod EqualLaws

@@ -1,0 +1,4 @@
+-- Words that only proofs need.
+pub mod Steps
+pub mod Leads
+pub mod Opened

@@ -1,0 +1,21 @@
+-- What always holds of a run.
+use Rattle.std.specs.Prelude.{ℕ, ◌≡◌, ◌≤◌, Bool, true, false, not, List, [], ◌∷◌, length, slice_index}
+use Rattle.asl_history.specs.declared.event.Event.{Event}
+use Rattle.asl_frames.specs.Trees.{Node}
+use Rattle.asl_frames.specs.private.Links.{IsLinked, ArePlaced}
+use Rattle.asl_steps.specs.Records.{is_finished}
+use Rattle.asl_run.specs.World.{is_over}
+use Rattle.asl_run.specs.declared.outcome.Outcome.{Outcome}
+
+-- the branch that the execution began with hasn't ended
+abbrev pub is_going : List Node → Bool
+is_going [] = false
+is_going (n ∷ ns) = not (is_finished n.held.current)
+
+pub record IsSound (nodes : List Node) (counts : List ℕ) (events : List Event) (outcome : Outcome) : Type 0 where
+  -- the branches know the latest events, and their places
+  pub linked : IsLinked nodes events
+  pub placed : ArePlaced nodes
+  pub counted : (n : ℕ) → slice_index counts n ≤ length events
+  -- while the execution runs, the branch that it began with does
+  pub goes : is_over outcome ≡ false → is_going nodes ≡ true

@@ -1,0 +1,5 @@
+-- Words that only proofs need.
+pub mod View
+pub mod Falls
+pub mod Broken
+pub mod SameLaws
