@@ -1,10 +1,10 @@
 // The command `check`, and how a command gets the machine of a definition's file.
 ghost use Rattle.std.specs.Prelude.{IfOk, IfErr};
 ghost use Rattle.asl_cli.specs.Answers.{IsChecked};
-ghost use Rattle.asl_cli.specs.Refusals.{IsAccepted, IsDefinitionReason};
+ghost use Rattle.asl_cli.specs.Faults.{IsAccepted, IsDefinitionReason};
 
 use crate::command::{REFUSED, print_good, read_file};
-use crate::refusal::Refusal;
+use crate::fault::CommandFault;
 use asl_check::{Fault, accept};
 use asl_def::Machine;
 use asl_history::Sink;
@@ -35,14 +35,14 @@ pub(crate) fn machine_in<'a, F: Files>(
     alloc: Global,
     words: &DefinitionWords<'a>,
     files: &mut F,
-) -> Result<Machine, Refusal<'a>>
+) -> Result<Machine, CommandFault<'a>>
     ensures accepted { IfOk result (IsAccepted (F.gives files.old) words.now) }
     ensures refused { IfErr result (IsDefinitionReason (F.gives files.old) (F.lacks files.old) words.now) }
 {
     let text = read_file(alloc, files, words.definition)?;
     match accept(alloc, text.as_slice()) {
         Ok(machine) => Ok(machine),
-        Err(Fault::OutOfMemory) => Err(Refusal::OutOfMemory),
-        Err(fault) => Err(Refusal::Definition(fault)),
+        Err(Fault::OutOfMemory) => Err(CommandFault::OutOfMemory),
+        Err(fault) => Err(CommandFault::Definition(fault)),
     }
 }

@@ -2,11 +2,11 @@
 ghost use Rattle.std.specs.Prelude.{◌≡◌, ◌⊎◌, List, ℕ, Some, None, string_bytes, IfOk, IfErr};
 ghost use Rattle.asl_cli.specs.Answers.{IsRan, IsChecked, IsFormPrinted, IsAnswered};
 ghost use Rattle.asl_host.specs.Outcomes.{status_of, IsPrinted, IsTold};
-ghost use Rattle.asl_cli.specs.Refusals.{steps_name, IsStepped, IsDriven, IsEmulated, IsReason, IsUnread};
+ghost use Rattle.asl_cli.specs.Faults.{steps_name, IsStepped, IsDriven, IsEmulated, IsReason, IsUnread};
 
 use crate::checking::check;
+use crate::fault::CommandFault;
 use crate::printing::print;
-use crate::refusal::Refusal;
 use asl_exec::{Emulated, emulate, emulate_driven};
 use asl_history::Sink;
 use asl_host::{
@@ -87,7 +87,7 @@ fn emulate_files<'a, F: Files>(
     alloc: Global,
     words: &RunWords<'a>,
     files: &mut F,
-) -> Result<Emulated, Refusal<'a>>
+) -> Result<Emulated, CommandFault<'a>>
     ensures emulated { IfOk result (λ e. IsEmulated (F.gives files.old) words.now (string_bytes e.text) e.good) }
     ensures refused { IfErr result (IsReason (F.gives files.old) (F.lacks files.old) words.now) }
 {
@@ -103,7 +103,7 @@ fn emulate_steps<'a, F: Files>(
     words: &RunWords<'a>,
     name: &'a str,
     files: &mut F,
-) -> Result<Emulated, Refusal<'a>>
+) -> Result<Emulated, CommandFault<'a>>
     requires { steps_name words.now ≡ Some name.now }
     ensures emulated { IfOk result (λ e. IsStepped (F.gives files.old) words.now name.now (string_bytes e.text) e.good) }
     ensures refused { IfErr result (IsReason (F.gives files.old) (F.lacks files.old) words.now) }
@@ -122,8 +122,8 @@ fn emulate_steps<'a, F: Files>(
     );
     match answer {
         Ok(emulated) => Ok(emulated),
-        Err(EmulateFault::OutOfMemory) => Err(Refusal::OutOfMemory),
-        Err(fault) => Err(Refusal::Emulation(fault)),
+        Err(EmulateFault::OutOfMemory) => Err(CommandFault::OutOfMemory),
+        Err(fault) => Err(CommandFault::Emulation(fault)),
     }
 }
 
@@ -132,7 +132,7 @@ fn emulate_next<'a, F: Files>(
     alloc: Global,
     words: &RunWords<'a>,
     files: &mut F,
-) -> Result<Emulated, Refusal<'a>>
+) -> Result<Emulated, CommandFault<'a>>
     requires { steps_name words.now ≡ None }
     ensures emulated { IfOk result (λ e. IsDriven (F.gives files.old) words.now (string_bytes e.text) e.good) }
     ensures refused { IfErr result (IsReason (F.gives files.old) (F.lacks files.old) words.now) }
@@ -150,8 +150,8 @@ fn emulate_next<'a, F: Files>(
     );
     match answer {
         Ok(emulated) => Ok(emulated),
-        Err(EmulateFault::OutOfMemory) => Err(Refusal::OutOfMemory),
-        Err(fault) => Err(Refusal::Emulation(fault)),
+        Err(EmulateFault::OutOfMemory) => Err(CommandFault::OutOfMemory),
+        Err(fault) => Err(CommandFault::Emulation(fault)),
     }
 }
 
@@ -160,7 +160,7 @@ pub(crate) fn read_file<'a, F: Files>(
     alloc: Global,
     files: &mut F,
     name: &'a str,
-) -> Result<Vec<u8>, Refusal<'a>>
+) -> Result<Vec<u8>, CommandFault<'a>>
     ensures given { IfOk result (λ r. F.gives files.old name.now r.items) }
     ensures kept { (n b : List ℕ) → F.gives files.new n b → F.gives files.old n b }
     ensures lacking { (n : List ℕ) → F.lacks files.new n → F.lacks files.old n }
@@ -168,8 +168,8 @@ pub(crate) fn read_file<'a, F: Files>(
 {
     match files.read(alloc, name) {
         Ok(bytes) => Ok(bytes),
-        Err(ReadFault::Unreadable) => Err(Refusal::File(name)),
-        Err(ReadFault::OutOfMemory) => Err(Refusal::OutOfMemory),
+        Err(ReadFault::Unreadable) => Err(CommandFault::File(name)),
+        Err(ReadFault::OutOfMemory) => Err(CommandFault::OutOfMemory),
     }
 }
 

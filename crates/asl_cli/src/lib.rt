@@ -6,10 +6,10 @@
 
 mod checking;
 mod command;
+mod fault;
 mod printing;
-mod refusal;
 
 pub use checking::check;
 pub use command::{refuse_words, run, run_words};
+pub use fault::CommandFault;
 pub use printing::print;
-pub use refusal::Refusal;

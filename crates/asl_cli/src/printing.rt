@@ -2,11 +2,11 @@
 ghost use Rattle.std.specs.Prelude.{◌≡◌, ◌++◌, ◌∷◌, [], IfOk, IfErr, string_bytes};
 ghost use Rattle.asl_json.specs.Compact.{compact};
 ghost use Rattle.asl_cli.specs.Answers.{IsFormPrinted};
-ghost use Rattle.asl_cli.specs.Refusals.{IsForm, IsDefinitionReason};
+ghost use Rattle.asl_cli.specs.Faults.{IsForm, IsDefinitionReason};
 
 use crate::checking::machine_in;
 use crate::command::{REFUSED, print_good};
-use crate::refusal::Refusal;
+use crate::fault::CommandFault;
 use asl_def::Machine;
 use asl_history::Sink;
 use asl_host::{DefinitionWords, Files};
@@ -37,14 +37,14 @@ fn form_in<'a, F: Files>(
     alloc: Global,
     words: &DefinitionWords<'a>,
     files: &mut F,
-) -> Result<String, Refusal<'a>>
+) -> Result<String, CommandFault<'a>>
     ensures form { IfOk result (λ t. IsForm (F.gives files.old) words.now (string_bytes t)) }
     ensures refused { IfErr result (IsDefinitionReason (F.gives files.old) (F.lacks files.old) words.now) }
 {
     let machine = machine_in(alloc, words, files)?;
     match form_of(alloc, &machine) {
         Ok(text) => Ok(text),
-        Err(_) => Err(Refusal::OutOfMemory),
+        Err(_) => Err(CommandFault::OutOfMemory),
     }
 }
 

@@ -4,13 +4,14 @@ use Rattle.std.specs.Option.{option_and_then}
 use Rattle.asl_json.specs.Data.{Data, null, boolean, number, text, list, dict}
 use Rattle.asl_json.specs.Whole.{whole_of}
 use Rattle.asl_time.specs.Fields.{moment_in}
+use Rattle.asl_schema.specs.Claims.{most_whole}
 use Rattle.asl_data.specs.Paths.{part_of}
 
 -- the limits of Seconds
 abbrev pub within : Option ℤ → Option ℕ
 within None = None
 within (Some (negsuc n)) = None
-within (Some (pos n)) = if nat_le n 99_999_999 then Some n else None
+within (Some (pos n)) = if nat_le n most_whole then Some n else None
 
 -- a value that is a number of seconds: a whole one in these limits
 abbrev pub seconds_of : Data → Option ℕ

@@ -6,7 +6,7 @@ use Rattle.asl_json.specs.declared.value.Json.{Json}
 use Rattle.asl_json.specs.declared.value.Json.TheVariants.{Dict}
 use Rattle.std.specs.Prelude.{[]}
 use Rattle.asl_path.specs.Paths.{part_at, with_part}
-use Rattle.asl_template.specs.Filling.{is_on_context}
+use Rattle.asl_intrinsic.specs.Calls.{is_context}
 use Rattle.asl_steps.specs.declared.record.ErrorOut.{ErrorOut}
 
 -- a value, or the error that is raised
@@ -28,7 +28,7 @@ given_or e (Some d) = Ok (json_of d)
 
 -- the part that a path names: of the Context Object c, where it begins `$$`, and else of the value x
 abbrev pub part_of : List ℕ → Data → Data → Option Data
-part_of t x c = part_at t (if is_on_context t then c else x)
+part_of t x c = part_at t (if is_context t then c else x)
 
 -- what a path takes of a value: all of it where there is none, `{}` where it is null
 abbrev pub taken : List ℕ → Option Data → Json → Data → Given

@@ -6,15 +6,13 @@ ghost use Rattle.asl_steps.specs.Context.{context_of};
 ghost use Rattle.asl_steps.specs.Seen.{seen};
 ghost use Rattle.asl_data.specs.Delay.{seconds_of as spec_seconds_of, moment_of as spec_moment_of, seconds_at as spec_seconds_at, moment_at as spec_moment_at};
 
-use crate::paths::is_on_context;
 use asl_json::Json;
 use asl_path::RefPath;
+use asl_schema::MOST_WHOLE;
 use asl_steps::{Context, Visit};
+use asl_template::is_on_context;
 use asl_time::{Moment, read_stamp};
 use std::alloc::{AllocError, Global};
-
-/// The most seconds that a state waits.
-const MOST: i128 = 99_999_999;
 
 /// The seconds that a value is: a whole number from 0 to 99,999,999.
 fn seconds_of(value: Option<&Json>) -> Option<u32>
@@ -24,7 +22,7 @@ fn seconds_of(value: Option<&Json>) -> Option<u32>
         return None;
     };
     let whole = number.whole()?;
-    if 0 <= whole && whole <= MOST {
+    if 0 <= whole && whole <= MOST_WHOLE {
         Some(whole as u32)
     } else {
         None

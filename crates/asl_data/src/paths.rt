@@ -3,7 +3,6 @@ ghost use Rattle.std.specs.Prelude.{◌≡◌, [], Some, Ok, IfOk, codes};
 ghost use Rattle.asl_json.specs.View.{data_of};
 ghost use Rattle.asl_members.specs.Shown.{path_shown};
 ghost use Rattle.asl_path.specs.Paths.{part_at, with_part};
-ghost use Rattle.asl_template.specs.Filling.{is_on_context as starts_from_context};
 ghost use Rattle.asl_steps.specs.Context.{context_of};
 ghost use Rattle.asl_steps.specs.Seen.{seen};
 ghost use Rattle.asl_data.specs.Paths.{part_of as spec_part_of, taken as spec_taken, put_into as spec_put_into, given_or, no_value, no_place};
@@ -14,6 +13,7 @@ use asl_json::{Json, Members, Shared};
 use asl_members::PathField;
 use asl_path::{PutFault, RefPath};
 use asl_steps::{Context, Visit};
+use asl_template::is_on_context;
 use std::alloc::{AllocError, Global};
 
 /// An equal value, with one owner. What fails is memory.
@@ -21,14 +21,6 @@ pub fn copied(alloc: Global, value: &Json) -> Result<Shared, AllocError>
     ensures { IfOk result (λ s. s ≡ value.now) }
 {
     Ok(Shared::new(alloc, value.try_clone(alloc)?)?)
-}
-
-/// Whether a path starts from the Context Object.
-pub(crate) fn is_on_context(text: &str) -> bool
-    ensures { result ≡ starts_from_context text.now }
-{
-    let bytes = text.as_bytes();
-    bytes.len() >= 2 && bytes[0] == b'$' && bytes[1] == b'$'
 }
 
 /// The part of a value that a field's path names.

@@ -12,12 +12,12 @@ ghost use Rattle.asl_data.specs.Reason.{value_or_none, text_or, text_at as spec_
 ghost use Rattle.asl_data.specs.Gives.{Gives};
 
 use crate::fault::{Fault, missing};
-use crate::paths::is_on_context;
 use asl_intrinsic::{EvalFault, Expr};
 use asl_json::{Json, Txt};
 use asl_members::PathOrCall;
 use asl_path::RefPath;
 use asl_steps::{Context, Visit};
+use asl_template::is_on_context;
 use std::alloc::{AllocError, Global};
 
 /// The text that a field's value is.

@@ -3,7 +3,7 @@ use asl_check::accept;
 use asl_def::Machine;
 use asl_json::write;
 use asl_members::{Compiled, PathField};
-use asl_states::{Next, State};
+use asl_states::{State, Transition};
 use std::test::Fail;
 
 fn machine(rt: &HostRuntime, text: &str) -> Option<Machine> {
@@ -16,8 +16,8 @@ const TWO_STATES: &str =
 fn goes_to(machine: &Machine, name: &str, next: &str) -> bool {
     match machine.state(name) {
         Some(State::Pass(pass)) => match pass.next() {
-            Next::To(target) => target.name.as_str() == next,
-            Next::End => false,
+            Transition::To(target) => target.name.as_str() == next,
+            Transition::End => false,
         },
         _ => false,
     }

@@ -1,8 +1,9 @@
 -- Runs without a list of steps: what comes next is stepped.
-use Rattle.std.specs.Prelude.{ℕ, zero, suc, ◌+◌, nat_lt, length, if◌then◌else◌, List, Option, Some, None, is_some}
+use Rattle.std.specs.Prelude.{ℕ, zero, suc, ◌+◌, if◌then◌else◌, List, Option, Some, None, is_some}
 use Rattle.asl_frames.specs.Turns.{Limits}
 use Rattle.asl_frames.specs.Trees.{one_if}
 use Rattle.asl_run.specs.World.{World, is_over}
+use Rattle.asl_run.specs.Refusals.{is_full}
 use Rattle.asl_run.specs.Picking.{Pick, Ended, Filled, Place, Moment, pick, first_at}
 use Rattle.asl_setup.specs.declared.setup.Setup.{Setup}
 use Rattle.asl_exec.specs.declared.driving.Ended.{Ended as End}
@@ -44,4 +45,4 @@ driven_steps (suc n) s w = one_if (is_some (chosen s w)) + driven_steps n s (aft
 
 -- how a driven run ends
 abbrev pub end_of : World → End
-end_of w = if is_over w.outcome then Over else (if nat_lt 24992 (length w.events) then Full else Limit)
+end_of w = if is_over w.outcome then Over else (if is_full w then Full else Limit)

@@ -9,4 +9,4 @@ setup_of x = x.setup
 
 -- its world
 abbrev pub world_of : Execution → World
-world_of x = x.run
+world_of x = x.world

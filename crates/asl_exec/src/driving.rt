@@ -40,16 +40,16 @@ impl Execution {
     pub fn first(&self, moment: Moment) -> Option<&Place>
         ensures { option_map (λ p. p.now) result ≡ first_at (limits_in (setup_of self.now).machine) (world_of self.now) moment }
     {
-        self.run.first(self, moment)
+        self.world.first(self, moment)
     }
 
     /// What comes next: a step at the first place that isn't refused at the last moment, else the least moment that is awaited. While
-    /// the execution runs and its history isn't full, there is one of both.
+    /// the execution runs and its history isn't full, there is one or the other.
     pub fn next(&self) -> Next<'_>
         ensures picked { picked result ≡ pick (limits_in (setup_of self.now).machine) (world_of self.now) }
         ensures done { CanBeDone (limits_in (setup_of self.now).machine) (world_of self.now) (picked result) }
     {
-        self.run.next(self)
+        self.world.next(self)
     }
 
     /// The step that comes next, with a place of its own. The error is that memory ran out.
@@ -58,7 +58,7 @@ impl Execution {
     {
         let (place, moment) = match self.next() {
             Next::Over | Next::Full => return Ok(None),
-            Next::Step(place) => (place, self.run.last()),
+            Next::Step(place) => (place, self.world.last()),
             Next::At(moment) => {
                 let Some(place) = self.first(moment) else {
                     return Ok(None);
@@ -88,9 +88,9 @@ impl Execution {
     fn end(&self) -> Ended
         ensures { result ≡ end_of (world_of self.now) }
     {
-        if !self.run.is_running() {
+        if !self.world.is_running() {
             Ended::Over
-        } else if self.run.is_full() {
+        } else if self.world.is_full() {
             Ended::Full
         } else {
             Ended::Limit

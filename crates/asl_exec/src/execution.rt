@@ -4,7 +4,7 @@ ghost use Rattle.std.specs.Coded.{Coded-set};
 ghost use Rattle.asl_steps.specs.contracts.facts.Facts as facts_row;
 ghost use Rattle.asl_exec.specs.Steps.{facts_of};
 
-use asl_run::Run;
+use asl_run::World;
 use asl_setup::Setup;
 use asl_steps::Context;
 use std::alloc::Global;
@@ -12,7 +12,7 @@ use std::alloc::Global;
 /// A setup, and the world of the steps so far. It keeps the allocator that it was opened with.
 pub struct Execution {
     pub(crate) setup: Setup,
-    pub(crate) run: Run,
+    pub(crate) world: World,
     pub(crate) context: Context,
     pub(crate) alloc: Global,
     ghost about: { context.facts ≡ facts_of setup } by { Coded-set facts_row.the_row.coded context.facts (facts_of setup) },
@@ -23,7 +23,7 @@ impl Drop for Execution {
     fn drop(self) {
         let Execution {
             setup: _setup,
-            run: _run,
+            world: _world,
             context: _context,
             alloc: _alloc,
         } = self;

@@ -47,7 +47,7 @@ impl Execution {
         ensures good { IfOk result (λ r. r.1 ≡ is_success (world_of self.now).outcome) }
     {
         let mut text = text;
-        put_end(self.alloc(), &mut text, self.run())?;
+        put_end(self.alloc(), &mut text, self.world())?;
         Ok((text, is_success(self.outcome())))
     }
 

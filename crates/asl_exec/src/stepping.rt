@@ -19,7 +19,7 @@ use asl_history::{History, Place};
 use asl_json::Name;
 use asl_kinds::StateKind;
 use asl_mock::Case;
-use asl_run::{Outcome, Refusal, Run};
+use asl_run::{Outcome, Refusal, World};
 use asl_setup::Setup;
 use asl_states::State;
 use asl_steps::{Context, Effect, Facts, Record, Visit, idle};
@@ -64,11 +64,11 @@ impl Execution {
         let start = start_of(alloc, &setup.machine)?;
         let deadline = deadline_of(&setup);
         let states = setup.machine.len();
-        let run = Run::open(alloc, states, start, &setup.input, setup.start, deadline)?;
+        let world = World::open(alloc, states, start, &setup.input, setup.start, deadline)?;
         let context = Context::new(alloc, facts_of(alloc, &setup)?)?;
         Ok(Execution {
             setup,
-            run,
+            world,
             context,
             alloc,
         })
@@ -85,7 +85,7 @@ impl Execution {
     pub fn view(&self, place: &Place) -> Option<&Record>
         ensures { option_copied result ≡ record_at place.now (world_of self.now).branches }
     {
-        let frame = self.run.frame_at(place)?;
+        let frame = self.world.frame_at(place)?;
         Some(frame.held())
     }
 
@@ -94,32 +94,32 @@ impl Execution {
         ensures branches { branches_of result.now ≡ (world_of self.now).branches }
         ensures placed { ArePlaced (nodes_of result.now) }
     {
-        self.run.root()
+        self.world.root()
     }
 
     /// How far it is.
     pub fn outcome(&self) -> &Outcome
         ensures { result.now ≡ (world_of self.now).outcome }
     {
-        self.run.outcome()
+        self.world.outcome()
     }
 
     /// What was told so far.
     pub fn history(&self) -> &History
         ensures { result.now.events ≡ (world_of self.now).events }
     {
-        self.run.history()
+        self.world.history()
     }
 
     /// Why a step would be refused; none where only want of memory can refuse it.
     pub fn refusal(&self, place: &Place, moment: Moment) -> Option<Refusal>
         ensures { result ≡ refusal_in (setup_of self.now) (world_of self.now) place.now moment }
     {
-        let slots = match self.run.forker_at(place) {
+        let slots = match self.world.forker_at(place) {
             Some(map) => limit_in(&self.setup.machine, map),
             None => 0,
         };
-        self.run.refusal(place, moment, slots)
+        self.world.refusal(place, moment, slots)
     }
 
     /// One step of the branch at a place. Its moment is the greater of the one given and that of the last step. A refused
@@ -148,31 +148,31 @@ impl Execution {
         ensures err { OnErr result (world_of self.new ≡ world_of self.old) }
         ensures setup { setup_of self.new ≡ setup_of self.old }
     {
-        let now = self.run.present(moment);
-        if self.run.is_late(moment) {
-            return self.run.time_out(self.alloc, now);
+        let now = self.world.present(moment);
+        if self.world.is_late(moment) {
+            return self.world.time_out(self.alloc, now);
         }
-        let Some(frame) = self.run.frame_at(place) else {
+        let Some(frame) = self.world.frame_at(place) else {
             unreachable!();
         };
         let (number, effect) = planned(
             self.alloc,
             &self.setup.machine,
             &self.setup.case,
-            &self.run,
+            &self.world,
             &mut self.context,
             place,
             frame,
             now,
         )?;
-        self.run.apply(self.alloc, place, number, now, effect)
+        self.world.apply(self.alloc, place, number, now, effect)
     }
 
     /// Its world.
-    pub(crate) fn run(&self) -> &Run
+    pub(crate) fn world(&self) -> &World
         ensures { result.now ≡ world_of self.now }
     {
-        &self.run
+        &self.world
     }
 
     /// The allocator that it was opened with.
@@ -186,15 +186,15 @@ fn planned(
     alloc: Global,
     machine: &Machine,
     case: &Case,
-    run: &Run,
+    world: &World,
     context: &mut Context,
     place: &Place,
     frame: &Frame,
     now: Moment,
 ) -> Result<(Option<usize>, Effect), AllocError>
-    requires { children_at [] (branches_of frame.now) ≡ children_at place.now run.now.branches }
+    requires { children_at [] (branches_of frame.now) ≡ children_at place.now world.now.branches }
     ensures number { IfOk result (λ r. r.0 ≡ number_in machine.now frame.now.head.current) }
-    ensures effect { IfOk result (λ r. r.1 ≡ effect_in machine.now context.old.facts (seen_at machine.now case.now run.now place.now now frame.now.head.current)) }
+    ensures effect { IfOk result (λ r. r.1 ≡ effect_in machine.now context.old.facts (seen_at machine.now case.now world.now place.now now frame.now.head.current)) }
     ensures fits { IfOk result (λ r. AreFew r.1.children) }
     ensures facts { context.new.facts ≡ context.old.facts }
 {
@@ -205,10 +205,10 @@ fn planned(
         place,
         current,
         children: &children,
-        forker: run.forker_at(place),
-        iteration: run.iteration_at(place),
+        forker: world.forker_at(place),
+        iteration: world.iteration_at(place),
         invokes: invokes_in(state),
-        count: run.count(number),
+        count: world.count(number),
         case,
         moment: now,
     };

@@ -1,6 +1,10 @@
 pub mod Converting
 pub mod Faulting
+pub mod Sameness
+pub mod Firsts
+pub mod Splitting
 pub mod Merging
+pub mod Overriding
 pub mod Marking
 pub mod Linking
 pub mod Filling

@@ -1,5 +1,5 @@
 -- Values that are the same have one mark.
-use Rattle.std.proofs.Common.{◌≡◌, ◌≢◌, ℕ, suc, ℤ, ◌+◌, ◌<◌, ◌≤◌, ◌%◌, Bool, true, false, cond, ◌&&◌, ◌||◌, ◌==◌, Option, Some, None, List, [], ◌∷◌, ◌++◌, length, refl, sym, ap, subst, ◌∙◌, append_assoc, arith}
+use Rattle.std.proofs.Common.{◌≡◌, ◌≢◌, ℕ, suc, ℤ, ◌+◌, ◌<◌, ◌≤◌, ◌%◌, Bool, true, false, cond, ◌&&◌, ◌||◌, ◌==◌, Option, Some, None, List, [], ◌∷◌, ◌++◌, refl, sym, ap, subst, ◌∙◌, append_assoc, arith}
 use Rattle.std.proofs.Math.Nat.{mod-add-mod}
 use Rattle.std.proofs.lemmas.Bool.{eqb-true}
 use Rattle.std.proofs.lemmas.Bool.Decides.{Decides-int_eq}
@@ -12,8 +12,6 @@ use Rattle.asl_json.specs.Meaning.{count, value_at, same, same_items, each_in}
 use Rattle.asl_json.specs.Number.{units_of}
 use Rattle.asl_json.specs.Same.{bool_eq, bytes_eq}
 use Rattle.asl_json.specs.private.SameLaws.{bytes_refl}
-use Rattle.asl_json.specs.View.{data_of, items_of}
-use Rattle.asl_json.specs.declared.value.Json.{Json}
 use Rattle.asl_functions.specs.declared.mark.TheConstants.{MODULUS, TRUE, FALSE, TEXT, LIST, DICT}
 use Rattle.asl_functions.specs.private.Marks.{blended, joined, added, text_mark, mark, items_mark, members_mark, IsApart, AreApart, HasApart}
 
@@ -59,7 +57,7 @@ has_middle (x ∷ front) back m = ap (λ (b : Bool). bytes_eq m.0 x.0 || b) (has
     or_on true = refl
     or_on false = refl
 
-value_new : (front back ms : Members) (m : List ℕ × Data) → AreDistinct (front ++ m ∷ back) ms → value_at m.0 (pairs ms) ≡ None
+pub value_new : (front back ms : Members) (m : List ℕ × Data) → AreDistinct (front ++ m ∷ back) ms → value_at m.0 (pairs ms) ≡ None
 value_new front back [] m distinct = refl
 value_new front back (x ∷ ms) m distinct = by (bytes_eq m.0 x.0) refl (value_new front (back ++ x ∷ []) ms m (rw append_assoc at distinct.1))
   where
@@ -90,7 +88,7 @@ abbrev without : List ℕ → Pairs → Pairs
 without k no_members = no_members
 without k (member l d ms) = cond (bytes_eq k l) ms (member l d (without k ms))
 
-value_behind : (b : Bool) (k l : List ℕ) (d : Data) (ms : Pairs) → bytes_eq k l ≡ b → value_at k (member l d ms) ≡ cond b (Some d) (value_at k ms)
+pub value_behind : (b : Bool) (k l : List ℕ) (d : Data) (ms : Pairs) → bytes_eq k l ≡ b → value_at k (member l d ms) ≡ cond b (Some d) (value_at k ms)
 value_behind b k l d ms is = ap (λ z. cond z (Some d) (value_at k ms)) is
 
 without_behind : (b : Bool) (k l : List ℕ) (d : Data) (ms : Pairs) → bytes_eq k l ≡ b → without k (member l d ms) ≡ cond b ms (member l d (without k ms))
@@ -141,7 +139,7 @@ unlike k l ne = by (bytes_eq l k) refl
     by true is = let like : bytes_eq k l ≡ true = subst (λ (x : List ℕ). bytes_eq x l ≡ true) (same_text l k (sym is)) (bytes_refl l) in absurd cc
     by false is = is
 
-both : (a b : Bool) → (a && b) ≡ true → (a ≡ true) × (b ≡ true)
+pub both : (a b : Bool) → (a && b) ≡ true → (a ≡ true) × (b ≡ true)
 both true b e = (refl, e)
 both false b e = absurd cc
 
@@ -158,7 +156,7 @@ each_without k (member l d ms) ns new e = by (bytes_eq k l) refl (each_without k
         ∙ ap (λ (b : Bool). b && each_in ms (without k ns)) parts.0
         ∙ again (sym (value_behind false k l d ms is) ∙ new) parts.1
 
-partner : (d : Data) (o : Option Data) → option_map_or (same d) o false ≡ true → (e : Data) × ((o ≡ Some e) × (same d e ≡ true))
+pub partner : (d : Data) (o : Option Data) → option_map_or (same d) o false ≡ true → (e : Data) × ((o ≡ Some e) × (same d e ≡ true))
 partner d None h = absurd cc
 partner d (Some e) h = (e, (refl, h))
 
@@ -168,7 +166,7 @@ no_more h (member k d ms) e = absurd (omega arith)
 
 -- ---- the law
 
-of_truth : (a b : Bool) → bool_eq a b ≡ true → a ≡ b
+pub of_truth : (a b : Bool) → bool_eq a b ≡ true → a ≡ b
 of_truth true true e = refl
 of_truth false false e = refl
 of_truth true false e = absurd cc

@@ -7,7 +7,7 @@ use Rattle.asl_json.proofs.Knowing.{bytes_eq-flip}
 use Rattle.asl_json.specs.Same.{bytes_eq}
 use Rattle.asl_json.specs.Distinct.{has_key}
 use Rattle.asl_json.specs.Access.{key_index, with_value}
-use Rattle.asl_functions.specs.Merge.{with_member, merged}
+use Rattle.asl_functions.specs.private.Loops.{with_member}
 
 -- ---- the key is there
 
@@ -79,7 +79,3 @@ index_push q k ms d e =
     behind q ms (k, d)
     ∙ last_at (bytes_eq q k) (length ms) (key_index q ms) (λ t. subst (λ (x : List ℕ). key_index x ms ≡ None) (sym (same_text q k (sym t))) e)
     ∙ ap (λ (b : Bool). cond b (Some (length ms)) (key_index q ms)) (bytes_eq-flip q k)
-
-pub merged_on : (ms ns os : List (List ℕ × Data)) → merged (merged ms ns) os ≡ merged ms (ns ++ os)
-merged_on ms [] os = refl
-merged_on ms (n ∷ ns) os = merged_on (with_member ms n.0 n.1) ns os

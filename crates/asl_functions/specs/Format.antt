@@ -25,15 +25,14 @@ abbrev pub is_close : Letter → Bool
 is_close (Plain c) = c == 125
 is_close (Escaped c) = false
 
--- a letter before tokens: a brace that opens right before one that closes is a hole with it
-abbrev pub put_before : Letter → List Token → List Token
-put_before l [] = letter l ∷ []
-put_before l (hole ∷ ts) = letter l ∷ hole ∷ ts
-put_before l (letter m ∷ ts) = if is_open l && is_close m then hole ∷ ts else letter l ∷ letter m ∷ ts
-
+-- a brace that opens and the one that closes right behind it are a hole; any other letter is itself
+-- (ASL: "zero or more instances of the character sequence {}")
 abbrev pub tokens : List Letter → List Token
 tokens [] = []
-tokens (l ∷ ls) = put_before l (tokens ls)
+tokens (l ∷ []) = letter l ∷ []
+tokens (l ∷ m ∷ ls) =
+    if is_open l && is_close m then hole ∷ tokens ls
+    else letter l ∷ tokens (m ∷ ls)
 
 -- each hole replaced by the next text, where there are as many texts as holes
 abbrev pub filled : List Token → List (List ℕ) → Option (List ℕ)
@@ -67,7 +66,9 @@ template (Some written) t = tokens (letters true (chars written))
 template None t = tokens (letters false (chars t))
 
 abbrev pub formatted : List Token → List Data → Outcome Data
-formatted ts ds = if list_all is_fit ds then or_fails Count (option_map text (filled ts (map shown ds))) else fails Unfit
+formatted ts ds =
+    if list_all is_fit ds then or_fails Count (option_map text (filled ts (map shown ds)))
+    else fails Unfit
 
 -- `States.Format(t, a..)`: t with each `{}` replaced by the next argument
 abbrev pub format : Option (List ℕ) → Data → List Data → Outcome Data

@@ -2,3 +2,4 @@
 pub mod Marks
 pub mod Links
 pub mod Places
+pub mod Loops

@@ -27,7 +27,7 @@ fn of_one(alloc: Global, function: Function, one: &Json) -> Result<Json, EvalFau
     match function {
         Function::StringToJson => string_to_json(alloc, one),
         Function::JsonToString => json_to_string(alloc, one),
-        Function::ArrayLength => array_length(alloc, one),
+        Function::ArrayLength => array_length(one),
         Function::ArrayUnique => array_unique(alloc, one),
         Function::Base64Encode => base64_encode(alloc, one),
         Function::Base64Decode => base64_decode(alloc, one),
@@ -44,7 +44,7 @@ fn of_two(alloc: Global, function: Function, one: &Json, two: &Json) -> Result<J
         Function::ArrayContains => array_contains(one, two),
         Function::ArrayGetItem => array_get_item(alloc, one, two),
         Function::Hash => hash(alloc, one, two),
-        Function::MathAdd => math_add(alloc, one, two),
+        Function::MathAdd => math_add(one, two),
         Function::StringSplit => string_split(alloc, one, two),
         _ => Err(EvalFault::Fails(Reason::Count)),
     }

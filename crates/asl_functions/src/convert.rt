@@ -6,7 +6,6 @@ ghost use Rattle.asl_functions.specs.Converting.{text_in, list_in, object_in, nu
 
 use crate::fault::{EvalFault, Reason};
 use asl_json::{Dec, Json, Members};
-use std::alloc::Global;
 
 const LIMIT: i128 = 1_000_000_000_000_000_000;
 
@@ -60,19 +59,19 @@ pub(crate) fn whole(number: &Dec) -> Result<i128, EvalFault>
 }
 
 /// A whole number in plain decimal.
-pub(crate) fn whole_number(alloc: Global, value: i128) -> Result<Json, EvalFault>
+pub(crate) fn whole_number(value: i128) -> Json
     requires { unsigned_abs value < 10 ^ 18 }
-    ensures { Gives data_of (Ok (spec_whole_number value)) result }
+    ensures { data_of result ≡ spec_whole_number value }
 {
-    Ok(Json::Num(Dec::of_whole(alloc, value)?))
+    Json::Num(Dec::of_whole(value))
 }
 
 /// A whole number in plain decimal, where its amount is below 10^18.
-pub(crate) fn computed(alloc: Global, value: i128) -> Result<Json, EvalFault>
+pub(crate) fn computed(value: i128) -> Result<Json, EvalFault>
     ensures { Gives data_of (spec_computed value) result }
 {
     if value <= -LIMIT || value >= LIMIT {
         return Err(EvalFault::Fails(Reason::Range));
     }
-    whole_number(alloc, value)
+    Ok(whole_number(value))
 }

@@ -4,7 +4,7 @@ ghost use Rattle.std.specs.List.{list_any};
 ghost use Rattle.asl_json.specs.Meaning.{same as spec_same};
 ghost use Rattle.asl_json.specs.View.{data_of, items_of};
 ghost use Rattle.asl_functions.specs.Gives.{Gives};
-ghost use Rattle.asl_functions.specs.Lists.{kept_with};
+ghost use Rattle.asl_functions.specs.private.Loops.{kept_with};
 ghost use Rattle.asl_functions.specs.private.Marks.{mark as spec_mark};
 
 use crate::fault::EvalFault;

@@ -69,11 +69,11 @@ pub(crate) fn array_get_item(alloc: Global, items: &Json, index: &Json) -> Resul
 }
 
 /// `States.ArrayLength`
-pub(crate) fn array_length(alloc: Global, items: &Json) -> Result<Json, EvalFault>
+pub(crate) fn array_length(items: &Json) -> Result<Json, EvalFault>
     ensures { Gives data_of (spec_length (data_of items.now)) result }
 {
     let items = list(items)?;
-    computed(alloc, items.len() as i128)
+    computed(items.len() as i128)
 }
 
 /// The items that are the same as none of those kept before them.

@@ -1,9 +1,10 @@
 // `States.JsonMerge`.
-ghost use Rattle.std.specs.Prelude.{◌≡◌, ◌++◌, [], Ok, IfErr, OnOk};
+ghost use Rattle.std.specs.Prelude.{◌≡◌, Ok, IfErr, OnOk};
 ghost use Rattle.asl_json.specs.Data.{Data};
 ghost use Rattle.asl_json.specs.View.{data_of, members_of};
 ghost use Rattle.asl_functions.specs.Gives.{Gives};
-ghost use Rattle.asl_functions.specs.Merge.{with_member, merged as spec_merged, false_in, json_merge as spec_json_merge};
+ghost use Rattle.asl_functions.specs.Merge.{merged as spec_merged, false_in, json_merge as spec_json_merge};
+ghost use Rattle.asl_functions.specs.private.Loops.{with_member, put_in};
 ghost use Rattle.asl_functions.specs.private.Places.{HasPlaces};
 
 use crate::convert::object;
@@ -45,7 +46,7 @@ fn put_all<'a>(
     more: &'a [Member],
 ) -> Result<(), EvalFault>
     requires { HasPlaces places.old members.old }
-    ensures members { OnOk result (members.new ≡ spec_merged members.old (members_of more.now)) }
+    ensures members { OnOk result (members.new ≡ put_in members.old (members_of more.now)) }
     ensures places { OnOk result (HasPlaces places.new members.new) }
     ensures memory { IfErr result (λ e. e ≡ EvalFault.OutOfMemory) }
 {
@@ -57,7 +58,7 @@ fn put_all<'a>(
 
 /// The members of both.
 fn merged(alloc: Global, first: &Members, second: &Members) -> Result<Members, EvalFault>
-    ensures { Gives (λ m. m) (Ok (spec_merged [] (first.now ++ second.now))) result }
+    ensures { Gives (λ m. m) (Ok (spec_merged first.now second.now)) result }
 {
     let mut members = Members::new(alloc);
     let mut places = HashMap::new(alloc);

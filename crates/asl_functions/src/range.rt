@@ -31,7 +31,7 @@ fn stepped(stride: i128, value: i128) -> i128
 }
 
 /// The values from the first on, as long as the end isn't passed, where they are at most so many.
-#[tactic(auto, using(crate::proofs::Counting::counted_more, crate::proofs::Counting::counted_end, crate::proofs::Counting::counted_over))]
+#[tactic(auto, using(crate::proofs::Counting::counted_more, crate::proofs::Counting::counted_end, crate::proofs::Counting::counted_over, crate::proofs::Counting::counted_start))]
 fn counted(
     alloc: Global,
     most: usize,
@@ -42,7 +42,7 @@ fn counted(
     requires first { unsigned_abs first < 10 ^ 18 }
     requires end { unsigned_abs end < 10 ^ 18 }
     requires stride { unsigned_abs stride < 10 ^ 18 }
-    ensures { Gives (λ v. items_of v.items) (or_fails Range (spec_counted most stride end first [])) result }
+    ensures { Gives (λ v. items_of v.items) (or_fails Range (spec_counted most stride end first)) result }
 {
     let mut values = Vec::new(alloc);
     let mut value = first;
@@ -51,7 +51,7 @@ fn counted(
         if left == 0 {
             return Err(EvalFault::Fails(Reason::Range));
         }
-        values.push(whole_number(alloc, value)?)?;
+        values.push(whole_number(value))?;
         value = stepped(stride, value);
         left -= 1;
     }

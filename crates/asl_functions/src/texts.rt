@@ -30,21 +30,21 @@ pub(crate) fn json_to_string(alloc: Global, value: &Json) -> Result<Json, EvalFa
 }
 
 /// The sum of whole numbers.
-fn sum(alloc: Global, one: i128, other: i128) -> Result<Json, EvalFault>
+fn sum(one: i128, other: i128) -> Result<Json, EvalFault>
     requires one { unsigned_abs one < 10 ^ 18 }
     requires other { unsigned_abs other < 10 ^ 18 }
     ensures { Gives data_of (spec_computed (one +ℤ other)) result }
 {
-    computed(alloc, one + other)
+    computed(one + other)
 }
 
 /// `States.MathAdd`
-pub(crate) fn math_add(alloc: Global, one: &Json, other: &Json) -> Result<Json, EvalFault>
+pub(crate) fn math_add(one: &Json, other: &Json) -> Result<Json, EvalFault>
     ensures { Gives data_of (spec_math_add (data_of one.now) (data_of other.now)) result }
 {
     let one = number(one)?;
     let other = number(other)?;
     let one = whole(one)?;
     let other = whole(other)?;
-    sum(alloc, one, other)
+    sum(one, other)
 }

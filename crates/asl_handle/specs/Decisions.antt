@@ -21,9 +21,9 @@ OnAgain (caught c) P = Unit {0}
 OnAgain unhandled P = Unit {0}
 
 -- the retriers or catchers; none where the member is absent
-abbrev pub items_in : Option Data → Chain
-items_in (Some (list ds)) = ds
-items_in o = no_items
+abbrev pub handlers_in : Option Data → Chain
+handlers_in (Some (list ds)) = ds
+handlers_in o = no_items
 
 -- the first that is for the error, with its number, counted from i
 abbrev pub first_for : List ℕ → ℕ → Chain → Option (ℕ × Data)
@@ -54,4 +54,4 @@ caught_by (Some x) = caught x.1
 
 -- of an error at a moment, by how often each retrier was used
 abbrev pub decision : Option Data → Option Data → List ℕ → List ℕ → ℕ → Handling
-decision retry catch error uses now = retried uses now (first_for error 0 (items_in retry)) (caught_by (first_for error 0 (items_in catch)))
+decision retry catch error uses now = retried uses now (first_for error 0 (handlers_in retry)) (caught_by (first_for error 0 (handlers_in catch)))

@@ -6,12 +6,12 @@ use Rattle.asl_json.specs.Data.{Data, Chain, no_items, item}
 use Rattle.asl_schema.specs.Claims.{item_count}
 use Rattle.asl_members.specs.Retries.{attempts_of}
 use Rattle.asl_handle.specs.Names.{is_for}
-use Rattle.asl_handle.specs.Decisions.{Handling, again, items_in, first_for, used, wait_after, last_moment, retried, caught_by, decision}
+use Rattle.asl_handle.specs.Decisions.{Handling, again, handlers_in, first_for, used, wait_after, last_moment, retried, caught_by, decision}
 
 -- the retrier of this number is the first that is for the error, and isn't used up
 pub record IsNext (retry : Option Data) (error uses : List ℕ) (i : ℕ) : Type 0 where
   pub retrier : Data
-  pub first : first_for error 0 (items_in retry) ≡ Some (i, retrier)
+  pub first : first_for error 0 (handlers_in retry) ≡ Some (i, retrier)
   pub unused : used uses i < attempts_of retrier
 
 abbrev number_or : ℕ → Option (ℕ × Data) → ℕ
@@ -46,11 +46,11 @@ retried-next uses now (Some x) h i t not e = by (nat_lt (used uses x.0) (attempt
 
 pub again-next : (retry catch : Option Data) (error uses : List ℕ) (now i t : ℕ) → decision retry catch error uses now ≡ again i t → IsNext retry error uses i
 again-next retry catch error uses now i t e =
-    let found = retried-next uses now (first_for error 0 (items_in retry)) (caught_by (first_for error 0 (items_in catch))) i t (uncaught (first_for error 0 (items_in catch)) i t) e in
+    let found = retried-next uses now (first_for error 0 (handlers_in retry)) (caught_by (first_for error 0 (handlers_in catch))) i t (uncaught (first_for error 0 (handlers_in catch)) i t) e in
     record { retrier = found.0; first = found.1; unused = found.2 }
 
-pub again-within : (retry catch : Option Data) (error uses : List ℕ) (now i t : ℕ) → decision retry catch error uses now ≡ again i t → i < item_count (items_in retry)
+pub again-within : (retry catch : Option Data) (error uses : List ℕ) (now i t : ℕ) → decision retry catch error uses now ≡ again i t → i < item_count (handlers_in retry)
 again-within retry catch error uses now i t e =
     let next = again-next retry catch error uses now i t e in
-    let within = first-within error 0 (items_in retry) i next.retrier next.first in
+    let within = first-within error 0 (handlers_in retry) i next.retrier next.first in
     omega (arith, within)

@@ -1,7 +1,7 @@
 // Retriers and catchers of a definition, asked what becomes of an error.
 use asl_check::accept;
 use asl_handle::{Decision, Policy};
-use asl_parts::{Catcher, Outcome};
+use asl_parts::{Catcher, Completion};
 use asl_states::State;
 use asl_time::Moment;
 use std::alloc::Global;
@@ -21,14 +21,14 @@ fn target(alloc: Global, catcher: &Catcher) -> Option<String> {
 /// The text of a decision: the number of the retrier and the milliseconds of the moment, or the state that comes next.
 fn decided(
     alloc: Global,
-    outcome: &Outcome,
+    completion: &Completion,
     error: &str,
     uses: &[u32],
     now: Moment,
 ) -> Option<String> {
     let policy = Policy {
-        retriers: outcome.retry(),
-        catchers: outcome.catch(),
+        retriers: completion.retry(),
+        catchers: completion.catch(),
     };
     match policy.decide(error, uses, now) {
         Decision::Again { retrier, until } => {
@@ -51,7 +51,7 @@ pub(crate) fn asked(
     let now = Moment::of_millis(now)?;
     let machine = accept(alloc, text.as_bytes()).ok()?;
     match machine.state("T") {
-        Some(State::Task(task)) => decided(alloc, task.outcome(), error, uses, now),
+        Some(State::Task(task)) => decided(alloc, task.completion(), error, uses, now),
         _ => None,
     }
 }

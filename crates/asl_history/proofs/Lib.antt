@@ -2,4 +2,3 @@ pub mod Numerals
 pub mod Steps
 pub mod Links
 pub mod Pieces
-pub mod Cutting

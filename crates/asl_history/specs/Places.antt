@@ -1,7 +1,12 @@
 -- Places of branches: the numbers of the forks on the way to a branch.
-use Rattle.std.specs.Prelude.{ℕ, ◌==◌, ◌<◌, ◌≤◌, ◌^◌, ◌&&◌, not, Bool, true, false, List, [], ◌∷◌, All, ⊤}
+use Rattle.std.specs.Prelude.{ℕ, ◌==◌, ◌<◌, ◌≤◌, ◌^◌, ◌&&◌, not, Bool, true, false, List, [], ◌∷◌, All, ⊤, Option, Some, None}
 use Rattle.std.specs.List.{flat_map}
 use Rattle.std.specs.Fmt.{decimal}
+
+-- the numbers of a place: the root has none
+abbrev pub numbers_in : Option (List ℕ) → List ℕ
+numbers_in None = []
+numbers_in (Some ns) = ns
 
 -- each number is below 10^9
 abbrev pub IsPlace : List ℕ → Type 0

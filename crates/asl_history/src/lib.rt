@@ -16,7 +16,6 @@ mod printing;
 mod send;
 mod sink;
 
-pub use appending::{put_moment, whole_or_none};
 pub use event::Event;
 pub use fault::WriteFault;
 pub use history::History;

@@ -1,17 +1,39 @@
 // Places of branches.
 ghost use Rattle.std.specs.Prelude.{◌≡◌, ◌↔◌, ◌<◌, ◌^◌, [], ◌∷◌, ◌++◌, List, ℕ, IfOk, IfSome, OnOk, OnErr, IsTrue, string_bytes};
-ghost use Rattle.asl_json.specs.private.Buffers.{Keeps};
+ghost use Rattle.asl_text.specs.Buffers.{Keeps};
 ghost use Rattle.asl_history.specs.Places.{IsPlace, is_prefix, is_child, is_beside, place_text, steps_text};
 
-use crate::appending::{put_decimal, whole_or_none};
+use crate::appending::put_decimal;
 use crate::number::read_step;
+use asl_text::whole_or_none;
 use std::alloc::{AllocError, Global};
 use std::marker::Model;
+use std::sync::Arc;
+
+/// The numbers of a place.
+struct Numbers {
+    list: Vec<u32>,
+}
+
+// Written out, so that a caller's proof sees one call and not the drop of each part.
+impl Drop for Numbers {
+    fn drop(self) {
+        let Numbers { list: _list } = self;
+    }
+}
+
+impl Model for Numbers {
+    ghost use Rattle.std.specs.Prelude.{List, ℕ};
+
+    ghost Value = { List ℕ };
+
+    ghost view = { λ n. n.list.items };
+}
 
 /// The place of a branch: the numbers, each below 10^9, of the forks on the way to it, from the outermost. The root is the
-/// branch that an execution starts with. Contracts see the list of its numbers.
+/// branch that an execution starts with. Contracts see the list of its numbers. Copies share it; the root has none.
 pub struct Place {
-    numbers: Vec<u32>,
+    numbers: Option<Arc<Numbers>>,
 }
 
 // Written out, so that a caller's proof sees one call and not the drop of each part.
@@ -22,23 +44,35 @@ impl Drop for Place {
 }
 
 impl Model for Place {
-    ghost use Rattle.std.specs.Prelude.{List, ℕ};
-    ghost use Rattle.asl_history.specs.Places.{IsPlace};
+    ghost use Rattle.std.specs.Prelude.{List, ℕ, option_map};
+    ghost use Rattle.std.specs.Arc.{arc_value};
+    ghost use Rattle.asl_history.specs.Places.{IsPlace, numbers_in};
 
     ghost Value = { List ℕ };
 
-    ghost view = { λ p. p.numbers.items };
+    ghost view = { λ p. numbers_in (option_map arc_value p.numbers) };
 
-    ghost invariant = { λ p. IsPlace p.numbers.items };
+    ghost invariant = { λ p. IsPlace (numbers_in (option_map arc_value p.numbers)) };
 }
 
 impl Place {
-    /// The place of the branch that an execution starts with.
-    pub fn root(alloc: Global) -> Place
+    /// The place of the branch that an execution starts with. It takes no memory.
+    pub fn root(_alloc: Global) -> Place
         ensures { result ≡ [] }
     {
-        Place {
-            numbers: Vec::new(alloc),
+        Place { numbers: None }
+    }
+
+    /// The place of these numbers. The error is that memory ran out.
+    fn of(alloc: Global, list: Vec<u32>) -> Result<Place, AllocError>
+        requires { IsPlace list.items }
+        ensures { IfOk result (λ p. p ≡ list.items) }
+    {
+        match Arc::new(alloc, Numbers { list }) {
+            Ok(numbers) => Ok(Place {
+                numbers: Some(numbers),
+            }),
+            Err(_) => Err(AllocError),
         }
     }
 
@@ -47,16 +81,22 @@ impl Place {
         ensures value { result.now ≡ self.now }
         ensures bound { IsPlace result.now }
     {
-        self.numbers.as_slice()
+        match &self.numbers {
+            Some(numbers) => numbers.list.as_slice(),
+            None => &[],
+        }
     }
 
-    /// An equal place. The error is that memory ran out.
-    pub fn try_clone(&self, alloc: Global) -> Result<Place, AllocError>
+    /// An equal place, which shares the numbers. It takes no memory. The error is that there are too many copies.
+    pub fn try_clone(&self, _alloc: Global) -> Result<Place, AllocError>
         ensures { IfOk result (λ p. p ≡ self.now) }
     {
-        Ok(Place {
-            numbers: Vec::from_slice(alloc, &self.numbers)?,
-        })
+        match &self.numbers {
+            Some(numbers) => Ok(Place {
+                numbers: Some(Arc::try_clone(numbers)?),
+            }),
+            None => Ok(Place { numbers: None }),
+        }
     }
 
     /// The place of the child with this number. The error is that memory ran out.
@@ -64,37 +104,37 @@ impl Place {
         requires { number < 10 ^ 9 }
         ensures { IfOk result (λ p. p ≡ self.now ++ number ∷ []) }
     {
-        let mut numbers = Vec::from_slice(alloc, &self.numbers)?;
+        let mut numbers = Vec::from_slice(alloc, self.numbers())?;
         numbers.push(number)?;
-        Ok(Place { numbers })
+        Place::of(alloc, numbers)
     }
 
     /// Whether this is the place of the branch that an execution starts with.
     pub fn is_root(&self) -> bool
         ensures { IsTrue result ↔ (self.now ≡ []) }
     {
-        self.numbers.is_empty()
+        self.numbers().is_empty()
     }
 
     /// Whether the other place is this one or under it.
     pub fn is_prefix_of(&self, other: &Place) -> bool
         ensures { result ≡ is_prefix self.now other.now }
     {
-        is_prefix_of(&self.numbers, &other.numbers)
+        is_prefix_of(self.numbers(), other.numbers())
     }
 
     /// Whether the other place is directly under this one.
     pub fn is_parent_of(&self, other: &Place) -> bool
         ensures { result ≡ is_child self.now other.now }
     {
-        is_child(&self.numbers, &other.numbers)
+        is_child(self.numbers(), other.numbers())
     }
 
     /// Whether the other place is a sibling of this one, or of a place above it.
     pub fn is_beside(&self, other: &Place) -> bool
         ensures { result ≡ is_beside self.now other.now }
     {
-        is_beside(&self.numbers, &other.numbers)
+        is_beside(self.numbers(), other.numbers())
     }
 
     /// The place that a text spells: `/` for the root, else `/` before each number, of 1 to 9 digits without leading
@@ -131,7 +171,7 @@ impl Place {
             return out.push('/');
         }
         let len = out.as_str().len();
-        let appended = put_steps(out, &self.numbers);
+        let appended = put_steps(out, self.numbers());
         whole_or_none(out, len, appended)
     }
 }
@@ -189,7 +229,7 @@ fn read_steps(alloc: Global, bytes: &[u8]) -> Result<Option<Place>, AllocError>
         numbers.push(number)?;
         rest = behind;
     }
-    Ok(Some(Place { numbers }))
+    Ok(Some(Place::of(alloc, numbers)?))
 }
 
 fn is_child(p: &[u32], q: &[u32]) -> bool

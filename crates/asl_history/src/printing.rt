@@ -1,14 +1,15 @@
 // The line of an event.
 ghost use Rattle.std.specs.Prelude.{◌≡◌, ◌∷◌, ◌++◌, [], IfOk, OnOk, OnErr, string_bytes};
 ghost use Rattle.std.specs.Fmt.{decimal};
-ghost use Rattle.asl_json.specs.private.Buffers.{Keeps};
+ghost use Rattle.asl_text.specs.Buffers.{Keeps};
 ghost use Rattle.asl_history.specs.Lines.{head_of, tail_of, line_of};
 ghost use Rattle.asl_time.specs.StampText.{stamp_of};
 
-use crate::appending::{put_decimal, put_moment, whole_or_none};
+use crate::appending::put_decimal;
 use crate::event::Event;
 use asl_json::{put, put_quoted};
-use asl_time::Moment;
+use asl_text::whole_or_none;
+use asl_time::{Moment, put_stamp};
 use std::alloc::{AllocError, Global};
 
 /// The line of an event: id, previous id, stamp, place, kind, name and body with single spaces between, the last two as
@@ -70,7 +71,7 @@ fn put_at(out: &mut String, moment: Moment) -> Result<(), AllocError>
     ensures ok { OnOk result (string_bytes out.new ≡ string_bytes out.old ++ (stamp_of moment ++ 32 ∷ [])) }
     ensures kept { Keeps (string_bytes out.old) (string_bytes out.new) }
 {
-    put_moment(out, moment)?;
+    put_stamp(out, moment)?;
     out.push(' ')
 }
 

@@ -14,7 +14,7 @@ use Rattle.asl_json.proofs.Figures.{value_append, value_zeros, digits_take, digi
 pub tens_above : (n : ℕ) → 0 < 10 ^ n
 tens_above n = one-le-pow n 10 (omega arith)
 
-tens_grow : (i j : ℕ) → i ≤ j → 10 ^ i ≤ 10 ^ j
+pub tens_grow : (i j : ℕ) → i ≤ j → 10 ^ i ≤ 10 ^ j
 tens_grow i j h = pow-le-pow_right (omega arith) h
 
 pub scaled_grows : (m i j : ℕ) → i ≤ j → m * 10 ^ i ≤ m * 10 ^ j

@@ -29,5 +29,5 @@ pub mod Pointing
 pub mod Sounding
 pub mod Fitting
 pub mod Plainly
-pub mod Buffers
+pub mod Smalls
 pub mod Sharing

@@ -2,7 +2,7 @@
 use Rattle.std.proofs.Common.{◌≡◌, ℕ, Bool, true, false, cond, ◌==◌, List, [], ◌∷◌, ◌++◌, Option, Some, None, refl, sym, ap, subst, ◌∙◌, append_assoc, arith, ◌⊎◌, inl, inr}
 use Rattle.std.proofs.lemmas.Bool.{eqb-true}
 use Rattle.asl_json.specs.Number.{is_digit, is_point, is_mark, is_sign, AreDigits, IsDigits, unsigned, IsInt, IsFrac, IsExp, IsUnsigned, IsNumeral}
-use Rattle.asl_json.specs.private.Machine.{leading, marked, pointed, next_part, part_behind, may_end}
+use Rattle.asl_json.specs.private.Machine.{leading, marked, pointed, next_part, part_behind, takes_digits, may_end}
 use Rattle.asl_json.specs.Open.{EndsNumber}
 use Rattle.asl_json.specs.declared.number.Part.{Part}
 use Rattle.asl_json.specs.declared.number.Part.TheVariants.{Start, Minus, Nought, Whole, Point, Fraction, Mark, Sign, Exponent}
@@ -24,6 +24,18 @@ IsPart p s = part_behind (Some Start) s ≡ Some p
 
 pub part_onto : (p : Part) (s t : List ℕ) → IsPart p s → part_behind (Some Start) (s ++ t) ≡ part_behind (Some p) t
 part_onto p s t h = part_append (Some Start) s t ∙ ap (λ (o : Option Part). part_behind o t) h
+
+pub part_stays : (p : Part) (c : ℕ) → takes_digits p ≡ true → is_digit c ≡ true → next_part p c ≡ Some p
+unfolding next_part
+part_stays Start c t e = absurd cc
+part_stays Minus c t e = absurd cc
+part_stays Nought c t e = absurd cc
+part_stays Whole c t e = rw e refl
+part_stays Point c t e = absurd cc
+part_stays Fraction c t e = rw e refl
+part_stays Mark c t e = absurd cc
+part_stays Sign c t e = absurd cc
+part_stays Exponent c t e = rw e refl
 
 pub part_push : (p q : Part) (s : List ℕ) (c : ℕ) → next_part p c ≡ Some q → IsPart p s → IsPart q (s ++ c ∷ [])
 part_push p q s c e h = part_onto p s (c ∷ []) h ∙ e

@@ -75,16 +75,16 @@ unfolding is_digit
 int_decimal zero lt = subst IsInt (sym (decimal_digit 0 (omega arith))) refl
 int_decimal (suc n) lt = int_of (decimal (suc n)) (decimal_nonempty (suc n) (omega arith)) (digits_decimal own (suc n) (omega arith)) (first_decimal (suc n) (omega arith) (omega arith))
 
-pub decimal_number : (z : ℤ) → unsigned_abs z < 10 ^ 18 → IsNumber (signed_decimal z) × (z *ℤ pos 1000000000 ≡ units_of (signed_decimal z))
+pub decimal_number : (z : ℤ) → unsigned_abs z < 10 ^ 18 → IsNumber (signed_decimal z)
 decimal_number (pos n) lt =
     let digits = digits_decimal own n (omega arith) in
     let plain = no_minus (decimal n) digits in
     let fits = whole_number (decimal n) (decimal n) n plain.0 (omega (arith, length-decimal-le 18 n (omega arith) lt (omega arith))) (int_decimal n lt) digits (digits_value-decimal own n (omega arith)) lt in
-    (fits.0, sym (rw (plain.1, fits.1) refl))
+    fits.0
 decimal_number (negsuc n) lt =
     let digits = digits_decimal own (suc n) (omega arith) in
     let fits = whole_number (45 ∷ decimal (suc n)) (decimal (suc n)) (suc n) refl (omega (arith, length-decimal-le 18 (suc n) (omega arith) lt (omega arith))) (int_decimal (suc n) lt) digits (digits_value-decimal own (suc n) (omega arith)) lt in
-    (fits.0, sym (rw fits.1 refl))
+    fits.0
 
 -- ---- whole values
 
@@ -114,14 +114,6 @@ abs_neg (suc n) = refl
 pub quotient_below : (z : ℤ) → unsigned_abs z < amount_limit → unsigned_abs (int_div z (pos 1000000000)) < 10 ^ 18
 quotient_below (pos n) lt = omega (arith, lt)
 quotient_below (negsuc n) lt = omega (arith, lt, abs_neg (suc n / 1000000000))
-
-below_zero : (n : ℕ) → n < 2 ^ 127 → FitsSigned w128 (neg_ℤ (pos n))
-below_zero zero lt = record { sfits = omega arith }
-below_zero (suc n) lt = record { sfits = omega (arith, lt) }
-
-pub units_fit : (z : ℤ) → unsigned_abs z < 10 ^ 18 → FitsSigned w128 (z *ℤ pos 1000000000)
-units_fit (pos n) lt = record { sfits = omega (arith, lt) }
-units_fit (negsuc n) lt = below_zero (suc n * 1000000000) (omega (arith, lt))
 
 pub amount_fits : (z : ℤ) → unsigned_abs z < 10 ^ 18 → FitsSigned w128 z
 amount_fits (pos n) lt = record { sfits = omega (arith, lt) }

@@ -2,6 +2,8 @@
 use Rattle.std.specs.Prelude.{ℕ, List, Bool, true, false, ◌&&◌, nat_eq}
 use Rattle.std.specs.Cmp.Lexicographic.{pointwise}
 use Rattle.asl_json.specs.Data.{Data, null, boolean, number, text, list, dict, Chain, no_items, item, Pairs, no_members, member}
+use Rattle.asl_json.specs.View.{data_of}
+use Rattle.asl_json.specs.declared.value.Json.{Json}
 
 abbrev pub bool_eq : Bool → Bool → Bool
 bool_eq true true = true
@@ -31,3 +33,10 @@ abbrev mutual
   equal_members no_members no_members = true
   equal_members (member k d ms) (member l e ns) = bytes_eq k l && (equal d e && equal_members ms ns)
   equal_members a b = false
+
+-- the same of values as the program has them, and of the items of two lists
+abbrev pub json_equal : Json → Json → Bool
+json_equal a b = equal (data_of a) (data_of b)
+
+abbrev pub items_equal : List Data → List Data → Bool
+items_equal = pointwise equal

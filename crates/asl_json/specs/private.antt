@@ -1,7 +1,6 @@
 -- Words that only proofs need.
 pub mod Code
 pub mod Falls
-pub mod Buffers
 pub mod Room
 pub mod SameLaws
 pub mod Lending

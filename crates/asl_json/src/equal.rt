@@ -54,7 +54,8 @@ fn equals_members(a: &Members, b: &Members) -> bool
 }
 
 impl PartialEq for Json {
-    ghost use Rattle.asl_json.specs.private.SameLaws.{json_equal, json_laws};
+    ghost use Rattle.asl_json.specs.Same.{json_equal};
+    ghost use Rattle.asl_json.specs.private.SameLaws.{json_laws};
 
     ghost eq = { json_equal };
 

@@ -25,6 +25,29 @@ pub(crate) fn is_plain(byte: u8) -> bool
     byte >= b' ' && byte != b'"' && byte != b'\\'
 }
 
+const Y: bool = true;
+
+const N: bool = false;
+
+/// Whether each byte may stand in a text as it is.
+const PLAIN: [bool; 256] = [
+    N, N, N, N, N, N, N, N, N, N, N, N, N, N, N, N, N, N, N, N, N, N, N, N, N, N, N, N, N, N, N, N,
+    Y, Y, N, Y, Y, Y, Y, Y, Y, Y, Y, Y, Y, Y, Y, Y, Y, Y, Y, Y, Y, Y, Y, Y, Y, Y, Y, Y, Y, Y, Y, Y,
+    Y, Y, Y, Y, Y, Y, Y, Y, Y, Y, Y, Y, Y, Y, Y, Y, Y, Y, Y, Y, Y, Y, Y, Y, Y, Y, Y, Y, N, Y, Y, Y,
+    Y, Y, Y, Y, Y, Y, Y, Y, Y, Y, Y, Y, Y, Y, Y, Y, Y, Y, Y, Y, Y, Y, Y, Y, Y, Y, Y, Y, Y, Y, Y, Y,
+    Y, Y, Y, Y, Y, Y, Y, Y, Y, Y, Y, Y, Y, Y, Y, Y, Y, Y, Y, Y, Y, Y, Y, Y, Y, Y, Y, Y, Y, Y, Y, Y,
+    Y, Y, Y, Y, Y, Y, Y, Y, Y, Y, Y, Y, Y, Y, Y, Y, Y, Y, Y, Y, Y, Y, Y, Y, Y, Y, Y, Y, Y, Y, Y, Y,
+    Y, Y, Y, Y, Y, Y, Y, Y, Y, Y, Y, Y, Y, Y, Y, Y, Y, Y, Y, Y, Y, Y, Y, Y, Y, Y, Y, Y, Y, Y, Y, Y,
+    Y, Y, Y, Y, Y, Y, Y, Y, Y, Y, Y, Y, Y, Y, Y, Y, Y, Y, Y, Y, Y, Y, Y, Y, Y, Y, Y, Y, Y, Y, Y, Y,
+];
+
+/// The same as `is_plain`, by a table: quicker for one byte, slower for several at once.
+fn is_plain_alone(byte: u8) -> bool
+    ensures { result ≡ spec_plain byte }
+{
+    PLAIN[usize::from(byte)]
+}
+
 /// How many spaces there are at the front.
 fn space_len(bytes: &[u8]) -> usize
     ensures spaces { AreSpaces (take result bytes.now) }
@@ -117,7 +140,7 @@ fn plain_end(bytes: &[u8], from: usize, to: usize) -> usize
 {
     let mut end = from;
     while end < to {
-        if !is_plain(bytes[end]) {
+        if !is_plain_alone(bytes[end]) {
             return end;
         }
         end += 1;
@@ -141,6 +164,7 @@ fn plain_len(bytes: &[u8]) -> usize
 }
 
 /// The bytes at the front that may stand in a text as they are, and what follows them.
+#[inline(always)]
 pub(crate) fn split_plain(bytes: &[u8]) -> (&[u8], &[u8])
     ensures parts { bytes.now ≡ result.0.now ++ result.1.now }
     ensures plain { ArePlain result.0.now }

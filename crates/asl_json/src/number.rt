@@ -1,15 +1,15 @@
 // Reading numbers.
-ghost use Rattle.std.specs.Prelude.{◌≡◌, ◌<◌, ◌≤◌, true, false, List, length, take, slice_index, Some, None, IfOk, IfErr, MatchOption};
+ghost use Rattle.std.specs.Prelude.{◌≡◌, ◌<◌, ◌≤◌, true, false, List, ℕ, length, take, slice_index, Some, None, IfOk, IfErr, MatchOption};
 ghost use Rattle.std.specs.Str.{IsUtf8};
 ghost use Rattle.asl_json.specs.Data.{number as spec_number};
-ghost use Rattle.asl_json.specs.Number.{is_digit as spec_digit, IsNumeral, is_over};
+ghost use Rattle.asl_json.specs.Number.{is_digit as spec_digit, IsNumeral, is_over as spec_over};
 ghost use Rattle.asl_json.specs.Open.{Frame};
-ghost use Rattle.asl_json.specs.private.Machine.{value, after, run, leading as spec_leading, marked as spec_marked, pointed as spec_pointed, next_part as spec_next, part_behind, may_end as spec_end};
+ghost use Rattle.asl_json.specs.private.Machine.{value, after, run, leading as spec_leading, marked as spec_marked, pointed as spec_pointed, next_part as spec_next, part_behind, may_end as spec_end, takes_digits as spec_takes};
 ghost use Rattle.asl_json.specs.private.Leads.{Fails, Leads, begins, IsNumberFront};
 
 use crate::fault::{Fault, Kind, Stop};
 use crate::front::{as_text, syntax};
-use crate::units::{is_mark, is_point, is_sign, units};
+use crate::units::{is_mark, is_over, is_point, is_sign};
 use crate::value::Dec;
 use std::alloc::{AllocError, Global};
 
@@ -95,10 +95,6 @@ fn next_part(part: Part, byte: u8) -> Option<Part>
     ensures { result ≡ spec_next part byte }
 {
     let digit = is_digit(byte);
-    // Most bytes of a number are digits behind digits.
-    if digit && matches!(part, Part::Whole | Part::Fraction | Part::Exponent) {
-        return Some(part);
-    }
     match part {
         Part::Start if byte == b'-' => Some(Part::Minus),
         Part::Start | Part::Minus => leading(byte),
@@ -125,6 +121,29 @@ impl Part {
     }
 }
 
+/// Whether a digit leaves this part as it is.
+fn takes_digits(part: Part) -> bool
+    ensures { result ≡ spec_takes part }
+{
+    matches!(part, Part::Whole | Part::Fraction | Part::Exponent)
+}
+
+/// Where the digits end that leave a part as it is, from behind that part on.
+fn digits_end(bytes: &[u8], from: usize, part: Part) -> usize
+    requires part { part_behind (Some Part.Start) (take from bytes.now) ≡ Some part }
+    requires takes { spec_takes part ≡ true }
+    requires within { from ≤ length bytes.now }
+    ensures part { part_behind (Some Part.Start) (take result bytes.now) ≡ Some part }
+    ensures within { result ≤ length bytes.now }
+    ensures onwards { from ≤ result }
+{
+    let mut end = from;
+    while end < bytes.len() && is_digit(bytes[end]) {
+        end += 1;
+    }
+    end
+}
+
 /// How many bytes in front a number may begin with, and how much of it they are. Its cost is that number of bytes.
 pub fn longest_number(bytes: &[u8]) -> (usize, Part)
     ensures within { result.0 ≤ length bytes.now }
@@ -139,33 +158,60 @@ pub fn longest_number(bytes: &[u8]) -> (usize, Part)
         };
         part = next;
         end += 1;
+        if takes_digits(part) {
+            end = digits_end(bytes, end, part);
+        }
     }
     (end, part)
 }
 
-/// How many bytes the number in front has.
-fn number_len(bytes: &[u8]) -> Result<usize, Stop>
+/// How many bytes the number in front has, and the part in which it ends.
+fn number_len(bytes: &[u8]) -> Result<(usize, Part), Stop>
     requires { begins bytes.now ≡ true }
-    ensures found { IfOk result (IsNumberFront bytes.now) }
+    ensures found { IfOk result (λ x. IsNumberFront bytes.now x.0) }
+    ensures part { IfOk result (λ x. (part_behind (Some Part.Start) (take x.0 bytes.now) ≡ Some x.1) × (spec_end x.1 ≡ true)) }
     ensures broken { IfErr result (λ e. (st : List Frame) → Fails e (run true value st bytes.now)) }
 {
     let (end, part) = longest_number(bytes);
     if !part.may_end() {
         return Err(syntax(&bytes[end..]));
     }
-    Ok(end)
+    Ok((end, part))
+}
+
+/// Whether a number of so many bytes that ends in this part has so few digits that it keeps the limits.
+fn is_small(len: usize, part: Part) -> bool
+    requires { spec_end part ≡ true }
+    ensures { result ≡ true → (s : List ℕ) → length s ≡ len → part_behind (Some Part.Start) s ≡ Some part → spec_over s ≡ false }
+{
+    match part {
+        Part::Nought | Part::Whole => len <= 18,
+        Part::Fraction => len <= 9,
+        _ => false,
+    }
+}
+
+/// Whether a number that ends in this part is past the limits. Of most numbers their length tells.
+fn is_past(spelled: &[u8], part: Part) -> bool
+    requires { (part_behind (Some Part.Start) spelled.now ≡ Some part) × (spec_end part ≡ true) }
+    ensures { result ≡ spec_over spelled.now }
+{
+    if is_small(spelled.len(), part) {
+        return false;
+    }
+    is_over(spelled)
 }
 
 impl Dec {
     /// The number that a text spells, or `None` where it is past the limits. It takes no memory, and so never fails.
     pub fn of_numeral(_alloc: Global, text: &str) -> Result<Option<Dec>, AllocError>
         requires { IsNumeral text.now }
-        ensures { IfOk result (λ o. MatchOption o (is_over text.now ≡ true) (λ d. (d ≡ text.now) × (is_over text.now ≡ false))) }
+        ensures { IfOk result (λ o. MatchOption o (spec_over text.now ≡ true) (λ d. (d ≡ text.now) × (spec_over text.now ≡ false))) }
     {
-        let Some(units) = units(text.as_bytes()) else {
+        if is_over(text.as_bytes()) {
             return Ok(None);
-        };
-        Ok(Some(Dec::of_units(units, text)))
+        }
+        Ok(Some(Dec::of_number(text)))
     }
 }
 
@@ -177,13 +223,13 @@ pub(crate) fn number(bytes: &[u8]) -> Result<(Dec, &[u8]), Stop>
     ensures shorter { IfOk result (λ x. length x.1.now < length bytes.now) }
     ensures utf8 { IfOk result (λ x. IsUtf8 x.1.now) }
 {
-    let end = number_len(bytes)?;
-    let Some(units) = units(&bytes[..end]) else {
+    let (end, part) = number_len(bytes)?;
+    if is_past(&bytes[..end], part) {
         return Err(Stop::Fault(Fault {
             kind: Kind::Number,
             left: bytes.len(),
         }));
-    };
+    }
     let text = as_text(&bytes[..end]);
-    Ok((Dec::of_units(units, text), &bytes[end..]))
+    Ok((Dec::of_number(text), &bytes[end..]))
 }

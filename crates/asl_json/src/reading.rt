@@ -25,7 +25,7 @@ use std::alloc::Global;
 const MAX_DEPTH: usize = 64;
 
 /// How much room there is at first for a text with escapes, beside what stands before the first of them.
-const ROOM: usize = 32;
+const ROOM: usize = 64;
 
 /// What the bytes up to the closing quote mean where escapes are among them, and what follows it. So many of them stand
 /// before the first escape.

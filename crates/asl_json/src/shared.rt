@@ -133,7 +133,8 @@ impl Deref for Shared {
 }
 
 impl PartialEq for Shared {
-    ghost use Rattle.asl_json.specs.private.SameLaws.{json_equal, json_laws};
+    ghost use Rattle.asl_json.specs.Same.{json_equal};
+    ghost use Rattle.asl_json.specs.private.SameLaws.{json_laws};
 
     ghost eq = { json_equal };
 
@@ -142,6 +143,12 @@ impl PartialEq for Shared {
     fn eq(&self, other: &Shared) -> bool {
         self.get() == other.get()
     }
+}
+
+impl Eq for Shared {
+    ghost use Rattle.asl_json.specs.private.SameLaws.{json_equivalence};
+
+    ghost laws = { json_equivalence };
 }
 
 /// The items of a list with several owners. Contracts see them as the list of their values. They never change.
@@ -223,6 +230,25 @@ impl SharedItems {
     }
 }
 
+impl PartialEq for SharedItems {
+    ghost use Rattle.asl_json.specs.Same.{items_equal};
+    ghost use Rattle.asl_json.specs.private.SameLaws.{items_laws};
+
+    ghost eq = { items_equal };
+
+    ghost laws = { items_laws };
+
+    fn eq(&self, other: &SharedItems) -> bool {
+        self.values() == other.values()
+    }
+}
+
+impl Eq for SharedItems {
+    ghost use Rattle.asl_json.specs.private.SameLaws.{items_equivalence};
+
+    ghost laws = { items_equivalence };
+}
+
 /// The items of a list; none of any other value.
 fn values_in(value: &Json) -> &[Json]
     ensures { items_of result.now ≡ items_in value.now }
@@ -280,4 +306,25 @@ impl Name {
     {
         self.text.as_str()
     }
+}
+
+impl PartialEq for Name {
+    ghost use Rattle.std.specs.Prelude.{nat_eq};
+    ghost use Rattle.std.specs.Cmp.Lexicographic.{pointwise};
+    ghost use Rattle.std.specs.Cmp.{partial_equiv_from_equiv};
+    ghost use Rattle.std.proofs.lemmas.Cmp.{nat_list_eq_equiv};
+
+    ghost eq = { pointwise nat_eq };
+
+    ghost laws = { partial_equiv_from_equiv nat_list_eq_equiv };
+
+    fn eq(&self, other: &Name) -> bool {
+        self.as_str() == other.as_str()
+    }
+}
+
+impl Eq for Name {
+    ghost use Rattle.std.proofs.lemmas.Cmp.{nat_list_eq_equiv};
+
+    ghost laws = { nat_list_eq_equiv };
 }

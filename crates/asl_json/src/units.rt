@@ -1,6 +1,6 @@
 // What numbers mean, in units of 10^-9.
 ghost use Rattle.std.specs.Prelude.{◌≡◌, ℕ, ◌+◌, ◌*◌, ◌-◌, ◌^◌, ◌<◌, ◌≤◌, ◌++◌, [], min, true, false, cond, pos, neg_ℤ, length, take, drop, slice_index, IfSome, MatchOption};
-ghost use Rattle.asl_json.specs.Number.{is_digit as spec_digit, is_point as spec_point, is_mark as spec_mark, is_sign as spec_sign, AreDigits, IsNumeral, is_negative as spec_negative, magnitude, unsigned as spec_unsigned, before, behind, raised as spec_raised, lowered as spec_lowered, digits_value, amount_limit, is_over, units_of};
+ghost use Rattle.asl_json.specs.Number.{is_digit as spec_digit, is_point as spec_point, is_mark as spec_mark, is_sign as spec_sign, AreDigits, IsNumeral, is_negative as spec_negative, magnitude, unsigned as spec_unsigned, before, behind, raised as spec_raised, lowered as spec_lowered, digits_value, amount_limit, is_over as spec_over, units_of, integer as spec_integer, fraction as spec_fraction, exponent as spec_exponent};
 ghost use Rattle.asl_json.specs.private.Places.{AreZeros, EndsAboveZero, IsStripped, IsShifted, IsUnshiftable, IsAmount, IsBeyond};
 
 /// How many bytes a number may have.
@@ -305,16 +305,58 @@ fn signed_units(negative: bool, amount: u128) -> i128
     if negative { -units } else { units }
 }
 
+/// The digits of a number before and behind its point, and its exponent with the sign.
+fn parts(spelled: &[u8]) -> (&[u8], &[u8], &[u8])
+    ensures integer { result.0.now ≡ spec_integer spelled.now }
+    ensures fraction { result.1.now ≡ spec_fraction spelled.now }
+    ensures exponent { result.2.now ≡ spec_exponent spelled.now }
+{
+    let (significand, exponent) = at_mark(behind_minus(spelled));
+    let (integer, fraction) = at_point(significand);
+    (integer, fraction, exponent)
+}
+
 /// The units of 10^-9 that a number spells, where it keeps the limits.
 pub(crate) fn units(spelled: &[u8]) -> Option<i128>
     requires { IsNumeral spelled.now }
-    ensures { MatchOption result (is_over spelled.now ≡ true) (λ u. (u ≡ units_of spelled.now) × (is_over spelled.now ≡ false)) }
+    ensures { MatchOption result (spec_over spelled.now ≡ true) (λ u. (u ≡ units_of spelled.now) × (spec_over spelled.now ≡ false)) }
 {
     if spelled.len() > MAX_LEN {
         return None;
     }
-    let (significand, exponent) = at_mark(behind_minus(spelled));
-    let (integer, fraction) = at_point(significand);
+    let (integer, fraction, exponent) = parts(spelled);
     let amount = amount(integer, fraction, exponent)?;
     Some(signed_units(is_negative(spelled), amount))
+}
+
+/// How many digits before the point keep an amount below the limit.
+const INTEGER: usize = 18;
+
+/// Whether a number may be past the limits, by its length and those of its parts.
+fn may_be_over(spelled: &[u8]) -> bool
+    requires { IsNumeral spelled.now }
+    ensures { result ≡ false → spec_over spelled.now ≡ false }
+{
+    if spelled.len() > MAX_LEN {
+        return true;
+    }
+    let (integer, fraction, exponent) = parts(spelled);
+    if exponent.len() > 0 {
+        return true;
+    }
+    integer.len() > INTEGER || fraction.len() > DECIMALS
+}
+
+/// Whether a number is past the limits. Of most numbers the lengths of its parts tell.
+pub(crate) fn is_over(spelled: &[u8]) -> bool
+    requires { IsNumeral spelled.now }
+    ensures { result ≡ spec_over spelled.now }
+{
+    if !may_be_over(spelled) {
+        return false;
+    }
+    match units(spelled) {
+        Some(_) => false,
+        None => true,
+    }
 }

@@ -6,6 +6,7 @@ ghost use Rattle.asl_json.specs.Number.{units_of, IsNumber};
 ghost use Rattle.asl_json.specs.Meaning.{value_in};
 ghost use Rattle.asl_json.specs.Access.{is_list, is_dict};
 
+use crate::units::units;
 use arrayvec::ArrayString;
 use std::alloc::{AllocError, Global};
 use std::marker::Model;
@@ -30,31 +31,27 @@ impl Model for Txt {
     ghost view = { λ a. string_bytes a.string };
 }
 
-/// A number as it is spelled (RFC 8259, section 6), with its value in units of 10^-9. Contracts see it as its spelling,
-/// which is always a number in the limits: at most 40 bytes, an amount below 10^18, and a whole number of units.
+/// A number as it is spelled (RFC 8259, section 6). Contracts see it as its spelling, which is always a number in the
+/// limits: at most 40 bytes, an amount below 10^18, and a whole number of units of 10^-9.
 pub struct Dec {
-    pub(crate) units: i128,
     spelled: ArrayString<40>,
 }
 
 impl Drop for Dec {
     fn drop(self) {
-        let Dec {
-            units: _units,
-            spelled: _spelled,
-        } = self;
+        let Dec { spelled: _spelled } = self;
     }
 }
 
 impl Model for Dec {
-    ghost use Rattle.std.specs.Prelude.{List, ℕ, ◌≡◌};
-    ghost use Rattle.asl_json.specs.Number.{units_of, IsNumber};
+    ghost use Rattle.std.specs.Prelude.{List, ℕ};
+    ghost use Rattle.asl_json.specs.Number.{IsNumber};
 
     ghost Value = { List ℕ };
 
     ghost view = { λ a. a.spelled.bytes };
 
-    ghost invariant = { λ a. IsNumber a.spelled.bytes × (a.units ≡ units_of a.spelled.bytes) };
+    ghost invariant = { λ a. IsNumber a.spelled.bytes };
 }
 
 /// A JSON value (RFC 8259, section 3). Numbers keep their spelling, objects the order of their members.
@@ -226,11 +223,15 @@ impl Eq for Txt {
 }
 
 impl Dec {
-    /// The value in units of 10^-9.
+    /// The value in units of 10^-9, which is worked out each time.
     pub fn units(&self) -> i128
         ensures { result ≡ units_of self.now }
     {
-        self.units
+        self.is_number();
+        match units(self.spelling().as_bytes()) {
+            Some(amount) => amount,
+            None => unreachable!(),
+        }
     }
 
     pub fn spelling(&self) -> &str
@@ -246,27 +247,24 @@ impl Dec {
         let _spelled = &self.spelled;
     }
 
-    /// The number that a text spells, of this value. It takes no memory.
+    /// The number that a text spells. It takes no memory.
     #[tactic(auto, using(crate::proofs::Fitting::number_fits))]
-    pub(crate) fn of_units(units: i128, text: &str) -> Dec
-        requires number { IsNumber text.now }
-        requires units { units ≡ units_of text.now }
+    pub(crate) fn of_number(text: &str) -> Dec
+        requires { IsNumber text.now }
         ensures { result ≡ text.now }
     {
         let Ok(spelled) = ArrayString::from(text) else {
             unreachable!();
         };
-        Dec { units, spelled }
+        Dec { spelled }
     }
 
     /// An equal number with the same spelling. It takes no memory, and can't fail.
     pub fn copy(&self) -> Dec
         ensures { result ≡ self.now }
     {
-        let Dec { units, spelled } = self;
         Dec {
-            units: *units,
-            spelled: *spelled,
+            spelled: self.spelled,
         }
     }
 

@@ -1,18 +1,18 @@
 // Writing the compact text.
-ghost use Rattle.std.specs.Prelude.{◌≡◌, ◌<◌, ◌≤◌, ◌∷◌, None, false, ◌++◌, [], ℕ, List, length, take, IfOk, OnOk, OnErr, MatchOption, string_bytes};
+ghost use Rattle.std.specs.Prelude.{◌≡◌, ◌<◌, ◌≤◌, ◌∷◌, None, false, ◌++◌, [], ℕ, List, length, IfOk, OnOk, OnErr, MatchOption, string_bytes};
 ghost use Rattle.asl_json.specs.View.{data_of};
 ghost use Rattle.asl_json.specs.Data.{pairs, chain};
 ghost use Rattle.asl_json.specs.Grammar.{IsText};
 ghost use Rattle.asl_json.specs.Text.{backslash, is_plain};
 ghost use Rattle.std.specs.Char.{digit_char};
 ghost use Rattle.std.specs.Str.{IsUtf8};
-ghost use Rattle.std.specs.String.Boundary.{IsSplitPoint};
-ghost use Rattle.asl_json.specs.private.Buffers.{Keeps};
+ghost use Rattle.asl_text.specs.Buffers.{Keeps};
 ghost use Rattle.asl_json.specs.Wrong.{ReadsAs};
 ghost use Rattle.asl_json.specs.Compact.{separator, escaped_control, escaped_byte, escaped, quoted, compact, compact_items, compact_members, IsReadable};
 
 use crate::front::{append, first_byte, split_plain};
 use crate::value::{Items, Json, Members};
+use asl_text::whole_or_none;
 use std::alloc::{AllocError, Global};
 
 /// The lower-case hexadecimal digit of this value.
@@ -93,23 +93,6 @@ fn put_text(out: &mut String, text: &str) -> Result<(), AllocError>
     out.push('"')?;
     put_escaped(out, text.as_bytes())?;
     out.push('"')
-}
-
-/// Takes back what was appended to a buffer of this length, where memory ran out before it was whole.
-fn whole_or_none(
-    out: &mut String,
-    len: usize,
-    appended: Result<(), AllocError>,
-) -> Result<(), AllocError>
-    requires { IsSplitPoint (string_bytes out.old) len }
-    ensures same { result ≡ appended }
-    ensures ok { OnOk appended (string_bytes out.new ≡ string_bytes out.old) }
-    ensures err { OnErr appended (string_bytes out.new ≡ take len (string_bytes out.old)) }
-{
-    if appended.is_err() {
-        out.truncate(len);
-    }
-    appended
 }
 
 /// Appends the compact JSON text of a text: in quotes, with its escapes. The error is that memory ran out, and then nothing

@@ -13,7 +13,7 @@ use crate::spot::{MAX_MACHINES, Spot};
 use asl_intrinsic::{CallFault, Expr};
 use asl_json::{Dec, Items, Json};
 use asl_path::{PathFault, RefPath, Root};
-use asl_schema::{FaultKind, Form, Sort, kind_of};
+use asl_schema::{FaultKind, Form, MOST_WHOLE, Sort, kind_of};
 use asl_template::is_path;
 use asl_time::read_stamp;
 use std::alloc::{AllocError, Global};
@@ -275,8 +275,8 @@ fn number_fault(sort: Sort, number: &Dec) -> Option<FaultKind>
     ensures { Judges (number_demands sort number.now) result }
 {
     match sort {
-        Sort::FromZero => unless(is_whole_between(0, 99_999_999, number), FaultKind::Range),
-        Sort::FromOne => unless(is_whole_between(1, 99_999_999, number), FaultKind::Range),
+        Sort::FromZero => unless(is_whole_between(0, MOST_WHOLE, number), FaultKind::Range),
+        Sort::FromOne => unless(is_whole_between(1, MOST_WHOLE, number), FaultKind::Range),
         Sort::Rate => unless(is_rate(number), FaultKind::Range),
         Sort::DelayLimit => unless(is_whole_between(1, 31_622_399, number), FaultKind::Range),
         _ => None,

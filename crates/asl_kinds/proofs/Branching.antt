@@ -6,7 +6,7 @@ use Rattle.asl_json.specs.Meaning.{value_in}
 use Rattle.asl_json.specs.declared.value.Json.{Json}
 use Rattle.asl_json.specs.declared.value.Json.TheVariants.{Dict}
 use Rattle.asl_schema.specs.Claims.{item_count}
-use Rattle.asl_handle.specs.Decisions.{items_in}
+use Rattle.asl_handle.specs.Decisions.{handlers_in}
 use Rattle.asl_history.specs.declared.kind.EventKind.TheVariants.{ParallelStateStarted}
 use Rattle.asl_parts.specs.declared.body.Body.{Body}
 use Rattle.asl_steps.specs.declared.effect.Progress.{Progress}
@@ -25,11 +25,11 @@ ready_by (b ∷ bs) y = ap (λ (rs : List Record). Ready b.start.name y ∷ rs) 
 pub forked_as : (d : Data) (v : Seen) (done told : Progress) (started x y : Json) (n : ℕ) (items : List Data) (bs : List Body) (branches : List Record)
     → told ≡ telling v done ParallelStateStarted started
     → started ≡ Dict []
-    → n ≡ item_count (items_in (value_in (codes "Retry") d))
+    → n ≡ item_count (handlers_in (value_in (codes "Retry") d))
     → items ≡ []
     → branches ≡ map (λ (b : Body). Ready b.start.name y) bs
     → starts_in (value_in (codes "Branches") d) ≡ map (λ (b : Body). b.start.name) bs
     → forking v told x n items branches ≡ parallel_forks d v done x (Ok y)
 forked_as d v done told started x y n items bs branches ht hs hn hi hb hd =
     let one : ready_at (starts_in (value_in (codes "Branches") d)) y ≡ branches = ap (λ (s : List (List ℕ)). ready_at s y) hd ∙ ready_by bs y ∙ sym hb in
-    rw (ht, hs, hn, hi) (ap (forking v (telling v done ParallelStateStarted (Dict [])) x (item_count (items_in (value_in (codes "Retry") d))) []) (sym one))
+    rw (ht, hs, hn, hi) (ap (forking v (telling v done ParallelStateStarted (Dict [])) x (item_count (handlers_in (value_in (codes "Retry") d))) []) (sym one))

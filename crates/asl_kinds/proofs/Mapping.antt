@@ -12,7 +12,7 @@ use Rattle.asl_steps.specs.declared.record.ErrorOut.{ErrorOut}
 use Rattle.asl_steps.specs.Seen.{Seen}
 use Rattle.asl_json.specs.Meaning.{value_in}
 use Rattle.asl_schema.specs.Claims.{item_count}
-use Rattle.asl_handle.specs.Decisions.{items_in}
+use Rattle.asl_handle.specs.Decisions.{handlers_in}
 use Rattle.asl_history.specs.declared.kind.EventKind.TheVariants.{MapStateStarted}
 use Rattle.asl_steps.specs.declared.effect.Progress.{Progress}
 use Rattle.asl_steps.specs.Rows.{forking, telling}
@@ -61,6 +61,6 @@ all-made done start t y f v i ds past = rw (drop_all i ds past) (ap (λ (z : Lis
 pub forked_over : (d : Data) (v : Seen) (done told : Progress) (started x : Json) (n : ℕ) (items : List Data) (rs : List Record)
     → told ≡ telling v done MapStateStarted started
     → started ≡ length_body items
-    → n ≡ item_count (items_in (value_in (codes "Retry") d))
+    → n ≡ item_count (handlers_in (value_in (codes "Retry") d))
     → forking v told x n items rs ≡ map_forks d v done x (Ok (items, rs))
 forked_over d v done told started x n items rs ht hs hn = rw (ht, hs, hn) refl

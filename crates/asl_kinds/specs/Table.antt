@@ -23,7 +23,7 @@ use Rattle.asl_steps.specs.Rows.{forking, idle, entering, beginning, telling, un
 use Rattle.asl_mock.specs.Answers.{answer_to}
 use Rattle.asl_mock.specs.declared.response.Answer.{Answer}
 use Rattle.asl_mock.specs.declared.response.Answer.TheVariants.{Returns, Throws}
-use Rattle.asl_handle.specs.Decisions.{Handling, again, caught, unhandled, items_in, decision}
+use Rattle.asl_handle.specs.Decisions.{Handling, again, caught, unhandled, handlers_in, decision}
 use Rattle.asl_data.specs.Paths.{Given, put_into, taken}
 use Rattle.asl_data.specs.Delay.{seconds_of}
 use Rattle.asl_kinds.specs.Members.{next_in, effective, pass_output, passed_on, selected, no_answer, fail_error, GivenTarget, choice_output, GivenMoment, wait_until}
@@ -86,7 +86,7 @@ error_name e = name_or_none e.error
 
 -- the state is retried; or the catcher puts the error into the raw input and says where to go on; or the branch fails
 abbrev pub handled : Option Data → Seen → Progress → EventKind → Json → ErrorOut → Handling → Effect
-handled retry v done exited x e (again i until) = retrying v done x (item_count (items_in retry)) i until
+handled retry v done exited x e (again i until) = retrying v done x (item_count (handlers_in retry)) i until
 handled retry v done exited x e (caught c) = passed v done exited (next_in c) (put_into (value_in (codes "ResultPath") c) x (error_output e))
 handled retry v done exited x e unhandled = failing v done e
 
@@ -159,7 +159,7 @@ joined succeeded failed exited d c v x = joined_by succeeded failed exited d c v
 
 -- each branch begins with the effective input; the Parallel keeps its raw input
 abbrev pub parallel_forks : Data → Seen → Progress → Json → Given → Effect
-parallel_forks d v done x (Ok y) = forking v (telling v done ParallelStateStarted (Dict [])) x (item_count (items_in (value_in (codes "Retry") d))) [] (ready_at (starts_in (value_in (codes "Branches") d)) y)
+parallel_forks d v done x (Ok y) = forking v (telling v done ParallelStateStarted (Dict [])) x (item_count (handlers_in (value_in (codes "Retry") d))) [] (ready_at (starts_in (value_in (codes "Branches") d)) y)
 parallel_forks d v done x (Err e) = fork_settled ParallelStateExited d v done x (Err e)
 
 abbrev pub parallel_joins : Data → Data → Seen → Option Json → Effect
@@ -202,7 +202,7 @@ fork_of d f v x = fork_with (value_in (codes "InputPath") d) (value_in (codes "I
 
 -- the Map keeps its raw input and the items
 abbrev pub map_forks : Data → Seen → Progress → Json → GivenFork → Effect
-map_forks d v done x (Ok g) = forking v (telling v done MapStateStarted (length_body g.0)) x (item_count (items_in (value_in (codes "Retry") d))) g.0 g.1
+map_forks d v done x (Ok g) = forking v (telling v done MapStateStarted (length_body g.0)) x (item_count (handlers_in (value_in (codes "Retry") d))) g.0 g.1
 map_forks d v done x (Err e) = fork_settled MapStateExited d v done x (Err e)
 
 abbrev pub map_joins : Data → Data → Seen → Option Json → Effect
@@ -246,13 +246,13 @@ invokes d = is_invoking_type (text_in (value_in (codes "Type") d))
 
 -- ---- how many iterations of a Map run at once
 
-abbrev pub whole_or_none : Option ℕ → ℕ
-whole_or_none None = 0
-whole_or_none (Some n) = n
+abbrev pub whole_or_zero : Option ℕ → ℕ
+whole_or_zero None = 0
+whole_or_zero (Some n) = n
 
 abbrev pub limit_in : Option Data → ℕ
 limit_in None = 0
-limit_in (Some d) = whole_or_none (seconds_of d)
+limit_in (Some d) = whole_or_zero (seconds_of d)
 
 abbrev pub slots_by_type : Option (List ℕ) → Data → ℕ
 slots_by_type None d = 0

@@ -13,7 +13,7 @@ use crate::kind::StateKind;
 use asl_data::{Fault, text_at};
 use asl_history::EventKind;
 use asl_json::{Json, Txt};
-use asl_states::{Fail, Reason};
+use asl_states::{Fail, FailText};
 use asl_steps::{Context, Effect, ErrorOut, Visit, entering, failing, idle};
 use std::alloc::{AllocError, Global};
 
@@ -21,7 +21,7 @@ use std::alloc::{AllocError, Global};
 fn reason(
     alloc: Global,
     field: &str,
-    reason: Option<&Reason>,
+    reason: Option<&FailText>,
     input: &Json,
     visit: &Visit,
     context: &mut Context,
@@ -31,8 +31,8 @@ fn reason(
 {
     match reason {
         None => Ok(None),
-        Some(Reason::Told(text)) => Ok(Some(text.try_clone(alloc)?)),
-        Some(Reason::At(at)) => Ok(Some(text_at(alloc, field, at, input, visit, context)?)),
+        Some(FailText::Told(text)) => Ok(Some(text.try_clone(alloc)?)),
+        Some(FailText::At(at)) => Ok(Some(text_at(alloc, field, at, input, visit, context)?)),
     }
 }
 

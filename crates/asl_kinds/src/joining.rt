@@ -1,6 +1,6 @@
 // What becomes of a state whose branches have ended.
 ghost use Rattle.std.specs.Prelude.{◌≡◌, map, option_map, IfOk};
-ghost use Rattle.asl_parts.specs.Member.{outcome_object};
+ghost use Rattle.asl_parts.specs.Member.{completion_object};
 ghost use Rattle.asl_steps.specs.Context.{context_of};
 ghost use Rattle.asl_steps.specs.Seen.{seen};
 ghost use Rattle.asl_kinds.specs.Forks.{forked_with, error_in, first_error as spec_first_error, output_in, outputs as spec_outputs, gathered as spec_gathered};
@@ -11,7 +11,7 @@ use crate::raising::{raise, settled};
 use asl_data::empty_object;
 use asl_history::EventKind;
 use asl_json::{Items, Json, Shared};
-use asl_parts::Outcome;
+use asl_parts::Completion;
 use asl_steps::{
     Children, Context, Drafts, Effect, ErrorOut, Progress, Record, Visit, error_output, idle,
     telling,
@@ -88,24 +88,24 @@ fn gathered(alloc: Global) -> Progress
 /// A branch has failed: the state raises the branch's error.
 fn branch_fails(
     alloc: Global,
-    outcome: &Outcome,
+    completion: &Completion,
     visit: &Visit,
     failed: EventKind,
     exited: EventKind,
     input: &Shared,
     error: ErrorOut,
 ) -> Result<Effect, AllocError>
-    ensures { IfOk result (λ e. e ≡ branch_fails failed exited (outcome_object outcome.now) (seen visit.now) input.now error) }
+    ensures { IfOk result (λ e. e ≡ branch_fails failed exited (completion_object completion.now) (seen visit.now) input.now error) }
 {
     let told = Shared::new(alloc, error_output(alloc, &error)?)?;
     let done = telling(alloc, visit, gathered(alloc), failed, told)?;
-    raise(alloc, outcome, visit, done, exited, input, error)
+    raise(alloc, completion, visit, done, exited, input, error)
 }
 
 /// All branches have ended: the list of their outputs is the state's result.
 fn branches_end(
     alloc: Global,
-    outcome: &Outcome,
+    completion: &Completion,
     visit: &Visit,
     context: &mut Context,
     succeeded: EventKind,
@@ -113,7 +113,7 @@ fn branches_end(
     input: &Shared,
     outputs: Items,
 ) -> Result<Effect, AllocError>
-    ensures effect { IfOk result (λ e. e ≡ branches_end succeeded exited (outcome_object outcome.now) (context_of context.old.facts (seen visit.now)) (seen visit.now) input.now outputs) }
+    ensures effect { IfOk result (λ e. e ≡ branches_end succeeded exited (completion_object completion.now) (context_of context.old.facts (seen visit.now)) (seen visit.now) input.now outputs) }
     ensures facts { context.new.facts ≡ context.old.facts }
 {
     let done = telling(
@@ -124,15 +124,15 @@ fn branches_end(
         empty_object(alloc)?,
     )?;
     let outputs = Shared::new(alloc, Json::List(outputs))?;
-    let given = selected(alloc, outcome, input, outputs, visit, context);
-    settled(alloc, outcome, visit, done, exited, input, given)
+    let given = selected(alloc, completion, input, outputs, visit, context);
+    settled(alloc, completion, visit, done, exited, input, given)
 }
 
 /// Branches are joined as soon as one has failed, or all have ended; nothing happens while they go on. The kinds of events say what
 /// is told where the branches succeed, where one fails, and where the state is left.
 pub(crate) fn join(
     alloc: Global,
-    outcome: &Outcome,
+    completion: &Completion,
     visit: &Visit,
     context: &mut Context,
     succeeded: EventKind,
@@ -140,17 +140,17 @@ pub(crate) fn join(
     exited: EventKind,
     input: &Shared,
 ) -> Result<Effect, AllocError>
-    ensures effect { IfOk result (λ e. e ≡ joined succeeded failed exited (outcome_object outcome.now) (context_of context.old.facts (seen visit.now)) (seen visit.now) input.now) }
+    ensures effect { IfOk result (λ e. e ≡ joined succeeded failed exited (completion_object completion.now) (context_of context.old.facts (seen visit.now)) (seen visit.now) input.now) }
     ensures facts { context.new.facts ≡ context.old.facts }
 {
     if let Some(error) = first_error(visit.children) {
         let error = error.try_clone(alloc)?;
-        return branch_fails(alloc, outcome, visit, failed, exited, input, error);
+        return branch_fails(alloc, completion, visit, failed, exited, input, error);
     }
     match outputs(alloc, visit.children)? {
         Some(outputs) => {
             branches_end(
-                alloc, outcome, visit, context, succeeded, exited, input, outputs,
+                alloc, completion, visit, context, succeeded, exited, input, outputs,
             )
         }
         None => idle(alloc, visit.current),

@@ -2,7 +2,7 @@
 ghost use Rattle.std.specs.Prelude.{◌≡◌, codes, option_map};
 ghost use Rattle.asl_json.specs.Meaning.{value_in};
 ghost use Rattle.asl_members.specs.Shown.{path_shown};
-ghost use Rattle.asl_parts.specs.Member.{outcome_object};
+ghost use Rattle.asl_parts.specs.Member.{completion_object};
 ghost use Rattle.asl_steps.specs.Context.{context_of};
 ghost use Rattle.asl_steps.specs.Seen.{seen};
 ghost use Rattle.asl_data.specs.Gives.{Gives};
@@ -11,7 +11,7 @@ ghost use Rattle.asl_kinds.specs.Members.{effective_by, placed_by, selected_by};
 use asl_data::{Fault, filled, put_into, taken};
 use asl_json::Shared;
 use asl_members::PathField;
-use asl_parts::Outcome;
+use asl_parts::Completion;
 use asl_steps::{Context, Visit};
 use asl_template::Template;
 use std::alloc::Global;
@@ -52,20 +52,26 @@ pub(crate) fn placed(
 /// What `ResultSelector` makes of a result, and where it is placed.
 pub(crate) fn selected(
     alloc: Global,
-    outcome: &Outcome,
+    completion: &Completion,
     input: &Shared,
     answered: Shared,
     visit: &Visit,
     context: &mut Context,
 ) -> Result<Shared, Fault>
-    ensures given { Gives (selected_by (value_in (codes "ResultSelector") (outcome_object outcome.now)) (value_in (codes "ResultPath") (outcome_object outcome.now)) (value_in (codes "OutputPath") (outcome_object outcome.now)) input.now (context_of context.old.facts (seen visit.now)) answered) result }
+    ensures given { Gives (selected_by (value_in (codes "ResultSelector") (completion_object completion.now)) (value_in (codes "ResultPath") (completion_object completion.now)) (value_in (codes "OutputPath") (completion_object completion.now)) input.now (context_of context.old.facts (seen visit.now)) answered) result }
     ensures facts { context.new.facts ≡ context.old.facts }
 {
-    let selected = filled(alloc, outcome.result_selector(), answered, visit, context)?;
+    let selected = filled(
+        alloc,
+        completion.result_selector(),
+        answered,
+        visit,
+        context,
+    )?;
     placed(
         alloc,
-        outcome.result_path(),
-        outcome.output_path(),
+        completion.result_path(),
+        completion.output_path(),
         input,
         selected,
         visit,

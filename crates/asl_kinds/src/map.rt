@@ -131,7 +131,7 @@ fn length_body(alloc: Global, items: &SharedItems) -> Result<Shared, AllocError>
     ensures { IfOk result (λ v. v ≡ spec_length_body items.now) }
 {
     let mut members = Members::with_capacity(alloc, 1)?;
-    let length = Json::Num(Dec::of_whole(alloc, items.values().len() as i128)?);
+    let length = Json::Num(Dec::of_whole(items.values().len() as i128));
     members.push(Txt::of(alloc, "length")?, length)?;
     Ok(Shared::new(alloc, Json::Dict(members))?)
 }
@@ -174,7 +174,7 @@ fn forks(
 {
     let started = length_body(alloc, &items)?;
     let done = telling(alloc, visit, done, EventKind::MapStateStarted, started)?;
-    let retriers = count_of(map.outcome().retry());
+    let retriers = count_of(map.completion().retry());
     forking(alloc, visit, done, input, retriers, items, iterations)
 }
 
@@ -195,7 +195,7 @@ fn begins(
         Ok((items, iterations)) => forks(alloc, map, visit, done, input, items, iterations),
         Err(Fault::Raised(error)) => {
             let exited = EventKind::MapStateExited;
-            raise(alloc, map.outcome(), visit, done, exited, input, error)
+            raise(alloc, map.completion(), visit, done, exited, input, error)
         }
         Err(Fault::Memory) => Err(AllocError),
     }
@@ -231,7 +231,7 @@ impl StateKind for Map {
         };
         join(
             alloc,
-            self.outcome(),
+            self.completion(),
             visit,
             context,
             EventKind::MapStateSucceeded,

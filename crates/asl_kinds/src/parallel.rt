@@ -49,7 +49,7 @@ fn forks(
 {
     let started = empty_object(alloc)?;
     let done = telling(alloc, visit, done, EventKind::ParallelStateStarted, started)?;
-    let retriers = count_of(parallel.outcome().retry());
+    let retriers = count_of(parallel.completion().retry());
     let branches = branches(alloc, parallel.branches(), effective)?;
     let items = SharedItems::none();
     forking(alloc, visit, done, input, retriers, items, branches)
@@ -73,7 +73,15 @@ fn begins(
         Ok(effective) => forks(alloc, parallel, visit, done, input, &effective),
         Err(Fault::Raised(error)) => {
             let exited = EventKind::ParallelStateExited;
-            raise(alloc, parallel.outcome(), visit, done, exited, input, error)
+            raise(
+                alloc,
+                parallel.completion(),
+                visit,
+                done,
+                exited,
+                input,
+                error,
+            )
         }
         Err(Fault::Memory) => Err(AllocError),
     }
@@ -107,7 +115,7 @@ impl StateKind for Parallel {
         };
         join(
             alloc,
-            self.outcome(),
+            self.completion(),
             visit,
             context,
             EventKind::ParallelStateSucceeded,

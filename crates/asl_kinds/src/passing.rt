@@ -10,17 +10,17 @@ ghost use Rattle.asl_kinds.specs.Table.{passed as spec_passed};
 use asl_data::Fault;
 use asl_history::EventKind;
 use asl_json::Shared;
-use asl_states::Next;
+use asl_states::Transition;
 use asl_steps::{Effect, Progress, Visit, failing, leaving};
 use std::alloc::{AllocError, Global};
 
 /// The name of the state that comes next; none where the state ends its branch.
-pub(crate) fn target(next: &Next) -> Option<&str>
+pub(crate) fn target(next: &Transition) -> Option<&str>
     ensures { option_map (λ n. n.now) result ≡ text_in (next_shown next.now) }
 {
     match next {
-        Next::End => None,
-        Next::To(target) => Some(target.name.as_str()),
+        Transition::End => None,
+        Transition::To(target) => Some(target.name.as_str()),
     }
 }
 

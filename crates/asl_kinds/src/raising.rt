@@ -2,9 +2,9 @@
 ghost use Rattle.std.specs.Prelude.{◌≡◌, None, IfOk, codes, option_map};
 ghost use Rattle.asl_json.specs.Data.{list, chain};
 ghost use Rattle.asl_json.specs.Meaning.{value_in};
-ghost use Rattle.asl_parts.specs.Member.{outcome_object};
+ghost use Rattle.asl_parts.specs.Member.{completion_object};
 ghost use Rattle.asl_schema.specs.Claims.{item_count};
-ghost use Rattle.asl_handle.specs.Decisions.{caught, items_in};
+ghost use Rattle.asl_handle.specs.Decisions.{caught, handlers_in};
 ghost use Rattle.asl_steps.specs.Seen.{seen};
 ghost use Rattle.asl_parts.specs.Parts.{catcher_object};
 ghost use Rattle.asl_data.specs.Paths.{Given};
@@ -18,7 +18,7 @@ use asl_handle::{Decision, Policy};
 use asl_history::EventKind;
 use asl_json::Shared;
 use asl_members::Retriers;
-use asl_parts::{Catcher, Outcome};
+use asl_parts::{Catcher, Completion};
 use asl_steps::{Effect, ErrorOut, Progress, Visit, error_output, failing, leaving, retrying};
 use std::alloc::{AllocError, Global};
 
@@ -34,7 +34,7 @@ fn error_name(error: &ErrorOut) -> &str
 
 /// How many retriers there are.
 pub(crate) fn count_of(retriers: Option<&Retriers>) -> usize
-    ensures { result ≡ item_count (items_in (option_map (λ rs. list (chain rs.now)) retriers.entry)) }
+    ensures { result ≡ item_count (handlers_in (option_map (λ rs. list (chain rs.now)) retriers.entry)) }
 {
     match retriers {
         Some(retriers) => retriers.as_slice().len(),
@@ -63,22 +63,22 @@ fn caught(
 /// What a state does with an error that it raises, by its `Retry` and its `Catch`.
 pub(crate) fn raise(
     alloc: Global,
-    outcome: &Outcome,
+    completion: &Completion,
     visit: &Visit,
     done: Progress,
     exited: EventKind,
     input: &Shared,
     error: ErrorOut,
 ) -> Result<Effect, AllocError>
-    ensures { IfOk result (λ e. e ≡ raised (value_in (codes "Retry") (outcome_object outcome.now)) (value_in (codes "Catch") (outcome_object outcome.now)) (seen visit.now) done exited input.now error) }
+    ensures { IfOk result (λ e. e ≡ raised (value_in (codes "Retry") (completion_object completion.now)) (value_in (codes "Catch") (completion_object completion.now)) (seen visit.now) done exited input.now error) }
 {
     let policy = Policy {
-        retriers: outcome.retry(),
-        catchers: outcome.catch(),
+        retriers: completion.retry(),
+        catchers: completion.catch(),
     };
     match policy.decide(error_name(&error), visit.current.uses(), visit.moment) {
         Decision::Again { retrier, until } => {
-            let retriers = count_of(outcome.retry());
+            let retriers = count_of(completion.retry());
             retrying(alloc, visit, done, input, retriers, retrier, until)
         }
         Decision::Caught { catcher } => caught(alloc, catcher, visit, done, exited, input, &error),
@@ -89,18 +89,25 @@ pub(crate) fn raise(
 /// A state is left with what it gives, or raises an error.
 pub(crate) fn settled(
     alloc: Global,
-    outcome: &Outcome,
+    completion: &Completion,
     visit: &Visit,
     done: Progress,
     exited: EventKind,
     input: &Shared,
     given: Result<Shared, Fault>,
 ) -> Result<Effect, AllocError>
-    ensures { (g : Given) → Gives g given → IfOk result (λ e. e ≡ spec_settled (value_in (codes "Retry") (outcome_object outcome.now)) (value_in (codes "Catch") (outcome_object outcome.now)) (next_in (outcome_object outcome.now)) (seen visit.now) done exited input.now g) }
+    ensures { (g : Given) → Gives g given → IfOk result (λ e. e ≡ spec_settled (value_in (codes "Retry") (completion_object completion.now)) (value_in (codes "Catch") (completion_object completion.now)) (next_in (completion_object completion.now)) (seen visit.now) done exited input.now g) }
 {
     match given {
-        Ok(output) => leaving(alloc, visit, done, exited, target(outcome.next()), output),
-        Err(Fault::Raised(error)) => raise(alloc, outcome, visit, done, exited, input, error),
+        Ok(output) => leaving(
+            alloc,
+            visit,
+            done,
+            exited,
+            target(completion.next()),
+            output,
+        ),
+        Err(Fault::Raised(error)) => raise(alloc, completion, visit, done, exited, input, error),
         Err(Fault::Memory) => Err(AllocError),
     }
 }

@@ -66,10 +66,10 @@ fn fails(
 {
     let told = Shared::new(alloc, error_output(alloc, &error)?)?;
     let done = telling(alloc, visit, done, EventKind::TaskFailed, told)?;
-    let outcome = task.outcome();
+    let completion = task.completion();
     raise(
         alloc,
-        outcome,
+        completion,
         visit,
         done,
         EventKind::TaskStateExited,
@@ -94,11 +94,11 @@ fn returns(
     let value = copied(alloc, value)?;
     let told = value.try_clone()?;
     let done = telling(alloc, visit, done, EventKind::TaskSucceeded, told)?;
-    let outcome = task.outcome();
-    let given = selected(alloc, outcome, input, value, visit, context);
+    let completion = task.completion();
+    let given = selected(alloc, completion, input, value, visit, context);
     settled(
         alloc,
-        outcome,
+        completion,
         visit,
         done,
         EventKind::TaskStateExited,
@@ -166,10 +166,10 @@ impl StateKind for Task {
                 answered(alloc, self, visit, context, done, input, answer)
             }
             Err(Fault::Raised(error)) => {
-                let outcome = self.outcome();
+                let completion = self.completion();
                 raise(
                     alloc,
-                    outcome,
+                    completion,
                     visit,
                     done,
                     EventKind::TaskStateExited,

@@ -3,8 +3,7 @@
 use Rattle.std.specs.Prelude.{Bool, false, ◌&&◌, nat_eq}
 use Rattle.std.specs.Cmp.Lexicographic.{pointwise}
 use Rattle.std.specs.Option.{option_eq}
-use Rattle.asl_json.specs.Same.{bytes_eq}
-use Rattle.asl_json.specs.private.SameLaws.{json_equal}
+use Rattle.asl_json.specs.Same.{bytes_eq, json_equal}
 use Rattle.asl_mock.specs.Answers.{Response, Case}
 use Rattle.asl_mock.specs.Tables.{Named}
 use Rattle.asl_mock.specs.declared.response.Answer.{Answer}

@@ -21,7 +21,7 @@ use Rattle.asl_schema.proofs.Ways.{one_way, two_there, wait_one, wait_some, sele
 use Rattle.asl_schema.proofs.Canons.{plain_kept}
 use Rattle.asl_schema.proofs.Ending.{end_off, end_on}
 use Rattle.asl_members.proofs.Fitting.{fit}
-use Rattle.asl_parts.specs.Built.{IsOfKind, IsOfAny, has_outcome, of_any_type}
+use Rattle.asl_parts.specs.Built.{IsOfKind, IsOfAny, has_completion, of_any_type}
 
 -- the value of a member
 pub fits_in : (k : Kind) (ms : List Named) (name : List ℕ) (s : Sort) → sort_at (state_shape (Some k)) name ≡ s → IsOfKind k ms → Fits s (value_at name (pairs ms))
@@ -81,49 +81,49 @@ next_fits ms h = fits_in h.kind ms (codes "Next") sort.Target (next_sort h.kind 
 pub one : (ms : List Named) → IsOfAny goes_on ms → GoesOneWay (value_at (codes "Next") (pairs ms)) (value_at (codes "End") (pairs ms))
 one ms h = one_way h.is.names h.kind ms h.chosen h.is.distinct h.is.inside
 
-outcome_sorts : (k : Kind) → has_outcome k ≡ true
+completion_sorts : (k : Kind) → has_completion k ≡ true
     → (sort_at (state_shape (Some k)) (codes "ResultSelector") ≡ sort.Template)
     × (sort_at (state_shape (Some k)) (codes "ResultPath") ≡ sort.PlaceOrNull)
     × (sort_at (state_shape (Some k)) (codes "OutputPath") ≡ sort.PathOrNull)
     × (sort_at (state_shape (Some k)) (codes "Retry") ≡ sort.Retriers)
     × (sort_at (state_shape (Some k)) (codes "Catch") ≡ sort.Catchers)
 unfolding task_rows parallel_rows map_rows
-outcome_sorts kind.Task e = (refl, refl, refl, refl, refl)
-outcome_sorts kind.Parallel e = (refl, refl, refl, refl, refl)
-outcome_sorts kind.Map e = (refl, refl, refl, refl, refl)
-outcome_sorts kind.Pass e = absurd cc
-outcome_sorts kind.Choice e = absurd cc
-outcome_sorts kind.Wait e = absurd cc
-outcome_sorts kind.Succeed e = absurd cc
-outcome_sorts kind.Fail e = absurd cc
+completion_sorts kind.Task e = (refl, refl, refl, refl, refl)
+completion_sorts kind.Parallel e = (refl, refl, refl, refl, refl)
+completion_sorts kind.Map e = (refl, refl, refl, refl, refl)
+completion_sorts kind.Pass e = absurd cc
+completion_sorts kind.Choice e = absurd cc
+completion_sorts kind.Wait e = absurd cc
+completion_sorts kind.Succeed e = absurd cc
+completion_sorts kind.Fail e = absurd cc
 
-pub selector_fits : (ms : List Named) (P : Data → Type 0) (o : Option Data) → ((d : Data) → IsClean sort.Template d → P d) → IsOfAny has_outcome ms → o ≡ value_at (codes "ResultSelector") (pairs ms) → IfSome o P
-selector_fits ms P o f h at = member_fits h.kind ms (codes "ResultSelector") sort.Template P o (outcome_sorts h.kind h.chosen).0 f h.is at
+pub selector_fits : (ms : List Named) (P : Data → Type 0) (o : Option Data) → ((d : Data) → IsClean sort.Template d → P d) → IsOfAny has_completion ms → o ≡ value_at (codes "ResultSelector") (pairs ms) → IfSome o P
+selector_fits ms P o f h at = member_fits h.kind ms (codes "ResultSelector") sort.Template P o (completion_sorts h.kind h.chosen).0 f h.is at
 
-pub result_path_fits : (ms : List Named) (P : Data → Type 0) (o : Option Data) → ((d : Data) → IsClean sort.PlaceOrNull d → P d) → IsOfAny has_outcome ms → o ≡ value_at (codes "ResultPath") (pairs ms) → IfSome o P
-result_path_fits ms P o f h at = member_fits h.kind ms (codes "ResultPath") sort.PlaceOrNull P o (outcome_sorts h.kind h.chosen).1 f h.is at
+pub result_path_fits : (ms : List Named) (P : Data → Type 0) (o : Option Data) → ((d : Data) → IsClean sort.PlaceOrNull d → P d) → IsOfAny has_completion ms → o ≡ value_at (codes "ResultPath") (pairs ms) → IfSome o P
+result_path_fits ms P o f h at = member_fits h.kind ms (codes "ResultPath") sort.PlaceOrNull P o (completion_sorts h.kind h.chosen).1 f h.is at
 
-pub output_path_fits : (ms : List Named) (P : Data → Type 0) (o : Option Data) → ((d : Data) → IsClean sort.PathOrNull d → P d) → IsOfAny has_outcome ms → o ≡ value_at (codes "OutputPath") (pairs ms) → IfSome o P
-output_path_fits ms P o f h at = member_fits h.kind ms (codes "OutputPath") sort.PathOrNull P o (outcome_sorts h.kind h.chosen).2 f h.is at
+pub output_path_fits : (ms : List Named) (P : Data → Type 0) (o : Option Data) → ((d : Data) → IsClean sort.PathOrNull d → P d) → IsOfAny has_completion ms → o ≡ value_at (codes "OutputPath") (pairs ms) → IfSome o P
+output_path_fits ms P o f h at = member_fits h.kind ms (codes "OutputPath") sort.PathOrNull P o (completion_sorts h.kind h.chosen).2 f h.is at
 
-pub retry_fits : (ms : List Named) (o : Option Data) → IsOfAny has_outcome ms → o ≡ value_at (codes "Retry") (pairs ms) → Fits sort.Retriers o
-retry_fits ms o h at = found_fits h.kind ms (codes "Retry") sort.Retriers o (outcome_sorts h.kind h.chosen).3 h.is at
+pub retry_fits : (ms : List Named) (o : Option Data) → IsOfAny has_completion ms → o ≡ value_at (codes "Retry") (pairs ms) → Fits sort.Retriers o
+retry_fits ms o h at = found_fits h.kind ms (codes "Retry") sort.Retriers o (completion_sorts h.kind h.chosen).3 h.is at
 
-pub catch_fits : (ms : List Named) (o : Option Data) → IsOfAny has_outcome ms → o ≡ value_at (codes "Catch") (pairs ms) → Fits sort.Catchers o
-catch_fits ms o h at = found_fits h.kind ms (codes "Catch") sort.Catchers o (outcome_sorts h.kind h.chosen).4 h.is at
+pub catch_fits : (ms : List Named) (o : Option Data) → IsOfAny has_completion ms → o ≡ value_at (codes "Catch") (pairs ms) → Fits sort.Catchers o
+catch_fits ms o h at = found_fits h.kind ms (codes "Catch") sort.Catchers o (completion_sorts h.kind h.chosen).4 h.is at
 
-outcome_goes_on : (k : Kind) → has_outcome k ≡ true → goes_on k ≡ true
-outcome_goes_on kind.Task e = refl
-outcome_goes_on kind.Parallel e = refl
-outcome_goes_on kind.Map e = refl
-outcome_goes_on kind.Pass e = refl
-outcome_goes_on kind.Wait e = refl
-outcome_goes_on kind.Choice e = absurd cc
-outcome_goes_on kind.Succeed e = absurd cc
-outcome_goes_on kind.Fail e = absurd cc
+completion_goes_on : (k : Kind) → has_completion k ≡ true → goes_on k ≡ true
+completion_goes_on kind.Task e = refl
+completion_goes_on kind.Parallel e = refl
+completion_goes_on kind.Map e = refl
+completion_goes_on kind.Pass e = refl
+completion_goes_on kind.Wait e = refl
+completion_goes_on kind.Choice e = absurd cc
+completion_goes_on kind.Succeed e = absurd cc
+completion_goes_on kind.Fail e = absurd cc
 
-pub outcome_next : (ms : List Named) → IsOfAny has_outcome ms → IsOfAny goes_on ms
-outcome_next ms h = record { kind = h.kind; chosen = outcome_goes_on h.kind h.chosen; is = h.is }
+pub completion_next : (ms : List Named) → IsOfAny has_completion ms → IsOfAny goes_on ms
+completion_next ms h = record { kind = h.kind; chosen = completion_goes_on h.kind h.chosen; is = h.is }
 
 -- a member that is there
 

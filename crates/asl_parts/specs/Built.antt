@@ -10,7 +10,7 @@ use Rattle.asl_schema.specs.Members.{Row, Shape, state_shape, kind_named, sort_a
 use Rattle.asl_schema.specs.Canon.{Named, canon, kept_at}
 use Rattle.asl_schema.specs.Clean.{IsCleanInside}
 use Rattle.asl_members.specs.Shown.{path_shown}
-use Rattle.asl_parts.specs.declared.outcome.Outcome.{Outcome}
+use Rattle.asl_parts.specs.declared.completion.Completion.{Completion}
 use Rattle.asl_parts.specs.Parts.{Slots, next_shown, end_shown}
 use Rattle.asl_parts.specs.Parts.{listed}
 
@@ -22,11 +22,11 @@ pub record IsOfKind (k : Kind) (ms : List Named) : Type 0 where
   pub distinct : AreDistinct [] ms
 
 -- the types of states that have a result or an error
-abbrev pub has_outcome : Kind → Bool
-has_outcome kind.Task = true
-has_outcome kind.Parallel = true
-has_outcome kind.Map = true
-has_outcome k = false
+abbrev pub has_completion : Kind → Bool
+has_completion kind.Task = true
+has_completion kind.Parallel = true
+has_completion kind.Map = true
+has_completion k = false
 
 abbrev pub of_any_type : Kind → Bool
 of_any_type k = true
@@ -44,7 +44,7 @@ Shows sh ms (r ∷ rs) (m ∷ os) = (m.0 ≡ r.name) × (m.1 ≡ kept_at r.name 
 Shows sh ms rs os = ⊥
 
 -- what becomes of a result is as the members say
-pub record IsOutcome (ms : Pairs) (o : Outcome) : Type 0 where
+pub record IsCompletion (ms : Pairs) (o : Completion) : Type 0 where
   pub result_selector : o.result_selector ≡ value_at (codes "ResultSelector") ms
   pub result_path : path_shown o.result_path ≡ value_at (codes "ResultPath") ms
   pub output_path : path_shown o.output_path ≡ value_at (codes "OutputPath") ms

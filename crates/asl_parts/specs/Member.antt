@@ -4,9 +4,9 @@ use Rattle.asl_json.specs.Data.{Data, text}
 use Rattle.asl_json.specs.Meaning.{value_in}
 use Rattle.asl_template.specs.Filling.{is_path}
 use Rattle.asl_schema.specs.Members.{is_among}
-use Rattle.asl_parts.specs.declared.outcome.Outcome.{Outcome}
+use Rattle.asl_parts.specs.declared.completion.Completion.{Completion}
 use Rattle.asl_parts.specs.Parts.{object}
-use Rattle.asl_parts.specs.Parts.{outcome_members}
+use Rattle.asl_parts.specs.Parts.{completion_members}
 
 -- the members whose value may be a path
 abbrev pub path_names : List (List ℕ)
@@ -28,12 +28,12 @@ abbrev pub template_names : List (List ℕ)
 template_names = codes "Parameters" ∷ codes "ItemSelector" ∷ codes "ResultSelector" ∷ []
 
 -- the members by which a state says what becomes of its result or its error
-abbrev pub outcome_names : List (List ℕ)
-outcome_names = codes "ResultSelector" ∷ codes "ResultPath" ∷ codes "OutputPath" ∷ codes "Retry" ∷ codes "Catch" ∷ codes "Next" ∷ codes "End" ∷ []
+abbrev pub completion_names : List (List ℕ)
+completion_names = codes "ResultSelector" ∷ codes "ResultPath" ∷ codes "OutputPath" ∷ codes "Retry" ∷ codes "Catch" ∷ codes "Next" ∷ codes "End" ∷ []
 
 -- an object of those members alone
-abbrev pub outcome_object : Outcome → Data
-outcome_object o = object (outcome_members o)
+abbrev pub completion_object : Completion → Data
+completion_object o = object (completion_members o)
 
 -- the path that a value is: a text that begins with `$`. A null names nothing, and another text is a call
 abbrev pub path_of : Option Data → Option (List ℕ)

@@ -4,12 +4,12 @@ use Rattle.asl_json.specs.Data.{Data, boolean, number, text, list, dict, chain, 
 use Rattle.asl_schema.specs.Canon.{present}
 use Rattle.asl_members.specs.Shown.{path_shown, names_shown}
 use Rattle.asl_parts.specs.declared.target.Target.{Target}
-use Rattle.asl_parts.specs.declared.target.Next.{Next}
-use Rattle.asl_parts.specs.declared.target.Next.TheVariants.{End, To}
-use Rattle.asl_parts.specs.declared.limits.Limits.{Limits}
+use Rattle.asl_parts.specs.declared.target.Transition.{Transition}
+use Rattle.asl_parts.specs.declared.target.Transition.TheVariants.{End, To}
+use Rattle.asl_parts.specs.declared.limits.TimeLimits.{TimeLimits}
 use Rattle.asl_parts.specs.declared.catcher.Catcher.{Catcher}
 use Rattle.asl_parts.specs.declared.common.Common.{Common}
-use Rattle.asl_parts.specs.declared.outcome.Outcome.{Outcome}
+use Rattle.asl_parts.specs.declared.completion.Completion.{Completion}
 
 -- the members that an object may have, with their values where they are there
 abbrev pub Slots : Type 0
@@ -21,19 +21,19 @@ object ms = dict (pairs (present ms))
 abbrev pub target_shown : Target → Data
 target_shown x = text x.name
 
-abbrev pub next_shown : Next → Option Data
+abbrev pub next_shown : Transition → Option Data
 next_shown End = None
 next_shown (To x) = Some (text x.name)
 
-abbrev pub end_shown : Next → Option Data
+abbrev pub end_shown : Transition → Option Data
 end_shown End = Some (boolean true)
 end_shown (To x) = None
 
-abbrev pub next_members : Next → Slots
+abbrev pub next_members : Transition → Slots
 next_members n = (codes "Next", next_shown n) ∷ (codes "End", end_shown n) ∷ []
 
 -- how long a task may take
-abbrev pub limits_members : Limits → Slots
+abbrev pub limits_members : TimeLimits → Slots
 limits_members l = (codes "TimeoutSeconds", option_map number l.timeout) ∷ (codes "TimeoutSecondsPath", option_map text l.timeout_path) ∷ (codes "HeartbeatSeconds", option_map number l.heartbeat) ∷ (codes "HeartbeatSecondsPath", option_map text l.heartbeat_path) ∷ []
 
 -- the canonical members of a catcher
@@ -55,5 +55,5 @@ common_members kind c = (codes "Type", Some (text kind)) ∷ (codes "Comment", o
 abbrev pub listed : Option (List Data) → Option Data
 listed ds = option_map (λ (xs : List Data). list (chain xs)) ds
 
-abbrev pub outcome_members : Outcome → Slots
-outcome_members o = (codes "ResultSelector", o.result_selector) ∷ (codes "ResultPath", path_shown o.result_path) ∷ (codes "OutputPath", path_shown o.output_path) ∷ (codes "Retry", listed o.retry) ∷ (codes "Catch", listed o.catch) ∷ (codes "Next", next_shown o.next) ∷ (codes "End", end_shown o.next) ∷ []
+abbrev pub completion_members : Completion → Slots
+completion_members o = (codes "ResultSelector", o.result_selector) ∷ (codes "ResultPath", path_shown o.result_path) ∷ (codes "OutputPath", path_shown o.output_path) ∷ (codes "Retry", listed o.retry) ∷ (codes "Catch", listed o.catch) ∷ (codes "Next", next_shown o.next) ∷ (codes "End", end_shown o.next) ∷ []

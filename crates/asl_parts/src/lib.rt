@@ -1,6 +1,6 @@
 //! What states of several types have, compiled from a definition without faults.
 //!
-//! Modules in reading order: `target`, `catcher`, `common`, `limits` and `outcome` are parts of states; `body` is a machine inside
+//! Modules in reading order: `target`, `catcher`, `common`, `limits` and `completion` are parts of states; `body` is a machine inside
 //! a state, `heading` what only the outermost machine has, and `entries` makes members. `specs/Parts.antt` and `specs/Bodies.antt`
 //! say what each shows.
 #![tactic(auto)]
@@ -8,17 +8,17 @@
 mod body;
 mod catcher;
 mod common;
+mod completion;
 mod entries;
 mod heading;
 mod limits;
-mod outcome;
 mod target;
 
 pub use body::{Bodies, Body};
 pub use catcher::{Catcher, Catchers};
 pub use common::Common;
+pub use completion::Completion;
 pub use entries::{and, entry, joined, with, with_optional, with_path};
 pub use heading::Heading;
-pub use limits::Limits;
-pub use outcome::Outcome;
-pub use target::{Next, Target};
+pub use limits::TimeLimits;
+pub use target::{Target, Transition};

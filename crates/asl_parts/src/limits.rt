@@ -14,7 +14,7 @@ use asl_path::RefPath;
 use std::alloc::{AllocError, Global};
 
 /// How long a Task state may take, and between two heartbeats, each in seconds or by a path. (Amazon States Language, "Task State".)
-pub struct Limits {
+pub struct TimeLimits {
     /// `TimeoutSeconds`.
     pub timeout: Option<Count>,
     /// `TimeoutSecondsPath`.
@@ -26,9 +26,9 @@ pub struct Limits {
 }
 
 // Written out, so that a caller's proof sees one call and not the drop of each part.
-impl Drop for Limits {
+impl Drop for TimeLimits {
     fn drop(self) {
-        let Limits {
+        let TimeLimits {
             timeout: _timeout,
             timeout_path: _timeout_path,
             heartbeat: _heartbeat,
@@ -37,16 +37,16 @@ impl Drop for Limits {
     }
 }
 
-impl Limits {
+impl TimeLimits {
     /// Compiles these members of a Task state without faults. The error is that memory ran out.
-    pub fn read(alloc: Global, members: &Members) -> Result<Limits, AllocError>
+    pub fn read(alloc: Global, members: &Members) -> Result<TimeLimits, AllocError>
         requires { IsOfKind task_kind members.now }
         ensures timeout { IfOk result (λ l. option_map number l.timeout ≡ value_at (codes "TimeoutSeconds") (pairs members.now)) }
         ensures timeout_path { IfOk result (λ l. option_map text l.timeout_path ≡ value_at (codes "TimeoutSecondsPath") (pairs members.now)) }
         ensures heartbeat { IfOk result (λ l. option_map number l.heartbeat ≡ value_at (codes "HeartbeatSeconds") (pairs members.now)) }
         ensures heartbeat_path { IfOk result (λ l. option_map text l.heartbeat_path ≡ value_at (codes "HeartbeatSecondsPath") (pairs members.now)) }
     {
-        Ok(Limits {
+        Ok(TimeLimits {
             timeout: read_optional(alloc, members.find("TimeoutSeconds"))?,
             timeout_path: read_optional(alloc, members.find("TimeoutSecondsPath"))?,
             heartbeat: read_optional(alloc, members.find("HeartbeatSeconds"))?,

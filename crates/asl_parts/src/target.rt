@@ -29,18 +29,18 @@ impl Drop for Target {
 }
 
 /// How a state goes on. (Amazon States Language, "Transitions".)
-pub enum Next {
+pub enum Transition {
     /// `"End": true`.
     End,
     /// `"Next"`.
     To(Target),
 }
 
-impl Drop for Next {
+impl Drop for Transition {
     fn drop(self) {
         match self {
-            Next::End => {}
-            Next::To(_part) => {}
+            Transition::End => {}
+            Transition::To(_part) => {}
         }
     }
 }
@@ -90,16 +90,16 @@ impl Target {
     }
 }
 
-impl Next {
+impl Transition {
     /// Compiles `Next` and `End` of a state without faults. The error is that memory ran out.
-    pub fn read(alloc: Global, members: &Members) -> Result<Next, AllocError>
+    pub fn read(alloc: Global, members: &Members) -> Result<Transition, AllocError>
         requires { IsOfAny goes_on members.now }
         ensures next { IfOk result (λ n. next_shown n ≡ kept_at (codes "Next") target_sort (pairs members.now)) }
         ensures end { IfOk result (λ n. end_shown n ≡ kept_at (codes "End") Truth (pairs members.now)) }
     {
         match members.find("Next") {
-            Some(name) => Ok(Next::To(Target::read(alloc, Some(name))?)),
-            None => Ok(Next::End),
+            Some(name) => Ok(Transition::To(Target::read(alloc, Some(name))?)),
+            None => Ok(Transition::End),
         }
     }
 
@@ -108,8 +108,11 @@ impl Next {
         ensures { IfOk result (λ es. entries_of es.items ≡ entries_of before.items ++ next_members self.now) }
     {
         let own = match self {
-            Next::End => vec![in alloc; entry("Next", None), entry("End", Some(Json::Bool(true)))]?,
-            Next::To(target) => {
+            Transition::End => vec![in alloc;
+                entry("Next", None),
+                entry("End", Some(Json::Bool(true))),
+            ]?,
+            Transition::To(target) => {
                 let name = target.json(alloc)?;
                 vec![in alloc; entry("Next", Some(name)), entry("End", None)]?
             }

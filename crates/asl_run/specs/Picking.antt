@@ -1,9 +1,9 @@
 -- What comes next: the place that may step, or the moment that is awaited.
-use Rattle.std.specs.Prelude.{ℕ, ◌≡◌, ◌<◌, true, List, [], ◌∷◌, length, min, nat_lt, if◌then◌else◌, is_none, Option, Some, None}
+use Rattle.std.specs.Prelude.{ℕ, ◌≡◌, ◌<◌, true, List, [], ◌∷◌, min, if◌then◌else◌, is_none, Option, Some, None}
 use Rattle.asl_frames.specs.Branches.{Branch, forker_at}
 use Rattle.asl_frames.specs.Turns.{Limits, limit_of}
 use Rattle.asl_run.specs.World.{World, is_over}
-use Rattle.asl_run.specs.Refusals.{refusal_of}
+use Rattle.asl_run.specs.Refusals.{refusal_of, is_full}
 use Rattle.asl_run.specs.Lines.{awaited}
 use Rattle.asl_run.specs.declared.refusal.Refusal.{Refusal}
 use Rattle.asl_run.specs.declared.next.Next.{Next}
@@ -54,13 +54,13 @@ pick_of None None = Ended
 abbrev pub pick : Limits → World → Pick
 pick limits w =
     if is_over w.outcome then Ended
-    else (if nat_lt 24992 (length w.events) then Filled else pick_of (first_at limits w w.last) (lesser (least_of limits w w.branches) w.deadline))
+    else (if is_full w then Filled else pick_of (first_at limits w w.last) (lesser (least_of limits w w.branches) w.deadline))
 
 -- what is picked can be done: it says that the execution is over or its history full only where that is so; a step at its place isn't
 -- refused; and at its moment, which is later than the last one, a step at some place isn't
 abbrev pub CanBeDone : Limits → World → Pick → Type 0
 CanBeDone limits w Ended = is_over w.outcome ≡ true
-CanBeDone limits w Filled = nat_lt 24992 (length w.events) ≡ true
+CanBeDone limits w Filled = is_full w ≡ true
 CanBeDone limits w (Place p) = refusal_with limits w p w.last ≡ None
 CanBeDone limits w (Moment t) = (w.last < t) × ((p : List ℕ) × (refusal_with limits w p t ≡ None))
 

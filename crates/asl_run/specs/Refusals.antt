@@ -1,5 +1,5 @@
 -- When a step is refused, and the world before the first step.
-use Rattle.std.specs.Prelude.{ℕ, List, [], ◌∷◌, max, length, nat_lt, if◌then◌else◌, Option, Some, None, replicate}
+use Rattle.std.specs.Prelude.{ℕ, Bool, List, [], ◌∷◌, max, length, nat_lt, if◌then◌else◌, Option, Some, None, replicate}
 use Rattle.asl_json.specs.declared.value.Json.{Json}
 use Rattle.asl_history.specs.Events.{event_after}
 use Rattle.asl_history.specs.declared.kind.EventKind.TheVariants.{ExecutionStarted}
@@ -14,9 +14,16 @@ use Rattle.asl_run.specs.World.{World, is_over, is_late}
 
 -- ---- when a step is refused
 
+-- so many events at the most leave room for a step's: a history has at most 25,000 (Developer Guide, "Quotas"), and a step tells at most 8
+abbrev pub most_events : ℕ
+most_events = 24992
+
 -- there is no room for a step's events
+abbrev pub is_full : World → Bool
+is_full w = nat_lt most_events (length w.events)
+
 abbrev pub refusal_if_full : World → Option Refusal
-refusal_if_full w = if nat_lt 24992 (length w.events) then Some HistoryFull else None
+refusal_if_full w = if is_full w then Some HistoryFull else None
 
 abbrev pub refusal_before : ℕ → ℕ → World → Option Refusal
 refusal_before until now w = if nat_lt now until then Some (NotYet until) else refusal_if_full w

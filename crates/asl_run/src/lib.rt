@@ -1,6 +1,6 @@
 //! Worlds of executions: running branches, counts, the history and the outcome, and how what happens at a place changes them.
 //!
-//! Modules in reading order: `outcome` is how far an execution is, `refusal` why a step is refused; `run` changes a world, `next` finds
+//! Modules in reading order: `outcome` is how far an execution is, `refusal` why a step is refused; `world` is the world and what changes it, `next` finds
 //! what comes next, `time_limit` is what happens when its time is over, and `lines` tells of a world. The running branches are the tree of `asl_frames`.
 #![tactic(auto)]
 
@@ -8,12 +8,12 @@ mod lines;
 mod next;
 mod outcome;
 mod refusal;
-mod run;
 mod time_limit;
+mod world;
 
 pub use asl_frames::{Frame, Limits};
 pub use lines::{is_success, put_end, put_step};
 pub use next::Next;
 pub use outcome::Outcome;
 pub use refusal::Refusal;
-pub use run::Run;
+pub use world::World;

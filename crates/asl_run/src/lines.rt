@@ -1,6 +1,6 @@
 // The lines that tell of a run.
 ghost use Rattle.std.specs.Prelude.{◌≡◌, ◌∷◌, ◌++◌, [], OnOk, OnErr, string_bytes};
-ghost use Rattle.asl_json.specs.private.Buffers.{Keeps};
+ghost use Rattle.asl_text.specs.Buffers.{Keeps};
 ghost use Rattle.asl_json.specs.View.{data_of};
 ghost use Rattle.asl_json.specs.Compact.{compact};
 ghost use Rattle.asl_time.specs.StampText.{stamp_of};
@@ -10,12 +10,13 @@ ghost use Rattle.asl_steps.specs.Rows.{error_output as spec_error_output};
 
 use crate::outcome::Outcome;
 use crate::refusal::Refusal;
-use crate::run::Run;
 use crate::time_limit::timeout_error;
-use asl_history::{History, Place, put_line, put_moment, whole_or_none};
+use crate::world::World;
+use asl_history::{History, Place, put_line};
 use asl_json::{Json, put};
 use asl_steps::{ErrorOut, error_output};
-use asl_time::Moment;
+use asl_text::whole_or_none;
+use asl_time::{Moment, put_stamp};
 use std::alloc::{AllocError, Global};
 
 impl Refusal {
@@ -53,7 +54,7 @@ fn put_until(out: &mut String, moment: Moment) -> Result<(), AllocError>
     ensures kept { Keeps (string_bytes out.old) (string_bytes out.new) }
 {
     out.push(' ')?;
-    put_moment(out, moment)
+    put_stamp(out, moment)
 }
 
 /// Appends why a step was refused. Where memory runs out, a part of it may be there.
@@ -169,20 +170,20 @@ pub fn is_success(outcome: &Outcome) -> bool
 }
 
 /// Appends the history and the status. The error is that memory ran out, and then nothing is appended.
-pub fn put_end(alloc: Global, out: &mut String, run: &Run) -> Result<(), AllocError>
-    ensures ok { OnOk result (string_bytes out.new ≡ string_bytes out.old ++ end_text run.now) }
+pub fn put_end(alloc: Global, out: &mut String, world: &World) -> Result<(), AllocError>
+    ensures ok { OnOk result (string_bytes out.new ≡ string_bytes out.old ++ end_text world.now) }
     ensures err { OnErr result (string_bytes out.new ≡ string_bytes out.old) }
 {
     let len = out.as_str().len();
-    let ended = put_end_parts(alloc, out, run);
+    let ended = put_end_parts(alloc, out, world);
     whole_or_none(out, len, ended)
 }
 
 /// Appends the history and the status. Where memory runs out, a part of it may be there.
-fn put_end_parts(alloc: Global, out: &mut String, run: &Run) -> Result<(), AllocError>
-    ensures ok { OnOk result (string_bytes out.new ≡ string_bytes out.old ++ end_text run.now) }
+fn put_end_parts(alloc: Global, out: &mut String, world: &World) -> Result<(), AllocError>
+    ensures ok { OnOk result (string_bytes out.new ≡ string_bytes out.old ++ end_text world.now) }
     ensures kept { Keeps (string_bytes out.old) (string_bytes out.new) }
 {
-    put_history(out, run.history())?;
-    put_status(alloc, out, run.outcome())
+    put_history(out, world.history())?;
+    put_status(alloc, out, world.outcome())
 }

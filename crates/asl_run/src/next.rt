@@ -5,8 +5,8 @@ ghost use Rattle.asl_frames.specs.Turns.{dues_among, soonest};
 ghost use Rattle.asl_frames.specs.Walking.{turn_of};
 ghost use Rattle.asl_run.specs.Picking.{first_at, pick, picked, CanBeDone};
 
-use crate::run::Run;
 use crate::time_limit::within;
+use crate::world::World;
 use asl_frames::{Limits, Turn};
 use asl_history::Place;
 use asl_time::Moment;
@@ -24,7 +24,7 @@ pub enum Next<'a> {
     At(Moment),
 }
 
-impl Run {
+impl World {
     /// The branch that may step first from a moment on.
     fn soonest<L: Limits>(&self, limits: &L, moment: Moment) -> Option<Turn<'_>>
         ensures turn { option_map turn_of result ≡ soonest (max self.now.last moment) (dues_among (L.limits limits.now) self.now.branches) }
@@ -57,7 +57,7 @@ impl Run {
     }
 
     /// What comes next: a step at the first place that isn't refused at the last moment, else the least moment that is awaited. While
-    /// the execution runs and its history isn't full, there is one of both.
+    /// the execution runs and its history isn't full, there is one or the other.
     pub fn next<L: Limits>(&self, limits: &L) -> Next<'_>
         ensures picked { picked result ≡ pick (L.limits limits.now) self.now }
         ensures done { CanBeDone (L.limits limits.now) self.now (picked result) }

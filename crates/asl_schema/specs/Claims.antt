@@ -115,9 +115,13 @@ text_demands p sort.Timestamp t = timestamp t ∷ []
 text_demands p sort.Jitter t = in_range (is_jitter t) ∷ []
 text_demands p s t = []
 
+-- the largest whole number that a member may be (Step Functions, for Seconds, TimeoutSeconds, IntervalSeconds and the like)
+abbrev pub most_whole : ℕ
+most_whole = 99999999
+
 abbrev pub number_demands : Sort → List ℕ → List Demand
-number_demands sort.FromZero n = in_range (is_between_whole (pos 0) (pos 99999999) (whole_of n)) ∷ []
-number_demands sort.FromOne n = in_range (is_between_whole (pos 1) (pos 99999999) (whole_of n)) ∷ []
+number_demands sort.FromZero n = in_range (is_between_whole (pos 0) (pos most_whole) (whole_of n)) ∷ []
+number_demands sort.FromOne n = in_range (is_between_whole (pos 1) (pos most_whole) (whole_of n)) ∷ []
 number_demands sort.Rate n = in_range (is_between (pos 1000000000) (pos 1000000000000) (units_of n)) ∷ []
 number_demands sort.DelayLimit n = in_range (is_between_whole (pos 1) (pos 31622399) (whole_of n)) ∷ []
 number_demands s n = []

@@ -12,4 +12,4 @@ pub use fault::{Fault, FaultKind, Step};
 pub use rows::{
     Group, Row, Shape, find, is_among, item_sort, kind_named, kind_of, shape_in, sort_at,
 };
-pub use sort::{Form, Kind, Sort};
+pub use sort::{Form, Kind, MOST_WHOLE, Sort};

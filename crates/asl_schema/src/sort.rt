@@ -1,5 +1,8 @@
 // What may stand where in a definition.
 
+/// The largest whole number that a member may be, as `Seconds` and `MaxAttempts`.
+pub const MOST_WHOLE: i128 = 99_999_999;
+
 /// The types of states. (Amazon States Language, "State Types".)
 #[derive(Clone, Copy, Debug, PartialEq, Eq)]
 pub enum Kind {

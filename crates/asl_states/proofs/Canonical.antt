@@ -15,7 +15,7 @@ use Rattle.asl_schema.proofs.Canons.{picked-canon, plain_kept}
 use Rattle.asl_schema.proofs.Typed.{type_is}
 use Rattle.asl_members.specs.Shown.{path_shown}
 use Rattle.asl_parts.specs.declared.common.Common.{Common}
-use Rattle.asl_parts.specs.declared.outcome.Outcome.{Outcome}
+use Rattle.asl_parts.specs.declared.completion.Completion.{Completion}
 use Rattle.asl_states.specs.declared.task.Task.{Task as TaskState}
 use Rattle.asl_states.specs.declared.pass.Pass.{Pass as PassState}
 use Rattle.asl_states.specs.declared.choice.Choice.{Choice as ChoiceState}
@@ -28,7 +28,7 @@ use Rattle.asl_parts.specs.Parts.{Slots, object, next_shown, end_shown}
 use Rattle.asl_parts.specs.Parts.{listed}
 use Rattle.asl_states.specs.Show.{told, told_at, seconds_shown, seconds_path_shown, timestamp_shown, timestamp_path_shown, parameters_shown, item_selector_shown, machine_shown, as_iterator, as_item_processor, task_members, pass_members, choice_members, wait_members, parallel_members, map_members, succeed_members, fail_members, task_object, pass_object, choice_object, wait_object, parallel_object, map_object, succeed_object, fail_object}
 use Rattle.asl_parts.specs.Bodies.{bodies_of}
-use Rattle.asl_parts.specs.Built.{IsOfKind, IsOutcome, Shows}
+use Rattle.asl_parts.specs.Built.{IsOfKind, IsCompletion, Shows}
 use Rattle.asl_parts.proofs.Fits.{map_same}
 
 -- ---- members row by row
@@ -336,7 +336,7 @@ choice_shows ms x d h e1 e2 e3 e4 at e5 e6 =
     )
 
 -- what becomes of a result
-module _ (ms : Pairs) (o : Outcome) (h : IsOutcome ms o) where
+module _ (ms : Pairs) (o : Completion) (h : IsCompletion ms o) where
   selector : o.result_selector ≡ kept_at (codes "ResultSelector") sort.Template ms
   selector = plain (codes "ResultSelector") sort.Template ms o.result_selector refl refl h.result_selector
 
@@ -363,7 +363,7 @@ pub task_shows : (ms : List Named) (x : TaskState) → IsOfKind kind.Task ms
     → option_map text x.limits.timeout_path ≡ value_at (codes "TimeoutSecondsPath") (pairs ms)
     → option_map number x.limits.heartbeat ≡ value_at (codes "HeartbeatSeconds") (pairs ms)
     → option_map text x.limits.heartbeat_path ≡ value_at (codes "HeartbeatSecondsPath") (pairs ms)
-    → IsOutcome (pairs ms) x.outcome
+    → IsCompletion (pairs ms) x.completion
     → task_object x ≡ canon sort.State (dict (pairs ms))
 unfolding task_rows
 task_shows ms x h e1 e2 e3 e4 e5 e6 e7 e8 e9 e10 o =
@@ -403,19 +403,19 @@ task_shows ms x h e1 e2 e3 e4 e5 e6 e7 e8 e9 e10 o =
                           plain (codes "HeartbeatSecondsPath") sort.Path ps (option_map text x.limits.heartbeat_path) refl refl e10,
                           (
                             refl,
-                            selector ps x.outcome o,
+                            selector ps x.completion o,
                             (
                               refl,
-                              result_place ps x.outcome o,
+                              result_place ps x.completion o,
                               (
                                 refl,
-                                output ps x.outcome o,
+                                output ps x.completion o,
                                 (
                                   refl,
-                                  retry ps x.outcome o,
+                                  retry ps x.completion o,
                                   (
                                     refl,
-                                    catch ps x.outcome o,
+                                    catch ps x.completion o,
                                     (
                                       refl,
                                       o.next,
@@ -448,7 +448,7 @@ pub parallel_shows : (t ms : List Named) (x : ParallelState) → IsOfKind kind.P
     → path_shown x.input_path ≡ value_at (codes "InputPath") (pairs ms)
     → option_map (λ (t : Data). t) x.parameters ≡ value_at (codes "Parameters") (pairs ms)
     → Some (list (chain (bodies_of t x.branches))) ≡ kept_at (codes "Branches") sort.Machines (pairs ms)
-    → IsOutcome (pairs ms) x.outcome
+    → IsCompletion (pairs ms) x.completion
     → parallel_object t x ≡ canon sort.State (dict (pairs ms))
 unfolding parallel_rows
 parallel_shows t ms x h e1 e2 e3 e4 e5 o =
@@ -473,19 +473,19 @@ parallel_shows t ms x h e1 e2 e3 e4 e5 o =
                 e5,
                 (
                   refl,
-                  selector ps x.outcome o,
+                  selector ps x.completion o,
                   (
                     refl,
-                    result_place ps x.outcome o,
+                    result_place ps x.completion o,
                     (
                       refl,
-                      output ps x.outcome o,
+                      output ps x.completion o,
                       (
                         refl,
-                        retry ps x.outcome o,
+                        retry ps x.completion o,
                         (
                           refl,
-                          catch ps x.outcome o,
+                          catch ps x.completion o,
                           (
                             refl,
                             o.next,
@@ -517,7 +517,7 @@ pub map_shows : (t ms : List Named) (x : MapState) → IsOfKind kind.Map ms
     → item_selector_shown x.selector ≡ value_at (codes "ItemSelector") (pairs ms)
     → as_iterator x.processor (machine_shown t x.processor) ≡ kept_at (codes "Iterator") sort.Machine (pairs ms)
     → as_item_processor x.processor (machine_shown t x.processor) ≡ kept_at (codes "ItemProcessor") sort.ItemProcessor (pairs ms)
-    → IsOutcome (pairs ms) x.outcome
+    → IsCompletion (pairs ms) x.completion
     → map_object t x ≡ canon sort.State (dict (pairs ms))
 unfolding map_rows
 map_shows t ms x h e1 e2 e3 e4 e5 e6 e7 e8 e9 o =
@@ -554,19 +554,19 @@ map_shows t ms x h e1 e2 e3 e4 e5 e6 e7 e8 e9 o =
                         e9,
                         (
                           refl,
-                          selector ps x.outcome o,
+                          selector ps x.completion o,
                           (
                             refl,
-                            result_place ps x.outcome o,
+                            result_place ps x.completion o,
                             (
                               refl,
-                              output ps x.outcome o,
+                              output ps x.completion o,
                               (
                                 refl,
-                                retry ps x.outcome o,
+                                retry ps x.completion o,
                                 (
                                   refl,
-                                  catch ps x.outcome o,
+                                  catch ps x.completion o,
                                   (
                                     refl,
                                     o.next,

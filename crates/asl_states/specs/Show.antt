@@ -19,12 +19,12 @@ use Rattle.asl_states.specs.declared.processor.Processor.{Processor}
 use Rattle.asl_states.specs.declared.processor.Processor.TheVariants.{Iterator, ItemProcessor}
 use Rattle.asl_states.specs.declared.succeed.Succeed.{Succeed as SucceedState}
 use Rattle.asl_states.specs.declared.fail.Fail.{Fail as FailState}
-use Rattle.asl_states.specs.declared.fail.Reason.{Reason}
-use Rattle.asl_states.specs.declared.fail.Reason.TheVariants.{Told, At}
+use Rattle.asl_states.specs.declared.fail.FailText.{FailText}
+use Rattle.asl_states.specs.declared.fail.FailText.TheVariants.{Told, At}
 use Rattle.asl_states.specs.declared.state.State.{State}
 use Rattle.asl_states.specs.declared.state.State.TheVariants.{Task, Pass, Choice, Wait, Parallel, Map, Succeed, Fail}
 use Rattle.asl_states.specs.declared.choice.ChoiceRule.{ChoiceRule}
-use Rattle.asl_parts.specs.Parts.{Slots, object, next_shown, end_shown, limits_members, common_members, outcome_members}
+use Rattle.asl_parts.specs.Parts.{Slots, object, next_shown, end_shown, limits_members, common_members, completion_members}
 use Rattle.asl_parts.specs.declared.body.Body.{Body}
 use Rattle.asl_parts.specs.Bodies.{bodies_of, processor_of, IsWithin, AreWithin}
 
@@ -37,7 +37,7 @@ task_members t =
     ∷ (codes "InputPath", path_shown t.input_path)
     ∷ (codes "Parameters", t.parameters)
     ∷ (codes "Credentials", option_map data_of t.credentials)
-    ∷ (limits_members t.limits ++ outcome_members t.outcome))
+    ∷ (limits_members t.limits ++ completion_members t.completion))
 
 abbrev pub pass_members : PassState → Slots
 pass_members p =
@@ -113,12 +113,12 @@ succeed_members s =
     ∷ [])
 
 -- a text, or where it is found
-abbrev pub told : Option Reason → Option Data
+abbrev pub told : Option FailText → Option Data
 told None = None
 told (Some (Told t)) = Some (text t)
 told (Some (At p)) = None
 
-abbrev pub told_at : Option Reason → Option Data
+abbrev pub told_at : Option FailText → Option Data
 told_at None = None
 told_at (Some (Told t)) = None
 told_at (Some (At p)) = Some (path_or_call_shown p)
@@ -140,7 +140,7 @@ parallel_members t p =
     ((codes "InputPath", path_shown p.input_path)
     ∷ (codes "Parameters", p.parameters)
     ∷ (codes "Branches", Some (list (chain (bodies_of t p.branches))))
-    ∷ outcome_members p.outcome)
+    ∷ completion_members p.completion)
 
 -- the template for the inputs of iterations is there under one name at most
 abbrev pub parameters_shown : Option Selector → Option Data
@@ -189,7 +189,7 @@ map_members t m =
     ∷ (codes "ItemSelector", item_selector_shown m.selector)
     ∷ (codes "Iterator", as_iterator m.processor (machine_shown t m.processor))
     ∷ (codes "ItemProcessor", as_item_processor m.processor (machine_shown t m.processor))
-    ∷ outcome_members m.outcome)
+    ∷ completion_members m.completion)
 
 -- the canonical members of a state, over the states that stand before it
 abbrev pub state_members : List Named → State → Slots

@@ -17,7 +17,7 @@ use asl_parts::{Common, and};
 use std::alloc::{AllocError, Global};
 
 /// What a Fail state tells as its error or its cause.
-pub enum Reason {
+pub enum FailText {
     /// `Error` or `Cause`.
     Told(Txt),
     /// `ErrorPath` or `CausePath`.
@@ -25,11 +25,11 @@ pub enum Reason {
 }
 
 // Written out, so that a caller's proof sees one call and not the drop of each part.
-impl Drop for Reason {
+impl Drop for FailText {
     fn drop(self) {
         match self {
-            Reason::Told(_part) => {}
-            Reason::At(_part) => {}
+            FailText::Told(_part) => {}
+            FailText::At(_part) => {}
         }
     }
 }
@@ -37,8 +37,8 @@ impl Drop for Reason {
 /// A Fail state. (Amazon States Language, "Fail State".) Contracts speak of its canonical object, `fail_object`.
 pub struct Fail {
     pub(crate) common: Common,
-    pub(crate) error: Option<Reason>,
-    pub(crate) cause: Option<Reason>,
+    pub(crate) error: Option<FailText>,
+    pub(crate) cause: Option<FailText>,
 }
 
 impl Drop for Fail {
@@ -51,13 +51,13 @@ impl Drop for Fail {
     }
 }
 
-impl Reason {
+impl FailText {
     /// Compiles the value of `Error` and `ErrorPath`, or of `Cause` and `CausePath`, of which one is there at most.
     fn read(
         alloc: Global,
         told: Option<&Json>,
         at: Option<&Json>,
-    ) -> Result<Option<Reason>, AllocError>
+    ) -> Result<Option<FailText>, AllocError>
         requires told { Fits Text (option_map (λ v. data_of v.now) told) }
         requires at { Fits path_or_call (option_map (λ v. data_of v.now) at) }
         requires one { is_some told ≡ true → is_some at ≡ false }
@@ -65,38 +65,38 @@ impl Reason {
         ensures at { IfOk result (λ r. told_at r ≡ option_map (λ v. data_of v.now) at.entry) }
     {
         if let Some(text) = told {
-            return Ok(Some(Reason::Told(Txt::read(alloc, text)?)));
+            return Ok(Some(FailText::Told(Txt::read(alloc, text)?)));
         }
         match at {
-            Some(path) => Ok(Some(Reason::At(PathOrCall::read(alloc, path)?))),
+            Some(path) => Ok(Some(FailText::At(PathOrCall::read(alloc, path)?))),
             None => Ok(None),
         }
     }
 }
 
 /// The value of `Error` or `Cause` as JSON.
-fn told_json(alloc: Global, reason: &Option<Reason>) -> Result<Option<Json>, AllocError>
+fn told_json(alloc: Global, reason: &Option<FailText>) -> Result<Option<Json>, AllocError>
     ensures { IfOk result (λ j. option_map data_of j ≡ spec_told reason.now) }
 {
     match reason {
-        Some(Reason::Told(text)) => Ok(Some(text.json(alloc)?)),
+        Some(FailText::Told(text)) => Ok(Some(text.json(alloc)?)),
         _ => Ok(None),
     }
 }
 
 /// The value of `ErrorPath` or `CausePath` as JSON.
-fn path_json(alloc: Global, reason: &Option<Reason>) -> Result<Option<Json>, AllocError>
+fn path_json(alloc: Global, reason: &Option<FailText>) -> Result<Option<Json>, AllocError>
     ensures { IfOk result (λ j. option_map data_of j ≡ told_at reason.now) }
 {
     match reason {
-        Some(Reason::At(path)) => Ok(Some(path.json(alloc)?)),
+        Some(FailText::At(path)) => Ok(Some(path.json(alloc)?)),
         _ => Ok(None),
     }
 }
 
 impl Fail {
     /// `Error` or `ErrorPath`.
-    pub fn error(&self) -> Option<&Reason>
+    pub fn error(&self) -> Option<&FailText>
         ensures told { spec_told (option_map (λ r. r.now) result) ≡ value_in (codes "Error") (fail_object self.now) }
         ensures at { told_at (option_map (λ r. r.now) result) ≡ value_in (codes "ErrorPath") (fail_object self.now) }
     {
@@ -104,7 +104,7 @@ impl Fail {
     }
 
     /// `Cause` or `CausePath`.
-    pub fn cause(&self) -> Option<&Reason>
+    pub fn cause(&self) -> Option<&FailText>
         ensures told { spec_told (option_map (λ r. r.now) result) ≡ value_in (codes "Cause") (fail_object self.now) }
         ensures at { told_at (option_map (λ r. r.now) result) ≡ value_in (codes "CausePath") (fail_object self.now) }
     {
@@ -118,8 +118,8 @@ impl Fail {
     {
         Ok(Fail {
             common: Common::read(alloc, members)?,
-            error: Reason::read(alloc, members.find("Error"), members.find("ErrorPath"))?,
-            cause: Reason::read(alloc, members.find("Cause"), members.find("CausePath"))?,
+            error: FailText::read(alloc, members.find("Error"), members.find("ErrorPath"))?,
+            cause: FailText::read(alloc, members.find("Cause"), members.find("CausePath"))?,
         })
     }
 

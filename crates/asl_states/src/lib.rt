@@ -19,10 +19,11 @@ mod wait;
 pub use asl_choice::Rule;
 pub use asl_members::{Mode, ProcessorConfig};
 pub use asl_parts::{
-    Bodies, Body, Catcher, Catchers, Common, Heading, Limits, Next, Outcome, Target, entry,
+    Bodies, Body, Catcher, Catchers, Common, Completion, Heading, Target, TimeLimits, Transition,
+    entry,
 };
 pub use choice::{Choice, ChoiceRule, ChoiceRules};
-pub use fail::{Fail, Reason};
+pub use fail::{Fail, FailText};
 pub use map::Map;
 pub use parallel::Parallel;
 pub use pass::Pass;

@@ -12,12 +12,12 @@ ghost use Rattle.asl_parts.specs.Bodies.{body_of};
 ghost use Rattle.asl_json.specs.Meaning.{value_in};
 ghost use Rattle.asl_members.specs.Shown.{path_shown};
 ghost use Rattle.asl_schema.specs.Members.{is_among};
-ghost use Rattle.asl_parts.specs.Member.{outcome_names, outcome_object};
+ghost use Rattle.asl_parts.specs.Member.{completion_names, completion_object};
 
 use crate::processor::{Processor, Selector, as_item_selector, as_parameters, template_json};
 use asl_json::{Json, Members};
 use asl_members::{Count, PathField, read_optional};
-use asl_parts::{Body, Common, Outcome, and, with_optional, with_path};
+use asl_parts::{Body, Common, Completion, and, with_optional, with_path};
 use asl_path::RefPath;
 use asl_template::Template;
 use std::alloc::{AllocError, Global};
@@ -32,7 +32,7 @@ pub struct Map {
     pub(crate) selector: Option<Selector>,
     /// The machine that it runs for each item, in its spelling.
     pub processor: Processor,
-    pub(crate) outcome: Outcome,
+    pub(crate) completion: Completion,
 }
 
 // Written out, so that a caller's proof sees one call and not the drop of each part.
@@ -45,7 +45,7 @@ impl Drop for Map {
             max_concurrency: _max_concurrency,
             selector: _selector,
             processor: _processor,
-            outcome: _outcome,
+            completion: _completion,
         } = self;
     }
 }
@@ -98,10 +98,10 @@ impl Map {
     }
 
     /// What becomes of its result or its error.
-    pub fn outcome(&self) -> &Outcome
-        ensures { (t : List Named) → (k : List ℕ) → is_among k outcome_names ≡ true → value_in k (outcome_object result.now) ≡ value_in k (map_object t self.now) }
+    pub fn completion(&self) -> &Completion
+        ensures { (t : List Named) → (k : List ℕ) → is_among k completion_names ≡ true → value_in k (completion_object result.now) ≡ value_in k (map_object t self.now) }
     {
-        &self.outcome
+        &self.completion
     }
 
     /// Compiles a state with its machine, which stands in a table already.
@@ -121,7 +121,7 @@ impl Map {
                 members.find("ItemSelector"),
             )?,
             processor,
-            outcome: Outcome::read(alloc, members)?,
+            completion: Completion::read(alloc, members)?,
         })
     }
 
@@ -139,7 +139,7 @@ impl Map {
         let (iterator, item_processor) = self.processor.named(machine);
         let own = and(own, "Iterator", iterator)?;
         let own = and(own, "ItemProcessor", item_processor)?;
-        let own = self.outcome.entries(alloc, own)?;
+        let own = self.completion.entries(alloc, own)?;
         self.common.object(alloc, "Map", own)
     }
 }

@@ -7,7 +7,7 @@ ghost use Rattle.asl_states.specs.Show.{state_of, seconds_path_shown, timestamp_
 ghost use Rattle.asl_parts.specs.Member.{path_of, path_member, template_member};
 
 use crate::choice::Choice;
-use crate::fail::{Fail, Reason};
+use crate::fail::{Fail, FailText};
 use crate::map::Map;
 use crate::parallel::Parallel;
 use crate::pass::Pass;
@@ -62,11 +62,11 @@ fn path_in(value: &PathOrCall) -> Option<&RefPath>
 }
 
 /// The path that `ErrorPath` or `CausePath` is.
-fn reason_path(reason: &Option<Reason>) -> Option<&RefPath>
+fn reason_path(reason: &Option<FailText>) -> Option<&RefPath>
     ensures { option_map (λ p. p.now) result ≡ path_of (told_at reason.now) }
 {
     match reason {
-        Some(Reason::At(value)) => path_in(value),
+        Some(FailText::At(value)) => path_in(value),
         _ => None,
     }
 }
@@ -109,8 +109,8 @@ impl Task {
             "InputPath" => field_path(&self.input_path),
             "TimeoutSecondsPath" => optional_path(&self.limits.timeout_path),
             "HeartbeatSecondsPath" => optional_path(&self.limits.heartbeat_path),
-            "ResultPath" => field_path(&self.outcome.result_path),
-            "OutputPath" => field_path(&self.outcome.output_path),
+            "ResultPath" => field_path(&self.completion.result_path),
+            "OutputPath" => field_path(&self.completion.output_path),
             _ => None,
         }
     }
@@ -120,7 +120,7 @@ impl Task {
     {
         match member {
             "Parameters" => template_in(&self.parameters),
-            "ResultSelector" => template_in(&self.outcome.result_selector),
+            "ResultSelector" => template_in(&self.completion.result_selector),
             _ => None,
         }
     }
@@ -180,8 +180,8 @@ impl Parallel {
     {
         match member {
             "InputPath" => field_path(&self.input_path),
-            "ResultPath" => field_path(&self.outcome.result_path),
-            "OutputPath" => field_path(&self.outcome.output_path),
+            "ResultPath" => field_path(&self.completion.result_path),
+            "OutputPath" => field_path(&self.completion.output_path),
             _ => None,
         }
     }
@@ -191,7 +191,7 @@ impl Parallel {
     {
         match member {
             "Parameters" => template_in(&self.parameters),
-            "ResultSelector" => template_in(&self.outcome.result_selector),
+            "ResultSelector" => template_in(&self.completion.result_selector),
             _ => None,
         }
     }
@@ -204,8 +204,8 @@ impl Map {
         match member {
             "InputPath" => field_path(&self.input_path),
             "ItemsPath" => optional_path(&self.items_path),
-            "ResultPath" => field_path(&self.outcome.result_path),
-            "OutputPath" => field_path(&self.outcome.output_path),
+            "ResultPath" => field_path(&self.completion.result_path),
+            "OutputPath" => field_path(&self.completion.output_path),
             _ => None,
         }
     }
@@ -216,7 +216,7 @@ impl Map {
         match member {
             "Parameters" => as_parameters(&self.selector),
             "ItemSelector" => as_item_selector(&self.selector),
-            "ResultSelector" => template_in(&self.outcome.result_selector),
+            "ResultSelector" => template_in(&self.completion.result_selector),
             _ => None,
         }
     }

@@ -11,11 +11,11 @@ ghost use Rattle.asl_parts.specs.Bodies.{bodies_of};
 ghost use Rattle.asl_json.specs.Meaning.{value_in};
 ghost use Rattle.asl_members.specs.Shown.{path_shown};
 ghost use Rattle.asl_schema.specs.Members.{is_among};
-ghost use Rattle.asl_parts.specs.Member.{outcome_names, outcome_object};
+ghost use Rattle.asl_parts.specs.Member.{completion_names, completion_object};
 
 use asl_json::{Items, Json, Members};
 use asl_members::{PathField, read_optional};
-use asl_parts::{Bodies, Common, Outcome, and, with_optional, with_path};
+use asl_parts::{Bodies, Common, Completion, and, with_optional, with_path};
 use asl_template::Template;
 use std::alloc::{AllocError, Global};
 
@@ -27,7 +27,7 @@ pub struct Parallel {
     pub(crate) parameters: Option<Template>,
     /// Its `Branches`.
     pub branches: Bodies,
-    pub(crate) outcome: Outcome,
+    pub(crate) completion: Completion,
 }
 
 // Written out, so that a caller's proof sees one call and not the drop of each part.
@@ -38,7 +38,7 @@ impl Drop for Parallel {
             input_path: _input_path,
             parameters: _parameters,
             branches: _branches,
-            outcome: _outcome,
+            completion: _completion,
         } = self;
     }
 }
@@ -66,10 +66,10 @@ impl Parallel {
     }
 
     /// What becomes of its result or its error.
-    pub fn outcome(&self) -> &Outcome
-        ensures { (t : List Named) → (k : List ℕ) → is_among k outcome_names ≡ true → value_in k (outcome_object result.now) ≡ value_in k (parallel_object t self.now) }
+    pub fn completion(&self) -> &Completion
+        ensures { (t : List Named) → (k : List ℕ) → is_among k completion_names ≡ true → value_in k (completion_object result.now) ≡ value_in k (parallel_object t self.now) }
     {
-        &self.outcome
+        &self.completion
     }
 
     /// Compiles a state with its machines, which stand in a table already.
@@ -83,7 +83,7 @@ impl Parallel {
             input_path: PathField::read(alloc, members.find("InputPath"))?,
             parameters: read_optional(alloc, members.find("Parameters"))?,
             branches,
-            outcome: Outcome::read(alloc, members)?,
+            completion: Completion::read(alloc, members)?,
         })
     }
 
@@ -94,7 +94,7 @@ impl Parallel {
         let own = with_path(alloc, Vec::new(alloc), "InputPath", &self.input_path)?;
         let own = with_optional(alloc, own, "Parameters", &self.parameters)?;
         let own = and(own, "Branches", Some(Json::List(branches)))?;
-        let own = self.outcome.entries(alloc, own)?;
+        let own = self.completion.entries(alloc, own)?;
         self.common.object(alloc, "Parallel", own)
     }
 }

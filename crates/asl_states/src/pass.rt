@@ -13,7 +13,7 @@ ghost use Rattle.asl_parts.specs.Parts.{next_shown, end_shown};
 
 use asl_json::{Json, Members, Txt};
 use asl_members::{PathField, read_optional};
-use asl_parts::{Common, Next, with_optional, with_path};
+use asl_parts::{Common, Transition, with_optional, with_path};
 use asl_template::Template;
 use std::alloc::{AllocError, Global};
 
@@ -25,7 +25,7 @@ pub struct Pass {
     pub(crate) result: Option<Json>,
     pub(crate) result_path: PathField,
     pub(crate) output_path: PathField,
-    pub(crate) next: Next,
+    pub(crate) next: Transition,
 }
 
 // Written out, so that a caller's proof sees one call and not the drop of each part.
@@ -87,7 +87,7 @@ impl Pass {
     }
 
     /// `Next` or `"End": true`.
-    pub fn next(&self) -> &Next
+    pub fn next(&self) -> &Transition
         ensures next { next_shown result.now ≡ value_in (codes "Next") (pass_object self.now) }
         ensures end { end_shown result.now ≡ value_in (codes "End") (pass_object self.now) }
     {
@@ -106,7 +106,7 @@ impl Pass {
             result: read_optional(alloc, members.find("Result"))?,
             result_path: PathField::read(alloc, members.find("ResultPath"))?,
             output_path: PathField::read(alloc, members.find("OutputPath"))?,
-            next: Next::read(alloc, members)?,
+            next: Transition::read(alloc, members)?,
         })
     }
 

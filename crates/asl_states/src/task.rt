@@ -10,11 +10,11 @@ ghost use Rattle.asl_states.specs.Show.{task_object};
 ghost use Rattle.asl_json.specs.Meaning.{value_in};
 ghost use Rattle.asl_members.specs.Shown.{path_shown};
 ghost use Rattle.asl_schema.specs.Members.{is_among};
-ghost use Rattle.asl_parts.specs.Member.{outcome_names, outcome_object};
+ghost use Rattle.asl_parts.specs.Member.{completion_names, completion_object};
 
 use asl_json::{Json, Members, Txt};
 use asl_members::{Compile, Compiled, Count, PathField, read_optional};
-use asl_parts::{Common, Limits, Outcome, with, with_optional, with_path};
+use asl_parts::{Common, Completion, TimeLimits, with, with_optional, with_path};
 use asl_path::RefPath;
 use asl_template::Template;
 use std::alloc::{AllocError, Global};
@@ -26,8 +26,8 @@ pub struct Task {
     pub(crate) input_path: PathField,
     pub(crate) parameters: Option<Template>,
     pub(crate) credentials: Option<Json>,
-    pub(crate) limits: Limits,
-    pub(crate) outcome: Outcome,
+    pub(crate) limits: TimeLimits,
+    pub(crate) completion: Completion,
 }
 
 // Written out, so that a caller's proof sees one call and not the drop of each part.
@@ -40,7 +40,7 @@ impl Drop for Task {
             parameters: _parameters,
             credentials: _credentials,
             limits: _limits,
-            outcome: _outcome,
+            completion: _completion,
         } = self;
     }
 }
@@ -96,10 +96,10 @@ impl Task {
     }
 
     /// What becomes of its result or its error.
-    pub fn outcome(&self) -> &Outcome
-        ensures { (k : List ℕ) → is_among k outcome_names ≡ true → value_in k (outcome_object result.now) ≡ value_in k (task_object self.now) }
+    pub fn completion(&self) -> &Completion
+        ensures { (k : List ℕ) → is_among k completion_names ≡ true → value_in k (completion_object result.now) ≡ value_in k (task_object self.now) }
     {
-        &self.outcome
+        &self.completion
     }
 
     /// Compiles the members of a Task state without faults. The error is that memory ran out.
@@ -116,8 +116,8 @@ impl Task {
             input_path: PathField::read(alloc, members.find("InputPath"))?,
             parameters: read_optional(alloc, members.find("Parameters"))?,
             credentials: read_optional(alloc, members.find("Credentials"))?,
-            limits: Limits::read(alloc, members)?,
-            outcome: Outcome::read(alloc, members)?,
+            limits: TimeLimits::read(alloc, members)?,
+            completion: Completion::read(alloc, members)?,
         })
     }
 
@@ -130,7 +130,7 @@ impl Task {
         let own = with_optional(alloc, own, "Parameters", &self.parameters)?;
         let own = with_optional(alloc, own, "Credentials", &self.credentials)?;
         let own = self.limits.entries(alloc, own)?;
-        let own = self.outcome.entries(alloc, own)?;
+        let own = self.completion.entries(alloc, own)?;
         self.common.object(alloc, "Task", own)
     }
 }

@@ -13,7 +13,7 @@ ghost use Rattle.asl_parts.specs.Parts.{next_shown, end_shown};
 
 use asl_json::{Json, Members};
 use asl_members::{Compile, Compiled, Count, PathField, Stamp};
-use asl_parts::{Common, Next, and, with_path};
+use asl_parts::{Common, Transition, and, with_path};
 use asl_path::RefPath;
 use std::alloc::{AllocError, Global};
 
@@ -47,7 +47,7 @@ pub struct Wait {
     pub(crate) input_path: PathField,
     pub(crate) delay: Delay,
     pub(crate) output_path: PathField,
-    pub(crate) next: Next,
+    pub(crate) next: Transition,
 }
 
 impl Drop for Wait {
@@ -152,7 +152,7 @@ impl Wait {
     }
 
     /// `Next` or `"End": true`.
-    pub fn next(&self) -> &Next
+    pub fn next(&self) -> &Transition
         ensures next { next_shown result.now ≡ value_in (codes "Next") (wait_object self.now) }
         ensures end { end_shown result.now ≡ value_in (codes "End") (wait_object self.now) }
     {
@@ -169,7 +169,7 @@ impl Wait {
             input_path: PathField::read(alloc, members.find("InputPath"))?,
             delay: Delay::read(alloc, members)?,
             output_path: PathField::read(alloc, members.find("OutputPath"))?,
-            next: Next::read(alloc, members)?,
+            next: Transition::read(alloc, members)?,
         })
     }
 

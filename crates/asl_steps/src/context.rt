@@ -163,7 +163,7 @@ pub(crate) fn entered_at(current: &Record, now: Moment) -> Moment
 fn state_of(alloc: Global, current: &Record, now: Moment) -> Result<Json, AllocError>
     ensures { IfOk result (λ v. data_of v ≡ spec_state_of now current.now) }
 {
-    let count = Json::Num(Dec::of_whole(alloc, retry_count(current))?);
+    let count = Json::Num(Dec::of_whole(retry_count(current)));
     let members = with(
         alloc,
         Members::new(alloc),
@@ -180,7 +180,7 @@ fn state_of(alloc: Global, current: &Record, now: Moment) -> Result<Json, AllocE
 fn item_of(alloc: Global, number: u32, value: &Json) -> Result<Json, AllocError>
     ensures { IfOk result (λ v. data_of v ≡ spec_item_of (number, data_of value.now)) }
 {
-    let index = Json::Num(Dec::of_whole(alloc, i128::from(number))?);
+    let index = Json::Num(Dec::of_whole(i128::from(number)));
     let members = with(alloc, Members::new(alloc), "Index", index)?;
     let members = with(alloc, members, "Value", value.try_clone(alloc)?)?;
     Ok(Json::Dict(members))

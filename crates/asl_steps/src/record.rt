@@ -8,6 +8,7 @@ use std::alloc::{AllocError, Global};
 use std::marker::Model;
 
 /// Why a branch failed: an error's name and its cause, each where there is one. (ASL, "Errors".)
+#[derive(PartialEq, Eq)]
 pub struct ErrorOut {
     pub error: Option<Txt>,
     pub cause: Option<Txt>,
@@ -42,8 +43,30 @@ impl Model for Uses {
     ghost view = { λ u. u.counts.items };
 }
 
+impl PartialEq for Uses {
+    ghost use Rattle.std.specs.Prelude.{nat_eq};
+    ghost use Rattle.std.specs.Cmp.Lexicographic.{pointwise};
+    ghost use Rattle.std.specs.Cmp.{partial_equiv_from_equiv};
+    ghost use Rattle.std.proofs.lemmas.Cmp.{nat_list_eq_equiv};
+
+    ghost eq = { pointwise nat_eq };
+
+    ghost laws = { partial_equiv_from_equiv nat_list_eq_equiv };
+
+    fn eq(&self, other: &Uses) -> bool {
+        self.counts.as_slice() == other.counts.as_slice()
+    }
+}
+
+impl Eq for Uses {
+    ghost use Rattle.std.proofs.lemmas.Cmp.{nat_list_eq_equiv};
+
+    ghost laws = { nat_list_eq_equiv };
+}
+
 /// What a branch is doing. `state` is the name of its state, `input` the state's raw input, `since` the moment of the state's first
 /// step, `uses` how often each of its retriers was used.
+#[derive(PartialEq, Eq)]
 pub enum Record {
     /// An iteration of a Map that hasn't begun.
     New {

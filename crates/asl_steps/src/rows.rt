@@ -52,7 +52,7 @@ fn index_of(alloc: Global, place: &Place) -> Result<Shared, AllocError>
     ensures { IfOk result (λ v. v ≡ index_of place.now) }
 {
     let mut members = Members::with_capacity(alloc, 1)?;
-    let number = Json::Num(Dec::of_whole(alloc, i128::from(number_of(place)))?);
+    let number = Json::Num(Dec::of_whole(i128::from(number_of(place))));
     members.push(Txt::of(alloc, "index")?, number)?;
     Ok(Shared::new(alloc, Json::Dict(members))?)
 }

@@ -9,7 +9,8 @@ use Rattle.asl_path.specs.Paths.{part_at}
 use Rattle.asl_intrinsic.specs.Values.{ev}
 use Rattle.asl_template.specs.Names.{mark, name_before, name_of}
 use Rattle.asl_template.specs.private.View.{part_data, parts_data, field_data, fields_data, Fits, AllFit}
-use Rattle.asl_template.specs.Filling.{Outcome, and_then, is_path, is_on_context, found, called, computed, chosen, fill, fill_items, fill_members}
+use Rattle.asl_intrinsic.specs.Calls.{is_context}
+use Rattle.asl_template.specs.Filling.{Outcome, and_then, is_path, found, called, computed, chosen, fill, fill_items, fill_members}
 use Rattle.asl_template.specs.Gives.{Gives}
 use Rattle.asl_template.specs.declared.fill.FillFault.{FillFault}
 use Rattle.asl_template.specs.declared.part.Part.{Part}
@@ -21,13 +22,13 @@ use Rattle.asl_template.proofs.Marks.{name_before-mark, name_of-mark}
 abbrev pub gives : Data → Data → (List ℕ × Data) → Outcome Data
 gives x c m = chosen (name_before m.0) (computed m.0 m.1 x c) (fill m.1 x c)
 
-computed_path : (n t : List ℕ) (x c : Data) (on : Bool) → is_path t ≡ true → is_on_context t ≡ on → gives x c (n ++ mark, text t) ≡ found (n ++ mark) (part_at t (if on then c else x))
+computed_path : (n t : List ℕ) (x c : Data) (on : Bool) → is_path t ≡ true → is_context t ≡ on → gives x c (n ++ mark, text t) ≡ found (n ++ mark) (part_at t (if on then c else x))
 computed_path n t x c on p s = rw (name_before-mark n, p, s) refl
 
 computed_call : (n t : List ℕ) (x c : Data) → is_path t ≡ false → gives x c (n ++ mark, text t) ≡ called (n ++ mark) (ev t x c)
 computed_call n t x c p = rw (name_before-mark n, p) refl
 
-pub path_field : (f : Field) (n t : List ℕ) (x c : Data) (on : Bool) (r : Result Json FillFault) → f ≡ Path n t → Fits f → is_on_context t ≡ on → Gives data_of (found (n ++ mark) (part_at t (if on then c else x))) r → Gives data_of (gives x c (field_data f)) r
+pub path_field : (f : Field) (n t : List ℕ) (x c : Data) (on : Bool) (r : Result Json FillFault) → f ≡ Path n t → Fits f → is_context t ≡ on → Gives data_of (found (n ++ mark) (part_at t (if on then c else x))) r → Gives data_of (gives x c (field_data f)) r
 path_field f n t x c on r is fits s h =
     subst (λ (g : Field). Gives data_of (gives x c (field_data g)) r) (sym is) (subst (λ (o : Outcome Data). Gives data_of o r) (sym (computed_path n t x c on (subst Fits is fits) s)) h)
 

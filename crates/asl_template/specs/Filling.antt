@@ -1,7 +1,8 @@
 -- What a template gives on an input and a Context Object. (Amazon States Language, "Payload Template".)
-use Rattle.std.specs.Prelude.{ℕ, List, [], ◌∷◌, Bool, false, ◌&&◌, ◌==◌, Option, Some, None, if◌then◌else◌, Result, Ok, Err}
+use Rattle.std.specs.Prelude.{ℕ, List, [], ◌∷◌, Bool, false, ◌==◌, Option, Some, None, if◌then◌else◌, Result, Ok, Err}
 use Rattle.asl_json.specs.Data.{Data, null, boolean, number, text, list, dict, Chain, no_items, item, Pairs, no_members, member}
 use Rattle.asl_path.specs.Paths.{part_at}
+use Rattle.asl_intrinsic.specs.Calls.{is_context}
 use Rattle.asl_intrinsic.specs.Values.{ev}
 use Rattle.asl_functions.specs.declared.fault.EvalFault.{EvalFault}
 use Rattle.asl_functions.specs.declared.fault.EvalFault.TheVariants.{Fails, PathMissing, OutOfMemory as NoMemory}
@@ -27,12 +28,6 @@ abbrev pub is_path : List ℕ → Bool
 is_path [] = false
 is_path (c ∷ t) = c == 36
 
--- a path that begins with `$$` starts from the Context Object
-abbrev pub is_on_context : List ℕ → Bool
-is_on_context [] = false
-is_on_context (c ∷ []) = false
-is_on_context (c ∷ d ∷ t) = (c == 36) && (d == 36)
-
 -- the part that a path names, for the member of this key
 abbrev pub found : List ℕ → Option Data → Outcome Data
 found k (Some d) = Ok d
@@ -53,7 +48,7 @@ called k (Err NoMemory) = Err OutOfMemory
 
 -- what the text of a computed member gives
 abbrev pub text_value : List ℕ → List ℕ → Data → Data → Outcome Data
-text_value k t x c = if is_path t then found k (part_at t (if is_on_context t then c else x)) else called k (ev t x c)
+text_value k t x c = if is_path t then found k (part_at t (if is_context t then c else x)) else called k (ev t x c)
 
 -- what a computed member gives; in a template it has a text
 abbrev pub computed : List ℕ → Data → Data → Data → Outcome Data

@@ -3,11 +3,12 @@ ghost use Rattle.std.specs.Prelude.{◌≡◌, ◌++◌, Ok};
 ghost use Rattle.asl_json.specs.View.{data_of};
 ghost use Rattle.asl_json.specs.Data.{chain, pairs};
 ghost use Rattle.asl_path.specs.Paths.{part_at};
+ghost use Rattle.asl_intrinsic.specs.Calls.{is_context};
 ghost use Rattle.asl_intrinsic.specs.Values.{ev};
 ghost use Rattle.asl_template.specs.Names.{mark, name_before, name_of};
 ghost use Rattle.asl_template.specs.private.View.{part_data, field_data, Fits};
 ghost use Rattle.asl_template.specs.Gives.{Gives};
-ghost use Rattle.asl_template.specs.Filling.{is_on_context as starts_from_context, found, word_of as spec_word_of, called, computed, chosen, fill as spec_fill, fill_items, fill_members};
+ghost use Rattle.asl_template.specs.Filling.{found, word_of as spec_word_of, called, computed, chosen, fill as spec_fill, fill_items, fill_members};
 
 use crate::name::marked;
 use crate::part::{Field, Fields, Part, Parts};
@@ -64,9 +65,9 @@ impl<T: Drop> From<AllocFailed<T>> for FillFault {
     }
 }
 
-/// Whether a path starts from the Context Object.
-fn is_on_context(text: &str) -> bool
-    ensures { result ≡ starts_from_context text.now }
+/// Whether the text of a path starts from the Context Object: whether it begins with `$$`.
+pub fn is_on_context(text: &str) -> bool
+    ensures { result ≡ is_context text.now }
 {
     let bytes = text.as_bytes();
     bytes.len() >= 2 && bytes[0] == b'$' && bytes[1] == b'$'

@@ -15,7 +15,7 @@ mod rebuild;
 mod template;
 
 pub use fault::TemplateFault;
-pub use fill::{FillFault, Word};
+pub use fill::{FillFault, Word, is_on_context};
 pub use name::name_before;
 pub use read::{is_double, is_path};
 pub use template::Template;

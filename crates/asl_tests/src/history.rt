@@ -180,7 +180,14 @@ fn links_go_along_places(rt: HostRuntime) -> Result<(), Fail> {
 }
 
 /// Texts that are read as places and written again.
-const PLACES: &[&str] = &["/", "/0", "/1/0/2", "/999999999", "/10/0"];
+const PLACES: &[&str] = &[
+    "/",
+    "/0",
+    "/1/0/2",
+    "/999999999",
+    "/10/0",
+    "/123456789/123456789/123456789",
+];
 
 /// Texts that are no places.
 const NO_PLACES: &[&str] = &[

@@ -341,6 +341,9 @@ fn wide_objects_are_read_and_their_doubled_keys_found(rt: HostRuntime) -> Result
         fault_of(alloc, doubled.as_bytes()),
         Some(JsonFault::Duplicate(341))
     );
+    let wider = wide(alloc, 5_000, false).ok_or("memory")?;
+    assert!(rt; has_compact(alloc, wider.as_str(), wider.as_str()));
+    assert_eq!(rt; clones(alloc, wider.as_str()), Some(true));
     Ok(())
 }
 
@@ -427,7 +430,7 @@ fn whole_spelled(alloc: Global, amount: i128) -> Option<String> {
     if amount.unsigned_abs() >= 1_000_000_000_000_000_000 {
         return None;
     }
-    let number = Dec::of_whole(alloc, amount).ok()?;
+    let number = Dec::of_whole(amount);
     String::from_str(alloc, number.spelling()).ok()
 }
 

@@ -264,6 +264,7 @@ fn what_a_path_goes_past_is_not_looked_at(rt: HostRuntime) -> Result<(), Fail> {
 
 #[test]
 fn a_long_path_needs_no_deep_stack(rt: HostRuntime) -> Result<(), Fail> {
+    assert_eq!(rt; leads_far(rt.alloc(), 40), Some(true));
     assert_eq!(rt; leads_far(rt.alloc(), 300_000), Some(true));
     Ok(())
 }

@@ -43,6 +43,18 @@ part_behind o [] = o
 part_behind None (c ∷ cs) = None
 part_behind (Some p) (c ∷ cs) = part_behind (next_part p c) cs
 
+-- whether a digit leaves this part as it is
+abbrev pub takes_digits : Part → Bool
+takes_digits Start = false
+takes_digits Minus = false
+takes_digits Nought = false
+takes_digits Whole = true
+takes_digits Point = false
+takes_digits Fraction = true
+takes_digits Mark = false
+takes_digits Sign = false
+takes_digits Exponent = true
+
 -- whether a number may end there
 abbrev pub may_end : Part → Bool
 may_end Start = false

@@ -1,10 +1,11 @@
 -- `equal` says whether two values are one.
 use Rattle.std.specs.Prelude.{◌≡◌, ℕ, List, [], ◌∷◌, Bool, true, false, ◌&&◌, nat_eq, refl}
 use Rattle.std.proofs.Common.{sym, ap, subst, eq-eqb}
-use Rattle.std.specs.Cmp.{IsPartialEquivalence, IsEquivalence, equiv}
-use Rattle.std.specs.Cmp.Lexicographic.{same_text}
+use Rattle.std.specs.Bool.{Decides}
+use Rattle.std.specs.Cmp.{IsPartialEquivalence, IsEquivalence, equiv, decided, partial_equiv_from_equiv}
+use Rattle.std.specs.Cmp.Lexicographic.{same_text, pointwise, pointwise_decides}
 use Rattle.asl_json.specs.Data.{Data, null, boolean, number, text, list, dict, Chain, no_items, item, Pairs, no_members, member}
-use Rattle.asl_json.specs.Same.{bool_eq, bytes_eq, equal, equal_items, equal_members}
+use Rattle.asl_json.specs.Same.{bool_eq, bytes_eq, equal, equal_items, equal_members, json_equal, items_equal}
 use Rattle.asl_json.specs.View.{data_of}
 use Rattle.asl_json.specs.declared.value.Json.{Json}
 
@@ -105,9 +106,6 @@ both false false f g = refl
 turned : (x y : Data) → equal x y ≡ true → equal y x ≡ true
 turned x y e = subst (λ (z : Data). equal z x ≡ true) (equal_true x y e) (equal_refl x)
 
-abbrev pub json_equal : Json → Json → Bool
-json_equal a b = equal (data_of a) (data_of b)
-
 pub json_laws : IsPartialEquivalence json_equal
 json_laws = record {
   symm = λ x y. both (json_equal x y) (json_equal y x) (turned (data_of x) (data_of y)) (turned (data_of y) (data_of x));
@@ -116,3 +114,14 @@ json_laws = record {
 
 pub json_equivalence : IsEquivalence json_equal
 json_equivalence = equiv json_laws (λ x. equal_refl (data_of x))
+
+-- ---- the items of lists
+
+data_decides : (x y : Data) → Decides (equal x y) (x ≡ y)
+data_decides x y = (equal_true x y, λ e. subst (λ (z : Data). equal x z ≡ true) e (equal_refl x))
+
+pub items_equivalence : IsEquivalence items_equal
+items_equivalence = decided items_equal (pointwise_decides data_decides)
+
+pub items_laws : IsPartialEquivalence items_equal
+items_laws = partial_equiv_from_equiv items_equivalence

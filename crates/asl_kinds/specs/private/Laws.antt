@@ -16,7 +16,7 @@ use Rattle.asl_history.specs.declared.kind.EventKind.TheVariants.{PassStateEnter
 use Rattle.asl_parts.specs.Texts.{text_in}
 use Rattle.asl_parts.specs.declared.body.Body.{Body}
 use Rattle.asl_parts.specs.Bodies.{body_members, body_of, bodies_of}
-use Rattle.asl_parts.specs.Member.{outcome_names}
+use Rattle.asl_parts.specs.Member.{completion_names}
 use Rattle.asl_parts.proofs.Names.{named}
 use Rattle.asl_parts.proofs.Owning.{tied}
 use Rattle.asl_states.specs.declared.state.State.{State}
@@ -43,7 +43,7 @@ use Rattle.asl_schema.specs.Claims.{item_count}
 use Rattle.asl_mock.specs.Answers.{answer_to}
 use Rattle.asl_mock.specs.declared.response.Answer.{Answer}
 use Rattle.asl_mock.specs.declared.response.Answer.TheVariants.{Returns, Throws}
-use Rattle.asl_handle.specs.Decisions.{Handling, again, caught, unhandled, items_in, decision}
+use Rattle.asl_handle.specs.Decisions.{Handling, again, caught, unhandled, handlers_in, decision}
 use Rattle.asl_data.specs.Paths.{Given, put_into}
 use Rattle.asl_kinds.specs.Members.{next_in, effective_by, effective, pass_output, passed_on, selected_by, selected, no_answer, fail_error, GivenTarget, choice_output, GivenMoment, wait_until}
 use Rattle.asl_kinds.specs.Forks.{start_in, GivenFork, starts_in, ready_at, forked_with, first_error, outputs, gathered}
@@ -133,7 +133,7 @@ wait-lawful d f v = wait_with-lawful d f v (entering_with v.current)
 -- ---- errors
 
 handled-lawful : (retry : Option Data) (v : Seen) (invoking : Bool) (done : Progress) (exited : EventKind) (x : Json) (e : ErrorOut) (h : Handling) → IsSoFar invoking done → IsLawful v invoking (handled retry v done exited x e h)
-handled-lawful retry v invoking done exited x e (again i until) so = retrying-lawful v invoking done x (item_count (items_in retry)) i until so
+handled-lawful retry v invoking done exited x e (again i until) so = retrying-lawful v invoking done x (item_count (handlers_in retry)) i until so
 handled-lawful retry v invoking done exited x e (caught c) so = passed-lawful v invoking done exited (next_in c) (put_into (value_in (codes "ResultPath") c) x (error_output e)) so
 handled-lawful retry v invoking done exited x e unhandled so = failing-lawful v invoking done e so
 
@@ -234,7 +234,7 @@ parallel_joins-lawful d c v (Some x) = joined-lawful ParallelStateSucceeded Para
 parallel_joins-lawful d c v None = idle-lawful v false
 
 parallel_forks-bounded : (d : Data) (v : Seen) (x : Json) (g : Given) → IsBounded v false (parallel_forks d v (beginning v ParallelStateEntered x) x g)
-parallel_forks-bounded d v x (Ok y) = forking-bounded v (telling v (beginning v ParallelStateEntered x) ParallelStateStarted (Dict [])) x (item_count (items_in (value_in (codes "Retry") d))) [] (ready_at (starts_in (value_in (codes "Branches") d)) y) (omega (arith, length-append {A = Draft}, beginning-short v ParallelStateEntered x v.current)) (omega (arith, length-append {A = Draft})) (begun-raised v ParallelStateEntered x v.current)
+parallel_forks-bounded d v x (Ok y) = forking-bounded v (telling v (beginning v ParallelStateEntered x) ParallelStateStarted (Dict [])) x (item_count (handlers_in (value_in (codes "Retry") d))) [] (ready_at (starts_in (value_in (codes "Branches") d)) y) (omega (arith, length-append {A = Draft}, beginning-short v ParallelStateEntered x v.current)) (omega (arith, length-append {A = Draft})) (begun-raised v ParallelStateEntered x v.current)
 parallel_forks-bounded d v x (Err e) = (fork_settled-lawful ParallelStateExited d v (beginning v ParallelStateEntered x) x (Err e) (beginning-so-far v false ParallelStateEntered x v.current)).bounds
 
 parallel_with-bounded : (d c : Data) (v : Seen) (o : Option Json) → IsBounded v false (parallel_with d c v o)
@@ -251,7 +251,7 @@ map_joins-lawful d c v (Some x) = joined-lawful MapStateSucceeded MapStateFailed
 map_joins-lawful d c v None = idle-lawful v false
 
 map_forks-bounded : (d : Data) (v : Seen) (x : Json) (g : GivenFork) → IsBounded v false (map_forks d v (beginning v MapStateEntered x) x g)
-map_forks-bounded d v x (Ok g) = forking-bounded v (telling v (beginning v MapStateEntered x) MapStateStarted (length_body g.0)) x (item_count (items_in (value_in (codes "Retry") d))) g.0 g.1 (omega (arith, length-append {A = Draft}, beginning-short v MapStateEntered x v.current)) (omega (arith, length-append {A = Draft})) (begun-raised v MapStateEntered x v.current)
+map_forks-bounded d v x (Ok g) = forking-bounded v (telling v (beginning v MapStateEntered x) MapStateStarted (length_body g.0)) x (item_count (handlers_in (value_in (codes "Retry") d))) g.0 g.1 (omega (arith, length-append {A = Draft}, beginning-short v MapStateEntered x v.current)) (omega (arith, length-append {A = Draft})) (begun-raised v MapStateEntered x v.current)
 map_forks-bounded d v x (Err e) = (fork_settled-lawful MapStateExited d v (beginning v MapStateEntered x) x (Err e) (beginning-so-far v false MapStateEntered x v.current)).bounds
 
 map_with-bounded : (d : Data) (f : Facts) (v : Seen) (o : Option Json) → IsBounded v false (map_with d f v o)
@@ -302,13 +302,13 @@ state-bounded d f v = by_type-bounded (text_in (value_in (codes "Type") d)) d f 
 abbrev pub AreAlike : List (List ℕ) → Data → Data → Type 0
 AreAlike names d e = (k : List ℕ) → is_among k names ≡ true → value_in k d ≡ value_in k e
 
-fork_settled-alike : (exited : EventKind) (d e : Data) (v : Seen) (done : Progress) (x : Json) (g : Given) → AreAlike outcome_names d e → fork_settled exited d v done x g ≡ fork_settled exited e v done x g
+fork_settled-alike : (exited : EventKind) (d e : Data) (v : Seen) (done : Progress) (x : Json) (g : Given) → AreAlike completion_names d e → fork_settled exited d v done x g ≡ fork_settled exited e v done x g
 fork_settled-alike exited d e v done x g same = λ i. settled (same (codes "Retry") refl i) (same (codes "Catch") refl i) (text_in (same (codes "Next") refl i)) v done exited x g
 
-selected-alike : (d e : Data) (x : Json) (c : Data) (r : Json) → AreAlike outcome_names d e → selected d x c r ≡ selected e x c r
+selected-alike : (d e : Data) (x : Json) (c : Data) (r : Json) → AreAlike completion_names d e → selected d x c r ≡ selected e x c r
 selected-alike d e x c r same = λ i. selected_by (same (codes "ResultSelector") refl i) (same (codes "ResultPath") refl i) (same (codes "OutputPath") refl i) x c r
 
-joined_by-alike : (succeeded failed exited : EventKind) (d e c : Data) (v : Seen) (x : Json) (error : Option ErrorOut) (o : Option (List Data)) → AreAlike outcome_names d e → joined_by succeeded failed exited d c v x error o ≡ joined_by succeeded failed exited e c v x error o
+joined_by-alike : (succeeded failed exited : EventKind) (d e c : Data) (v : Seen) (x : Json) (error : Option ErrorOut) (o : Option (List Data)) → AreAlike completion_names d e → joined_by succeeded failed exited d c v x error o ≡ joined_by succeeded failed exited e c v x error o
 joined_by-alike succeeded failed exited d e c v x (Some error) o same = fork_settled-alike exited d e v (telling v gathered failed (error_output error)) x (Err error) same
 joined_by-alike succeeded failed exited d e c v x None (Some ds) same =
     fork_settled-alike exited d e v (telling v gathered succeeded (Dict [])) x (selected d x c (ListOf ds)) same
@@ -316,7 +316,7 @@ joined_by-alike succeeded failed exited d e c v x None (Some ds) same =
 joined_by-alike succeeded failed exited d e c v x None None same = refl
 
 -- branches are joined by what the state says of its result and of its errors
-pub joined-alike : (succeeded failed exited : EventKind) (d e c : Data) (v : Seen) (x : Json) → AreAlike outcome_names d e → joined succeeded failed exited d c v x ≡ joined succeeded failed exited e c v x
+pub joined-alike : (succeeded failed exited : EventKind) (d e c : Data) (v : Seen) (x : Json) → AreAlike completion_names d e → joined succeeded failed exited d c v x ≡ joined succeeded failed exited e c v x
 joined-alike succeeded failed exited d e c v x same = joined_by-alike succeeded failed exited d e c v x (first_error v.children) (outputs v.children) same
 
 -- the states that machines start at don't depend on it
@@ -341,15 +341,15 @@ input_names = codes "InputPath" ∷ codes "Parameters" ∷ []
 effective-alike : (d e : Data) (x : Json) (c : Data) → AreAlike input_names d e → effective d x c ≡ effective e x c
 effective-alike d e x c same = λ i. effective_by (same (codes "InputPath") refl i) (same (codes "Parameters") refl i) x c
 
-parallel_forks-alike : (d e : Data) (v : Seen) (done : Progress) (x : Json) (g : Given) → AreAlike outcome_names d e → starts_in (value_in (codes "Branches") d) ≡ starts_in (value_in (codes "Branches") e) → parallel_forks d v done x g ≡ parallel_forks e v done x g
-parallel_forks-alike d e v done x (Ok y) same starts = λ i. forking v (telling v done ParallelStateStarted (Dict [])) x (item_count (items_in (same (codes "Retry") refl i))) [] (ready_at (starts i) y)
+parallel_forks-alike : (d e : Data) (v : Seen) (done : Progress) (x : Json) (g : Given) → AreAlike completion_names d e → starts_in (value_in (codes "Branches") d) ≡ starts_in (value_in (codes "Branches") e) → parallel_forks d v done x g ≡ parallel_forks e v done x g
+parallel_forks-alike d e v done x (Ok y) same starts = λ i. forking v (telling v done ParallelStateStarted (Dict [])) x (item_count (handlers_in (same (codes "Retry") refl i))) [] (ready_at (starts i) y)
 parallel_forks-alike d e v done x (Err error) same starts = fork_settled-alike ParallelStateExited d e v done x (Err error) same
 
-parallel_joins-alike : (d e c : Data) (v : Seen) (o : Option Json) → AreAlike outcome_names d e → parallel_joins d c v o ≡ parallel_joins e c v o
+parallel_joins-alike : (d e c : Data) (v : Seen) (o : Option Json) → AreAlike completion_names d e → parallel_joins d c v o ≡ parallel_joins e c v o
 parallel_joins-alike d e c v (Some x) same = joined-alike ParallelStateSucceeded ParallelStateFailed ParallelStateExited d e c v x same
 parallel_joins-alike d e c v None same = refl
 
-parallel_with-alike : (d e c : Data) (v : Seen) (o : Option Json) → AreAlike input_names d e → AreAlike outcome_names d e → starts_in (value_in (codes "Branches") d) ≡ starts_in (value_in (codes "Branches") e) → parallel_with d c v o ≡ parallel_with e c v o
+parallel_with-alike : (d e c : Data) (v : Seen) (o : Option Json) → AreAlike input_names d e → AreAlike completion_names d e → starts_in (value_in (codes "Branches") d) ≡ starts_in (value_in (codes "Branches") e) → parallel_with d c v o ≡ parallel_with e c v o
 parallel_with-alike d e c v (Some x) inputs outs starts =
     parallel_forks-alike d e v (beginning v ParallelStateEntered x) x (effective d x c) outs starts
     ∙ ap (parallel_forks e v (beginning v ParallelStateEntered x) x) (effective-alike d e x c inputs)
@@ -359,7 +359,7 @@ parallel-alike : (t u : List Named) (p : Parallel) (f : Facts) (v : Seen) → pa
 parallel-alike t u p f v =
     parallel_with-alike (parallel_object t p) (parallel_object u p) (context_of f v) v (beginning_with v.current)
     (λ k among. tied input_names (parallel_members t p) (parallel_members u p) k among (refl, (refl, tt)))
-    (λ k among. tied outcome_names (parallel_members t p) (parallel_members u p) k among (refl, (refl, (refl, (refl, (refl, (refl, (refl, tt))))))))
+    (λ k among. tied completion_names (parallel_members t p) (parallel_members u p) k among (refl, (refl, (refl, (refl, (refl, (refl, (refl, tt))))))))
     (parallel_starts t p ∙ sym (parallel_starts u p))
 
 -- a Map's iterations start where its machine does
@@ -373,15 +373,15 @@ map_names = codes "InputPath" ∷ codes "ItemsPath" ∷ codes "Parameters" ∷ c
 fork_of-alike : (d e : Data) (f : Facts) (v : Seen) (x : Json) → AreAlike map_names d e → iteration_start (processor_in d) ≡ iteration_start (processor_in e) → fork_of d f v x ≡ fork_of e f v x
 fork_of-alike d e f v x same start = λ i. fork_with (same (codes "InputPath") refl i) (same (codes "ItemsPath") refl i) (option_or (same (codes "Parameters") refl i) (same (codes "ItemSelector") refl i)) (start i) f v x
 
-map_forks-alike : (d e : Data) (v : Seen) (done : Progress) (x : Json) (g : GivenFork) → AreAlike outcome_names d e → map_forks d v done x g ≡ map_forks e v done x g
-map_forks-alike d e v done x (Ok g) same = λ i. forking v (telling v done MapStateStarted (length_body g.0)) x (item_count (items_in (same (codes "Retry") refl i))) g.0 g.1
+map_forks-alike : (d e : Data) (v : Seen) (done : Progress) (x : Json) (g : GivenFork) → AreAlike completion_names d e → map_forks d v done x g ≡ map_forks e v done x g
+map_forks-alike d e v done x (Ok g) same = λ i. forking v (telling v done MapStateStarted (length_body g.0)) x (item_count (handlers_in (same (codes "Retry") refl i))) g.0 g.1
 map_forks-alike d e v done x (Err error) same = fork_settled-alike MapStateExited d e v done x (Err error) same
 
-map_joins-alike : (d e c : Data) (v : Seen) (o : Option Json) → AreAlike outcome_names d e → map_joins d c v o ≡ map_joins e c v o
+map_joins-alike : (d e c : Data) (v : Seen) (o : Option Json) → AreAlike completion_names d e → map_joins d c v o ≡ map_joins e c v o
 map_joins-alike d e c v (Some x) same = joined-alike MapStateSucceeded MapStateFailed MapStateExited d e c v x same
 map_joins-alike d e c v None same = refl
 
-map_with-alike : (d e : Data) (f : Facts) (v : Seen) (o : Option Json) → AreAlike map_names d e → AreAlike outcome_names d e → iteration_start (processor_in d) ≡ iteration_start (processor_in e) → map_with d f v o ≡ map_with e f v o
+map_with-alike : (d e : Data) (f : Facts) (v : Seen) (o : Option Json) → AreAlike map_names d e → AreAlike completion_names d e → iteration_start (processor_in d) ≡ iteration_start (processor_in e) → map_with d f v o ≡ map_with e f v o
 map_with-alike d e f v (Some x) inputs outs start =
     map_forks-alike d e v (beginning v MapStateEntered x) x (fork_of d f v x) outs
     ∙ ap (map_forks e v (beginning v MapStateEntered x) x) (fork_of-alike d e f v x inputs start)
@@ -391,7 +391,7 @@ map-alike : (t u : List Named) (m : Map) (f : Facts) (v : Seen) → map_effect (
 map-alike t u m f v =
     map_with-alike (map_object t m) (map_object u m) f v (beginning_with v.current)
     (λ k among. tied map_names (map_members t m) (map_members u m) k among (refl, (refl, (refl, (refl, tt)))))
-    (λ k among. tied outcome_names (map_members t m) (map_members u m) k among (refl, (refl, (refl, (refl, (refl, (refl, (refl, tt))))))))
+    (λ k among. tied completion_names (map_members t m) (map_members u m) k among (refl, (refl, (refl, (refl, (refl, (refl, (refl, tt))))))))
     (map_start t m ∙ sym (map_start u m))
 
 -- what a state does doesn't depend on the states of the machines inside it, nor on their table

@@ -6,8 +6,8 @@ use Rattle.std.specs.Option.{option_eq}
 use Rattle.std.specs.Cmp.{IsPartialEquivalence, IsEquivalence, decided, partial_equiv_from_equiv, unsigned_Decides}
 use Rattle.std.specs.Cmp.Lexicographic.{pointwise_decides, bytes_decides}
 use Rattle.asl_json.specs.View.{data_of, same_json}
-use Rattle.asl_json.specs.Same.{bytes_eq}
-use Rattle.asl_json.specs.private.SameLaws.{json_equal, equal_true, equal_refl}
+use Rattle.asl_json.specs.Same.{bytes_eq, json_equal}
+use Rattle.asl_json.specs.private.SameLaws.{equal_true, equal_refl}
 use Rattle.asl_json.specs.declared.value.Json.{Json}
 use Rattle.asl_mock.specs.Tables.{Named}
 use Rattle.asl_mock.specs.Answers.{Response, Case}

@@ -7,7 +7,7 @@ use Rattle.asl_json.specs.View.{data_of}
 use Rattle.asl_json.specs.Access.{key_index}
 use Rattle.asl_json.specs.Distinct.{has_key}
 use Rattle.asl_json.specs.declared.value.Json.{Json}
-use Rattle.asl_functions.specs.Merge.{with_member}
+use Rattle.asl_functions.specs.private.Loops.{with_member}
 use Rattle.asl_functions.proofs.Merging.{place_within, place_set, index_set, no_place_key, no_place_push, index_push}
 use Rattle.asl_functions.proofs.merge.put_member.Goals as goal
 

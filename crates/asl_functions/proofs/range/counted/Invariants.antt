@@ -1,10 +1,11 @@
-use Rattle.std.proofs.Common.{◌≡◌, [], pos, ◌≤ℤ◌, ◌<ℤ◌}
+use Rattle.std.proofs.Common.{◌≡◌, pos, ◌≤ℤ◌, ◌<ℤ◌}
 use Rattle.asl_json.specs.View.{items_of}
 use Rattle.asl_functions.specs.Lists.{counted}
+use Rattle.asl_functions.proofs.Counting.{behind}
 use Rattle.asl_functions.proofs.range.counted.Given as goal
 
 abbrev pub invariant-count : goal.invariant-count
-invariant-count l = (counted l.left l.stride l.end l.value (items_of l.values.items) ≡ counted l.most l.stride l.end l.first [])
+invariant-count l = (behind (items_of l.values.items) (counted l.left l.stride l.end l.value) ≡ counted l.most l.stride l.end l.first)
     × (pos 0 <ℤ l.stride → l.first ≤ℤ l.value) × (l.stride ≤ℤ pos 0 → l.value ≤ℤ l.first)
 
 abbrev pub decreases-count : goal.decreases-count

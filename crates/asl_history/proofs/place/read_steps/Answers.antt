@@ -1,4 +1,4 @@
-use Rattle.std.proofs.Common.{ap, Some}
+use Rattle.std.proofs.Common.{ap, Some, ◌∙◌}
 use Rattle.asl_history.proofs.Steps.{begun, read_on, stuck, ended, whole, shorter, nonempty, empty}
 use Rattle.asl_history.proofs.place.read_steps.Goals as goal
 
@@ -14,11 +14,12 @@ loop-rest-smaller c = shorter c.loop-rest.rest.now c.in-Some.behind.now c.in-Som
 pub loop-rest-preserved : goal.loop-rest-preserved
 loop-rest-preserved c = rw c.in_ok-push.ensures.items (read_on c.args.bytes.now c.loop-rest.numbers.items c.loop-rest.rest.now c.in-Some.behind.now c.in-Some.number c.loop-rest.invariant c.in-Some.ensures.found c.in-Some.ensures.small c.in-Some.ensures.only)
 
-pub invariant_of-result : goal.invariant_of-result
-invariant_of-result c = c.loop-rest.invariant.small
+pub of-requires : goal.of-requires
+of-requires c = c.loop-rest.invariant.small
 
 pub returns-clause-found : goal.returns-clause-found
-returns-clause-found c = whole c.args.bytes.now c.loop-rest.numbers.items c.loop-rest.rest.now c.loop-rest.invariant (empty c.loop-rest.rest.now c.loop-rest-test.ensures)
+returns-clause-found c =
+    rw c.in_ok-of.ensures (whole c.args.bytes.now c.loop-rest.numbers.items c.loop-rest.rest.now c.loop-rest.invariant (empty c.loop-rest.rest.now c.loop-rest-test.ensures))
 
 pub returns-clause-only : goal.returns-clause-only
-returns-clause-only c = λ p s e. ap Some (ended c.args.bytes.now c.loop-rest.numbers.items c.loop-rest.rest.now c.loop-rest.invariant (empty c.loop-rest.rest.now c.loop-rest-test.ensures) p s e)
+returns-clause-only c = λ p s e. ap Some (c.in_ok-of.ensures ∙ ended c.args.bytes.now c.loop-rest.numbers.items c.loop-rest.rest.now c.loop-rest.invariant (empty c.loop-rest.rest.now c.loop-rest-test.ensures) p s e)

@@ -1,18 +1,18 @@
-use Rattle.std.proofs.Common.{take}
+use Rattle.std.proofs.Common.{take, sym, ◌∙◌}
 use Rattle.std.proofs.lemmas.List.{take_rest}
 use Rattle.asl_json.proofs.Figures.{number_utf8}
 use Rattle.asl_json.proofs.Fronts.{utf8_past}
 use Rattle.asl_json.proofs.Numbers.{front_over, front_fits}
 use Rattle.asl_json.proofs.number.number.Goals as goal
 
-pub returns-in_default-clause-run : goal.returns-in_default-clause-run
-returns-in_default-clause-run c = λ st. front_over c.args.bytes.now c.in_ok-end.end st c.in_ok-end.ensures.found c.in_default.ensures
+pub returns-then-is_past-clause-run : goal.returns-then-is_past-clause-run
+returns-then-is_past-clause-run c = λ st. front_over c.args.bytes.now c.in_ok-end.end st c.in_ok-end.ensures.found (sym c.is_past.ensures ∙ c.if-is_past.true)
 
 pub as_text-text-requires : goal.as_text-text-requires
 as_text-text-requires c = number_utf8 (take c.in_ok-end.end c.args.bytes.now) c.in_ok-end.ensures.found.number_is
 
 pub returns-clause-run : goal.returns-clause-run
-returns-clause-run c = λ st. rw (take_rest, c.of_units.ensures, c.as_text-text.ensures) (front_fits c.args.bytes.now c.in_ok-end.end st c.in_ok-end.ensures.found c.in-Some.ensures.1)
+returns-clause-run c = λ st. rw (take_rest, c.of_number.ensures, c.as_text-text.ensures) (front_fits c.args.bytes.now c.in_ok-end.end st c.in_ok-end.ensures.found (sym c.is_past.ensures ∙ c.if-is_past.false))
 
 pub returns-clause-utf8 : goal.returns-clause-utf8
 returns-clause-utf8 c =

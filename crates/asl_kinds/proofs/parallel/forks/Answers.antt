@@ -1,6 +1,6 @@
 use Rattle.std.proofs.Common.{[], codes, refl, subst, ap, ◌∙◌, ◌≡◌}
 use Rattle.std.specs.Prelude.{IfOk}
-use Rattle.asl_handle.specs.Decisions.{items_in}
+use Rattle.asl_handle.specs.Decisions.{handlers_in}
 use Rattle.asl_schema.specs.Claims.{item_count}
 use Rattle.asl_states.specs.Show.{parallel_object}
 use Rattle.asl_steps.specs.declared.effect.Effect.{Effect}
@@ -14,7 +14,7 @@ returns-clause-effect c =
     let is = forked_as (parallel_object [] c.args.parallel.now) (seen c.args.visit.now) c.args.done c.in_ok-done.done c.in_ok-started.started c.args.input.now c.args.effective.now _ _ c.branches.result.now _
     c.in_ok-done.ensures
     c.in_ok-started.ensures
-    (c.count_of-retriers.ensures ∙ ap (λ o. item_count (items_in o)) (c.retry.ensures ∙ c.outcome.ensures [] (codes "Retry") refl))
+    (c.count_of-retriers.ensures ∙ ap (λ o. item_count (handlers_in o)) (c.retry.ensures ∙ c.completion.ensures [] (codes "Retry") refl))
     c.none-items.ensures
     c.in_ok-branches.ensures.ready
     (starts_of [] c.branches.result.now _ (c.branches.ensures []))

@@ -1,6 +1,6 @@
 use Rattle.std.proofs.Common.{codes, refl}
 use Rattle.asl_json.specs.Meaning.{value_in}
-use Rattle.asl_parts.specs.Member.{outcome_object}
+use Rattle.asl_parts.specs.Member.{completion_object}
 use Rattle.asl_steps.specs.Context.{context_of}
 use Rattle.asl_steps.specs.Seen.{seen}
 use Rattle.asl_kinds.specs.Members.{selected_by}
@@ -8,15 +8,15 @@ use Rattle.asl_kinds.proofs.task.returns.Goals as goal
 
 pub returns-clause-effect : goal.returns-clause-effect
 returns-clause-effect c =
-    let parts = outcome_object c.outcome-outcome.result.now in
+    let parts = completion_object c.completion-completion.result.now in
     let gives = c.settled.ensures (selected_by (value_in (codes "ResultSelector") parts) (value_in (codes "ResultPath") parts) (value_in (codes "OutputPath") parts) c.args.input.now (context_of c.args.context.now.facts (seen c.args.visit.now)) c.in_ok-value.value) c.selected-given.ensures.given in
     rw (
-      c.outcome-outcome.ensures (codes "Retry") refl,
-      c.outcome-outcome.ensures (codes "Catch") refl,
-      c.outcome-outcome.ensures (codes "Next") refl,
-      c.outcome-outcome.ensures (codes "ResultSelector") refl,
-      c.outcome-outcome.ensures (codes "ResultPath") refl,
-      c.outcome-outcome.ensures (codes "OutputPath") refl,
+      c.completion-completion.ensures (codes "Retry") refl,
+      c.completion-completion.ensures (codes "Catch") refl,
+      c.completion-completion.ensures (codes "Next") refl,
+      c.completion-completion.ensures (codes "ResultSelector") refl,
+      c.completion-completion.ensures (codes "ResultPath") refl,
+      c.completion-completion.ensures (codes "OutputPath") refl,
       c.in_ok-done.ensures,
       c.in_ok-told.ensures,
       c.in_ok-value.ensures,

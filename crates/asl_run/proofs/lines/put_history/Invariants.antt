@@ -1,6 +1,6 @@
 use Rattle.std.proofs.Common.{◌≡◌, ◌++◌, drop}
 use Rattle.std.specs.Prelude.{string_bytes}
-use Rattle.asl_json.specs.private.Buffers.{Keeps}
+use Rattle.asl_text.specs.Buffers.{Keeps}
 use Rattle.asl_history.specs.Lines.{history_text}
 use Rattle.asl_run.proofs.lines.put_history.Given as goal
 

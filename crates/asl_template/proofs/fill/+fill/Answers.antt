@@ -5,7 +5,8 @@ use Rattle.asl_json.specs.View.{data_of}
 use Rattle.asl_json.specs.Distinct.{AreDistinct, has_key}
 use Rattle.asl_template.specs.Names.{named}
 use Rattle.asl_template.specs.private.View.{AllFit, part_data, parts_data, field_data, fields_data}
-use Rattle.asl_template.specs.Filling.{fill_items, fill_members, is_on_context}
+use Rattle.asl_intrinsic.specs.Calls.{is_context}
+use Rattle.asl_template.specs.Filling.{fill_items, fill_members}
 use Rattle.asl_template.specs.declared.part.Field.{Field}
 use Rattle.asl_template.proofs.Filled.{path_field, call_field, fit_at, parts_step, parts_end, fields_step, fields_end}
 use Rattle.asl_template.proofs.Within.{item_within, member_within}
@@ -14,11 +15,11 @@ use Rattle.asl_template.proofs.fill.+fill.Goals as goal
 
 pub fill_field-returns-then-is_on_context : goal.fill_field-returns-then-is_on_context
 fill_field-returns-then-is_on_context t c =
-    path_field c.args.field.now c.in-Path.name c.in-Path.path (data_of c.args.input.now) (data_of c.args.context.now) true c.part_of.result c.in-Path.is c.requires (sym (c.if-is_on_context.ensures ∙ ap is_on_context c.text.ensures.text)) c.part_of.ensures
+    path_field c.args.field.now c.in-Path.name c.in-Path.path (data_of c.args.input.now) (data_of c.args.context.now) true c.part_of.result c.in-Path.is c.requires (sym (c.if-is_on_context.ensures ∙ ap is_context c.text.ensures.text)) c.part_of.ensures
 
 pub fill_field-returns-else-is_on_context : goal.fill_field-returns-else-is_on_context
 fill_field-returns-else-is_on_context t c =
-    path_field c.args.field.now c.in-Path.name c.in-Path.path (data_of c.args.input.now) (data_of c.args.context.now) false c.part_of-in-Path.result c.in-Path.is c.requires (sym (c.if-is_on_context.ensures ∙ ap is_on_context c.text.ensures.text)) c.part_of-in-Path.ensures
+    path_field c.args.field.now c.in-Path.name c.in-Path.path (data_of c.args.input.now) (data_of c.args.context.now) false c.part_of-in-Path.result c.in-Path.is c.requires (sym (c.if-is_on_context.ensures ∙ ap is_context c.text.ensures.text)) c.part_of-in-Path.ensures
 
 pub fill_field-returns-in-Call : goal.fill_field-returns-in-Call
 fill_field-returns-in-Call t c = call_field c.args.field.now c.in-Call.name c.in-Call.call (data_of c.args.input.now) (data_of c.args.context.now) c.value_of.result c.in-Call.is c.requires c.value_of.ensures

@@ -8,6 +8,7 @@ use Rattle.asl_json.proofs.value.Dec.whole.Goals as goal
 
 pub returns-then-units-eq0-clause-below : goal.returns-then-units-eq0-clause-below
 returns-then-units-eq0-clause-below c =
-    let below = subst (λ (u : ℤ). unsigned_abs u < amount_limit) (sym c.self.invariant.1) (units_below c.self.inside.spelled.bytes c.self.invariant.0.1) in
-    let small = quotient_below c.self.inside.units below in
-    rw (to_z-of_z w128 c.self.inside.units (search rules)) (rw (to_z-of_z w128 (int_div c.self.inside.units (pos 1000000000)) (amount_fits (int_div c.self.inside.units (pos 1000000000)) small)) small)
+    let units = c.units-units.result in
+    let below = subst (λ (u : ℤ). unsigned_abs u < amount_limit) (sym c.units-units.ensures) (units_below c.args.self.now c.is_number.ensures.1) in
+    let small = quotient_below units below in
+    rw (to_z-of_z w128 units (search rules)) (rw (to_z-of_z w128 (int_div units (pos 1000000000)) (amount_fits (int_div units (pos 1000000000)) small)) small)

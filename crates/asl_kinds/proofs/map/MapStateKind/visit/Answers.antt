@@ -1,7 +1,7 @@
 use Rattle.std.proofs.Common.{[], ◌≡◌, subst, sym}
 use Rattle.std.specs.Prelude.{IfOk}
 use Rattle.asl_history.specs.declared.kind.EventKind.TheVariants.{MapStateSucceeded, MapStateFailed, MapStateExited}
-use Rattle.asl_parts.specs.Member.{outcome_object}
+use Rattle.asl_parts.specs.Member.{completion_object}
 use Rattle.asl_states.specs.Show.{map_object}
 use Rattle.asl_steps.specs.Context.{context_of}
 use Rattle.asl_steps.specs.declared.effect.Effect.{Effect}
@@ -11,10 +11,10 @@ use Rattle.asl_kinds.proofs.map.MapStateKind.visit.Goals as goal
 
 pub returns-clause-effect : goal.returns-clause-effect
 returns-clause-effect c =
-    let same = joined-alike MapStateSucceeded MapStateFailed MapStateExited (outcome_object c.outcome.result.now) (map_object [] c.args.self.now) (context_of c.args.context.now.facts (seen c.args.visit.now)) (seen c.args.visit.now) c.in-Some-forked.input.now (c.outcome.ensures []) in
+    let same = joined-alike MapStateSucceeded MapStateFailed MapStateExited (completion_object c.completion.result.now) (map_object [] c.args.self.now) (context_of c.args.context.now.facts (seen c.args.visit.now)) (seen c.args.visit.now) c.in-Some-forked.input.now (c.completion.ensures []) in
     let told = subst (λ (e : Effect). IfOk c.join.result (λ r. r ≡ e)) same c.join.ensures.effect in
     rw (sym c.in_default.ensures, sym c.in-Some-forked.ensures) told
 
 pub returns-clause-fits : goal.returns-clause-fits
 returns-clause-fits c =
-    fits_as c.join.result _ c.join.ensures.effect (joined-lawful MapStateSucceeded MapStateFailed MapStateExited (outcome_object c.outcome.result.now) (context_of c.args.context.now.facts (seen c.args.visit.now)) (seen c.args.visit.now) c.in-Some-forked.input.now).fits
+    fits_as c.join.result _ c.join.ensures.effect (joined-lawful MapStateSucceeded MapStateFailed MapStateExited (completion_object c.completion.result.now) (context_of c.args.context.now.facts (seen c.args.visit.now)) (seen c.args.visit.now) c.in-Some-forked.input.now).fits

@@ -14,10 +14,10 @@ pub returns-in-ItemsPath : goal.returns-in-ItemsPath
 returns-in-ItemsPath c t = own path_names path_of c.args.member.now (codes "ItemsPath") (option_map text c.args.self.now.items_path) _ (map_members t c.args.self.now) c.in-ItemsPath.is c.optional_path.ensures refl refl
 
 pub returns-in-ResultPath : goal.returns-in-ResultPath
-returns-in-ResultPath c t = own path_names path_of c.args.member.now (codes "ResultPath") (path_shown c.args.self.now.outcome.result_path) _ (map_members t c.args.self.now) c.in-ResultPath.is c.field_path-in-ResultPath.ensures refl refl
+returns-in-ResultPath c t = own path_names path_of c.args.member.now (codes "ResultPath") (path_shown c.args.self.now.completion.result_path) _ (map_members t c.args.self.now) c.in-ResultPath.is c.field_path-in-ResultPath.ensures refl refl
 
 pub returns-in-OutputPath : goal.returns-in-OutputPath
-returns-in-OutputPath c t = own path_names path_of c.args.member.now (codes "OutputPath") (path_shown c.args.self.now.outcome.output_path) _ (map_members t c.args.self.now) c.in-OutputPath.is c.field_path-in-OutputPath.ensures refl refl
+returns-in-OutputPath c t = own path_names path_of c.args.member.now (codes "OutputPath") (path_shown c.args.self.now.completion.output_path) _ (map_members t c.args.self.now) c.in-OutputPath.is c.field_path-in-OutputPath.ensures refl refl
 
 pub returns-in_default : goal.returns-in_default
 returns-in_default c t = not_own path_names path_of (codes "InputPath" ∷ codes "ItemsPath" ∷ codes "ResultPath" ∷ codes "OutputPath" ∷ []) c.args.member.now (map_members t c.args.self.now) refl refl (c.in_default.not-InputPath, (c.in_default.not-ItemsPath, (c.in_default.not-ResultPath, (c.in_default.not-OutputPath, tt))))

@@ -6,7 +6,7 @@ use Rattle.asl_schema.specs.declared.sort.Kind.TheVariants.{Map as MapKind}
 use Rattle.asl_schema.specs.Members.{map_rows}
 use Rattle.asl_members.specs.Readable.{IsCount, IsPathOrNull, IsPathText}
 use Rattle.asl_members.proofs.Fitting.{from_zero_fits, path_fits, path_or_null_fits}
-use Rattle.asl_parts.specs.Built.{of_any_type, has_outcome}
+use Rattle.asl_parts.specs.Built.{of_any_type, has_completion}
 use Rattle.asl_states.proofs.Canonical.{map_shows}
 use Rattle.asl_parts.proofs.Fits.{of_any, member_fits, found_fits, selector_at_most}
 use Rattle.asl_states.proofs.map.Map.read.Goals as goal
@@ -38,7 +38,7 @@ pub read-requires-3-clause-one : goal.read-requires-3-clause-one
 read-requires-3-clause-one c = selector_at_most (λ v. data_of v.now) (λ v. data_of v.now) c.args.members.now _ _ c.requires c.find-4.ensures c.find-5.ensures
 
 pub read-requires-4 : goal.read-requires-4
-read-requires-4 c = of_any has_outcome MapKind c.args.members.now refl c.requires
+read-requires-4 c = of_any has_completion MapKind c.args.members.now refl c.requires
 
 pub returns-clause-object : goal.returns-clause-object
 returns-clause-object c = λ t e f. map_shows t c.args.members.now _ c.requires c.in_ok-read.ensures.comment c.in_ok-read.ensures.language (c.in_ok-read-2.ensures ∙ c.find.ensures) (c.in_ok-read_optional.ensures ∙ c.find-2.ensures) (c.in_ok-read_optional-2.ensures ∙ c.find-3.ensures) (c.in_ok-read-3.ensures.parameters ∙ c.find-4.ensures) (c.in_ok-read-3.ensures.item_selector ∙ c.find-5.ensures) e f c.in_ok-read-4.ensures

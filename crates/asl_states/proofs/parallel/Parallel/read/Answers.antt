@@ -7,7 +7,7 @@ use Rattle.asl_schema.proofs.Templates.{is_template}
 use Rattle.asl_template.specs.Faults.{IsTemplate}
 use Rattle.asl_members.specs.Readable.{IsPathOrNull}
 use Rattle.asl_members.proofs.Fitting.{path_or_null_fits}
-use Rattle.asl_parts.specs.Built.{of_any_type, has_outcome}
+use Rattle.asl_parts.specs.Built.{of_any_type, has_completion}
 use Rattle.asl_states.proofs.Canonical.{parallel_shows}
 use Rattle.asl_parts.proofs.Fits.{of_any, member_fits}
 use Rattle.asl_states.proofs.parallel.Parallel.read.Goals as goal
@@ -24,7 +24,7 @@ unfolding parallel_rows
 read_optional-requires c = member_fits ParallelKind c.args.members.now (codes "Parameters") Template IsTemplate _ refl is_template c.requires c.find-2.ensures
 
 pub read-requires-3 : goal.read-requires-3
-read-requires-3 c = of_any has_outcome ParallelKind c.args.members.now refl c.requires
+read-requires-3 c = of_any has_completion ParallelKind c.args.members.now refl c.requires
 
 pub returns-clause-object : goal.returns-clause-object
 returns-clause-object c = λ t e. parallel_shows t c.args.members.now _ c.requires c.in_ok-read.ensures.comment c.in_ok-read.ensures.language (c.in_ok-read-2.ensures ∙ c.find.ensures) (c.in_ok-read_optional.ensures ∙ c.find-2.ensures) e c.in_ok-read-3.ensures

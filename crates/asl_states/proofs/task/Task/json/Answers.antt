@@ -1,6 +1,6 @@
 use Rattle.std.proofs.Common.{[], ◌++◌, ◌∙◌, refl, sym, ap}
 use Rattle.asl_members.specs.Entries.{entries_of}
-use Rattle.asl_parts.specs.Parts.{Slots, limits_members, outcome_members}
+use Rattle.asl_parts.specs.Parts.{Slots, limits_members, completion_members}
 use Rattle.asl_parts.proofs.Fits.{map_same}
 use Rattle.asl_parts.proofs.Slots.{more}
 use Rattle.asl_states.proofs.task.Task.json.Goals as goal
@@ -12,4 +12,4 @@ returns c =
     let three = more [] _ _ _ _ _ _ c.in_ok-own-3.ensures two (sym (map_same _)) in
     let four = more [] _ _ _ _ _ _ c.in_ok-own-4.ensures three refl in
     let limits = c.in_ok-own-5.ensures ∙ ap (λ (es : Slots). es ++ limits_members c.args.self.now.limits) four in
-    rw (c.in_ok-own-6.ensures ∙ ap (λ (es : Slots). es ++ outcome_members c.args.self.now.outcome) limits) at c.object.ensures
+    rw (c.in_ok-own-6.ensures ∙ ap (λ (es : Slots). es ++ completion_members c.args.self.now.completion) limits) at c.object.ensures

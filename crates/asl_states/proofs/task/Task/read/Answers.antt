@@ -7,7 +7,7 @@ use Rattle.asl_schema.proofs.Templates.{is_template}
 use Rattle.asl_template.specs.Faults.{IsTemplate}
 use Rattle.asl_members.specs.Readable.{IsPathOrNull}
 use Rattle.asl_members.proofs.Fitting.{path_or_null_fits, text_fits}
-use Rattle.asl_parts.specs.Built.{of_any_type, has_outcome}
+use Rattle.asl_parts.specs.Built.{of_any_type, has_completion}
 use Rattle.asl_states.proofs.Canonical.{task_shows}
 use Rattle.asl_parts.proofs.Fits.{of_any, member_fits}
 use Rattle.std.specs.Prelude.{Some, option_map}
@@ -36,7 +36,7 @@ unfolding task_rows
 read_optional-requires c = member_fits TaskKind c.args.members.now (codes "Parameters") Template IsTemplate _ refl is_template c.requires c.find-3.ensures
 
 pub read-requires-5 : goal.read-requires-5
-read-requires-5 c = of_any has_outcome TaskKind c.args.members.now refl c.requires
+read-requires-5 c = of_any has_completion TaskKind c.args.members.now refl c.requires
 
 pub returns : goal.returns
 returns c = task_shows c.args.members.now _ c.requires c.in_ok-read.ensures.comment c.in_ok-read.ensures.language (ap Some c.in_ok-read-2.ensures ∙ rw c.in-Some.is at c.find.ensures) (c.in_ok-read-3.ensures ∙ c.find-2.ensures) (c.in_ok-read_optional.ensures ∙ c.find-3.ensures) (c.in_ok-read_optional-2.ensures ∙ c.find-4.ensures) c.in_ok-read-4.ensures.timeout c.in_ok-read-4.ensures.timeout_path c.in_ok-read-4.ensures.heartbeat c.in_ok-read-4.ensures.heartbeat_path c.in_ok-read-5.ensures

@@ -10,7 +10,7 @@ pub returns-in-Parameters : goal.returns-in-Parameters
 returns-in-Parameters c = own template_names (λ (o : Option Data). o) c.args.member.now (codes "Parameters") c.args.self.now.parameters _ (task_members c.args.self.now) c.in-Parameters.is c.template_in.ensures refl refl
 
 pub returns-in-ResultSelector : goal.returns-in-ResultSelector
-returns-in-ResultSelector c = own template_names (λ (o : Option Data). o) c.args.member.now (codes "ResultSelector") c.args.self.now.outcome.result_selector _ (task_members c.args.self.now) c.in-ResultSelector.is c.template_in-in-ResultSelector.ensures refl refl
+returns-in-ResultSelector c = own template_names (λ (o : Option Data). o) c.args.member.now (codes "ResultSelector") c.args.self.now.completion.result_selector _ (task_members c.args.self.now) c.in-ResultSelector.is c.template_in-in-ResultSelector.ensures refl refl
 
 pub returns-in_default : goal.returns-in_default
 returns-in_default c = not_own template_names (λ (o : Option Data). o) (codes "Parameters" ∷ codes "ResultSelector" ∷ []) c.args.member.now (task_members c.args.self.now) refl refl (c.in_default.not-Parameters, (c.in_default.not-ResultSelector, tt))

@@ -1,5 +1,0 @@
-use Rattle.std.proofs.Common.{inr, refl, codes}
-use Rattle.asl_cli.proofs.refusal.Refusal.write.Goals as goal
-
-pub returns-in-Err : goal.returns-in-Err
-returns-in-Err g c = (codes "OutOfMemory", inr refl, c.tell_fault-in-Err.ensures)
