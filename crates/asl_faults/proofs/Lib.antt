@@ -1,0 +1,10 @@
+pub mod Ones
+pub mod Reaching
+pub mod Around
+pub mod Breaking
+pub mod Ordering
+pub mod Rivals
+pub mod Tables
+pub mod Telling
+pub mod Naming
+pub mod First
