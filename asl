@@ -1,6 +1,7 @@
 #!/bin/bash
 # Starts the program. Where tools/build hasn't built it yet, or a source has changed since, this runs the sources as they are by
-# `rt try`, which compiles them and proves nothing. Help is answered at once: tools/front compares it with the program's.
+# `rt try`, which compiles them and proves nothing. Help and version are answered at once: tools/front compares them with
+# the program's.
 set -euo pipefail
 top=$(dirname "$(readlink -f "$0")")
 crate=$top/crates/asl
@@ -13,6 +14,7 @@ answer_help() { # the words; fails where no help is stored for them
     '2 check --help' | '2 check -h' | '2 help check') cat "$help/check.txt" ;;
     '2 print --help' | '2 print -h' | '2 help print') cat "$help/print.txt" ;;
     '2 run --help' | '2 run -h' | '2 help run') cat "$help/run.txt" ;;
+    '1 --version' | '1 -V') cat "$help/version.txt" ;;
     *) return 1 ;;
   esac
 }
