@@ -5,7 +5,9 @@ use Rattle.std.specs.Str.{IsUtf8}
 use Rattle.asl_json.specs.Data.{Data, null, boolean, number, text, list, dict, Chain, no_items, item, Pairs, no_members, member}
 use Rattle.asl_json.specs.Distinct.{Members}
 use Rattle.asl_json.specs.Limits.{Allowed, AllowedItems, AllowedMembers}
-use Rattle.asl_json.specs.Grammar.{comma, colon, open_bracket, open_brace, SpellsKey, Padded, IsMember, Spells, SpellsItems, SpellsMoreItems, SpellsMembers, SpellsMore, IsText}
+use Rattle.asl_json.specs.Grammar.{colon, open_bracket, open_brace, SpellsKey, Padded, IsMember, Spells, IsText}
+use Rattle.asl_json.specs.Parts.{comma}
+use Rattle.asl_json.specs.private.Lists.{SpellsItems, SpellsMoreItems, SpellsMembers, SpellsMore}
 use Rattle.asl_json.specs.Sound.{IsSound, AreSoundItems, AreSoundMembers}
 use Rattle.asl_check.proofs.Meaning.{text_utf8}
 

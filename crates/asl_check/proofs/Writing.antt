@@ -5,7 +5,8 @@ use Rattle.std.proofs.lemmas.Str.{IsUtf8-append}
 use Rattle.std.specs.Str.{IsUtf8}
 use Rattle.std.specs.Char.{digit_char}
 use Rattle.asl_json.specs.Data.{Data, null, boolean, number, text, list, dict, Chain, no_items, item, Pairs, no_members, member}
-use Rattle.asl_json.specs.Grammar.{comma, colon, open_bracket, close_bracket, open_brace, close_brace}
+use Rattle.asl_json.specs.Grammar.{colon, open_bracket, close_bracket, open_brace, close_brace}
+use Rattle.asl_json.specs.Parts.{comma}
 use Rattle.asl_json.specs.Text.{quote, backslash, letter_u, is_plain}
 use Rattle.asl_json.specs.Compact.{control_letter, escaped_control, escaped_byte, escaped, quoted, compact, compact_items, compact_more_items, compact_members, compact_more, IsSpellable, AreSpellableItems, AreSpellable}
 use Rattle.asl_json.proofs.Fronts.{not_plain_ascii}

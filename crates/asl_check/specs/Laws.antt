@@ -15,9 +15,12 @@ PrintedIsAccepted = (b : List ℕ) (m : Data) → IsMachineOf b m → IsMachineO
 abbrev pub PrintedIsNoLonger : Type 0
 PrintedIsNoLonger = (b : List ℕ) (m : Data) → IsMachineOf b m → length (compact m) ≤ length b
 
--- what is printed for a definition without faults is accepted as its canonical form, unless it is too long or too deep to be read
+-- what is printed for a definition without faults is accepted as its canonical form, unless it is
+-- too long or too deep to be read
 abbrev pub FittingIsAccepted : Data → Type 0
-FittingIsAccepted d = Accepted d → length (compact (canonical d)) ≤ max_len → depth (canonical d) ≤ max_depth → IsMachineOf (compact (canonical d)) (canonical d)
+FittingIsAccepted d =
+    Accepted d → length (compact (canonical d)) ≤ max_len → depth (canonical d) ≤ max_depth
+    → IsMachineOf (compact (canonical d)) (canonical d)
 
 -- no text is accepted as two machines
 abbrev pub OneMachine : Type 0

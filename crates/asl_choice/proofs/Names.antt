@@ -4,7 +4,7 @@ use Rattle.std.specs.Prelude.{codes}
 use Rattle.std.specs.Cmp.Lexicographic.{same_text}
 use Rattle.asl_json.specs.Same.{bytes_eq}
 use Rattle.asl_schema.specs.declared.sort.Sort.TheVariants.{InnerRule, InnerRules, Unknown}
-use Rattle.asl_schema.specs.Members.{Row, optional, is_among, sort_in, operators, inner_rule_rows, test_rows}
+use Rattle.asl_schema.specs.Members.{Row, optional, is_among, sort_in, row_names, operators, inner_rule_rows, test_rows}
 use Rattle.asl_choice.specs.declared.operator.Order.{Order}
 use Rattle.asl_choice.specs.declared.operator.Order.TheVariants as order
 use Rattle.asl_choice.specs.declared.operator.Property.{Property}
@@ -32,7 +32,7 @@ each_property P a b c d e f property.Boolean = e
 each_property P a b c d e f property.Timestamp = f
 
 pub among_operators : (o : Operator) → is_among (operator_name o) operators ≡ true
-unfolding operators
+unfolding operators test_rows
 among_operators (operator.String o) = each_order (λ o. is_among (operator_name (operator.String o)) operators ≡ true) refl refl refl refl refl o
 among_operators (operator.StringPath o) = each_order (λ o. is_among (operator_name (operator.StringPath o)) operators ≡ true) refl refl refl refl refl o
 among_operators (operator.Numeric o) = each_order (λ o. is_among (operator_name (operator.Numeric o)) operators ≡ true) refl refl refl refl refl o
@@ -61,10 +61,6 @@ kind_sorted kind.Or = refl
 kind_sorted kind.Not = refl
 
 -- ---- names apart
-
-abbrev pub row_names : List Row → List (List ℕ)
-row_names [] = []
-row_names (r ∷ rs) = r.name ∷ row_names rs
 
 -- exactly one of these rows has the name
 abbrev pub is_once : List ℕ → List (List ℕ) → Bool

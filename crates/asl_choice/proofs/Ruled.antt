@@ -6,7 +6,7 @@ use Rattle.asl_json.specs.Same.{bytes_eq}
 use Rattle.asl_json.specs.Meaning.{value_at}
 use Rattle.asl_schema.specs.declared.sort.Sort.{Sort}
 use Rattle.asl_schema.specs.declared.sort.Sort.TheVariants as sort
-use Rattle.asl_schema.specs.Members.{Group, Shape, shape_of, sort_at, is_among, operators, connectives, rule_groups, at_most_one, inner_rule_rows, rule_rows}
+use Rattle.asl_schema.specs.Members.{Group, Shape, shape_of, sort_at, is_among, operators, connectives, rule_groups, at_most_one, inner_rule_rows, rule_rows, test_rows}
 use Rattle.asl_schema.specs.Claims.{counts, any_in}
 use Rattle.asl_schema.specs.Clean.{IsCleanInside, Fits, IsThere, IsThereAmong, is_beside}
 use Rattle.asl_schema.proofs.Inside.{fits_at, there_beside, clean}
@@ -37,7 +37,7 @@ abbrev unvaried : Group
 unvaried = at_most_one (codes "Variable" ∷ connectives)
 
 counted : (l : List ℕ) (d : Data) → is_among l kind_names ≡ true → counts deciding l d ≡ true
-unfolding operators
+unfolding operators test_rows
 counted l d e =
     let other : bytes_eq l (codes "End") ≡ false = apart_from (codes "End") l kind_names refl e in
     rw (e, other) refl

@@ -9,7 +9,7 @@ use Rattle.asl_json.specs.View.{data_of, items_of}
 use Rattle.asl_json.specs.declared.value.Json.{Json}
 use Rattle.asl_schema.specs.declared.sort.Sort.{Sort}
 use Rattle.asl_schema.specs.declared.sort.Sort.TheVariants.{Text, Path, InnerRule, InnerRules}
-use Rattle.asl_schema.specs.Members.{shape_of, sort_at, is_among, inner_rule_rows, operators, connectives, test_rows}
+use Rattle.asl_schema.specs.Members.{shape_of, sort_at, is_among, inner_rule_rows, row_names, operators, connectives, test_rows}
 use Rattle.asl_schema.specs.Canon.{Named, is_plain, opt, kept, kept_at, canon, canon_items, picked_at}
 use Rattle.asl_schema.specs.Clean.{IsClean}
 use Rattle.asl_schema.proofs.Canons.{picked-canon, plain_kept, plain_canon, not_end}
@@ -21,7 +21,7 @@ use Rattle.asl_choice.specs.declared.operator.Operator.{Operator}
 use Rattle.asl_choice.specs.declared.operator.Operator.TheVariants as operator
 use Rattle.asl_choice.specs.declared.rule.Condition.{Condition}
 use Rattle.asl_choice.specs.Rules.{IsRule, inner, canonical_rule, rule_object, rule_list, rule_named, condition_named, kind_name, kind_names, kind_sort, operator_name, operand_sort}
-use Rattle.asl_choice.proofs.Names.{kind_stood, kind_sorted, row_names, deciding_rows}
+use Rattle.asl_choice.proofs.Names.{kind_stood, kind_sorted, deciding_rows}
 use Rattle.asl_choice.proofs.Picked.{picked_one}
 use Rattle.asl_choice.proofs.Ruled.{ruled}
 

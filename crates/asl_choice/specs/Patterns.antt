@@ -1,4 +1,5 @@
--- Patterns of texts (Amazon States Language, "StringMatches"): a star stands for zero characters or more.
+-- Patterns of texts (Amazon States Language, "StringMatches"): a star stands for zero characters or
+-- more.
 use Rattle.std.specs.Prelude.{◌≡◌, ℕ, List, [], ◌∷◌, ◌++◌, Bool, true, false, ◌&&◌, ◌||◌, nat_eq, if◌then◌else◌}
 use Rattle.asl_choice.specs.declared.pattern.Token.{Token}
 use Rattle.asl_choice.specs.declared.pattern.Token.TheVariants.{Byte, Star, OpenEscape}
@@ -36,8 +37,10 @@ has_open_escape (Byte b ∷ ts) = has_open_escape ts
 has_open_escape (Star ∷ ts) = has_open_escape ts
 has_open_escape (OpenEscape ∷ ts) = true
 
--- There is a way of replacing the stars by texts that gives this text. A star stands for bytes, and that is to say for whole
--- characters: in UTF-8 a character's bytes begin nowhere inside another's, so in a text the parts of a pattern between its stars
+-- There is a way of replacing the stars by texts that gives this text. A star stands for bytes, and
+-- that is to say for whole
+-- characters: in UTF-8 a character's bytes begin nowhere inside another's, so in a text the parts
+-- of a pattern between its stars
 -- begin and end where characters do. (Between two stars that touch, any cut will do.)
 abbrev pub Fits : List Token → List ℕ → Type 0
 Fits [] t = t ≡ []

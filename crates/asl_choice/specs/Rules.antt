@@ -145,7 +145,8 @@ abbrev pub condition_named : Condition → List Named
 condition_named (condition.And rs) = (codes "And", rule_list rs.items) ∷ []
 condition_named (condition.Or rs) = (codes "Or", rule_list rs.items) ∷ []
 condition_named (condition.Not r) = (codes "Not", rule_object r.value) ∷ []
-condition_named (condition.Test t) = (codes "Variable", text t.variable) ∷ test_named t.comparison ∷ []
+condition_named (condition.Test t) =
+    (codes "Variable", text t.variable) ∷ test_named t.comparison ∷ []
 
 abbrev pub comment_named : Option (List ℕ) → List Named
 comment_named t = opt (codes "Comment") (option_map text t)
@@ -159,7 +160,8 @@ rule_named comment c = comment_named comment ++ condition_named c
 -- in which nothing is wrong, with its Next or without
 pub data IsRule (ms : Pairs) : Type 0 where
   outer : (names : List ℕ → Bool) → IsCleanInside names (shape_of sort.Rule None) ms → IsRule ms
-  inner : (names : List ℕ → Bool) → IsCleanInside names (shape_of sort.InnerRule None) ms → IsRule ms
+  inner : (names : List ℕ → Bool) → IsCleanInside names (shape_of sort.InnerRule None) ms
+      → IsRule ms
 
 -- in canonical form, without its Next
 abbrev pub canonical_rule : Pairs → List Named

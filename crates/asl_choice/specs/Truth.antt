@@ -33,7 +33,8 @@ abbrev pub Verdict : Type 0
 Verdict = Result Bool Fault
 
 -- go on with what was found
-abbrev pub and_then : {A : Type 0} {B : Type 0} → Result A Fault → (A → Result B Fault) → Result B Fault
+abbrev pub and_then : {A : Type 0} {B : Type 0} → Result A Fault → (A → Result B Fault)
+    → Result B Fault
 and_then (Ok a) f = f a
 and_then (Err e) f = Err e
 
@@ -103,7 +104,8 @@ truths v w = are_equal (truth_of v) (truth_of w)
 
 -- a text and a pattern
 abbrev pub matched : Option (List ℕ) → Option (List ℕ) → Verdict
-matched (Some t) (Some p) = if has_open_escape (tokens p) then Err open_escape else Ok (fits (tokens p) t)
+matched (Some t) (Some p) =
+    if has_open_escape (tokens p) then Err open_escape else Ok (fits (tokens p) t)
 matched a b = Ok false
 
 -- ---- paths
@@ -149,9 +151,11 @@ judged (operator.Is p) v w = Ok (truths (boolean (has p v)) w)
 
 -- Both paths are looked up before any type is judged: first the variable's, then the operand's.
 abbrev pub looked_up : Operator → List ℕ → Data → Data → Data → Verdict
-looked_up o p d x c = and_then (found p x c) (λ v. and_then (operand_value o d x c) (λ w. judged o v w))
+looked_up o p d x c =
+    and_then (found p x c) (λ v. and_then (operand_value o d x c) (λ w. judged o v w))
 
--- of the variable at the path p by an operator with the operand d; IsPresent has an answer also where nothing is found
+-- of the variable at the path p by an operator with the operand d; IsPresent has an answer also
+-- where nothing is found
 abbrev pub test : Operator → List ℕ → Data → Data → Data → Verdict
 test (operator.Is property.Present) p d x c = Ok (truths (boolean (is_some (part p x c))) d)
 test (operator.Is q) p d x c = looked_up (operator.Is q) p d x c
@@ -163,17 +167,23 @@ abbrev pub orders : List Order
 orders = Equals ∷ LessThan ∷ GreaterThan ∷ LessThanEquals ∷ GreaterThanEquals ∷ []
 
 abbrev pub properties : List Property
-properties = property.Null ∷ property.Present ∷ property.Numeric ∷ property.String ∷ property.Boolean ∷ property.Timestamp ∷ []
+properties =
+    property.Null ∷ property.Present ∷ property.Numeric ∷ property.String ∷ property.Boolean
+    ∷ property.Timestamp ∷ []
 
 abbrev pub by_orders : (Order → Operator) → List RuleKind
 by_orders f = map (λ (o : Order). kind.Test (f o)) orders
 
 -- all that may decide a rule
 abbrev pub kinds : List RuleKind
-kinds = by_orders operator.String ++ by_orders operator.StringPath ++ by_orders operator.Numeric ++ by_orders operator.NumericPath
+kinds =
+    by_orders operator.String ++ by_orders operator.StringPath ++ by_orders operator.Numeric
+    ++ by_orders operator.NumericPath
     ++ by_orders operator.Timestamp ++ by_orders operator.TimestampPath
-    ++ (kind.Test operator.Boolean ∷ kind.Test operator.BooleanPath ∷ kind.Test operator.Matches ∷ [])
-    ++ map (λ (p : Property). kind.Test (operator.Is p)) properties ++ (kind.And ∷ kind.Or ∷ kind.Not ∷ [])
+    ++ (kind.Test operator.Boolean ∷ kind.Test operator.BooleanPath ∷ kind.Test operator.Matches
+    ∷ [])
+    ++ map (λ (p : Property). kind.Test (operator.Is p)) properties
+    ++ (kind.And ∷ kind.Or ∷ kind.Not ∷ [])
 
 -- the first of this name
 abbrev pub kind_in : List RuleKind → List ℕ → Option RuleKind
@@ -190,14 +200,16 @@ variable (Some (text p)) = p
 variable v = []
 
 -- what is said by a kind, or by the other members where this one doesn't decide
-abbrev pub chosen : Option RuleKind → Verdict → Verdict → Verdict → (Operator → Verdict) → Verdict → Verdict
+abbrev pub chosen : Option RuleKind → Verdict → Verdict → Verdict → (Operator → Verdict) → Verdict
+    → Verdict
 chosen (Some kind.And) every some opposite tested others = every
 chosen (Some kind.Or) every some opposite tested others = some
 chosen (Some kind.Not) every some opposite tested others = opposite
 chosen (Some (kind.Test o)) every some opposite tested others = tested o
 chosen None every some opposite tested others = others
 
--- decided where the first doesn't hold, else by the others; a fault is one where nothing was decided before it
+-- decided where the first doesn't hold, else by the others; a fault is one where nothing was
+-- decided before it
 abbrev pub and_also : Verdict → Verdict → Verdict
 and_also v others = and_then v (λ b. if b then others else Ok false)
 
@@ -217,7 +229,9 @@ abbrev mutual
   -- by the first member that decides
   pub decided : List ℕ → Pairs → Data → Data → Verdict
   decided p no_members x c = Ok false
-  decided p (member k d ms) x c = chosen (kind_of k) (each d x c) (any d x c) (negated (holds d x c)) (λ o. test o p d x c) (decided p ms x c)
+  decided p (member k d ms) x c =
+      chosen (kind_of k) (each d x c) (any d x c) (negated (holds d x c)) (λ o. test o p d x c)
+      (decided p ms x c)
 
   -- And: each rule of a list
   pub each : Data → Data → Data → Verdict

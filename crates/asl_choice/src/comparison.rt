@@ -1,7 +1,7 @@
 // Tests of a variable.
 ghost use Rattle.std.specs.Prelude.{◌≡◌, IfOk};
 ghost use Rattle.asl_json.specs.View.{data_of};
-ghost use Rattle.asl_json.specs.Data.{text as spec_text};
+ghost use Rattle.asl_json.specs.Data.{text};
 ghost use Rattle.asl_schema.specs.declared.sort.Sort.TheVariants.{Path};
 ghost use Rattle.asl_schema.specs.Clean.{IsClean};
 ghost use Rattle.asl_choice.specs.Rules.{comparison_operator, operand, operand_sort, operator_name, test_named};
@@ -62,7 +62,7 @@ impl Drop for Test {
 /// The path of a member. (`RefPath::read` alone takes a text.)
 pub(crate) fn path(alloc: Global, value: &Json) -> Result<RefPath, AllocError>
     requires { IsClean Path (data_of value.now) }
-    ensures { IfOk result (λ p. spec_text p ≡ data_of value.now) }
+    ensures { IfOk result (λ p. text p ≡ data_of value.now) }
 {
     <RefPath as Compile>::read(alloc, value)
 }

@@ -3,7 +3,7 @@ ghost use Rattle.std.specs.Prelude.{◌≡◌, option_map};
 ghost use Rattle.std.specs.Ordering.{nat_cmp, int_cmp};
 ghost use Rattle.std.specs.Cmp.Lexicographic.{slice_cmp};
 ghost use Rattle.asl_json.specs.View.{data_of};
-ghost use Rattle.asl_choice.specs.Truth.{text_of as spec_text, amount_of as spec_amount, truth_of as spec_truth, moment_of as spec_moment, has, compared, is_so, are_equal as spec_equal, matched as spec_matched};
+ghost use Rattle.asl_choice.specs.Truth.{text_of, amount_of, truth_of, moment_of, has, compared, is_so, are_equal, matched};
 ghost use Rattle.asl_choice.specs.Seen.{seen};
 
 use crate::fault::RuleFault;
@@ -14,7 +14,7 @@ use asl_time::{Moment, read_stamp};
 use std::cmp::Ordering;
 
 pub(crate) fn text_of(value: &Json) -> Option<&str>
-    ensures { option_map (λ t. t.now) result ≡ spec_text (data_of value.now) }
+    ensures { option_map (λ t. t.now) result ≡ text_of (data_of value.now) }
 {
     match value {
         Json::Text(text) => Some(text.as_str()),
@@ -24,7 +24,7 @@ pub(crate) fn text_of(value: &Json) -> Option<&str>
 
 /// The units of 10^-9 of a number.
 pub(crate) fn units_of(value: &Json) -> Option<i128>
-    ensures { result ≡ spec_amount (data_of value.now) }
+    ensures { result ≡ amount_of (data_of value.now) }
 {
     match value {
         Json::Num(number) => Some(number.units()),
@@ -33,7 +33,7 @@ pub(crate) fn units_of(value: &Json) -> Option<i128>
 }
 
 pub(crate) fn truth_of(value: &Json) -> Option<bool>
-    ensures { result ≡ spec_truth (data_of value.now) }
+    ensures { result ≡ truth_of (data_of value.now) }
 {
     match value {
         Json::Bool(truth) => Some(*truth),
@@ -42,7 +42,7 @@ pub(crate) fn truth_of(value: &Json) -> Option<bool>
 }
 
 pub(crate) fn moment_of(value: &Json) -> Option<Moment>
-    ensures { result ≡ spec_moment (data_of value.now) }
+    ensures { result ≡ moment_of (data_of value.now) }
 {
     match value {
         Json::Text(text) => read_stamp(text.as_str()),
@@ -52,7 +52,8 @@ pub(crate) fn moment_of(value: &Json) -> Option<Moment>
 
 /// How two texts stand to each other, by their bytes.
 pub(crate) fn texts(left: Option<&str>, right: Option<&str>) -> Option<Ordering>
-    ensures { result ≡ compared (slice_cmp nat_cmp) (option_map (λ t. t.now) left.entry) (option_map (λ t. t.now) right.entry) }
+    ensures { result ≡ compared (slice_cmp nat_cmp) (option_map (λ t. t.now) left.entry)
+        (option_map (λ t. t.now) right.entry) }
 {
     let left = left?;
     let right = right?;
@@ -79,7 +80,7 @@ pub(crate) fn moments(left: Option<Moment>, right: Option<Moment>) -> Option<Ord
 
 /// Whether both are truth values, and equal.
 pub(crate) fn are_equal(left: Option<bool>, right: Option<bool>) -> bool
-    ensures { result ≡ spec_equal left right }
+    ensures { result ≡ are_equal left right }
 {
     match left {
         Some(true) => right == Some(true),
@@ -90,7 +91,8 @@ pub(crate) fn are_equal(left: Option<bool>, right: Option<bool>) -> bool
 
 /// Whether a pattern matches a text, where both are texts.
 pub(crate) fn matched<'p>(text: Option<&str>, pattern: Option<&str>) -> Result<bool, RuleFault<'p>>
-    ensures { seen (λ b. b) result ≡ spec_matched (option_map (λ t. t.now) text.entry) (option_map (λ t. t.now) pattern.entry) }
+    ensures { seen (λ b. b) result
+        ≡ matched (option_map (λ t. t.now) text.entry) (option_map (λ t. t.now) pattern.entry) }
 {
     let Some(text) = text else {
         return Ok(false);

@@ -252,7 +252,7 @@ impl Operator {
     }
 }
 
-#[tactic(auto, unfolding(asl_schema::specs::Members::operators))]
+#[tactic(auto, unfolding(asl_schema::specs::Members::operators, asl_schema::specs::Members::test_rows))]
 fn rule_kinds() -> &'static [Row]
     ensures all { written result.now ≡ kind_names }
     ensures named { are_named result.now ≡ true }

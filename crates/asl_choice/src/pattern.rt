@@ -114,7 +114,8 @@ fn are_over(pattern: &[u8], text: &[u8]) -> bool
 /// What is left of both, where the text begins with the bytes before the pattern's first star, and with a pattern without stars
 /// has no others.
 fn after_front<'a>(pattern: &'a [u8], text: &'a [u8]) -> Option<(&'a [u8], &'a [u8])>
-    ensures found { IfSome result (λ x. IsFront (tokens pattern.now) text.now (tokens x.0.now) x.1.now) }
+    ensures found { IfSome result
+        (λ x. IsFront (tokens pattern.now) text.now (tokens x.0.now) x.1.now) }
     ensures shorter { IfSome result (λ x. length x.0.now ≤ length pattern.now) }
     ensures none { IsNone result → Fits (tokens pattern.now) text.now → ⊥ }
 {
@@ -132,7 +133,8 @@ fn after_front<'a>(pattern: &'a [u8], text: &'a [u8]) -> Option<(&'a [u8], &'a [
 
 /// What is left of both behind the leftmost place in the text at which the bytes before the pattern's first star stand.
 fn after_leftmost<'a>(pattern: &'a [u8], text: &'a [u8]) -> Option<(&'a [u8], &'a [u8])>
-    ensures found { IfSome result (λ x. Fits (Star ∷ tokens pattern.now) text.now ↔ Fits (tokens x.0.now) x.1.now) }
+    ensures found { IfSome result
+        (λ x. Fits (Star ∷ tokens pattern.now) text.now ↔ Fits (tokens x.0.now) x.1.now) }
     ensures stopped { IfSome result (λ x. IsStopped (tokens x.0.now)) }
     ensures shorter { IfSome result (λ x. length x.0.now ≤ length pattern.now) }
     ensures none { IsNone result → Fits (Star ∷ tokens pattern.now) text.now → ⊥ }

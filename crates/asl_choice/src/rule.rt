@@ -1,7 +1,7 @@
 // Rules of Choice states.
 ghost use Rattle.std.specs.Prelude.{◌≡◌, ◌++◌, ◌∷◌, [], Some, false, IfOk, IfSome, IsNone, codes, option_map};
 ghost use Rattle.asl_json.specs.View.{data_of, members_of};
-ghost use Rattle.asl_json.specs.Data.{text as spec_text, pairs};
+ghost use Rattle.asl_json.specs.Data.{text, pairs};
 ghost use Rattle.asl_json.specs.Meaning.{value_at};
 ghost use Rattle.asl_json.specs.Distinct.{has_key};
 ghost use Rattle.asl_schema.specs.declared.sort.Sort.TheVariants.{Path, InnerRule, InnerRules};
@@ -63,7 +63,8 @@ impl Model for Rule {
 
 /// The first member that decides a rule, where there is one, with its value.
 fn deciding(members: &[Member]) -> Option<(RuleKind, &Json)>
-    ensures found { IfSome result (λ d. value_at (kind_name d.0) (pairs (members_of members.now)) ≡ Some (data_of d.1.now)) }
+    ensures found { IfSome result
+        (λ d. value_at (kind_name d.0) (pairs (members_of members.now)) ≡ Some (data_of d.1.now)) }
     ensures none { IsNone result → any_in decides (pairs (members_of members.now)) ≡ false }
 {
     for member in members {
@@ -82,8 +83,10 @@ fn test_of(
 ) -> Result<Test, AllocError>
     requires value { IsClean (operand_sort operator) (data_of value.now) }
     requires variable { IsThere Path (option_map (λ v. data_of v.now) variable) }
-    ensures variable { IfOk result (λ t. Some (spec_text t.variable) ≡ option_map (λ v. data_of v.now) variable.entry) }
-    ensures comparison { IfOk result (λ t. test_named t.comparison ≡ (operator_name operator, data_of value.now)) }
+    ensures variable { IfOk result (λ t. Some (text t.variable)
+        ≡ option_map (λ v. data_of v.now) variable.entry) }
+    ensures comparison { IfOk result (λ t. test_named t.comparison
+        ≡ (operator_name operator, data_of value.now)) }
 {
     let Some(variable) = variable else {
         unreachable!();
@@ -103,7 +106,9 @@ fn condition_of(
 ) -> Result<Condition, AllocError>
     requires value { IsClean (kind_sort kind) (data_of value.now) }
     requires variable { HasVariable kind (option_map (λ v. data_of v.now) variable) }
-    ensures { IfOk result (λ c. condition_named c ≡ opt (codes "Variable") (option_map (λ v. data_of v.now) variable.entry) ++ (kind_name kind, canon (kind_sort kind) (data_of value.now)) ∷ []) }
+    ensures { IfOk result (λ c. condition_named c
+        ≡ opt (codes "Variable") (option_map (λ v. data_of v.now) variable.entry)
+        ++ (kind_name kind, canon (kind_sort kind) (data_of value.now)) ∷ []) }
 {
     match kind {
         RuleKind::And => Ok(Condition::And(rules(alloc, value)?)),
@@ -176,7 +181,9 @@ fn commented(
 
 /// The comment and a test.
 fn test_members(alloc: Global, comment: &Option<Txt>, test: &Test) -> Result<Members, AllocError>
-    ensures { IfOk result (λ ms. ms ≡ comment_named comment.now ++ ((codes "Variable", spec_text test.now.variable) ∷ test_named test.now.comparison ∷ [])) }
+    ensures { IfOk result (λ ms. ms
+        ≡ comment_named comment.now
+        ++ ((codes "Variable", text test.now.variable) ∷ test_named test.now.comparison ∷ [])) }
 {
     let Test {
         variable,

@@ -3,7 +3,7 @@ ghost use Rattle.std.specs.Prelude.{◌≡◌, false, codes};
 ghost use Rattle.asl_json.specs.View.{data_of};
 ghost use Rattle.asl_json.specs.Distinct.{has_key};
 ghost use Rattle.asl_choice.specs.Rules.{comparison_operator, operand, rule_object, condition_named, rule_list};
-ghost use Rattle.asl_choice.specs.Truth.{and_then, operand_value, judged, test as spec_test, holds as spec_holds, each, any};
+ghost use Rattle.asl_choice.specs.Truth.{and_then, operand_value, judged, test, holds, each, any};
 ghost use Rattle.asl_choice.specs.Seen.{seen};
 
 use crate::comparison::{Comparison, Test};
@@ -24,7 +24,10 @@ impl Comparison {
         input: &Json,
         context: &Json,
     ) -> Result<bool, RuleFault<'a>>
-        ensures { seen (λ b. b) result ≡ and_then (operand_value (comparison_operator self.now) (operand self.now) (data_of input.now) (data_of context.now)) (λ w. judged (comparison_operator self.now) (data_of value.now) w) }
+        ensures { seen (λ b. b) result
+            ≡ and_then (operand_value (comparison_operator self.now) (operand self.now)
+            (data_of input.now) (data_of context.now))
+            (λ w. judged (comparison_operator self.now) (data_of value.now) w) }
     {
         match self {
             Comparison::String(order, text) => {
@@ -61,7 +64,9 @@ impl Comparison {
 
 impl Test {
     fn holds<'a>(&'a self, input: &Json, context: &Json) -> Result<bool, RuleFault<'a>>
-        ensures { seen (λ b. b) result ≡ spec_test (comparison_operator self.now.comparison) self.now.variable (operand self.now.comparison) (data_of input.now) (data_of context.now) }
+        ensures { seen (λ b. b) result
+            ≡ test (comparison_operator self.now.comparison) self.now.variable
+            (operand self.now.comparison) (data_of input.now) (data_of context.now) }
     {
         if let Comparison::Is(Property::Present, truth) = &self.comparison {
             return Ok(part(&self.variable, input, context).is_some() == *truth);
@@ -74,7 +79,9 @@ impl Test {
 impl Condition {
     #[cycle(holds)]
     fn holds<'a>(&'a self, input: &Json, context: &Json) -> Result<bool, RuleFault<'a>>
-        ensures { seen (λ b. b) result ≡ spec_holds (rule_object (condition_named self.now)) (data_of input.now) (data_of context.now) }
+        ensures { seen (λ b. b) result
+            ≡ holds (rule_object (condition_named self.now)) (data_of input.now)
+            (data_of context.now) }
     {
         match self {
             Condition::And(rules) => each_holds(rules, input, context),
@@ -88,7 +95,8 @@ impl Condition {
 /// Whether each of these rules holds, from the left as far as the first that doesn't.
 #[cycle(holds)]
 fn each_holds<'a>(rules: &'a Vec<Rule>, input: &Json, context: &Json) -> Result<bool, RuleFault<'a>>
-    ensures { seen (λ b. b) result ≡ each (rule_list rules.now.items) (data_of input.now) (data_of context.now) }
+    ensures { seen (λ b. b) result
+        ≡ each (rule_list rules.now.items) (data_of input.now) (data_of context.now) }
 {
     for rule in rules {
         if !rule.holds(input, context)? {
@@ -105,7 +113,8 @@ fn any_holds<'a>(
     input: &Json,
     context: &Json,
 ) -> Result<bool, RuleFault<'a>>
-    ensures { seen (λ b. b) result ≡ any (rule_list alternatives.now.items) (data_of input.now) (data_of context.now) }
+    ensures { seen (λ b. b) result
+        ≡ any (rule_list alternatives.now.items) (data_of input.now) (data_of context.now) }
 {
     for rule in alternatives {
         if rule.holds(input, context)? {
@@ -123,7 +132,8 @@ impl Rule {
     /// the left and stop once they are decided, so that a fault behind that isn't seen. Takes no memory.
     #[cycle(holds)]
     pub fn holds<'a>(&'a self, input: &Json, context: &Json) -> Result<bool, RuleFault<'a>>
-        ensures truth { seen (λ b. b) result ≡ spec_holds (rule_object self.now) (data_of input.now) (data_of context.now) }
+        ensures truth { seen (λ b. b) result
+            ≡ holds (rule_object self.now) (data_of input.now) (data_of context.now) }
         // What the rule shows has no `Next`.
         ensures no_next { has_key (codes "Next") self.now ≡ false }
     {

@@ -21,10 +21,12 @@ steps_name w = option_map (λ name. name.now) w.steps
 
 -- the files that the words name may give these bytes: a definition, mocks and an input
 abbrev pub IsGiven : (List ℕ → List ℕ → Type 0) → RunWords → List ℕ → List ℕ → List ℕ → Type 0
-IsGiven gives w definition mocks input = gives w.definition.now definition × gives w.mocks.now mocks × gives w.input.now input
+IsGiven gives w definition mocks input =
+    gives w.definition.now definition × gives w.mocks.now mocks × gives w.input.now input
 
 -- the run of what the files may give, by this file of steps, prints this text and is good or not
-pub record IsStepped (gives : List ℕ → List ℕ → Type 0) (w : RunWords) (name : List ℕ) (text : List ℕ) (good : Bool) : Type 0 where
+pub record IsStepped (gives : List ℕ → List ℕ → Type 0) (w : RunWords) (name : List ℕ)
+    (text : List ℕ) (good : Bool) : Type 0 where
   pub definition : List ℕ
   pub mocks : List ℕ
   pub input : List ℕ
@@ -38,14 +40,16 @@ abbrev pub most_steps : ℕ
 most_steps = 10_000
 
 -- the same by the steps that come next
-pub record IsDriven (gives : List ℕ → List ℕ → Type 0) (w : RunWords) (text : List ℕ) (good : Bool) : Type 0 where
+pub record IsDriven (gives : List ℕ → List ℕ → Type 0) (w : RunWords) (text : List ℕ)
+    (good : Bool) : Type 0 where
   pub definition : List ℕ
   pub mocks : List ℕ
   pub input : List ℕ
   pub given : IsGiven gives w definition mocks input
   pub is_run : IsDrivenRunOf definition mocks w.chosen.now input most_steps text good
 
-abbrev pub IsEmulatedBy : (List ℕ → List ℕ → Type 0) → RunWords → Option (List ℕ) → List ℕ → Bool → Type 0
+abbrev pub IsEmulatedBy : (List ℕ → List ℕ → Type 0) → RunWords → Option (List ℕ) → List ℕ → Bool
+    → Type 0
 IsEmulatedBy gives w None text good = IsDriven gives w text good
 IsEmulatedBy gives w (Some name) text good = IsStepped gives w name text good
 
@@ -54,7 +58,8 @@ abbrev pub IsEmulated : (List ℕ → List ℕ → Type 0) → RunWords → List
 IsEmulated gives w text good = IsEmulatedBy gives w (steps_name w) text good
 
 -- what the files may give is refused for this fault, with this file of steps
-pub record IsRefusedSteps (gives : List ℕ → List ℕ → Type 0) (w : RunWords) (name : List ℕ) (fault : EmulateFault) : Type 0 where
+pub record IsRefusedSteps (gives : List ℕ → List ℕ → Type 0) (w : RunWords) (name : List ℕ)
+    (fault : EmulateFault) : Type 0 where
   pub definition : List ℕ
   pub mocks : List ℕ
   pub input : List ℕ
@@ -64,14 +69,16 @@ pub record IsRefusedSteps (gives : List ℕ → List ℕ → Type 0) (w : RunWor
   pub refused : Unless (IsRefused definition mocks w.chosen.now input steps) fault
 
 -- the same without such a file
-pub record IsRefusedSetup (gives : List ℕ → List ℕ → Type 0) (w : RunWords) (fault : EmulateFault) : Type 0 where
+pub record IsRefusedSetup (gives : List ℕ → List ℕ → Type 0) (w : RunWords)
+    (fault : EmulateFault) : Type 0 where
   pub definition : List ℕ
   pub mocks : List ℕ
   pub input : List ℕ
   pub given : IsGiven gives w definition mocks input
   pub refused : Unless (IsSetupRefused definition mocks w.chosen.now input) fault
 
-abbrev pub IsRefusedBy : (List ℕ → List ℕ → Type 0) → RunWords → Option (List ℕ) → EmulateFault → Type 0
+abbrev pub IsRefusedBy : (List ℕ → List ℕ → Type 0) → RunWords → Option (List ℕ) → EmulateFault
+    → Type 0
 IsRefusedBy gives w None fault = IsRefusedSetup gives w fault
 IsRefusedBy gives w (Some name) fault = IsRefusedSteps gives w name fault
 
@@ -84,10 +91,14 @@ IsUnread lacks wanted OutOfMemory = ⊤
 
 -- the words name the file
 abbrev pub IsNamed : RunWords → List ℕ → Type 0
-IsNamed w name = (name ≡ w.definition.now) ⊎ (name ≡ w.mocks.now) ⊎ (name ≡ w.input.now) ⊎ (Some name ≡ steps_name w)
+IsNamed w name =
+    (name ≡ w.definition.now) ⊎ (name ≡ w.mocks.now) ⊎ (name ≡ w.input.now)
+    ⊎ (Some name ≡ steps_name w)
 
--- why nothing is emulated: a file that the words name may be lacking, what was read is refused, or memory ran out
-abbrev pub IsReason : (List ℕ → List ℕ → Type 0) → (List ℕ → Type 0) → RunWords → CommandFault → Type 0
+-- why nothing is emulated: a file that the words name may be lacking, what was read is refused, or
+-- memory ran out
+abbrev pub IsReason : (List ℕ → List ℕ → Type 0) → (List ℕ → Type 0) → RunWords → CommandFault
+    → Type 0
 IsReason gives lacks w (File name) = IsNamed w name.now × lacks name.now
 IsReason gives lacks w (Definition fault) = ⊥
 IsReason gives lacks w (Emulation fault) = IsRefusedBy gives w (steps_name w) fault
@@ -100,26 +111,31 @@ pub record IsJudged (gives : List ℕ → List ℕ → Type 0) (w : DefinitionWo
   pub is_definition : IsDefinition text
 
 -- it may give a definition of this machine
-pub record IsAccepted (gives : List ℕ → List ℕ → Type 0) (w : DefinitionWords) (machine : Data) : Type 0 where
+pub record IsAccepted (gives : List ℕ → List ℕ → Type 0) (w : DefinitionWords)
+    (machine : Data) : Type 0 where
   pub text : List ℕ
   pub given : gives w.definition.now text
   pub is_machine : IsMachineOf text machine
 
 -- it may give a definition of which this is the canonical form, compact and with a line feed
-pub record IsForm (gives : List ℕ → List ℕ → Type 0) (w : DefinitionWords) (form : List ℕ) : Type 0 where
-  pub machine : Data
-  pub accepted : IsAccepted gives w machine
-  pub printed : form ≡ compact machine ++ 10 ∷ []
+pub record IsForm (gives : List ℕ → List ℕ → Type 0) (w : DefinitionWords) (form : List ℕ) : Type 0
+  where
+    pub machine : Data
+    pub accepted : IsAccepted gives w machine
+    pub printed : form ≡ compact machine ++ 10 ∷ []
 
 -- it may give a text with this fault; want of memory is no fault of a text
-pub record IsFaulty (gives : List ℕ → List ℕ → Type 0) (w : DefinitionWords) (f : Fault) : Type 0 where
-  pub text : List ℕ
-  pub given : gives w.definition.now text
-  pub is_fault : IsFaultOf text f
-  pub told : f ≡ fault.OutOfMemory → ⊥
+pub record IsFaulty (gives : List ℕ → List ℕ → Type 0) (w : DefinitionWords) (f : Fault) : Type 0
+  where
+    pub text : List ℕ
+    pub given : gives w.definition.now text
+    pub is_fault : IsFaultOf text f
+    pub told : f ≡ fault.OutOfMemory → ⊥
 
--- why no definition is accepted: the file may be lacking, what was read is no definition, or memory ran out
-abbrev pub IsDefinitionReason : (List ℕ → List ℕ → Type 0) → (List ℕ → Type 0) → DefinitionWords → CommandFault → Type 0
+-- why no definition is accepted: the file may be lacking, what was read is no definition, or memory
+-- ran out
+abbrev pub IsDefinitionReason : (List ℕ → List ℕ → Type 0) → (List ℕ → Type 0) → DefinitionWords
+    → CommandFault → Type 0
 IsDefinitionReason gives lacks w (File name) = (name.now ≡ w.definition.now) × lacks name.now
 IsDefinitionReason gives lacks w (Definition f) = IsFaulty gives w f
 IsDefinitionReason gives lacks w (Emulation f) = ⊥

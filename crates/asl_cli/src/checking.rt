@@ -19,7 +19,8 @@ pub fn check<F: Files, O: Sink, E: Sink>(
     out: &mut O,
     err: &mut E,
 ) -> u8
-    ensures { IsChecked O.taken O.failures E.taken E.failures (F.gives files.old) (F.lacks files.old) words.now out.old out.new err.old err.new result }
+    ensures { IsChecked O.taken O.failures E.taken E.failures (F.gives files.old)
+        (F.lacks files.old) words.now out.old out.new err.old err.new result }
 {
     match machine_in(alloc, words, files) {
         Ok(_) => print_good("ok\n", out),
@@ -37,7 +38,8 @@ pub(crate) fn machine_in<'a, F: Files>(
     files: &mut F,
 ) -> Result<Machine, CommandFault<'a>>
     ensures accepted { IfOk result (IsAccepted (F.gives files.old) words.now) }
-    ensures refused { IfErr result (IsDefinitionReason (F.gives files.old) (F.lacks files.old) words.now) }
+    ensures refused { IfErr result
+        (IsDefinitionReason (F.gives files.old) (F.lacks files.old) words.now) }
 {
     let text = read_file(alloc, files, words.definition)?;
     match accept(alloc, text.as_slice()) {

@@ -71,7 +71,8 @@ pub fn run<F: Files, O: Sink, E: Sink>(
     out: &mut O,
     err: &mut E,
 ) -> u8
-    ensures { IsRan O.taken O.failures E.taken E.failures (F.gives files.old) (F.lacks files.old) words.now out.old out.new err.old err.new result }
+    ensures { IsRan O.taken O.failures E.taken E.failures (F.gives files.old) (F.lacks files.old)
+        words.now out.old out.new err.old err.new result }
 {
     match emulate_files(alloc, words, files) {
         Ok(emulated) => show(&emulated, out),
@@ -88,7 +89,8 @@ fn emulate_files<'a, F: Files>(
     words: &RunWords<'a>,
     files: &mut F,
 ) -> Result<Emulated, CommandFault<'a>>
-    ensures emulated { IfOk result (λ e. IsEmulated (F.gives files.old) words.now (string_bytes e.text) e.good) }
+    ensures emulated { IfOk result (λ e. IsEmulated (F.gives files.old) words.now
+        (string_bytes e.text) e.good) }
     ensures refused { IfErr result (IsReason (F.gives files.old) (F.lacks files.old) words.now) }
 {
     match words.steps {
@@ -105,7 +107,8 @@ fn emulate_steps<'a, F: Files>(
     files: &mut F,
 ) -> Result<Emulated, CommandFault<'a>>
     requires { steps_name words.now ≡ Some name.now }
-    ensures emulated { IfOk result (λ e. IsStepped (F.gives files.old) words.now name.now (string_bytes e.text) e.good) }
+    ensures emulated { IfOk result (λ e. IsStepped (F.gives files.old) words.now name.now
+        (string_bytes e.text) e.good) }
     ensures refused { IfErr result (IsReason (F.gives files.old) (F.lacks files.old) words.now) }
 {
     let definition = read_file(alloc, files, words.definition)?;
@@ -134,7 +137,8 @@ fn emulate_next<'a, F: Files>(
     files: &mut F,
 ) -> Result<Emulated, CommandFault<'a>>
     requires { steps_name words.now ≡ None }
-    ensures emulated { IfOk result (λ e. IsDriven (F.gives files.old) words.now (string_bytes e.text) e.good) }
+    ensures emulated { IfOk result (λ e. IsDriven (F.gives files.old) words.now
+        (string_bytes e.text) e.good) }
     ensures refused { IfErr result (IsReason (F.gives files.old) (F.lacks files.old) words.now) }
 {
     let definition = read_file(alloc, files, words.definition)?;
@@ -175,7 +179,8 @@ pub(crate) fn read_file<'a, F: Files>(
 
 /// Prints what was emulated, and tells whether it ended in success.
 fn show<O: Sink>(emulated: &Emulated, out: &mut O) -> u8
-    ensures { IsPrinted O.taken O.failures out.old out.new (string_bytes emulated.now.text) (status_of emulated.now.good) result }
+    ensures { IsPrinted O.taken O.failures out.old out.new (string_bytes emulated.now.text)
+        (status_of emulated.now.good) result }
 {
     match write_piece(out, emulated.text.as_str()) {
         Ok(()) if emulated.good => GOOD,
@@ -186,7 +191,8 @@ fn show<O: Sink>(emulated: &Emulated, out: &mut O) -> u8
 
 /// Prints what the command line's reader answers in place of words: help that was asked for, or what is wrong.
 fn answer_words<O: Sink, E: Sink>(alloc: Global, error: &Error, out: &mut O, err: &mut E) -> u8
-    ensures { IsAnswered O.taken O.failures E.taken E.failures out.old out.new err.old err.new result }
+    ensures { IsAnswered O.taken O.failures E.taken E.failures out.old out.new err.old err.new
+        result }
 {
     if error.use_stderr() {
         tell_error(alloc, error, err);

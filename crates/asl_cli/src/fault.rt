@@ -25,7 +25,8 @@ pub enum CommandFault<'a> {
 impl<'a> CommandFault<'a> {
     /// Writes the refusal's line.
     pub fn write<E: Sink>(&self, alloc: Global, err: &mut E)
-        ensures { (t : List ℕ) × Tells self.now t × IsTold E.taken E.failures err.old err.new (fault_line t) }
+        ensures { (t : List ℕ) × Tells self.now t
+            × IsTold E.taken E.failures err.old err.new (fault_line t) }
     {
         match self.text(alloc) {
             Ok(text) => tell_fault(err, text.as_str()),
@@ -47,7 +48,8 @@ impl<'a> CommandFault<'a> {
 }
 
 fn definition_text(alloc: Global, fault: &Fault) -> Result<String, AllocError>
-    ensures { IfOk result (λ t. string_bytes t ≡ codes "definition: " ++ definition_fault_line fault.now) }
+    ensures { IfOk result (λ t. string_bytes t
+        ≡ codes "definition: " ++ definition_fault_line fault.now) }
 {
     let mut text = String::from_str(alloc, "definition: ")?;
     let line = fault.text(alloc)?;

@@ -1,6 +1,6 @@
 //! The commands of the emulator: one function over words, files and two sinks, which the program `asl` calls.
 //!
-//! Modules in reading order: `refusal` is why a command isn't done, and its line; `checking` the command `check`; `printing` the
+//! Modules in reading order: `fault` is why a command isn't done, and its line; `checking` the command `check`; `printing` the
 //! command `print`; `command` the command `run`, and all that a command line may ask for.
 #![tactic(auto)]
 

@@ -21,7 +21,8 @@ pub fn print<F: Files, O: Sink, E: Sink>(
     out: &mut O,
     err: &mut E,
 ) -> u8
-    ensures { IsFormPrinted O.taken O.failures E.taken E.failures (F.gives files.old) (F.lacks files.old) words.now out.old out.new err.old err.new result }
+    ensures { IsFormPrinted O.taken O.failures E.taken E.failures (F.gives files.old)
+        (F.lacks files.old) words.now out.old out.new err.old err.new result }
 {
     match form_in(alloc, words, files) {
         Ok(text) => print_good(text.as_str(), out),
@@ -39,7 +40,8 @@ fn form_in<'a, F: Files>(
     files: &mut F,
 ) -> Result<String, CommandFault<'a>>
     ensures form { IfOk result (λ t. IsForm (F.gives files.old) words.now (string_bytes t)) }
-    ensures refused { IfErr result (IsDefinitionReason (F.gives files.old) (F.lacks files.old) words.now) }
+    ensures refused { IfErr result
+        (IsDefinitionReason (F.gives files.old) (F.lacks files.old) words.now) }
 {
     let machine = machine_in(alloc, words, files)?;
     match form_of(alloc, &machine) {

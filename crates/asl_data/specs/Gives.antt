@@ -16,7 +16,8 @@ Gives g (Err Memory) = Unit {0}
 Gives g (Err (Raised e)) = g ≡ Err e
 
 -- the same of a value that is seen in this way
-abbrev pub GivesSeen : {A : Type 0} {B : Type 0} → (A → B) → Result B ErrorOut → Result A Fault → Type 0
+abbrev pub GivesSeen : {A : Type 0} {B : Type 0} → (A → B) → Result B ErrorOut → Result A Fault
+    → Type 0
 GivesSeen view g (Ok v) = g ≡ Ok (view v)
 GivesSeen view g (Err Memory) = Unit {0}
 GivesSeen view g (Err (Raised e)) = g ≡ Err e

@@ -1,4 +1,5 @@
--- Data by a state's paths: what is taken of the input, and where a result goes (ASL, "Input and Output Processing").
+-- Data by a state's paths: what is taken of the input, and where a result goes (ASL, "Input and
+-- Output Processing").
 use Rattle.std.specs.Prelude.{ℕ, List, ◌++◌, Option, Some, None, Result, Ok, Err, if◌then◌else◌, codes}
 use Rattle.asl_json.specs.Data.{Data, null, boolean, number, text, list, dict}
 use Rattle.asl_json.specs.View.{data_of, json_of}
@@ -26,7 +27,8 @@ abbrev pub given_or : ErrorOut → Option Data → Given
 given_or e None = Err e
 given_or e (Some d) = Ok (json_of d)
 
--- the part that a path names: of the Context Object c, where it begins `$$`, and else of the value x
+-- the part that a path names: of the Context Object c, where it begins `$$`, and else of the value
+-- x
 abbrev pub part_of : List ℕ → Data → Data → Option Data
 part_of t x c = part_at t (if is_context t then c else x)
 

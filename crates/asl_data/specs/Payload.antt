@@ -24,7 +24,8 @@ no_parameter key = failure (codes "States.ParameterPathFailure") (key ++ codes "
 
 -- the call of the member of this key has no value
 abbrev pub no_result : List ℕ → Word → ErrorOut
-no_result key word = failure (codes "States.IntrinsicFailure") (key ++ (codes ": " ++ word_text word))
+no_result key word =
+    failure (codes "States.IntrinsicFailure") (key ++ (codes ": " ++ word_text word))
 
 -- what a filled template gives (want of memory is no error of a state)
 abbrev pub given_by : Outcome Data → Given

@@ -4,7 +4,7 @@ ghost use Rattle.std.specs.Option.{option_and_then};
 ghost use Rattle.asl_json.specs.View.{data_of};
 ghost use Rattle.asl_steps.specs.Context.{context_of};
 ghost use Rattle.asl_steps.specs.Seen.{seen};
-ghost use Rattle.asl_data.specs.Delay.{seconds_of as spec_seconds_of, moment_of as spec_moment_of, seconds_at as spec_seconds_at, moment_at as spec_moment_at};
+ghost use Rattle.asl_data.specs.Delay.{seconds_of, moment_of, seconds_at, moment_at};
 
 use asl_json::Json;
 use asl_path::RefPath;
@@ -16,7 +16,7 @@ use std::alloc::{AllocError, Global};
 
 /// The seconds that a value is: a whole number from 0 to 99,999,999.
 fn seconds_of(value: Option<&Json>) -> Option<u32>
-    ensures { result ≡ option_and_then spec_seconds_of (option_map (λ v. data_of v.now) value.entry) }
+    ensures { result ≡ option_and_then seconds_of (option_map (λ v. data_of v.now) value.entry) }
 {
     let Some(Json::Num(number)) = value else {
         return None;
@@ -31,7 +31,7 @@ fn seconds_of(value: Option<&Json>) -> Option<u32>
 
 /// The moment of a value that is a timestamp.
 fn moment_of(value: Option<&Json>) -> Option<Moment>
-    ensures { result ≡ option_and_then spec_moment_of (option_map (λ v. data_of v.now) value.entry) }
+    ensures { result ≡ option_and_then moment_of (option_map (λ v. data_of v.now) value.entry) }
 {
     let Some(Json::Text(text)) = value else {
         return None;
@@ -47,7 +47,8 @@ pub fn seconds_at(
     visit: &Visit,
     context: &mut Context,
 ) -> Result<Option<u32>, AllocError>
-    ensures seconds { IfOk result (λ o. o ≡ spec_seconds_at path.now (data_of value.now) (context_of context.old.facts (seen visit.now))) }
+    ensures seconds { IfOk result (λ o. o
+        ≡ seconds_at path.now (data_of value.now) (context_of context.old.facts (seen visit.now))) }
     ensures facts { context.new.facts ≡ context.old.facts }
 {
     if is_on_context(path.text()) {
@@ -65,7 +66,8 @@ pub fn moment_at(
     visit: &Visit,
     context: &mut Context,
 ) -> Result<Option<Moment>, AllocError>
-    ensures moment { IfOk result (λ o. o ≡ spec_moment_at path.now (data_of value.now) (context_of context.old.facts (seen visit.now))) }
+    ensures moment { IfOk result (λ o. o
+        ≡ moment_at path.now (data_of value.now) (context_of context.old.facts (seen visit.now))) }
     ensures facts { context.new.facts ≡ context.old.facts }
 {
     if is_on_context(path.text()) {

@@ -1,6 +1,6 @@
 // Why a step's data isn't made: memory ran out, or an error is raised.
 ghost use Rattle.std.specs.Prelude.{◌≡◌, ◌++◌, IfOk, codes};
-ghost use Rattle.asl_data.specs.Paths.{failure as spec_failure, no_value as spec_no_value, no_place as spec_no_place};
+ghost use Rattle.asl_data.specs.Paths.{failure, no_value, no_place};
 ghost use Rattle.asl_data.specs.Gives.{IsRaised};
 
 use asl_json::Txt;
@@ -27,7 +27,7 @@ impl From<AllocError> for Fault {
 
 /// An error with its cause.
 pub(crate) fn failure(alloc: Global, error: &str, cause: Txt) -> Result<ErrorOut, AllocError>
-    ensures { IfOk result (λ e. e ≡ spec_failure error.now cause) }
+    ensures { IfOk result (λ e. e ≡ failure error.now cause) }
 {
     Ok(ErrorOut {
         error: Some(Txt::of(alloc, error)?),
@@ -37,7 +37,7 @@ pub(crate) fn failure(alloc: Global, error: &str, cause: Txt) -> Result<ErrorOut
 
 /// That a field's path has no value.
 fn no_value(alloc: Global, field: &str) -> Result<ErrorOut, AllocError>
-    ensures { IfOk result (λ e. e ≡ spec_no_value field.now) }
+    ensures { IfOk result (λ e. e ≡ no_value field.now) }
 {
     let mut cause = String::from_str(alloc, field)?;
     cause.push_str(": no value")?;
@@ -46,7 +46,7 @@ fn no_value(alloc: Global, field: &str) -> Result<ErrorOut, AllocError>
 
 /// That ResultPath has no place.
 fn no_place(alloc: Global) -> Result<ErrorOut, AllocError>
-    ensures { IfOk result (λ e. e ≡ spec_no_place) }
+    ensures { IfOk result (λ e. e ≡ no_place) }
 {
     failure(
         alloc,
@@ -57,7 +57,7 @@ fn no_place(alloc: Global) -> Result<ErrorOut, AllocError>
 
 /// The fault of an error with its cause.
 pub fn raised(alloc: Global, error: &str, cause: &str) -> Fault
-    ensures { IsRaised (spec_failure error.now cause.now) result }
+    ensures { IsRaised (failure error.now cause.now) result }
 {
     let cause = match Txt::of(alloc, cause) {
         Ok(cause) => cause,
@@ -71,7 +71,7 @@ pub fn raised(alloc: Global, error: &str, cause: &str) -> Fault
 
 /// The fault that a field's path has no value.
 pub fn missing(alloc: Global, field: &str) -> Fault
-    ensures { IsRaised (spec_no_value field.now) result }
+    ensures { IsRaised (no_value field.now) result }
 {
     match no_value(alloc, field) {
         Ok(error) => Fault::Raised(error),
@@ -81,7 +81,7 @@ pub fn missing(alloc: Global, field: &str) -> Fault
 
 /// The fault that ResultPath has no place.
 pub fn placeless(alloc: Global) -> Fault
-    ensures { IsRaised spec_no_place result }
+    ensures { IsRaised no_place result }
 {
     match no_place(alloc) {
         Ok(error) => Fault::Raised(error),

@@ -5,7 +5,7 @@ ghost use Rattle.asl_members.specs.Shown.{path_shown};
 ghost use Rattle.asl_path.specs.Paths.{part_at, with_part};
 ghost use Rattle.asl_steps.specs.Context.{context_of};
 ghost use Rattle.asl_steps.specs.Seen.{seen};
-ghost use Rattle.asl_data.specs.Paths.{part_of as spec_part_of, taken as spec_taken, put_into as spec_put_into, given_or, no_value, no_place};
+ghost use Rattle.asl_data.specs.Paths.{part_of, taken, put_into, given_or, no_value, no_place};
 ghost use Rattle.asl_data.specs.Gives.{Gives};
 
 use crate::fault::{Fault, missing, placeless};
@@ -42,7 +42,9 @@ pub fn part_of(
     visit: &Visit,
     context: &mut Context,
 ) -> Result<Shared, Fault>
-    ensures given { Gives (given_or (no_value field.now) (spec_part_of path.now (data_of value.now) (context_of context.old.facts (seen visit.now)))) result }
+    ensures given { Gives (given_or (no_value field.now)
+        (part_of path.now (data_of value.now) (context_of context.old.facts (seen visit.now))))
+        result }
     ensures facts { context.new.facts ≡ context.old.facts }
 {
     if is_on_context(path.text()) {
@@ -68,7 +70,8 @@ pub fn taken(
     visit: &Visit,
     context: &mut Context,
 ) -> Result<Shared, Fault>
-    ensures given { Gives (spec_taken field.now (path_shown path.now) value.now (context_of context.old.facts (seen visit.now))) result }
+    ensures given { Gives (taken field.now (path_shown path.now) value.now
+        (context_of context.old.facts (seen visit.now))) result }
     ensures facts { context.new.facts ≡ context.old.facts }
 {
     match path {
@@ -80,7 +83,8 @@ pub fn taken(
 
 /// A result put where a path leads in a value.
 fn put_at(alloc: Global, path: &RefPath, base: Json, result_value: Json) -> Result<Json, Fault>
-    ensures { Gives (given_or no_place (with_part path.now (data_of base) (data_of result_value))) result }
+    ensures { Gives (given_or no_place (with_part path.now (data_of base) (data_of result_value)))
+        result }
 {
     match path.put(alloc, base, result_value) {
         Ok(value) => Ok(value),
@@ -96,7 +100,8 @@ fn put_in_copy(
     base: &Json,
     result_value: Shared,
 ) -> Result<Shared, Fault>
-    ensures { Gives (given_or no_place (with_part path.now (data_of base.now) (data_of result_value))) result }
+    ensures { Gives (given_or no_place
+        (with_part path.now (data_of base.now) (data_of result_value))) result }
 {
     let base = base.try_clone(alloc)?;
     let result_value = result_value.into_json(alloc)?;
@@ -123,7 +128,7 @@ pub fn put_into(
     input: &Shared,
     result_value: Shared,
 ) -> Result<Shared, Fault>
-    ensures { Gives (spec_put_into (path_shown path.now) input.now result_value) result }
+    ensures { Gives (put_into (path_shown path.now) input.now result_value) result }
 {
     match path {
         PathField::Whole => Ok(result_value),

@@ -4,7 +4,7 @@ ghost use Rattle.asl_json.specs.View.{data_of};
 ghost use Rattle.asl_steps.specs.Context.{context_of};
 ghost use Rattle.asl_steps.specs.Seen.{seen};
 ghost use Rattle.asl_template.specs.Filling.{fill};
-ghost use Rattle.asl_data.specs.Payload.{word_text, no_parameter as spec_no_parameter, no_result as spec_no_result, given_by, filled as spec_filled};
+ghost use Rattle.asl_data.specs.Payload.{word_text, no_parameter, no_result, given_by, filled};
 ghost use Rattle.asl_data.specs.Gives.{Gives};
 
 use crate::fault::{Fault, failure};
@@ -28,7 +28,7 @@ fn word_text(word: Word) -> &'static str
 
 /// That a path of the member of this key names nothing.
 fn no_parameter(alloc: Global, key: Txt) -> Result<ErrorOut, AllocError>
-    ensures { IfOk result (λ e. e ≡ spec_no_parameter key) }
+    ensures { IfOk result (λ e. e ≡ no_parameter key) }
 {
     let mut cause = key.into_string();
     cause.push_str(": no value")?;
@@ -37,7 +37,7 @@ fn no_parameter(alloc: Global, key: Txt) -> Result<ErrorOut, AllocError>
 
 /// That the call of the member of this key has no value.
 fn no_result(alloc: Global, key: Txt, word: Word) -> Result<ErrorOut, AllocError>
-    ensures { IfOk result (λ e. e ≡ spec_no_result key word) }
+    ensures { IfOk result (λ e. e ≡ no_result key word) }
 {
     let mut cause = key.into_string();
     cause.push_str(": ")?;
@@ -63,7 +63,8 @@ fn raised(alloc: Global, fault: FillFault) -> Fault
 
 /// What a template makes of a value.
 fn made(alloc: Global, template: &Template, value: &Json, context: &Json) -> Result<Shared, Fault>
-    ensures { Gives (given_by (fill template.now (data_of value.now) (data_of context.now))) result }
+    ensures { Gives (given_by (fill template.now (data_of value.now) (data_of context.now)))
+        result }
 {
     match template.fill(alloc, value, context) {
         Ok(value) => owned(alloc, value),
@@ -79,7 +80,8 @@ pub fn filled(
     visit: &Visit,
     context: &mut Context,
 ) -> Result<Shared, Fault>
-    ensures given { Gives (spec_filled (option_map (λ t. t.now) template.entry) value (context_of context.old.facts (seen visit.now))) result }
+    ensures given { Gives (filled (option_map (λ t. t.now) template.entry) value
+        (context_of context.old.facts (seen visit.now))) result }
     ensures facts { context.new.facts ≡ context.old.facts }
 {
     let Some(template) = template else {

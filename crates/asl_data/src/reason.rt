@@ -8,7 +8,7 @@ ghost use Rattle.asl_steps.specs.Context.{context_of};
 ghost use Rattle.asl_steps.specs.Seen.{seen};
 ghost use Rattle.asl_intrinsic.specs.Values.{ev};
 ghost use Rattle.asl_data.specs.Paths.{part_of, no_value};
-ghost use Rattle.asl_data.specs.Reason.{value_or_none, text_or, text_at as spec_text_at};
+ghost use Rattle.asl_data.specs.Reason.{value_or_none, text_or, text_at};
 ghost use Rattle.asl_data.specs.Gives.{Gives};
 
 use crate::fault::{Fault, missing};
@@ -22,7 +22,8 @@ use std::alloc::{AllocError, Global};
 
 /// The text that a field's value is.
 fn text_of(alloc: Global, field: &str, value: Option<&Json>) -> Result<Txt, Fault>
-    ensures { Gives (text_or (no_value field.now) (text_in (option_map (λ v. data_of v.now) value.entry))) result }
+    ensures { Gives (text_or (no_value field.now)
+        (text_in (option_map (λ v. data_of v.now) value.entry))) result }
 {
     match value {
         Some(Json::Text(text)) => Ok(text.try_clone(alloc)?),
@@ -39,7 +40,9 @@ fn at_path(
     visit: &Visit,
     context: &mut Context,
 ) -> Result<Txt, Fault>
-    ensures given { Gives (text_or (no_value field.now) (text_in (part_of path.now (data_of input.now) (context_of context.old.facts (seen visit.now))))) result }
+    ensures given { Gives (text_or (no_value field.now)
+        (text_in (part_of path.now (data_of input.now)
+        (context_of context.old.facts (seen visit.now))))) result }
     ensures facts { context.new.facts ≡ context.old.facts }
 {
     if is_on_context(path.text()) {
@@ -58,7 +61,10 @@ fn at_call(
     visit: &Visit,
     context: &mut Context,
 ) -> Result<Txt, Fault>
-    ensures given { Gives (text_or (no_value field.now) (text_in (value_or_none (ev call.now (data_of input.now) (context_of context.old.facts (seen visit.now)))))) result }
+    ensures given { Gives (text_or (no_value field.now)
+        (text_in (value_or_none
+        (ev call.now (data_of input.now) (context_of context.old.facts (seen visit.now))))))
+        result }
     ensures facts { context.new.facts ≡ context.old.facts }
 {
     context.show(alloc, visit)?;
@@ -78,7 +84,9 @@ pub fn text_at(
     visit: &Visit,
     context: &mut Context,
 ) -> Result<Txt, Fault>
-    ensures given { (t : List ℕ) → path_or_call_shown at.now ≡ text t → Gives (spec_text_at field.now t (data_of input.now) (context_of context.old.facts (seen visit.now))) result }
+    ensures given { (t : List ℕ) → path_or_call_shown at.now ≡ text t
+        → Gives (text_at field.now t (data_of input.now)
+        (context_of context.old.facts (seen visit.now))) result }
     ensures facts { context.new.facts ≡ context.old.facts }
 {
     match at {

@@ -32,7 +32,8 @@ abbrev mutual
   all_states s (number n) = []
   all_states s (text t) = []
   all_states s (list ds) = if holds_states s then states_of_items (item_sort s) ds else []
-  all_states s (dict ms) = if holds_states s then states_of_members (shape_in s ms) ms ++ own_states s ms else []
+  all_states s (dict ms) =
+      if holds_states s then states_of_members (shape_in s ms) ms ++ own_states s ms else []
 
   pub states_of_items : Sort → Chain → List Named
   states_of_items s no_items = []

@@ -8,7 +8,7 @@ ghost use Rattle.asl_schema.specs.declared.sort.Sort.TheVariants.{Machines as ma
 ghost use Rattle.asl_schema.specs.declared.sort.Form.TheVariants.{Object, List as ListForm};
 ghost use Rattle.asl_schema.specs.Demands.{is_of};
 ghost use Rattle.asl_schema.specs.declared.sort.Kind.TheVariants.{Parallel as parallel_kind, Map as map_kind};
-ghost use Rattle.asl_schema.specs.Members.{kind_named as spec_kind_named};
+ghost use Rattle.asl_schema.specs.Members.{kind_named};
 ghost use Rattle.asl_schema.specs.Canon.{Named, canon};
 ghost use Rattle.asl_schema.specs.Clean.{IsClean};
 ghost use Rattle.asl_parts.specs.Built.{IsOfKind};
@@ -61,7 +61,7 @@ fn list_in(value: &Json) -> &Items
 
 /// The type that the members of a state name.
 fn kind_of(members: &Members) -> Option<Kind>
-    ensures kind { result ≡ spec_kind_named (value_at (codes "Type") (pairs members.now)) }
+    ensures kind { result ≡ kind_named (value_at (codes "Type") (pairs members.now)) }
     // No name comes twice.
     ensures distinct { AreDistinct [] members.now }
 {
@@ -85,7 +85,8 @@ fn parallel(alloc: Global, table: &mut Table, members: &Members) -> Result<Paral
     requires kind { IsOfKind parallel_kind members.now }
     requires room { HasRoom table.old state_sort (dict (pairs members.now)) }
     ensures grows { OnOk result (Grows state_sort (dict (pairs members.now)) table.old table.new) }
-    ensures state { IfOk result (λ x. IsState table.new (dict (pairs members.now)) (State.Parallel x)) }
+    ensures state { IfOk result (λ x. IsState table.new (dict (pairs members.now))
+        (State.Parallel x)) }
 {
     let Some(branches) = members.find("Branches") else {
         unreachable!();
@@ -139,7 +140,8 @@ fn state(alloc: Global, table: &mut Table, value: &Json) -> Result<State, AllocE
 fn bodies(alloc: Global, table: &mut Table, machines: &Items) -> Result<Vec<Body>, AllocError>
     requires clean { IsClean machines_sort (list (chain machines.now)) }
     requires room { HasRoom table.old machines_sort (list (chain machines.now)) }
-    ensures grows { OnOk result (Grows machines_sort (list (chain machines.now)) table.old table.new) }
+    ensures grows { OnOk result (Grows machines_sort (list (chain machines.now)) table.old
+        table.new) }
     ensures bodies { IfOk result (λ bs. AreBodies table.new machines.now bs.items) }
 {
     let values = machines.values();

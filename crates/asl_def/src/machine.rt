@@ -111,7 +111,8 @@ impl Machine {
     /// The state of this name, in whatever machine it stands, by a hash. Contracts see its object over the states of the
     /// machines inside it.
     pub fn state(&self, name: &str) -> Option<&State>
-        ensures { option_map (λ s. state_of (states_of self.now) s.now) result ≡ state_object name.now self.now }
+        ensures { option_map (λ s. state_of (states_of self.now) s.now) result
+            ≡ state_object name.now self.now }
     {
         self.parts().table.state(name)
     }
@@ -128,7 +129,8 @@ impl Machine {
     pub fn find(&self, name: &str) -> Option<(usize, &State)>
         ensures number { option_map (λ f. f.0) result ≡ state_number name.now self.now }
         ensures within { IfSome result (λ f. f.0 < state_count self.now) }
-        ensures object { option_map (λ f. state_of (states_of self.now) f.1.now) result ≡ state_object name.now self.now }
+        ensures object { option_map (λ f. state_of (states_of self.now) f.1.now) result
+            ≡ state_object name.now self.now }
     {
         self.parts().table.find(name)
     }
@@ -143,7 +145,8 @@ impl Machine {
     /// The name of the state with this number, and the state, among those of the outermost machine, counted from 0 in
     /// document order. Contracts see its object over the states of the machines inside it.
     pub fn own_state(&self, number: usize) -> Option<(&str, &State)>
-        ensures { option_map (λ x. (x.0.now, state_of (states_of self.now) x.1.now)) result ≡ slice_get (own_states_in self.now) number }
+        ensures { option_map (λ x. (x.0.now, state_of (states_of self.now) x.1.now)) result
+            ≡ slice_get (own_states_in self.now) number }
     {
         let parts = self.parts();
         if number >= parts.root.count {
@@ -219,7 +222,8 @@ pub fn parse(alloc: Global, definition: &Json) -> Result<Machine, DefFault>
     // A definition with a fault is never accepted,
     ensures accepted { IfOk result (λ _. Accepted (data_of definition.now)) }
     // and one without a fault is, unless memory runs out.
-    ensures only { Accepted (data_of definition.now) → IfErr result (λ e. e ≡ DefFault.OutOfMemory) }
+    ensures only { Accepted (data_of definition.now)
+        → IfErr result (λ e. e ≡ DefFault.OutOfMemory) }
     // What is answered is a fault of the definition, and no other fault comes before it.
     ensures fault { IfErr result (λ e. IsAnswer (data_of definition.now) e) }
 {

@@ -57,7 +57,8 @@ impl Table {
 
     /// The state of this name, by a hash.
     pub(crate) fn state(&self, name: &str) -> Option<&State>
-        ensures { option_map (λ s. state_of self.now s.now) result ≡ value_at name.now (pairs self.now) }
+        ensures { option_map (λ s. state_of self.now s.now) result
+            ≡ value_at name.now (pairs self.now) }
     {
         self.states.get(name)
     }
@@ -65,7 +66,8 @@ impl Table {
     /// The state of this name and its number, by one look-up of a hash.
     pub(crate) fn find(&self, name: &str) -> Option<(usize, &State)>
         ensures number { option_map (λ f. f.0) result ≡ number_at name.now (pairs self.now) }
-        ensures state { option_map (λ f. state_of self.now f.1.now) result ≡ value_at name.now (pairs self.now) }
+        ensures state { option_map (λ f. state_of self.now f.1.now) result
+            ≡ value_at name.now (pairs self.now) }
     {
         let (number, _, state) = self.states.get_full(name)?;
         Some((number, state))
@@ -73,7 +75,9 @@ impl Table {
 
     /// The state with this number, and its name. Machines inside it have smaller numbers.
     pub(crate) fn at(&self, number: usize) -> Option<(&String, &State)>
-        ensures some { IfSome result (λ x. slice_get self.now number ≡ Some (string_bytes x.0.now, state_of self.now x.1.now)) }
+        ensures some { IfSome result
+            (λ x. slice_get self.now number
+            ≡ Some (string_bytes x.0.now, state_of self.now x.1.now)) }
         ensures none { IfNone result (length self.now ≤ number) }
         ensures within { IfSome result (λ x. StateIsWithin number x.1.now) }
     {
@@ -91,7 +95,8 @@ impl Table {
     pub(crate) fn push(&mut self, name: String, state: State) -> Result<(), AllocError>
         requires new { has_key (string_bytes name) self.old ≡ false }
         requires within { StateIsWithin (length self.old) state }
-        ensures ok { OnOk result (self.new ≡ self.old ++ (string_bytes name, state_of self.old state) ∷ []) }
+        ensures ok { OnOk result (self.new
+            ≡ self.old ++ (string_bytes name, state_of self.old state) ∷ []) }
         ensures err { OnErr result (self.new ≡ self.old) }
     {
         drop(self.states.insert(name, state)?);

@@ -18,7 +18,8 @@ abbrev pub at_moment : ℕ → Option (List ℕ) → Option Chosen
 at_moment t None = None
 at_moment t (Some p) = Some (p, t)
 
--- the step that comes next: at the place picked and the last moment, or at the moment picked and the first place that isn't refused then
+-- the step that comes next: at the place picked and the last moment, or at the moment picked and
+-- the first place that isn't refused then
 abbrev pub chosen_by : Limits → World → Pick → Option Chosen
 chosen_by limits w Ended = None
 chosen_by limits w Filled = None

@@ -11,7 +11,8 @@ use Rattle.asl_exec.specs.RunText.{run_text}
 use Rattle.asl_exec.specs.Steps.{opening, world_after}
 use Rattle.asl_exec.specs.Driving.{driven}
 
--- the text is that of the run that the texts spell, and says whether the execution has succeeded then
+-- the text is that of the run that the texts spell, and says whether the execution has succeeded
+-- then
 pub record IsRunOf (definition mocks chosen input steps text : List ℕ) (good : Bool) : Type 0 where
   pub machine : Data
   pub answers : Case
@@ -19,13 +20,23 @@ pub record IsRunOf (definition mocks chosen input steps text : List ℕ) (good :
   pub list : List StepAt
   pub texts : AreTextsOf definition mocks chosen input steps machine answers value list
   pub text_is : text ≡ run_text (setup_for machine chosen answers value (start_at list)) list
-  pub good_is : good ≡ is_success (world_after (setup_for machine chosen answers value (start_at list)) (opening (setup_for machine chosen answers value (start_at list))) list).outcome
+  pub good_is : good
+      ≡ is_success
+      (world_after (setup_for machine chosen answers value (start_at list))
+      (opening (setup_for machine chosen answers value (start_at list))) list).outcome
 
--- the text is that of the run that the texts spell where the steps that come next are taken, at most so many, from the epoch on
-pub record IsDrivenRunOf (definition mocks chosen input : List ℕ) (limit : ℕ) (text : List ℕ) (good : Bool) : Type 0 where
+-- the text is that of the run that the texts spell where the steps that come next are taken, at
+-- most so many, from the epoch on
+pub record IsDrivenRunOf (definition mocks chosen input : List ℕ) (limit : ℕ) (text : List ℕ)
+    (good : Bool) : Type 0 where
   pub machine : Data
   pub answers : Case
   pub value : Json
   pub texts : AreSetupTextsOf definition mocks chosen input machine answers value
-  pub text_is : text ≡ end_text (driven limit (setup_for machine chosen answers value 0) (opening (setup_for machine chosen answers value 0)))
-  pub good_is : good ≡ is_success (driven limit (setup_for machine chosen answers value 0) (opening (setup_for machine chosen answers value 0))).outcome
+  pub text_is : text
+      ≡ end_text (driven limit (setup_for machine chosen answers value 0)
+      (opening (setup_for machine chosen answers value 0)))
+  pub good_is : good
+      ≡ is_success
+      (driven limit (setup_for machine chosen answers value 0)
+      (opening (setup_for machine chosen answers value 0))).outcome

@@ -9,7 +9,9 @@ use Rattle.asl_exec.specs.Steps.{refusal_in, step, opening, world_after}
 -- a line for each of these steps
 abbrev pub step_lines : Setup → World → List StepAt → List ℕ
 step_lines s w [] = []
-step_lines s w (a ∷ left) = step_line a.place (refusal_in s w a.place a.moment) ++ step_lines s (step s w a.place a.moment) left
+step_lines s w (a ∷ left) =
+    step_line a.place (refusal_in s w a.place a.moment)
+    ++ step_lines s (step s w a.place a.moment) left
 
 -- the text of the run of these steps
 abbrev pub run_text : Setup → List StepAt → List ℕ

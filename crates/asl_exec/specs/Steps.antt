@@ -75,17 +75,21 @@ effect_in d f v = effect_by (object_in d v.current) f v
 
 abbrev pub moved_on : Setup → World → List ℕ → ℕ → Option Record → World
 moved_on s w p now None = w
-moved_on s w p now (Some r) = world_with p (number_in s.machine r) now (effect_in s.machine (facts_of s) (seen_at s.machine s.case w p now r)) w
+moved_on s w p now (Some r) =
+    world_with p (number_in s.machine r) now
+    (effect_in s.machine (facts_of s) (seen_at s.machine s.case w p now r)) w
 
 -- the world after a step at a place at this moment: where the execution's time is over, it ends
 abbrev pub stepped : Setup → World → List ℕ → ℕ → World
-stepped s w p now = if is_late now w.deadline then timed_out now w else moved_on s w p now (record_at p w.branches)
+stepped s w p now =
+    if is_late now w.deadline then timed_out now w else moved_on s w p now (record_at p w.branches)
 
 -- why a step at a place, handed this moment, is refused
 abbrev pub refusal_in : Setup → World → List ℕ → ℕ → Option Refusal
 refusal_in s w p t = refusal_with (limits_in s.machine) w p t
 
--- the world after a step at a place, handed this moment: its moment is the greater of this and the last one; a refused step
+-- the world after a step at a place, handed this moment: its moment is the greater of this and the
+-- last one; a refused step
 -- changes nothing
 unfoldable pub step : Setup → World → List ℕ → ℕ → World
 step s w p t = if is_none (refusal_in s w p t) then stepped s w p (max w.last t) else w
@@ -96,7 +100,8 @@ step s w p t = if is_none (refusal_in s w p t) then stepped s w p (max w.last t)
 abbrev pub start_in : Data → List ℕ
 start_in d = name_or_none (text_in (value_in (codes "StartAt") d))
 
--- the moment at which the time of an execution is over, where its machine has a time limit (ASL, "Top-level fields": TimeoutSeconds)
+-- the moment at which the time of an execution is over, where its machine has a time limit (ASL,
+-- "Top-level fields": TimeoutSeconds)
 abbrev pub deadline_of : Setup → Option ℕ
 deadline_of s = option_map (later s.start) (whole_in (value_in (codes "TimeoutSeconds") s.machine))
 

@@ -2,7 +2,7 @@
 ghost use Rattle.std.specs.Prelude.{◌≡◌, ◌≤◌, IfOk, IfErr, OnOk, OnErr, Some, option_map, is_some};
 ghost use Rattle.asl_run.specs.Picking.{first_at, pick, picked, CanBeDone};
 ghost use Rattle.asl_exec.specs.Steps.{limits_in};
-ghost use Rattle.asl_exec.specs.Driving.{chosen as spec_chosen, after, driven, driven_steps, end_of};
+ghost use Rattle.asl_exec.specs.Driving.{chosen, after, driven, driven_steps, end_of};
 ghost use Rattle.asl_exec.specs.Views.{setup_of, world_of};
 
 use crate::execution::Execution;
@@ -38,7 +38,8 @@ impl Limits for Execution {
 impl Execution {
     /// The first place, in the order of places, at which a step isn't refused at this moment.
     pub fn first(&self, moment: Moment) -> Option<&Place>
-        ensures { option_map (λ p. p.now) result ≡ first_at (limits_in (setup_of self.now).machine) (world_of self.now) moment }
+        ensures { option_map (λ p. p.now) result
+            ≡ first_at (limits_in (setup_of self.now).machine) (world_of self.now) moment }
     {
         self.world.first(self, moment)
     }
@@ -46,15 +47,18 @@ impl Execution {
     /// What comes next: a step at the first place that isn't refused at the last moment, else the least moment that is awaited. While
     /// the execution runs and its history isn't full, there is one or the other.
     pub fn next(&self) -> Next<'_>
-        ensures picked { picked result ≡ pick (limits_in (setup_of self.now).machine) (world_of self.now) }
-        ensures done { CanBeDone (limits_in (setup_of self.now).machine) (world_of self.now) (picked result) }
+        ensures picked { picked result
+            ≡ pick (limits_in (setup_of self.now).machine) (world_of self.now) }
+        ensures done { CanBeDone (limits_in (setup_of self.now).machine) (world_of self.now)
+            (picked result) }
     {
         self.world.next(self)
     }
 
     /// The step that comes next, with a place of its own. The error is that memory ran out.
     fn chosen(&self) -> Result<Option<StepAt>, AllocError>
-        ensures { IfOk result (λ o. option_map (λ a. (a.place, a.moment)) o ≡ spec_chosen (setup_of self.now) (world_of self.now)) }
+        ensures { IfOk result (λ o. option_map (λ a. (a.place, a.moment)) o
+            ≡ chosen (setup_of self.now) (world_of self.now)) }
     {
         let (place, moment) = match self.next() {
             Next::Over | Next::Full => return Ok(None),
@@ -66,14 +70,17 @@ impl Execution {
                 (place, moment)
             }
         };
-        let place = place.try_clone(self.alloc)?;
+        let place = place.try_clone()?;
         Ok(Some(StepAt { place, moment }))
     }
 
     /// Takes the step that comes next, and tells whether there was one. The error is that memory ran out, and nothing changed.
     fn advance(&mut self) -> Result<bool, AllocError>
-        ensures took { IfOk result (λ b. b ≡ is_some (spec_chosen (setup_of self.old) (world_of self.old))) }
-        ensures world { OnOk result (world_of self.new ≡ after (setup_of self.old) (world_of self.old) (spec_chosen (setup_of self.old) (world_of self.old))) }
+        ensures took { IfOk result (λ b. b
+            ≡ is_some (chosen (setup_of self.old) (world_of self.old))) }
+        ensures world { OnOk result (world_of self.new
+            ≡ after (setup_of self.old) (world_of self.old)
+            (chosen (setup_of self.old) (world_of self.old))) }
         ensures err { OnErr result (world_of self.new ≡ world_of self.old) }
         ensures setup { setup_of self.new ≡ setup_of self.old }
     {
@@ -100,10 +107,15 @@ impl Execution {
     /// Steps as `next` says, at the moment that it names, at most so many times: how many steps were taken, and how it ended. The
     /// error is that memory ran out, behind so many steps.
     pub fn drive(&mut self, limit: u32) -> Result<(u32, Ended), (u32, AllocError)>
-        ensures world { OnOk result (world_of self.new ≡ driven limit (setup_of self.old) (world_of self.old)) }
-        ensures steps { IfOk result (λ r. r.0 ≡ driven_steps limit (setup_of self.old) (world_of self.old)) }
-        ensures end { IfOk result (λ r. r.1 ≡ end_of (driven limit (setup_of self.old) (world_of self.old))) }
-        ensures err { IfErr result (λ e. (e.0 ≤ limit) × (world_of self.new ≡ driven e.0 (setup_of self.old) (world_of self.old))) }
+        ensures world { OnOk result (world_of self.new
+            ≡ driven limit (setup_of self.old) (world_of self.old)) }
+        ensures steps { IfOk result (λ r. r.0
+            ≡ driven_steps limit (setup_of self.old) (world_of self.old)) }
+        ensures end { IfOk result (λ r. r.1
+            ≡ end_of (driven limit (setup_of self.old) (world_of self.old))) }
+        ensures err { IfErr result
+            (λ e. (e.0 ≤ limit)
+            × (world_of self.new ≡ driven e.0 (setup_of self.old) (world_of self.old))) }
         ensures setup { setup_of self.new ≡ setup_of self.old }
     {
         for count in 0..limit {

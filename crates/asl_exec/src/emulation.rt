@@ -30,8 +30,10 @@ pub fn emulate(
     input: &[u8],
     steps: &[u8],
 ) -> Result<Emulated, EmulateFault>
-    ensures run { IfOk result (λ e. IsRunOf definition.now mocks.now chosen.now input.now steps.now (string_bytes e.text) e.good) }
-    ensures fault { IfErr result (Unless (IsRefused definition.now mocks.now chosen.now input.now steps.now)) }
+    ensures run { IfOk result (λ e. IsRunOf definition.now mocks.now chosen.now input.now steps.now
+        (string_bytes e.text) e.good) }
+    ensures fault { IfErr result
+        (Unless (IsRefused definition.now mocks.now chosen.now input.now steps.now)) }
 {
     let emulation = Emulation::read(alloc, definition, mocks, chosen, input, steps)?;
     let (text, good) = run(alloc, emulation.setup, &emulation.steps)?;
@@ -51,8 +53,10 @@ pub fn emulate_driven(
     input: &[u8],
     limit: u32,
 ) -> Result<Emulated, EmulateFault>
-    ensures run { IfOk result (λ e. IsDrivenRunOf definition.now mocks.now chosen.now input.now limit (string_bytes e.text) e.good) }
-    ensures fault { IfErr result (Unless (IsSetupRefused definition.now mocks.now chosen.now input.now)) }
+    ensures run { IfOk result (λ e. IsDrivenRunOf definition.now mocks.now chosen.now input.now
+        limit (string_bytes e.text) e.good) }
+    ensures fault { IfErr result
+        (Unless (IsSetupRefused definition.now mocks.now chosen.now input.now)) }
 {
     let setup = Setup::read(alloc, definition, mocks, chosen, input)?;
     let (text, good) = run_driven(alloc, setup, limit)?;

@@ -15,8 +15,10 @@ impl Execution {
     /// Takes a step, and tells why it was refused, if it was. The error is that memory ran out.
     #[tactic(auto, using(crate::proofs::Accepting::step_refused))]
     pub(crate) fn reply(&mut self, at: &StepAt) -> Result<Option<Refusal>, AllocError>
-        ensures reply { IfOk result (λ r. r ≡ refusal_in (setup_of self.old) (world_of self.old) at.now.place at.now.moment) }
-        ensures world { OnOk result (world_of self.new ≡ step (setup_of self.old) (world_of self.old) at.now.place at.now.moment) }
+        ensures reply { IfOk result (λ r. r
+            ≡ refusal_in (setup_of self.old) (world_of self.old) at.now.place at.now.moment) }
+        ensures world { OnOk result (world_of self.new
+            ≡ step (setup_of self.old) (world_of self.old) at.now.place at.now.moment) }
         ensures err { OnErr result (world_of self.new ≡ world_of self.old) }
         ensures setup { setup_of self.new ≡ setup_of self.old }
     {
@@ -31,7 +33,8 @@ impl Execution {
     fn put_steps(&mut self, out: &mut String, steps: &[StepAt]) -> Result<(), AllocError>
         ensures text { OnOk result (string_bytes out.new
             ≡ string_bytes out.old ++ step_lines (setup_of self.old) (world_of self.old) steps.now) }
-        ensures world { OnOk result (world_of self.new ≡ world_after (setup_of self.old) (world_of self.old) steps.now) }
+        ensures world { OnOk result (world_of self.new
+            ≡ world_after (setup_of self.old) (world_of self.old) steps.now) }
     {
         for at in steps {
             let reply = self.reply(at)?;
@@ -43,7 +46,8 @@ impl Execution {
     /// The text so far with the history and the status behind it, and whether the execution has succeeded. The error is that memory
     /// ran out.
     fn ended(&self, text: String) -> Result<(String, bool), AllocError>
-        ensures text { IfOk result (λ r. string_bytes r.0 ≡ string_bytes text ++ end_text (world_of self.now)) }
+        ensures text { IfOk result (λ r. string_bytes r.0
+            ≡ string_bytes text ++ end_text (world_of self.now)) }
         ensures good { IfOk result (λ r. r.1 ≡ is_success (world_of self.now).outcome) }
     {
         let mut text = text;
@@ -56,8 +60,10 @@ impl Execution {
     fn print(&mut self, steps: &[StepAt]) -> Result<(String, bool), AllocError>
         ensures text { IfOk result (λ r. string_bytes r.0
             ≡ step_lines (setup_of self.old) (world_of self.old) steps.now ++ end_text (world_after (setup_of self.old) (world_of self.old) steps.now)) }
-        ensures good { IfOk result (λ r. r.1 ≡ is_success (world_after (setup_of self.old) (world_of self.old) steps.now).outcome) }
-        ensures world { OnOk result (world_of self.new ≡ world_after (setup_of self.old) (world_of self.old) steps.now) }
+        ensures good { IfOk result (λ r. r.1
+            ≡ is_success (world_after (setup_of self.old) (world_of self.old) steps.now).outcome) }
+        ensures world { OnOk result (world_of self.new
+            ≡ world_after (setup_of self.old) (world_of self.old) steps.now) }
     {
         let mut text = String::new(self.alloc());
         self.put_steps(&mut text, steps)?;
@@ -67,8 +73,10 @@ impl Execution {
     /// Takes the steps that come next, at most so many: the text of the history and of the status, and whether the execution has
     /// succeeded then. The error is that memory ran out.
     fn print_driven(&mut self, limit: u32) -> Result<(String, bool), AllocError>
-        ensures text { IfOk result (λ r. string_bytes r.0 ≡ end_text (driven limit (setup_of self.old) (world_of self.old))) }
-        ensures good { IfOk result (λ r. r.1 ≡ is_success (driven limit (setup_of self.old) (world_of self.old)).outcome) }
+        ensures text { IfOk result (λ r. string_bytes r.0
+            ≡ end_text (driven limit (setup_of self.old) (world_of self.old))) }
+        ensures good { IfOk result (λ r. r.1
+            ≡ is_success (driven limit (setup_of self.old) (world_of self.old)).outcome) }
     {
         match self.drive(limit) {
             Ok(_) => self.ended(String::new(self.alloc())),
@@ -84,7 +92,8 @@ pub(crate) fn run(
     steps: &[StepAt],
 ) -> Result<(String, bool), AllocError>
     ensures text { IfOk result (λ r. string_bytes r.0 ≡ run_text setup steps.now) }
-    ensures good { IfOk result (λ r. r.1 ≡ is_success (world_after setup (opening setup) steps.now).outcome) }
+    ensures good { IfOk result (λ r. r.1
+        ≡ is_success (world_after setup (opening setup) steps.now).outcome) }
 {
     let mut execution = Execution::open(alloc, setup)?;
     let printed = execution.print(steps);
@@ -99,8 +108,10 @@ pub(crate) fn run_driven(
     setup: Setup,
     limit: u32,
 ) -> Result<(String, bool), AllocError>
-    ensures text { IfOk result (λ r. string_bytes r.0 ≡ end_text (driven limit setup (opening setup))) }
-    ensures good { IfOk result (λ r. r.1 ≡ is_success (driven limit setup (opening setup)).outcome) }
+    ensures text { IfOk result (λ r. string_bytes r.0
+        ≡ end_text (driven limit setup (opening setup))) }
+    ensures good { IfOk result (λ r. r.1
+        ≡ is_success (driven limit setup (opening setup)).outcome) }
 {
     let mut execution = Execution::open(alloc, setup)?;
     let printed = execution.print_driven(limit);

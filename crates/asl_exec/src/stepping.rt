@@ -125,8 +125,10 @@ impl Execution {
     /// One step of the branch at a place. Its moment is the greater of the one given and that of the last step. A refused
     /// step changes nothing.
     pub fn step(&mut self, place: &Place, moment: Moment) -> Result<(), Refusal>
-        ensures ok { OnOk result (world_of self.new ≡ step (setup_of self.old) (world_of self.old) place.now moment) }
-        ensures accepted { OnOk result (refusal_in (setup_of self.old) (world_of self.old) place.now moment ≡ None) }
+        ensures ok { OnOk result (world_of self.new
+            ≡ step (setup_of self.old) (world_of self.old) place.now moment) }
+        ensures accepted { OnOk result (refusal_in (setup_of self.old) (world_of self.old) place.now
+            moment ≡ None) }
         ensures err { OnErr result (world_of self.new ≡ world_of self.old) }
         ensures why { IfErr result (λ e. (refusal_in (setup_of self.old) (world_of self.old) place.now moment ≡ Some e)
             ⊎ ((refusal_in (setup_of self.old) (world_of self.old) place.now moment ≡ None) × (e ≡ Refusal.OutOfMemory))) }
@@ -144,7 +146,8 @@ impl Execution {
     /// A step that isn't refused. The error is that memory ran out, and nothing changed.
     fn take(&mut self, place: &Place, moment: Moment) -> Result<(), AllocError>
         requires { refusal_in (setup_of self.old) (world_of self.old) place.now moment ≡ None }
-        ensures ok { OnOk result (world_of self.new ≡ step (setup_of self.old) (world_of self.old) place.now moment) }
+        ensures ok { OnOk result (world_of self.new
+            ≡ step (setup_of self.old) (world_of self.old) place.now moment) }
         ensures err { OnErr result (world_of self.new ≡ world_of self.old) }
         ensures setup { setup_of self.new ≡ setup_of self.old }
     {
@@ -194,7 +197,9 @@ fn planned(
 ) -> Result<(Option<usize>, Effect), AllocError>
     requires { children_at [] (branches_of frame.now) ≡ children_at place.now world.now.branches }
     ensures number { IfOk result (λ r. r.0 ≡ number_in machine.now frame.now.head.current) }
-    ensures effect { IfOk result (λ r. r.1 ≡ effect_in machine.now context.old.facts (seen_at machine.now case.now world.now place.now now frame.now.head.current)) }
+    ensures effect { IfOk result (λ r. r.1
+        ≡ effect_in machine.now context.old.facts
+        (seen_at machine.now case.now world.now place.now now frame.now.head.current)) }
     ensures fits { IfOk result (λ r. AreFew r.1.children) }
     ensures facts { context.new.facts ≡ context.old.facts }
 {
@@ -218,7 +223,8 @@ fn planned(
 
 /// Whether a state invokes a service, where there is one.
 fn invokes_in(state: Option<&State>) -> bool
-    ensures { (t : List Named) → result ≡ invokes_by (option_map (λ s. state_shown t s.now) state.entry) }
+    ensures { (t : List Named)
+        → result ≡ invokes_by (option_map (λ s. state_shown t s.now) state.entry) }
 {
     match state {
         Some(state) => state.invokes(),
@@ -233,7 +239,10 @@ fn effect_of(
     visit: &Visit,
     context: &mut Context,
 ) -> Result<Effect, AllocError>
-    ensures effect { (t : List Named) → IfOk result (λ e. e ≡ effect_by (option_map (λ s. state_shown t s.now) state.entry) context.old.facts (seen visit.now)) }
+    ensures effect { (t : List Named)
+        → IfOk result
+        (λ e. e ≡ effect_by (option_map (λ s. state_shown t s.now) state.entry) context.old.facts
+        (seen visit.now)) }
     ensures fits { IfOk result (λ e. AreFew e.children) }
     ensures facts { context.new.facts ≡ context.old.facts }
 {
@@ -246,7 +255,8 @@ fn effect_of(
 /// The state that a branch is in, and its number; neither where the branch has ended.
 fn state_of<'a>(machine: &'a Machine, current: &Record) -> (Option<usize>, Option<&'a State>)
     ensures number { result.0 ≡ number_in machine.now current.now }
-    ensures object { option_map (λ s. state_shown (states_of machine.now) s.now) result.1 ≡ object_in machine.now current.now }
+    ensures object { option_map (λ s. state_shown (states_of machine.now) s.now) result.1
+        ≡ object_in machine.now current.now }
 {
     let Some(name) = current.state() else {
         return (None, None);

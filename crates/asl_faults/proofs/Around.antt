@@ -49,12 +49,9 @@ names_inside p s ms rest k = refl
 
 names_step : (p : Spot) (s : Sort) (d : Data) (t : Step) (y : Part) (v : Data) (rest : List Part) (k : List ℕ) → part_in s d t ≡ Some y
     → last_names (spot_in p s d t v).names rest k ≡ last_names p.names (cond (is_machine s) (part s d ∷ rest) rest) k
-names_step p s null t y v rest k e = absurd cc
-names_step p s (boolean b) t y v rest k e = absurd cc
-names_step p s (number n) t y v rest k e = absurd cc
-names_step p s (text x) t y v rest k e = absurd cc
 names_step p s (list ds) t y v rest k e = subst (λ (b : Bool). last_names p.names rest k ≡ last_names p.names (cond b (part s (list ds) ∷ rest) rest) k) (sym (not_machine s (item_found s ds t y e).searched)) refl
 names_step p s (dict ms) t y v rest k e = names_inside p s ms rest k
+names_step p s x t y v rest k e = absurd cc
 
 names_last : (place : List Step) (p : Spot) (x to : Part) (k : List ℕ) → part_at x place ≡ Some to → (spot_at p x place).names k ≡ last_names p.names (machines_around x place) k
 names_last [] p x to k e = refl
@@ -91,12 +88,9 @@ level_inside p s ms rest = refl
 
 level_step : (p : Spot) (s : Sort) (d : Data) (t : Step) (y : Part) (v : Data) (rest : List Part) → part_in s d t ≡ Some y
     → nat_lt ((spot_in p s d t v).level + length rest) max_machines ≡ nat_lt (p.level + length (cond (is_machine s) (part s d ∷ rest) rest)) max_machines
-level_step p s null t y v rest e = absurd cc
-level_step p s (boolean b) t y v rest e = absurd cc
-level_step p s (number n) t y v rest e = absurd cc
-level_step p s (text x) t y v rest e = absurd cc
 level_step p s (list ds) t y v rest e = subst (λ (b : Bool). nat_lt (p.level + length rest) max_machines ≡ nat_lt (p.level + length (cond b (part s (list ds) ∷ rest) rest)) max_machines) (sym (not_machine s (item_found s ds t y e).searched)) refl
 level_step p s (dict ms) t y v rest e = level_inside p s ms rest
+level_step p s x t y v rest e = absurd cc
 
 pub level_at : (place : List Step) (p : Spot) (x to : Part) → part_at x place ≡ Some to → nat_lt (spot_at p x place).level max_machines ≡ nat_lt (p.level + length (machines_around x place)) max_machines
 level_at [] p x to e = ap (λ (n : ℕ). nat_lt n max_machines) (omega arith)

@@ -280,10 +280,6 @@ record IsInPart (t : Step) (ts : List Step) (name : List ℕ) (s : Sort) (d : Da
   among : One (IsNamed ts name) (own_name to.sort t.name ++ states_in to.sort to.value)
 
 step_out : (t : Step) (ts : List Step) (name : List ℕ) (s : Sort) (d : Data) → One (IsNamed (t ∷ ts) name) (states_in s d) → IsInPart t ts name s d
-step_out t ts name s null h = absurd h
-step_out t ts name s (boolean b) h = absurd h
-step_out t ts name s (number n) h = absurd h
-step_out t ts name s (text x) h = absurd h
 step_out t ts name s (list ds) h = by (is_list s) refl h
   where
     by : (b : Bool) → is_list s ≡ b → One (IsNamed (t ∷ ts) name) (if b then item_states (item_sort s) 0 ds else []) → IsInPart t ts name s (list ds)
@@ -308,12 +304,9 @@ step_out t ts name s (dict ms) h = by (is_object s) refl h
           among = r.among;
         }
     by false e u = absurd u
+step_out t ts name s x h = absurd h
 
 step_in : (t : Step) (ts : List Step) (name : List ℕ) (s : Sort) (d : Data) (y : Part) → part_in s d t ≡ Some y → One (IsNamed ts name) (own_name y.sort t.name ++ states_in y.sort y.value) → One (IsNamed (t ∷ ts) name) (states_in s d)
-step_in t ts name s null y e h = absurd cc
-step_in t ts name s (boolean b) y e h = absurd cc
-step_in t ts name s (number n) y e h = absurd cc
-step_in t ts name s (text x) y e h = absurd cc
 step_in t ts name s (list ds) y e h =
     let r = item_found s ds t y e in
     let own = subst (λ (z : Part). One (IsNamed ts name) (own_name z.sort t.name ++ states_in z.sort z.value)) r.is h in
@@ -324,6 +317,7 @@ step_in t ts name s (dict ms) y e h =
     let own = subst (λ (z : Part). One (IsNamed ts name) (own_name z.sort t.name ++ states_in z.sort z.value)) r.is h in
     let all = member_in t ts name (shape_in s ms) 0 t.at ms r.value (omega arith) r.there own in
     subst (λ (b : Bool). One (IsNamed (t ∷ ts) name) (if b then member_states (shape_in s ms) 0 ms else [])) (sym r.searched) all
+step_in t ts name s x y e h = absurd cc
 
 record IsOwn (ts : List Step) (name : List ℕ) (s : Sort) (k : List ℕ) : Type 0 where
   sort_is : s ≡ sort.State

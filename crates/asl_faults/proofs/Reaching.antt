@@ -274,10 +274,6 @@ step_out k ts t p s (dict ms) own h = by (is_object s) refl (one_split (IsFault 
     by false e (inr u) = absurd (rw e at u)
 
 step_in : (k : FaultKind) (ts : List Step) (t : Step) (p : Spot) (s : Sort) (d : Data) (y : Part) → part_in s d t ≡ Some y → One (IsFault k ts) (claims (spot_in p s d t y.value) y.sort y.value) → One (IsFault k (t ∷ ts)) (claims p s d)
-step_in k ts t p s null y e h = absurd cc
-step_in k ts t p s (boolean b) y e h = absurd cc
-step_in k ts t p s (number n) y e h = absurd cc
-step_in k ts t p s (text x) y e h = absurd cc
 step_in k ts t p s (list ds) y e h =
     let r = item_found s ds t y e in
     let own = subst (λ (z : Part). One (IsFault k ts) (claims (spot_in p s (list ds) t z.value) z.sort z.value)) r.is h in
@@ -292,6 +288,7 @@ step_in k ts t p s (dict ms) y e h =
     (subst (λ (b : Bool). One (IsFault k (t ∷ ts)) (if b then object_claims p s ms else [])) (sym r.searched)
     (one_right (IsFault k (t ∷ ts)) (heres (group_demands (shape_in s ms).groups ms)) (member_claims (inside p s ms) (shape_in s ms) [] 0 ms ++ row_claims (count ms) (shape_in s ms).rows ms)
     (one_left (IsFault k (t ∷ ts)) (member_claims (inside p s ms) (shape_in s ms) [] 0 ms) (row_claims (count ms) (shape_in s ms).rows ms) all)))
+step_in k ts t p s x y e h = absurd cc
 
 -- ---- a fault of the value itself
 

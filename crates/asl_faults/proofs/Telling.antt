@@ -90,11 +90,6 @@ deep_in d place h =
 -- ---- F8
 
 rivalled_step : (d : Data) (place outer : List Step) (own : Step) (q : Spot) (s : Sort) (v : Data) (to : Part) → place ≡ outer ++ own ∷ [] → part_at (whole d) outer ≡ Some (part s v) → next (part s v) own ≡ Some to → (spot_in q s v own to.value).doubled ≡ true → IsRivalled d place
-rivalled_step d place outer own q s null to is leads step e = absurd cc
-rivalled_step d place outer own q s (boolean b) to is leads step e = absurd cc
-rivalled_step d place outer own q s (number n) to is leads step e = absurd cc
-rivalled_step d place outer own q s (text t) to is leads step e = absurd cc
-rivalled_step d place outer own q s (list ds) to is leads step e = absurd cc
 rivalled_step d place outer own q s (dict ms) to is leads step e =
     let m = member_found s ms own to step in
     let value : to.value ≡ m.value = ap (λ (x : Part). x.value) m.is in
@@ -115,6 +110,7 @@ rivalled_step d place outer own q s (dict ms) to is leads step e =
       before = r.before;
       rivals = r.rivals;
     }
+rivalled_step d place outer own q s x to is leads step e = absurd cc
 
 rivalled_at : (d : Data) (place : List Step) (to : Part) → part_at (whole d) place ≡ Some to → (spot_at outside (whole d) place).doubled ≡ true → IsRivalled d place
 rivalled_at d [] to e h = absurd cc
@@ -148,10 +144,6 @@ record IsInPolicy (s : Sort) (v : Data) : Type 0 where
   policy : is_policy s ≡ true
 
 names_from : (s : Sort) (v : Data) (own : Step) (to : Part) → next (part s v) own ≡ Some to → is_names to.sort ≡ true → IsInPolicy s v
-names_from s null own to e n = absurd cc
-names_from s (boolean b) own to e n = absurd cc
-names_from s (number x) own to e n = absurd cc
-names_from s (text t) own to e n = absurd cc
 names_from s (list ds) own to e n =
     let r = item_found s ds own to e in
     absurd (let f : true ≡ false = sym n ∙ ap (λ (x : Part). is_names x.sort) r.is ∙ no_list_of_names s in cc)
@@ -162,6 +154,7 @@ names_from s (dict ms) own to e n = by (is_policy s) refl
     by false f =
         let r = member_found s ms own to e in
         absurd (let g : true ≡ false = sym n ∙ ap (λ (x : Part). is_names x.sort) r.is ∙ names_not s (kind_named (value_at (codes "Type") ms)) own.name f in cc)
+names_from s x own to e n = absurd cc
 
 record IsInList (s : Sort) (v : Data) (holder : Step) (to : Part) : Type 0 where
   items : Chain
@@ -171,16 +164,13 @@ record IsInList (s : Sort) (v : Data) (holder : Step) (to : Part) : Type 0 where
   there : item_at holder.at items ≡ Some found
 
 policy_from : (s : Sort) (v : Data) (holder : Step) (to : Part) → next (part s v) holder ≡ Some to → is_policy to.sort ≡ true → IsInList s v holder to
-policy_from s null holder to e n = absurd cc
-policy_from s (boolean b) holder to e n = absurd cc
-policy_from s (number x) holder to e n = absurd cc
-policy_from s (text t) holder to e n = absurd cc
 policy_from s (list ds) holder to e n =
     let r = item_found s ds holder to e in
     record { items = ds; value = refl; policies = policy_list s (ap (λ (x : Part). is_policy x.sort) (sym r.is) ∙ n); found = r.value; there = r.there }
 policy_from s (dict ms) holder to e n =
     let r = member_found s ms holder to e in
     absurd (let g : true ≡ false = sym n ∙ ap (λ (x : Part). is_policy x.sort) r.is ∙ policy_not s (kind_named (value_at (codes "Type") ms)) holder.name in cc)
+policy_from s x holder to e n = absurd cc
 
 ends_inside : (p : Spot) (s : Sort) (ms : Pairs) → (inside p s ms).ends ≡ p.ends
 ends_inside p sort.Definition ms = refl

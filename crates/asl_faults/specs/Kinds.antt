@@ -35,7 +35,8 @@ BothCount m n g = (counts g m.0 m.1 ≡ true) × (counts g n.0 n.1 ≡ true)
 -- two members of which one may be there: of one group, or `k` and `k.$` in a template
 pub data AreRivals (sh : Shape) (m n : Named) : Type 0 where
   of_a_group : One (BothCount m n) sh.groups → AreRivals sh m n
-  of_a_template : sh.others ≡ sort.Template → (n.0 ≡ m.0 ++ mark) ⊎ (m.0 ≡ n.0 ++ mark) → AreRivals sh m n
+  of_a_template : sh.others ≡ sort.Template → (n.0 ≡ m.0 ++ mark) ⊎ (m.0 ≡ n.0 ++ mark)
+      → AreRivals sh m n
 
 -- a member of the object at `outer`, with another one before it, of which one may be there
 pub record IsRivalled (d : Data) (place : List Step) : Type 0 where
@@ -54,7 +55,8 @@ pub record IsRivalled (d : Data) (place : List Step) : Type 0 where
   pub before : other.at < own.at
   pub rivals : AreRivals (shape_in outer_sort members) (own.name, value) (other.name, rival)
 
--- `States.ALL` beside other names, or in a retrier or catcher (`holder`) with others behind it in its list (at `outer`)
+-- `States.ALL` beside other names, or in a retrier or catcher (`holder`) with others behind it in
+-- its list (at `outer`)
 pub record IsNotLast (d : Data) (place : List Step) : Type 0 where
   pub outer : List Step
   pub holder : Step

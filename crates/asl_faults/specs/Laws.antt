@@ -19,11 +19,13 @@ BothAreRivals = (d : Data) (place : List Step) → HasFault d kind.Both place �
 
 -- F10: a target that no state of its machine has
 abbrev pub NoTargetIsLost : Type 0
-NoTargetIsLost = (d : Data) (place : List Step) → HasFault d kind.NoTarget place ↔ IsLostTarget d place
+NoTargetIsLost =
+    (d : Data) (place : List Step) → HasFault d kind.NoTarget place ↔ IsLostTarget d place
 
 -- F11: a state whose name a state before it has
 abbrev pub DuplicateIsNamesake : Type 0
-DuplicateIsNamesake = (d : Data) (place : List Step) → HasFault d kind.DuplicateState place ↔ IsNamesake d place
+DuplicateIsNamesake =
+    (d : Data) (place : List Step) → HasFault d kind.DuplicateState place ↔ IsNamesake d place
 
 -- F12: `States.ALL` that isn't alone, or not in the last retrier or catcher
 abbrev pub AllIsNotLast : Type 0
@@ -31,11 +33,14 @@ AllIsNotLast = (d : Data) (place : List Step) → HasFault d kind.AllNotLast pla
 
 -- F15: a machine inside 16 others
 abbrev pub NestingIsTooDeep : Type 0
-NestingIsTooDeep = (d : Data) (place : List Step) → HasFault d kind.Nesting place ↔ IsTooDeep d place
+NestingIsTooDeep =
+    (d : Data) (place : List Step) → HasFault d kind.Nesting place ↔ IsTooDeep d place
 
 -- what is demanded of values stands in document order
 abbrev pub ClaimsAreInOrder : Type 0
-ClaimsAreInOrder = (d : Data) (front mid back : List Claim) (a b : Claim) → claims outside Definition d ≡ front ++ a ∷ mid ++ b ∷ back → is_up_to a.1 b.1 ≡ true
+ClaimsAreInOrder =
+    (d : Data) (front mid back : List Claim) (a b : Claim)
+    → claims outside Definition d ≡ front ++ a ∷ mid ++ b ∷ back → is_up_to a.1 b.1 ≡ true
 
 -- a fault has a lower number, or the same one and no later place
 abbrev pub IsNoLater : Found → Found → Type 0
@@ -44,7 +49,9 @@ IsNoLater f g = (number_of f.0 < number_of g.0) ⊎ ((f.0 ≡ g.0) × (is_up_to 
 -- none where a definition has no fault, else one of its faults that no other comes before
 abbrev pub Tells : Data → Option Found → Type 0
 Tells d None = (k : FaultKind) (place : List Step) → HasFault d k place → ⊥
-Tells d (Some f) = HasFault d f.0 f.1 × ((k : FaultKind) (place : List Step) → HasFault d k place → IsNoLater f (k, place))
+Tells d (Some f) =
+    HasFault d f.0 f.1
+    × ((k : FaultKind) (place : List Step) → HasFault d k place → IsNoLater f (k, place))
 
 -- what `first_fault` of asl_judge answers
 abbrev pub AnswersAreFirst : Type 0

@@ -37,8 +37,12 @@ member_at (suc i) k (member l d ms) = member_at i k ms
 
 -- the item or member that a step leads to, of a value that is searched
 abbrev pub part_in : Sort → Data → Step → Option Part
-part_in s (list ds) t = if is_list s && bytes_eq t.name (decimal t.at) then option_map (part (item_sort s)) (item_at t.at ds) else None
-part_in s (dict ms) t = if is_object s then option_map (part (sort_at (shape_in s ms) t.name)) (member_at t.at t.name ms) else None
+part_in s (list ds) t =
+    if is_list s && bytes_eq t.name (decimal t.at)
+    then option_map (part (item_sort s)) (item_at t.at ds) else None
+part_in s (dict ms) t =
+    if is_object s
+    then option_map (part (sort_at (shape_in s ms) t.name)) (member_at t.at t.name ms) else None
 part_in s d t = None
 
 -- the same of a part

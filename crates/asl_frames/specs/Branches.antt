@@ -1,4 +1,5 @@
--- Running branches as a list in the order of their places, what is read of it, and what a step makes of it.
+-- Running branches as a list in the order of their places, what is read of it, and what a step
+-- makes of it.
 use Rattle.std.specs.Prelude.{ℕ, Bool, false, not, ◌+◌, ◌==◌, ◌&&◌, List, [], ◌∷◌, ◌++◌, map, if◌then◌else◌, Option, Some, None, nat_eq, nat_lt, slice_get}
 use Rattle.std.specs.Option.{option_or}
 use Rattle.asl_json.specs.Data.{Data}
@@ -49,7 +50,8 @@ abbrev pub map_of : Option Record → Option (List ℕ)
 map_of None = None
 map_of (Some r) = map_in r
 
--- the name of the Map of which the branch at a place is an iteration: the one directly above it, where that is a Map
+-- the name of the Map of which the branch at a place is an iteration: the one directly above it,
+-- where that is a Map
 abbrev pub forker_at : List ℕ → List Branch → Option (List ℕ)
 forker_at p bs = map_of (first_of (filter (λ b. is_child b.place p) bs))
 
@@ -67,12 +69,14 @@ abbrev pub numbered_item : ℕ → Option Data → Option (ℕ × Data)
 numbered_item i None = None
 numbered_item i (Some d) = Some (i, d)
 
--- the number and the item of the iteration that a branch under this one is in, at or under the child of this number
+-- the number and the item of the iteration that a branch under this one is in, at or under the
+-- child of this number
 abbrev pub iteration_in : Record → Option (List ℕ) → Option (ℕ × Data)
 iteration_in (Forked n x since uses items) (Some (i ∷ deeper)) = numbered_item i (slice_get items i)
 iteration_in r o = None
 
--- the number and the item of the innermost iteration of a Map that a place is at or under; none where it is in no Map
+-- the number and the item of the innermost iteration of a Map that a place is at or under; none
+-- where it is in no Map
 abbrev pub iteration_at : List ℕ → List Branch → Option (ℕ × Data)
 iteration_at p [] = None
 iteration_at p (b ∷ bs) = option_or (iteration_at p bs) (iteration_in b.current (beyond b.place p))
@@ -114,9 +118,12 @@ made p (Made rs) = numbered p 0 rs
 abbrev pub family : List ℕ → Record → Children → List Branch
 family p r c = record { place = p; current = r } ∷ made p c
 
--- what becomes of a branch when the one at p does this from now on, and this becomes of those under it
+-- what becomes of a branch when the one at p does this from now on, and this becomes of those under
+-- it
 abbrev pub branch_after : List ℕ → Record → Children → Branch → List Branch
-branch_after p r c b = if same_place p b.place then family p r c else if is_prefix p b.place && not (are_kept c) then [] else b ∷ []
+branch_after p r c b =
+    if same_place p b.place then family p r c else if is_prefix p b.place && not (are_kept c)
+    then [] else b ∷ []
 
 abbrev pub branches_after : List ℕ → Record → Children → List Branch → List Branch
 branches_after p r c bs = flat_map (branch_after p r c) bs

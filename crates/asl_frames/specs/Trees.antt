@@ -7,7 +7,8 @@ use Rattle.asl_steps.specs.Records.{is_failed, is_done}
 use Rattle.asl_steps.specs.declared.record.Record.{Record}
 use Rattle.asl_frames.specs.Branches.{Branch}
 
--- what a frame has besides its children: its place; what its branch is doing; the id of the latest event at its place, and that of
+-- what a frame has besides its children: its place; what its branch is doing; the id of the latest
+-- event at its place, and that of
 -- the latest event at it or under it
 pub record Held : Type 0 where
   pub place : List ℕ
@@ -15,7 +16,8 @@ pub record Held : Type 0 where
   pub at : ℕ
   pub under : ℕ
 
--- a branch under a frame: the number of the child that it is at or under, and its place as that child sees it
+-- a branch under a frame: the number of the child that it is at or under, and its place as that
+-- child sees it
 pub record Spot : Type 0 where
   pub number : ℕ
   pub deeper : List ℕ
@@ -32,7 +34,9 @@ pushed i s = record { number = i; deeper = s.number ∷ s.deeper; held = s.held 
 -- the branches of the children, numbered from i
 abbrev pub below_of : ℕ → List Family → List Spot
 below_of i [] = []
-below_of i (k ∷ ks) = record { number = i; deeper = []; held = k.head } ∷ (map (pushed i) k.below ++ below_of (i + 1) ks)
+below_of i (k ∷ ks) =
+    record { number = i; deeper = []; held = k.head }
+    ∷ (map (pushed i) k.below ++ below_of (i + 1) ks)
 
 -- the branch as its frame sees it
 abbrev pub branch_of : Spot → Branch
@@ -56,9 +60,17 @@ nodes_of f = record { place = []; held = f.head } ∷ map node_of f.below
 abbrev pub plain : Node → Branch
 plain n = record { place = n.place; current = n.held.current }
 
-pub most-below : (i : ℕ) (kids : List Family) → most (λ k. length k.below + 1) kids ≤ length (below_of i kids)
+pub most-below : (i : ℕ) (kids : List Family)
+    → most (λ k. length k.below + 1) kids ≤ length (below_of i kids)
 most-below i [] = omega arith
-most-below i (k ∷ ks) = omega (arith, most-below (i + 1) ks, length-append (map (pushed i) k.below) (below_of (i + 1) ks), length-map k.below (pushed i))
+most-below i (k ∷ ks) =
+    omega (
+      arith,
+      most-below (i + 1) ks,
+      length-append (map (pushed i) k.below)
+          (below_of (i + 1) ks),
+      length-map k.below (pushed i),
+    )
 
 -- ---- counts over the children
 

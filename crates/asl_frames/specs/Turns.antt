@@ -1,4 +1,5 @@
--- From which moment on a branch may step, as it and the branches beside and under it stand; and which branch may step first.
+-- From which moment on a branch may step, as it and the branches beside and under it stand; and
+-- which branch may step first.
 use Rattle.std.specs.Prelude.{ℕ, Bool, true, false, ◌&&◌, nat_lt, nat_le, max, List, [], ◌∷◌, map, if◌then◌else◌, Option, Some, None}
 use Rattle.asl_steps.specs.declared.record.Record.{Record}
 use Rattle.asl_steps.specs.declared.record.Record.TheVariants.{New, Ready, Pausing, Again, Forked, Done, Failed}
@@ -13,7 +14,8 @@ abbrev pub limit_of : Limits → Option (List ℕ) → ℕ
 limit_of limits None = 0
 limit_of limits (Some name) = limits name
 
--- a Map that runs at most so many iterations at once has no room for one more, where so many before it aren't done. Of 0 there is no limit
+-- a Map that runs at most so many iterations at once has no room for one more, where so many before
+-- it aren't done. Of 0 there is no limit
 abbrev pub is_full : ℕ → ℕ → Bool
 is_full limit undone = nat_lt 0 limit && nat_le limit undone
 
@@ -36,14 +38,18 @@ due_of crowded busy (Some r) = due_by crowded busy r
 
 -- the same for the branch at a place
 abbrev pub due_at : Limits → List Branch → List ℕ → Option ℕ
-due_at limits bs p = if is_stopped p bs then None else due_of (is_crowded (limit_of limits (forker_at p bs)) p bs) (is_busy (children_at p bs)) (record_at p bs)
+due_at limits bs p =
+    if is_stopped p bs then None
+    else due_of (is_crowded (limit_of limits (forker_at p bs)) p bs)
+    (is_busy (children_at p bs)) (record_at p bs)
 
 -- each branch under a frame, with that moment
 abbrev pub Due : Type 0
 Due = List ℕ × Option ℕ
 
 abbrev pub dues_of : Limits → Family → List Due
-dues_of limits f = map (λ (n : Node). (n.held.place, due_at limits (branches_of f) n.place)) (nodes_of f)
+dues_of limits f =
+    map (λ (n : Node). (n.held.place, due_at limits (branches_of f) n.place)) (nodes_of f)
 
 -- the same for a list of branches
 abbrev pub dues_among : Limits → List Branch → List Due

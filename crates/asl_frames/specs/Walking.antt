@@ -12,17 +12,21 @@ turn_of t = (t.place.now, t.moment)
 
 -- the branches under one, where no sibling of it or of a branch above it has failed
 abbrev pub dues_below : Limits → Family → List Due
-dues_below limits f = map (λ (s : Spot). (s.held.place, due_at limits (branches_of f) (s.number ∷ s.deeper))) f.below
+dues_below limits f =
+    map (λ (s : Spot). (s.held.place, due_at limits (branches_of f) (s.number ∷ s.deeper))) f.below
 
--- a branch and those under it, where no sibling of it or of a branch above it has failed. Its Map may have no room for it
+-- a branch and those under it, where no sibling of it or of a branch above it has failed. Its Map
+-- may have no room for it
 abbrev pub dues_in : Limits → Bool → Family → List Due
 dues_in limits crowded f =
     (f.head.place, due_by crowded (is_busy (children_at [] (branches_of f))) f.head.current)
     ∷ dues_below limits f
 
--- the turn that comes first among children, of whose elders so many aren't done, and of all of whom so many have failed
+-- the turn that comes first among children, of whose elders so many aren't done, and of all of whom
+-- so many have failed
 abbrev pub soonest_of : Limits → ℕ → ℕ → ℕ → ℕ → List Family → Option SpecTurn
 soonest_of limits now limit failed undone [] = None
 soonest_of limits now limit failed undone (k ∷ ks) =
-    sooner (if nat_lt (one_if (is_failed k.head.current)) failed then None else soonest now (dues_in limits (is_full limit undone) k))
+    sooner (if nat_lt (one_if (is_failed k.head.current)) failed then None
+    else soonest now (dues_in limits (is_full limit undone) k))
     (soonest_of limits now limit failed (undone + one_if (not (is_done k.head.current))) ks)

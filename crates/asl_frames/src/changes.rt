@@ -1,9 +1,9 @@
 // What a step does to the tree. It takes no memory.
 ghost use Rattle.std.specs.Prelude.{◌≡◌, ◌≤◌, ◌<◌, ◌+◌, ◌^◌, not, [], Some};
-ghost use Rattle.asl_steps.specs.Records.{is_done as spec_is_done};
+ghost use Rattle.asl_steps.specs.Records.{is_done};
 ghost use Rattle.asl_steps.specs.declared.effect.Children.TheVariants.{Kept};
 ghost use Rattle.asl_frames.specs.Trees.{branches_of, nodes_of, one_if};
-ghost use Rattle.asl_frames.specs.Changes.{change, nodes_after, litter_of, marked as spec_marked};
+ghost use Rattle.asl_frames.specs.Changes.{change, nodes_after, litter_of, marked};
 
 use crate::frame::Frame;
 use crate::offspring::Offspring;
@@ -15,7 +15,7 @@ use asl_time::Moment;
 
 /// The latest event, where one is told.
 fn marked(told: Option<u64>, before: u64) -> u64
-    ensures { result ≡ spec_marked told before }
+    ensures { result ≡ marked told before }
 {
     told.unwrap_or(before)
 }
@@ -46,7 +46,8 @@ impl Frame {
         offspring: Offspring,
         now: Moment,
     )
-        ensures { nodes_of self.new ≡ nodes_after place.now (change after told offspring) (nodes_of self.old) }
+        ensures { nodes_of self.new
+            ≡ nodes_after place.now (change after told offspring) (nodes_of self.old) }
     {
         self.change(place.numbers(), after, told, offspring, now);
     }
@@ -54,7 +55,9 @@ impl Frame {
     /// An event of this id is told at its own place, and no branch changes.
     pub fn tell(&mut self, id: u64)
         ensures branches { branches_of self.new ≡ branches_of self.old }
-        ensures nodes { nodes_of self.new ≡ nodes_after [] (change self.old.head.current (Some id) (litter_of [] Kept)) (nodes_of self.old) }
+        ensures nodes { nodes_of self.new
+            ≡ nodes_after [] (change self.old.head.current (Some id) (litter_of [] Kept))
+            (nodes_of self.old) }
     {
         self.at = id;
         self.under = id;
@@ -68,7 +71,8 @@ impl Frame {
         offspring: Offspring,
         now: Moment,
     )
-        ensures { nodes_of self.new ≡ nodes_after place.now (change after told offspring) (nodes_of self.old) }
+        ensures { nodes_of self.new
+            ≡ nodes_after place.now (change after told offspring) (nodes_of self.old) }
     {
         self.under = marked(told, self.under);
         let Some((number, deeper)) = split(place) else {

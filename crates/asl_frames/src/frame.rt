@@ -1,6 +1,6 @@
 // A running branch with those under it.
 ghost use Rattle.std.specs.Prelude.{◌≡◌, ◌∷◌, [], map, not, ◌&&◌, nat_lt, IfOk};
-ghost use Rattle.asl_frames.specs.Branches.{children_at, is_busy as spec_is_busy};
+ghost use Rattle.asl_frames.specs.Branches.{children_at, is_busy};
 ghost use Rattle.asl_frames.specs.Trees.{branches_of, nodes_of, below_of};
 
 use crate::resting::{Resting, none_resting};
@@ -54,10 +54,15 @@ impl Model for Frame {
 impl Frame {
     /// The branch that an execution begins with, of which the event of this id tells.
     pub fn root(alloc: Global, current: Record, told: u64) -> Frame
-        ensures { nodes_of result ≡ record { place = []; held = record { place = []; current = current; at = told; under = told } } ∷ [] }
+        ensures { nodes_of result
+            ≡ record {
+              place = [];
+              held = record
+                  { place = []; current = current; at = told; under = told };
+            } ∷ [] }
     {
         Frame {
-            place: Place::root(alloc),
+            place: Place::root(),
             held: current,
             at: told,
             under: told,
@@ -91,14 +96,15 @@ impl Frame {
 
     /// What the branches right under it are doing, in order. The error is that memory ran out.
     pub fn child_records(&self, alloc: Global) -> Result<Vec<&Record>, AllocError>
-        ensures { IfOk result (λ v. map (λ r. r.now) v.items ≡ children_at [] (branches_of self.now)) }
+        ensures { IfOk result (λ v. map (λ r. r.now) v.items
+            ≡ children_at [] (branches_of self.now)) }
     {
         records_of(alloc, self.children())
     }
 
     /// Whether it waits: no child has failed, and some child isn't done.
     pub fn is_busy(&self) -> bool
-        ensures { result ≡ spec_is_busy (children_at [] (branches_of self.now)) }
+        ensures { result ≡ is_busy (children_at [] (branches_of self.now)) }
     {
         is_waiting(self.failed, self.undone)
     }

@@ -1,6 +1,6 @@
 // The children at rest, which a walk may skip.
 ghost use Rattle.std.specs.Prelude.{◌≡◌, ◌≤◌, ◌<◌, ◌+◌, ◌^◌, ◌&&◌, not, true, List, [], min, nat_eq, IfSome, if◌then◌else◌, length};
-ghost use Rattle.asl_frames.specs.private.Resting.{waits as spec_waits, IsIdle, IsResting};
+ghost use Rattle.asl_frames.specs.private.Resting.{waits, IsIdle, IsResting};
 ghost use Rattle.asl_frames.specs.Trees.{Family, one_if};
 
 use crate::frame::Frame;
@@ -35,7 +35,7 @@ pub(crate) fn none_resting() -> Resting
 
 /// The moment until which a branch that is doing this has nothing to do, where that is later than now.
 fn awaited(current: &Record, now: Moment) -> Option<Moment>
-    ensures { IfSome result (λ until. spec_waits until current.now ≡ true) }
+    ensures { IfSome result (λ until. waits until current.now ≡ true) }
 {
     match current {
         Record::New { .. } | Record::Ready { .. } | Record::Forked { .. } => None,
@@ -92,7 +92,8 @@ impl Resting {
     fn with(self, until: Moment, done: bool) -> Resting
         requires ordered { self.undone ≤ self.idle }
         requires few { self.idle < 2 ^ 63 }
-        ensures over { result.over ≡ if done && nat_eq self.over self.idle then self.idle + 1 else self.over }
+        ensures over { result.over ≡ if done && nat_eq self.over self.idle then self.idle + 1
+            else self.over }
         ensures idle { result.idle ≡ self.idle + 1 }
         ensures undone { result.undone ≡ self.undone + one_if (not done) }
         ensures until { result.until ≡ min self.until until }

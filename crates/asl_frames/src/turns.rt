@@ -1,9 +1,9 @@
 // Which branch may step first.
 ghost use Rattle.std.specs.Prelude.{◌≡◌, ◌≤◌, ◌<◌, ◌+◌, ◌^◌, not, ℕ, None, Some, [], List, option_map, max, true, false, IfSome, is_some, ◌&&◌, nat_lt, nat_le, if◌then◌else◌, length};
-ghost use Rattle.asl_frames.specs.Branches.{children_at, is_busy as spec_is_busy};
+ghost use Rattle.asl_frames.specs.Branches.{children_at, is_busy};
 ghost use Rattle.asl_steps.specs.Records.{is_finished};
 ghost use Rattle.asl_frames.specs.Trees.{branches_of, one_if, count_undone, count_failed};
-ghost use Rattle.asl_frames.specs.Turns.{limit_of, is_full as spec_is_full, due_by as spec_due_by, dues_of, soonest as spec_soonest, comes_first as spec_comes_first, turn_at};
+ghost use Rattle.asl_frames.specs.Turns.{limit_of, is_full, due_by, dues_of, soonest, comes_first, turn_at};
 ghost use Rattle.asl_frames.specs.Walking.{turn_of, dues_in, dues_below, soonest_of};
 
 use crate::frame::Frame;
@@ -42,14 +42,14 @@ fn limit_in<L: Limits>(limits: &L, map: Option<&Name>) -> u32
 
 /// Whether a Map that runs at most so many iterations at once has no room for one more.
 fn is_full(limit: u32, undone: usize) -> bool
-    ensures { result ≡ spec_is_full limit undone }
+    ensures { result ≡ is_full limit undone }
 {
     limit > 0 && limit as usize <= undone
 }
 
 /// The moment from which on a branch that is doing this may step.
 fn due_by(crowded: bool, busy: bool, current: &Record) -> Option<Moment>
-    ensures { result ≡ spec_due_by crowded busy current.now }
+    ensures { result ≡ due_by crowded busy current.now }
 {
     match current {
         Record::New { .. } => { if crowded { None } else { Some(Moment::FIRST) } }
@@ -69,7 +69,7 @@ fn later(a: Moment, b: Moment) -> Moment
 
 /// Whether a turn comes before the first one so far.
 fn comes_first(turn: &Option<Turn<'_>>, first: &Option<Turn<'_>>) -> bool
-    ensures { result ≡ spec_comes_first (option_map turn_of turn.now) (option_map turn_of first.now) }
+    ensures { result ≡ comes_first (option_map turn_of turn.now) (option_map turn_of first.now) }
 {
     let Some(turn) = turn else {
         return false;
@@ -110,7 +110,8 @@ impl Frame {
     /// The branch at this frame or under it that may step first: now, or at a later moment. Of several the first in order. While the
     /// branch of the frame itself goes on, there is one.
     pub fn soonest<L: Limits>(&self, limits: &L, now: Moment) -> Option<Turn<'_>>
-        ensures turn { option_map turn_of result ≡ spec_soonest now (dues_of (L.limits limits.now) self.now) }
+        ensures turn { option_map turn_of result
+            ≡ soonest now (dues_of (L.limits limits.now) self.now) }
         ensures goes { is_finished self.now.head.current ≡ false → is_some result ≡ true }
     {
         self.seek(limits, false, false, now)
@@ -118,7 +119,12 @@ impl Frame {
 
     /// The turn of the branch itself.
     fn own_turn(&self, crowded: bool, now: Moment) -> Option<Turn<'_>>
-        ensures { option_map turn_of result ≡ turn_at now (self.now.head.place, spec_due_by crowded (spec_is_busy (children_at [] (branches_of self.now))) self.now.head.current) }
+        ensures { option_map turn_of result
+            ≡ turn_at now (
+              self.now.head.place,
+              due_by crowded (is_busy (children_at [] (branches_of self.now)))
+                  self.now.head.current,
+            ) }
     {
         let until = due_by(crowded, self.is_busy(), &self.held)?;
         Some(Turn {
@@ -136,8 +142,10 @@ impl Frame {
         crowded: bool,
         now: Moment,
     ) -> Option<Turn<'_>>
-        ensures turn { option_map turn_of result ≡ if stopped then None else spec_soonest now (dues_in (L.limits limits.now) crowded self.now) }
-        ensures goes { stopped ≡ false → crowded ≡ false → is_finished self.now.head.current ≡ false → is_some result ≡ true }
+        ensures turn { option_map turn_of result ≡ if stopped then None
+            else soonest now (dues_in (L.limits limits.now) crowded self.now) }
+        ensures goes { stopped ≡ false → crowded ≡ false → is_finished self.now.head.current ≡ false
+            → is_some result ≡ true }
     {
         if stopped {
             return None;
@@ -156,8 +164,10 @@ impl Frame {
     /// The same among those under it alone. Children at rest are looked at only where one of them may step now, or no other child can.
     #[cycle(seek)]
     fn seek_below<L: Limits>(&self, limits: &L, now: Moment) -> Option<Turn<'_>>
-        ensures turn { option_map turn_of result ≡ spec_soonest now (dues_below (L.limits limits.now) self.now) }
-        ensures goes { spec_is_busy (children_at [] (branches_of self.now)) ≡ true → is_some result ≡ true }
+        ensures turn { option_map turn_of result
+            ≡ soonest now (dues_below (L.limits limits.now) self.now) }
+        ensures goes { is_busy (children_at [] (branches_of self.now)) ≡ true
+            → is_some result ≡ true }
     {
         let limit = limit_in(limits, map_in(&self.held));
         let resting = self.resting;
@@ -208,8 +218,10 @@ fn walk<'a, L: Limits>(
     now: Moment,
 ) -> Option<Turn<'a>>
     requires few { undone + length children.now < 2 ^ 63 }
-    ensures turn { option_map turn_of result ≡ soonest_of (L.limits limits.now) now limit failed undone children.now }
-    ensures goes { count_failed children.now ≡ 0 → failed ≡ 0 → undone ≡ 0 → 0 < count_undone children.now → is_some result ≡ true }
+    ensures turn { option_map turn_of result
+        ≡ soonest_of (L.limits limits.now) now limit failed undone children.now }
+    ensures goes { count_failed children.now ≡ 0 → failed ≡ 0 → undone ≡ 0
+        → 0 < count_undone children.now → is_some result ≡ true }
 {
     let mut first = None;
     let mut elders = undone;

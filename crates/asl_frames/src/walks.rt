@@ -3,7 +3,7 @@ ghost use Rattle.std.specs.Prelude.{None, Some, ◌≡◌, ◌∷◌, [], List, 
 ghost use Rattle.asl_json.specs.View.{data_of};
 ghost use Rattle.std.specs.Option.{option_copied};
 ghost use Rattle.asl_steps.specs.Records.{is_failed};
-ghost use Rattle.asl_frames.specs.Branches.{record_at, children_at, is_stopped, map_in as spec_map_in, forker_at, iteration_in, iteration_at, elders_at, undone_in};
+ghost use Rattle.asl_frames.specs.Branches.{record_at, children_at, is_stopped, map_in, forker_at, iteration_in, iteration_at, elders_at, undone_in};
 ghost use Rattle.asl_frames.specs.private.Resting.{IsResting};
 ghost use Rattle.asl_frames.specs.Trees.{branches_of, nodes_of, one_if, count_undone};
 ghost use Rattle.asl_frames.specs.private.Links.{latest};
@@ -60,7 +60,9 @@ pub(crate) fn split(place: &[u32]) -> Option<(u32, &[u32])>
 
 /// The number and the item of an iteration, where a branch is a Map that waits for it.
 fn item_of(current: &Record, number: u32) -> Option<(u32, &Json)>
-    ensures { (deeper : List ℕ) → option_map (λ i. (i.0, data_of i.1.now)) result ≡ iteration_in current.now (Some (number ∷ deeper)) }
+    ensures { (deeper : List ℕ)
+        → option_map (λ i. (i.0, data_of i.1.now)) result
+        ≡ iteration_in current.now (Some (number ∷ deeper)) }
 {
     let Record::Forked { items, .. } = current else {
         return None;
@@ -83,7 +85,7 @@ fn undone_before(children: &[Frame], resting: Resting, number: usize) -> usize
 
 /// The name of the Map, where a branch waits for its iterations.
 pub(crate) fn map_in(current: &Record) -> Option<&Name>
-    ensures { option_map (λ n. n.now) result ≡ spec_map_in current.now }
+    ensures { option_map (λ n. n.now) result ≡ map_in current.now }
 {
     match current {
         Record::Forked { state, items, .. } if !items.values().is_empty() => Some(state),
@@ -94,15 +96,21 @@ pub(crate) fn map_in(current: &Record) -> Option<&Name>
 impl Frame {
     /// The frame at a place; none where no branch runs there.
     pub fn find(&self, place: &Place) -> Option<&Frame>
-        ensures record { option_map (λ f. f.now.head.current) result ≡ record_at place.now (branches_of self.now) }
-        ensures children { IfSome result (λ f. children_at [] (branches_of f.now) ≡ children_at place.now (branches_of self.now)) }
+        ensures record { option_map (λ f. f.now.head.current) result
+            ≡ record_at place.now (branches_of self.now) }
+        ensures children { IfSome result
+            (λ f. children_at [] (branches_of f.now)
+            ≡ children_at place.now (branches_of self.now)) }
     {
         self.found(place.numbers())
     }
 
     fn found(&self, place: &[u32]) -> Option<&Frame>
-        ensures record { option_map (λ f. f.now.head.current) result ≡ record_at place.now (branches_of self.now) }
-        ensures children { IfSome result (λ f. children_at [] (branches_of f.now) ≡ children_at place.now (branches_of self.now)) }
+        ensures record { option_map (λ f. f.now.head.current) result
+            ≡ record_at place.now (branches_of self.now) }
+        ensures children { IfSome result
+            (λ f. children_at [] (branches_of f.now)
+            ≡ children_at place.now (branches_of self.now)) }
     {
         match split(place) {
             None => Some(self),
@@ -118,7 +126,8 @@ impl Frame {
     /// How a place stands; none where no branch runs there.
     pub fn standing(&self, place: &Place) -> Option<Standing>
         ensures there { is_some result ≡ is_some (record_at place.now (branches_of self.now)) }
-        ensures stopped { IfSome result (λ s. s.stopped ≡ is_stopped place.now (branches_of self.now)) }
+        ensures stopped { IfSome result
+            (λ s. s.stopped ≡ is_stopped place.now (branches_of self.now)) }
         ensures previous { IfSome result (λ s. s.previous ≡ latest place.now (nodes_of self.now)) }
     {
         self.stands(place.numbers())
@@ -126,7 +135,8 @@ impl Frame {
 
     fn stands(&self, place: &[u32]) -> Option<Standing>
         ensures there { is_some result ≡ is_some (record_at place.now (branches_of self.now)) }
-        ensures stopped { IfSome result (λ s. s.stopped ≡ is_stopped place.now (branches_of self.now)) }
+        ensures stopped { IfSome result
+            (λ s. s.stopped ≡ is_stopped place.now (branches_of self.now)) }
         ensures previous { IfSome result (λ s. s.previous ≡ latest place.now (nodes_of self.now)) }
     {
         match split(place) {
@@ -170,13 +180,15 @@ impl Frame {
 
     /// The number and the item of the innermost iteration of a Map that a place is at or under; none where it is in no Map.
     pub fn iteration(&self, place: &Place) -> Option<(u32, &Json)>
-        ensures { option_map (λ i. (i.0, data_of i.1.now)) result ≡ iteration_at place.now (branches_of self.now) }
+        ensures { option_map (λ i. (i.0, data_of i.1.now)) result
+            ≡ iteration_at place.now (branches_of self.now) }
     {
         self.iterates(place.numbers())
     }
 
     fn iterates(&self, place: &[u32]) -> Option<(u32, &Json)>
-        ensures { option_map (λ i. (i.0, data_of i.1.now)) result ≡ iteration_at place.now (branches_of self.now) }
+        ensures { option_map (λ i. (i.0, data_of i.1.now)) result
+            ≡ iteration_at place.now (branches_of self.now) }
     {
         let Some((number, deeper)) = split(place) else {
             return None;

@@ -175,41 +175,12 @@ of_truth false true e = absurd cc
 mutual
   pub same_marks : (d e : Data) → IsApart d → same d e ≡ true → mark d ≡ mark e
   same_marks null null apart h = refl
-  same_marks null (boolean c) apart h = absurd cc
-  same_marks null (number t) apart h = absurd cc
-  same_marks null (text t) apart h = absurd cc
-  same_marks null (list es) apart h = absurd cc
-  same_marks null (dict ns) apart h = absurd cc
-  same_marks (boolean b) null apart h = absurd cc
   same_marks (boolean b) (boolean c) apart h = ap (λ (x : Bool). cond x TRUE FALSE) (of_truth b c h)
-  same_marks (boolean b) (number t) apart h = absurd cc
-  same_marks (boolean b) (text t) apart h = absurd cc
-  same_marks (boolean b) (list es) apart h = absurd cc
-  same_marks (boolean b) (dict ns) apart h = absurd cc
-  same_marks (number s) null apart h = absurd cc
-  same_marks (number s) (boolean c) apart h = absurd cc
   same_marks (number s) (number t) apart h = ap (λ (z : ℤ). unsigned_abs z % MODULUS) ((Decides-int_eq (units_of s) (units_of t)).0 h)
-  same_marks (number s) (text t) apart h = absurd cc
-  same_marks (number s) (list es) apart h = absurd cc
-  same_marks (number s) (dict ns) apart h = absurd cc
-  same_marks (text s) null apart h = absurd cc
-  same_marks (text s) (boolean c) apart h = absurd cc
-  same_marks (text s) (number t) apart h = absurd cc
   same_marks (text s) (text t) apart h = ap (text_mark TEXT) (same_text s t (sym h))
-  same_marks (text s) (list es) apart h = absurd cc
-  same_marks (text s) (dict ns) apart h = absurd cc
-  same_marks (list ds) null apart h = absurd cc
-  same_marks (list ds) (boolean c) apart h = absurd cc
-  same_marks (list ds) (number t) apart h = absurd cc
-  same_marks (list ds) (text t) apart h = absurd cc
   same_marks (list ds) (list es) apart h = same_items_marks ds es LIST apart h
-  same_marks (list ds) (dict ns) apart h = absurd cc
-  same_marks (dict ms) null apart h = absurd cc
-  same_marks (dict ms) (boolean c) apart h = absurd cc
-  same_marks (dict ms) (number t) apart h = absurd cc
-  same_marks (dict ms) (text t) apart h = absurd cc
-  same_marks (dict ms) (list es) apart h = absurd cc
   same_marks (dict ms) (dict ns) apart h = let parts = both (count ms == count ns) (each_in ms ns) h in same_members_marks ms ns DICT apart (eqb-true (count ms) (count ns) parts.0) parts.1
+  same_marks x y apart h = absurd cc
 
   same_items_marks : (ds es : Chain) (h : ℕ) → AreApart ds → same_items ds es ≡ true → items_mark h ds ≡ items_mark h es
   same_items_marks no_items no_items h apart e = refl

@@ -22,10 +22,8 @@ place_within k (m ∷ ms) i e = within_at (bytes_eq k m.0) (key_index k ms) (len
 
 set_at : (k : List ℕ) (m : List ℕ × Data) (ms : List (List ℕ × Data)) (d : Data) (b : Bool) (o : Option ℕ) (i : ℕ) → ((j : ℕ) → o ≡ Some j → with_value ms j d ≡ with_member ms k d) → cond b (Some 0) (option_map suc o) ≡ Some i → with_value (m ∷ ms) i d ≡ cond b ((m.0, d) ∷ ms) (m ∷ with_member ms k d)
 set_at k m ms d true o zero h e = refl
-set_at k m ms d true o (suc i) h e = absurd (cc)
-set_at k m ms d false None i h e = absurd (cc)
-set_at k m ms d false (Some j) zero h e = absurd (cc)
 set_at k m ms d false (Some j) (suc i) h e = let same : j ≡ i = cc in ap (λ (x : List (List ℕ × Data)). m ∷ x) (h i (ap (λ (x : ℕ). Some x) same))
+set_at k m ms d x y z h e = absurd cc
 
 pub place_set : (k : List ℕ) (ms : List (List ℕ × Data)) (i : ℕ) (d : Data) → key_index k ms ≡ Some i → with_value ms i d ≡ with_member ms k d
 place_set k [] i d e = absurd (cc)

@@ -45,7 +45,8 @@ abbrev pub with_template : Option (List ℕ) → List Data → Outcome Data
 with_template w [] = fails reason.Count
 with_template w (d ∷ ds) = format w d ds
 
--- a function of values; w is the first argument as it is written, where it stands between apostrophes
+-- a function of values; w is the first argument as it is written, where it stands between
+-- apostrophes
 abbrev pub apply : Function → Option (List ℕ) → List Data → Outcome Data
 apply Array w ds = array ds
 apply Format w ds = with_template w ds

@@ -43,4 +43,7 @@ in_hexadecimal digest = Ok (text (encode_lower digest))
 
 -- `States.Hash(t, g)`: the digest in lowercase hexadecimal
 abbrev pub hash : Data → Data → Outcome Data
-hash d e = and_then (text_in d) (λ t. and_then (text_in e) (λ g. and_then (or_fails Range (digest_named g t)) in_hexadecimal))
+hash d e =
+    and_then (text_in d)
+    (λ t. and_then (text_in e)
+    (λ g. and_then (or_fails Range (digest_named g t)) in_hexadecimal))

@@ -3,7 +3,8 @@ use Rattle.std.specs.Prelude.{◌≡◌, Result, Ok, Err}
 use Rattle.asl_functions.specs.declared.fault.EvalFault.{EvalFault}
 use Rattle.asl_functions.specs.declared.fault.EvalFault.TheVariants.{Fails, PathMissing, OutOfMemory}
 
-abbrev pub Gives : {X : Type 0} {Y : Type 0} → (X → Y) → Result Y EvalFault → Result X EvalFault → Type 0
+abbrev pub Gives : {X : Type 0} {Y : Type 0} → (X → Y) → Result Y EvalFault → Result X EvalFault
+    → Type 0
 Gives view r (Ok x) = r ≡ Ok (view x)
 Gives view r (Err (Fails w)) = r ≡ Err (Fails w)
 Gives view r (Err PathMissing) = r ≡ Err PathMissing

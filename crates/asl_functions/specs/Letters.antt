@@ -12,7 +12,9 @@ backslash = 92
 abbrev mutual
   pub letters : Bool → List ℕ → List Letter
   letters escapes [] = []
-  letters escapes (c ∷ cs) = if escapes && c == backslash then behind_backslash escapes cs else Plain c ∷ letters escapes cs
+  letters escapes (c ∷ cs) =
+      if escapes && c == backslash then behind_backslash escapes cs
+      else Plain c ∷ letters escapes cs
 
   pub behind_backslash : Bool → List ℕ → List Letter
   behind_backslash escapes [] = []

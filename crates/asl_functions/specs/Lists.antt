@@ -1,4 +1,5 @@
--- The functions on lists (Amazon States Language, "Intrinsic Functions"; Developer Guide, "Intrinsics for arrays").
+-- The functions on lists (Amazon States Language, "Intrinsic Functions"; Developer Guide,
+-- "Intrinsics for arrays").
 use Rattle.std.specs.Prelude.{ℕ, zero, suc, ℤ, pos, negsuc, ◌+ℤ◌, int_lt, Bool, List, [], ◌∷◌, ◌++◌, length, take, drop, Option, Some, None, Ok, if◌then◌else◌, slice_get, option_map}
 use Rattle.std.specs.List.{list_any}
 use Rattle.std.specs.Ordering.{int_eq}

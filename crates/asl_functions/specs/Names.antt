@@ -1,4 +1,5 @@
--- The intrinsic functions: their names, and how many arguments each takes (Amazon States Language, "Intrinsic Functions").
+-- The intrinsic functions: their names, and how many arguments each takes (Amazon States Language,
+-- "Intrinsic Functions").
 use Rattle.std.specs.Prelude.{ℕ, Bool, true, ◌==◌, nat_le, cond, List, [], ◌∷◌, Option, Some, None, codes}
 use Rattle.asl_json.specs.Same.{bytes_eq}
 use Rattle.asl_functions.specs.declared.function.Function.{Function}
@@ -24,7 +25,10 @@ name_of MathAdd = codes "MathAdd"
 name_of StringSplit = codes "StringSplit"
 
 abbrev pub functions : List Function
-functions = Format ∷ StringToJson ∷ JsonToString ∷ Array ∷ ArrayPartition ∷ ArrayContains ∷ ArrayRange ∷ ArrayGetItem ∷ ArrayLength ∷ ArrayUnique ∷ Base64Encode ∷ Base64Decode ∷ Hash ∷ JsonMerge ∷ MathAdd ∷ StringSplit ∷ []
+functions =
+    Format ∷ StringToJson ∷ JsonToString ∷ Array ∷ ArrayPartition ∷ ArrayContains ∷ ArrayRange
+    ∷ ArrayGetItem ∷ ArrayLength ∷ ArrayUnique ∷ Base64Encode ∷ Base64Decode ∷ Hash ∷ JsonMerge
+    ∷ MathAdd ∷ StringSplit ∷ []
 
 abbrev pub first_named : List ℕ → List Function → Option Function
 first_named n [] = None

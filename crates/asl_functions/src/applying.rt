@@ -1,9 +1,12 @@
 // Each function of the values of its arguments.
-ghost use Rattle.std.specs.Prelude.{◌≡◌, option_map};
+ghost use Rattle.std.specs.Prelude.{◌≡◌, ◌↔◌, ◌∷◌, [], List, ℕ, Option, Ok, Err, option_map};
+ghost use Rattle.std.specs.Str.{IsUtf8};
+ghost use Rattle.asl_json.specs.Data.{Data, text};
 ghost use Rattle.asl_json.specs.View.{data_of};
+ghost use Rattle.asl_json.specs.Wrong.{ReadsAs};
 ghost use Rattle.asl_functions.specs.Gives.{Gives};
 ghost use Rattle.asl_functions.specs.Seen.{all_seen};
-ghost use Rattle.asl_functions.specs.Apply.{of_one as spec_one, of_two as spec_two, of_three as spec_three, by_count as spec_by_count, with_template as spec_template, apply as spec_apply};
+ghost use Rattle.asl_functions.specs.Apply.{of_one, of_two, of_three, by_count, with_template, apply};
 
 use crate::coding::{base64_decode, base64_encode, hash};
 use crate::fault::{EvalFault, Reason};
@@ -17,12 +20,12 @@ use crate::range::array_range;
 use crate::split::string_split;
 use crate::texts::{json_to_string, math_add, string_to_json};
 use crate::value::Value;
-use asl_json::Json;
+use asl_json::{Json, a_text_has_the_value_that_it_spells};
 use std::alloc::Global;
 
 /// A function of one value.
 fn of_one(alloc: Global, function: Function, one: &Json) -> Result<Json, EvalFault>
-    ensures { Gives data_of (spec_one function (data_of one.now)) result }
+    ensures { Gives data_of (of_one function (data_of one.now)) result }
 {
     match function {
         Function::StringToJson => string_to_json(alloc, one),
@@ -37,7 +40,7 @@ fn of_one(alloc: Global, function: Function, one: &Json) -> Result<Json, EvalFau
 
 /// A function of two values.
 fn of_two(alloc: Global, function: Function, one: &Json, two: &Json) -> Result<Json, EvalFault>
-    ensures { Gives data_of (spec_two function (data_of one.now) (data_of two.now)) result }
+    ensures { Gives data_of (of_two function (data_of one.now) (data_of two.now)) result }
 {
     match function {
         Function::ArrayPartition => array_partition(alloc, one, two),
@@ -58,7 +61,8 @@ fn of_three(
     two: &Json,
     three: &Json,
 ) -> Result<Json, EvalFault>
-    ensures { Gives data_of (spec_three function (data_of one.now) (data_of two.now) (data_of three.now)) result }
+    ensures { Gives data_of
+        (of_three function (data_of one.now) (data_of two.now) (data_of three.now)) result }
 {
     match function {
         Function::ArrayRange => array_range(alloc, one, two, three),
@@ -69,7 +73,7 @@ fn of_three(
 
 /// A function of so many values.
 fn by_count(alloc: Global, function: Function, values: &[Value<'_>]) -> Result<Json, EvalFault>
-    ensures { Gives data_of (spec_by_count function (all_seen values.now)) result }
+    ensures { Gives data_of (by_count function (all_seen values.now)) result }
 {
     match values {
         [one] => of_one(alloc, function, one.json()),
@@ -85,7 +89,8 @@ fn with_template(
     written: Option<&str>,
     values: &[Value<'_>],
 ) -> Result<Json, EvalFault>
-    ensures { Gives data_of (spec_template (option_map (λ t. t.now) written.entry) (all_seen values.now)) result }
+    ensures { Gives data_of
+        (with_template (option_map (λ t. t.now) written.entry) (all_seen values.now)) result }
 {
     match values {
         [template, rest @ ..] => format(alloc, written, template.json(), rest),
@@ -102,11 +107,22 @@ pub fn apply(
     written: Option<&str>,
     values: &[Value<'_>],
 ) -> Result<Json, EvalFault>
-    ensures { Gives data_of (spec_apply function (option_map (λ t. t.now) written.entry) (all_seen values.now)) result }
+    ensures { Gives data_of
+        (apply function (option_map (λ t. t.now) written.entry) (all_seen values.now)) result }
 {
     match function {
         Function::Array => array(alloc, values),
         Function::Format => with_template(alloc, written, values),
         _ => by_count(alloc, function, values),
     }
+}
+
+/// `States.StringToJson` gives the value that a text spells in the limits of `asl_json`, and gives none of other texts.
+pub fn string_to_json_gives_what_a_text_spells()
+    ensures value { (w : Option (List ℕ)) (t : List ℕ) (d : Data) → IsUtf8 t
+        → (apply Function.StringToJson w (text t ∷ []) ≡ Ok d) ↔ ReadsAs t d }
+    ensures none { (w : Option (List ℕ)) (t : List ℕ) → IsUtf8 t → ((d : Data) → ReadsAs t d → ⊥)
+        → apply Function.StringToJson w (text t ∷ []) ≡ Err (EvalFault.Fails Reason.Undecoded) }
+{
+    a_text_has_the_value_that_it_spells();
 }

@@ -5,7 +5,7 @@ ghost use Rattle.base64.specs.GeneralPurpose.{decode_of};
 ghost use Rattle.asl_json.specs.View.{data_of};
 ghost use Rattle.asl_functions.specs.Gives.{Gives};
 ghost use Rattle.asl_functions.specs.Outcome.{or_fails, and_then};
-ghost use Rattle.asl_functions.specs.Coding.{base64_encode as spec_encode, base64_decode as spec_decode, text_of, digest_named, in_hexadecimal, hash as spec_hash};
+ghost use Rattle.asl_functions.specs.Coding.{base64_encode, base64_decode, text_of, digest_named, in_hexadecimal, hash};
 ghost use Rattle.asl_functions.specs.declared.fault.Reason.TheVariants.{Range};
 
 use crate::convert::text;
@@ -20,7 +20,7 @@ use std::alloc::Global;
 
 /// `States.Base64Encode`
 pub(crate) fn base64_encode(alloc: Global, value: &Json) -> Result<Json, EvalFault>
-    ensures { Gives data_of (spec_encode (data_of value.now)) result }
+    ensures { Gives data_of (base64_encode (data_of value.now)) result }
 {
     let text = text(value)?;
     Ok(Json::Text(Txt::new(STANDARD.encode(alloc, text.as_bytes())?)))
@@ -28,7 +28,7 @@ pub(crate) fn base64_encode(alloc: Global, value: &Json) -> Result<Json, EvalFau
 
 /// `States.Base64Decode`
 pub(crate) fn base64_decode(alloc: Global, value: &Json) -> Result<Json, EvalFault>
-    ensures { Gives data_of (spec_decode (data_of value.now)) result }
+    ensures { Gives data_of (base64_decode (data_of value.now)) result }
 {
     let text = text(value)?;
     decoded(alloc, text)
@@ -57,7 +57,8 @@ fn decoded(alloc: Global, text: &str) -> Result<Json, EvalFault>
 
 /// The digest of a text by the name of its algorithm, in lowercase hexadecimal.
 fn digest(alloc: Global, name: &str, text: &str) -> Result<Json, EvalFault>
-    ensures { Gives data_of (and_then (or_fails Range (digest_named name.now text.now)) in_hexadecimal) result }
+    ensures { Gives data_of
+        (and_then (or_fails Range (digest_named name.now text.now)) in_hexadecimal) result }
 {
     let bytes = text.as_bytes();
     let digest = if name == "MD5" {
@@ -78,7 +79,7 @@ fn digest(alloc: Global, name: &str, text: &str) -> Result<Json, EvalFault>
 
 /// `States.Hash`
 pub(crate) fn hash(alloc: Global, value: &Json, name: &Json) -> Result<Json, EvalFault>
-    ensures { Gives data_of (spec_hash (data_of value.now) (data_of name.now)) result }
+    ensures { Gives data_of (hash (data_of value.now) (data_of name.now)) result }
 {
     let text_value = text(value)?;
     let text_name = text(name)?;

@@ -2,7 +2,7 @@
 ghost use Rattle.std.specs.Prelude.{◌≡◌, ◌<◌, ◌^◌, Ok, IfOk, unsigned_abs};
 ghost use Rattle.asl_json.specs.View.{data_of, items_of};
 ghost use Rattle.asl_functions.specs.Gives.{Gives};
-ghost use Rattle.asl_functions.specs.Converting.{text_in, list_in, object_in, number_in, whole as spec_whole, whole_number as spec_whole_number, computed as spec_computed};
+ghost use Rattle.asl_functions.specs.Converting.{text_in, list_in, object_in, number_in, whole, whole_number, computed};
 
 use crate::fault::{EvalFault, Reason};
 use asl_json::{Dec, Json, Members};
@@ -49,7 +49,7 @@ pub(crate) fn number(value: &Json) -> Result<&Dec, EvalFault>
 
 /// The whole value of a number.
 pub(crate) fn whole(number: &Dec) -> Result<i128, EvalFault>
-    ensures value { Gives (λ z. z) (spec_whole number.now) result }
+    ensures value { Gives (λ z. z) (whole number.now) result }
     ensures below { IfOk result (λ z. unsigned_abs z < 10 ^ 18) }
 {
     match number.whole() {
@@ -61,14 +61,14 @@ pub(crate) fn whole(number: &Dec) -> Result<i128, EvalFault>
 /// A whole number in plain decimal.
 pub(crate) fn whole_number(value: i128) -> Json
     requires { unsigned_abs value < 10 ^ 18 }
-    ensures { data_of result ≡ spec_whole_number value }
+    ensures { data_of result ≡ whole_number value }
 {
     Json::Num(Dec::of_whole(value))
 }
 
 /// A whole number in plain decimal, where its amount is below 10^18.
 pub(crate) fn computed(value: i128) -> Result<Json, EvalFault>
-    ensures { Gives data_of (spec_computed value) result }
+    ensures { Gives data_of (computed value) result }
 {
     if value <= -LIMIT || value >= LIMIT {
         return Err(EvalFault::Fails(Reason::Range));

@@ -7,7 +7,7 @@ ghost use Rattle.asl_functions.specs.Gives.{Gives};
 ghost use Rattle.asl_functions.specs.Outcome.{or_fails};
 ghost use Rattle.asl_functions.specs.Seen.{seen, all_seen};
 ghost use Rattle.asl_functions.specs.Letters.{letters};
-ghost use Rattle.asl_functions.specs.Format.{letter as token, hole, tokens, filled, is_fit as spec_fit, is_open as spec_open, is_close as spec_close, shown, format as spec_format, formatted as spec_formatted};
+ghost use Rattle.asl_functions.specs.Format.{letter as token, hole, tokens, filled, is_fit, is_open, is_close, shown, format, formatted};
 ghost use Rattle.asl_functions.specs.declared.fault.Reason.TheVariants.{Count};
 
 use crate::convert::text;
@@ -18,13 +18,13 @@ use asl_json::{Json, Txt, write};
 use std::alloc::Global;
 
 fn is_open(letter: Letter) -> bool
-    ensures { result ≡ spec_open letter }
+    ensures { result ≡ is_open letter }
 {
     matches!(letter, Letter::Plain('{'))
 }
 
 fn is_close(letter: Letter) -> bool
-    ensures { result ≡ spec_close letter }
+    ensures { result ≡ is_close letter }
 {
     matches!(letter, Letter::Plain('}'))
 }
@@ -45,7 +45,7 @@ fn behind_hole<'a>(letter: Letter, behind: &'a str, escapes: bool) -> Option<&'a
 
 /// Whether a value can stand in a text.
 fn is_fit(value: &Json) -> bool
-    ensures { result ≡ spec_fit (data_of value.now) }
+    ensures { result ≡ is_fit (data_of value.now) }
 {
     match value {
         Json::List(_) | Json::Dict(_) => false,
@@ -54,7 +54,7 @@ fn is_fit(value: &Json) -> bool
 }
 
 fn all_fit(values: &[Value<'_>]) -> bool
-    ensures { result ≡ list_all spec_fit (all_seen values.now) }
+    ensures { result ≡ list_all is_fit (all_seen values.now) }
 {
     for value in values {
         if !is_fit(value.json()) {
@@ -66,7 +66,8 @@ fn all_fit(values: &[Value<'_>]) -> bool
 
 /// Appends a value; a text without quotes.
 fn put_shown(alloc: Global, out: &mut String, value: &Json) -> Result<(), EvalFault>
-    ensures shown { OnOk result (string_bytes out.new ≡ string_bytes out.old ++ shown (data_of value.now)) }
+    ensures shown { OnOk result (string_bytes out.new
+        ≡ string_bytes out.old ++ shown (data_of value.now)) }
     ensures memory { IfErr result (λ e. e ≡ EvalFault.OutOfMemory) }
 {
     if let Json::Text(text) = value {
@@ -84,7 +85,10 @@ fn fill(
     escapes: bool,
     values: &[Value<'_>],
 ) -> Result<String, EvalFault>
-    ensures { Gives (λ t. string_bytes t) (or_fails Count (filled (tokens (letters escapes (chars template.now))) (map shown (all_seen values.now)))) result }
+    ensures { Gives (λ t. string_bytes t)
+        (or_fails Count
+        (filled (tokens (letters escapes (chars template.now))) (map shown (all_seen values.now))))
+        result }
 {
     let mut out = String::new(alloc);
     let mut next = 0;
@@ -118,7 +122,8 @@ fn formatted(
     escapes: bool,
     values: &[Value<'_>],
 ) -> Result<Json, EvalFault>
-    ensures { Gives data_of (spec_formatted (tokens (letters escapes (chars template.now))) (all_seen values.now)) result }
+    ensures { Gives data_of
+        (formatted (tokens (letters escapes (chars template.now))) (all_seen values.now)) result }
 {
     if !all_fit(values) {
         return Err(EvalFault::Fails(Reason::Unfit));
@@ -133,7 +138,9 @@ pub(crate) fn format(
     template: &Json,
     values: &[Value<'_>],
 ) -> Result<Json, EvalFault>
-    ensures { Gives data_of (spec_format (option_map (λ t. t.now) written.entry) (data_of template.now) (all_seen values.now)) result }
+    ensures { Gives data_of
+        (format (option_map (λ t. t.now) written.entry) (data_of template.now)
+        (all_seen values.now)) result }
 {
     let template = text(template)?;
     match written {

@@ -1,6 +1,6 @@
 // The functions by name.
 ghost use Rattle.std.specs.Prelude.{◌≡◌};
-ghost use Rattle.asl_functions.specs.Names.{name_of, function_named, first_named as spec_first, takes as spec_takes};
+ghost use Rattle.asl_functions.specs.Names.{name_of, function_named, first_named, takes};
 
 /// An intrinsic function (Amazon States Language, "Intrinsic Functions").
 #[derive(Clone, Copy, Debug, PartialEq, Eq)]
@@ -44,7 +44,7 @@ const ALL: [Function; 16] = [
 
 /// The first of these functions that has this name.
 fn first_named(name: &str, functions: &[Function]) -> Option<Function>
-    ensures { result ≡ spec_first name.now functions.now }
+    ensures { result ≡ first_named name.now functions.now }
 {
     for function in functions {
         if name == function.name() {
@@ -89,7 +89,7 @@ impl Function {
 
     /// Whether it takes so many arguments.
     pub fn takes(self, count: usize) -> bool
-        ensures { result ≡ spec_takes self count }
+        ensures { result ≡ takes self count }
     {
         match self {
             Function::Array => true,

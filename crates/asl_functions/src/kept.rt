@@ -1,11 +1,11 @@
 // Items kept as long as they are the same as none kept before. Those of one mark are linked, so that only they are compared.
 ghost use Rattle.std.specs.Prelude.{◌≡◌, [], Ok};
 ghost use Rattle.std.specs.List.{list_any};
-ghost use Rattle.asl_json.specs.Meaning.{same as spec_same};
+ghost use Rattle.asl_json.specs.Meaning.{same};
 ghost use Rattle.asl_json.specs.View.{data_of, items_of};
 ghost use Rattle.asl_functions.specs.Gives.{Gives};
 ghost use Rattle.asl_functions.specs.private.Loops.{kept_with};
-ghost use Rattle.asl_functions.specs.private.Marks.{mark as spec_mark};
+ghost use Rattle.asl_functions.specs.private.Marks.{mark};
 
 use crate::fault::EvalFault;
 use crate::mark::mark;
@@ -55,8 +55,8 @@ impl Kept {
 
     /// Whether one of them is the same as the item, which has this mark.
     fn has(&self, item: &Json, item_mark: u64) -> bool
-        requires { item_mark ≡ spec_mark (data_of item.now) }
-        ensures { result ≡ list_any (λ x. spec_same x (data_of item.now)) self.now }
+        requires { item_mark ≡ mark (data_of item.now) }
+        ensures { result ≡ list_any (λ x. same x (data_of item.now)) self.now }
     {
         let mut next = self.latest.get(&item_mark).copied();
         while let Some(at) = next {

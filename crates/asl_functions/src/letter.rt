@@ -1,7 +1,7 @@
 // The letters of a text, one after another.
 ghost use Rattle.std.specs.Prelude.{◌≡◌, ◌∷◌, ◌<◌, [], true, length, map, IfOk, IfSome, MatchOption, string_bytes};
 ghost use Rattle.std.specs.Str.{chars};
-ghost use Rattle.asl_functions.specs.Letters.{letters, character as spec_character, meant};
+ghost use Rattle.asl_functions.specs.Letters.{letters, character, meant};
 
 use std::alloc::{AllocError, Global};
 
@@ -15,7 +15,7 @@ pub(crate) enum Letter {
 
 impl Letter {
     pub(crate) fn character(self) -> char
-        ensures { result ≡ spec_character self }
+        ensures { result ≡ character self }
     {
         match self {
             Letter::Plain(character) | Letter::Escaped(character) => character,
@@ -25,7 +25,8 @@ impl Letter {
 
 /// The first character of a text, and the text behind it.
 pub(crate) fn next_char(text: &str) -> Option<(char, &str)>
-    ensures parts { MatchOption result (chars text.now ≡ []) (λ x. chars text.now ≡ x.0 ∷ chars x.1.now) }
+    ensures parts { MatchOption result (chars text.now ≡ [])
+        (λ x. chars text.now ≡ x.0 ∷ chars x.1.now) }
     ensures shorter { IfSome result (λ x. length x.1.now < length text.now) }
 {
     let mut rest = text.chars();
@@ -35,7 +36,8 @@ pub(crate) fn next_char(text: &str) -> Option<(char, &str)>
 
 /// The first letter of a text, and the text behind it.
 pub(crate) fn next_letter(text: &str, escapes: bool) -> Option<(Letter, &str)>
-    ensures parts { MatchOption result (letters escapes (chars text.now) ≡ []) (λ x. letters escapes (chars text.now) ≡ x.0 ∷ letters escapes (chars x.1.now)) }
+    ensures parts { MatchOption result (letters escapes (chars text.now) ≡ [])
+        (λ x. letters escapes (chars text.now) ≡ x.0 ∷ letters escapes (chars x.1.now)) }
     ensures shorter { IfSome result (λ x. length x.1.now < length text.now) }
 {
     let (first, behind) = next_char(text)?;

@@ -24,7 +24,7 @@ mod split;
 mod texts;
 mod value;
 
-pub use applying::apply;
+pub use applying::{apply, string_to_json_gives_what_a_text_spells};
 pub use fault::{EvalFault, Reason};
 pub use function::Function;
 pub use letter::meaning;

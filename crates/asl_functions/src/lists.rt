@@ -1,13 +1,13 @@
 // The functions on lists.
 ghost use Rattle.std.specs.Prelude.{◌≡◌, ◌<◌, Ok, [], length, option_map};
 ghost use Rattle.std.specs.List.{list_any};
-ghost use Rattle.asl_json.specs.Meaning.{same as spec_same};
-ghost use Rattle.asl_json.specs.Data.{list as spec_list, chain};
+ghost use Rattle.asl_json.specs.Meaning.{same};
+ghost use Rattle.asl_json.specs.Data.{list, chain};
 ghost use Rattle.asl_json.specs.View.{data_of, items_of};
 ghost use Rattle.asl_functions.specs.Gives.{Gives};
 ghost use Rattle.asl_functions.specs.Seen.{seen, all_seen};
 ghost use Rattle.asl_functions.specs.Outcome.{or_fails};
-ghost use Rattle.asl_functions.specs.Lists.{array as spec_array, array_contains as spec_contains, array_get_item as spec_get, array_length as spec_length, array_unique as spec_unique, array_partition as spec_partition, item_of, first_ones as spec_first_ones, pieces as spec_pieces};
+ghost use Rattle.asl_functions.specs.Lists.{array, array_contains, array_get_item, array_length, array_unique, array_partition, item_of, first_ones, pieces};
 ghost use Rattle.asl_functions.specs.declared.fault.Reason.TheVariants.{Range};
 
 use crate::convert::{computed, list, number, whole};
@@ -19,7 +19,7 @@ use std::alloc::Global;
 
 /// `States.Array`
 pub(crate) fn array(alloc: Global, values: &[Value<'_>]) -> Result<Json, EvalFault>
-    ensures { Gives data_of (spec_array (all_seen values.now)) result }
+    ensures { Gives data_of (array (all_seen values.now)) result }
 {
     let mut items = Vec::new(alloc);
     for value in values {
@@ -30,7 +30,7 @@ pub(crate) fn array(alloc: Global, values: &[Value<'_>]) -> Result<Json, EvalFau
 
 /// Whether one of the items is the same as the value.
 fn is_among(items: &[Json], value: &Json) -> bool
-    ensures { result ≡ list_any (λ x. spec_same x (data_of value.now)) (items_of items.now) }
+    ensures { result ≡ list_any (λ x. same x (data_of value.now)) (items_of items.now) }
 {
     for item in items {
         if same(item, value) {
@@ -42,7 +42,7 @@ fn is_among(items: &[Json], value: &Json) -> bool
 
 /// `States.ArrayContains`
 pub(crate) fn array_contains(items: &Json, value: &Json) -> Result<Json, EvalFault>
-    ensures { Gives data_of (spec_contains (data_of items.now) (data_of value.now)) result }
+    ensures { Gives data_of (array_contains (data_of items.now) (data_of value.now)) result }
 {
     let items = list(items)?;
     Ok(Json::Bool(is_among(items, value)))
@@ -58,7 +58,7 @@ fn item(items: &[Json], index: i128) -> Option<&Json>
 
 /// `States.ArrayGetItem`
 pub(crate) fn array_get_item(alloc: Global, items: &Json, index: &Json) -> Result<Json, EvalFault>
-    ensures { Gives data_of (spec_get (data_of items.now) (data_of index.now)) result }
+    ensures { Gives data_of (array_get_item (data_of items.now) (data_of index.now)) result }
 {
     let items = list(items)?;
     let index = whole(number(index)?)?;
@@ -70,7 +70,7 @@ pub(crate) fn array_get_item(alloc: Global, items: &Json, index: &Json) -> Resul
 
 /// `States.ArrayLength`
 pub(crate) fn array_length(items: &Json) -> Result<Json, EvalFault>
-    ensures { Gives data_of (spec_length (data_of items.now)) result }
+    ensures { Gives data_of (array_length (data_of items.now)) result }
 {
     let items = list(items)?;
     computed(items.len() as i128)
@@ -78,7 +78,7 @@ pub(crate) fn array_length(items: &Json) -> Result<Json, EvalFault>
 
 /// The items that are the same as none of those kept before them.
 fn first_ones(alloc: Global, items: &[Json]) -> Result<Vec<Json>, EvalFault>
-    ensures { Gives (λ v. items_of v.items) (Ok (spec_first_ones [] (items_of items.now))) result }
+    ensures { Gives (λ v. items_of v.items) (Ok (first_ones [] (items_of items.now))) result }
 {
     let mut kept = Kept::new(alloc);
     for item in items {
@@ -89,7 +89,7 @@ fn first_ones(alloc: Global, items: &[Json]) -> Result<Vec<Json>, EvalFault>
 
 /// `States.ArrayUnique`
 pub(crate) fn array_unique(alloc: Global, items: &Json) -> Result<Json, EvalFault>
-    ensures { Gives data_of (spec_unique (data_of items.now)) result }
+    ensures { Gives data_of (array_unique (data_of items.now)) result }
 {
     let items = list(items)?;
     Ok(Json::List(Items::of_values(first_ones(alloc, items)?)))
@@ -108,7 +108,7 @@ fn copies(alloc: Global, items: &[Json]) -> Result<Vec<Json>, EvalFault>
 
 /// A list of copies of the items.
 fn piece(alloc: Global, items: &[Json]) -> Result<Json, EvalFault>
-    ensures { Gives data_of (Ok (spec_list (chain (items_of items.now)))) result }
+    ensures { Gives data_of (Ok (list (chain (items_of items.now)))) result }
 {
     Ok(Json::List(Items::of_values(copies(alloc, items)?)))
 }
@@ -116,7 +116,8 @@ fn piece(alloc: Global, items: &[Json]) -> Result<Json, EvalFault>
 /// Pieces of so many items.
 fn pieces(alloc: Global, items: &[Json], size: usize) -> Result<Vec<Json>, EvalFault>
     requires { 0 < size }
-    ensures { Gives (λ v. items_of v.items) (Ok (spec_pieces (length items.now) size (items_of items.now))) result }
+    ensures { Gives (λ v. items_of v.items)
+        (Ok (pieces (length items.now) size (items_of items.now))) result }
 {
     let mut pieces = Vec::new(alloc);
     let mut rest = items;
@@ -130,7 +131,7 @@ fn pieces(alloc: Global, items: &[Json], size: usize) -> Result<Vec<Json>, EvalF
 
 /// `States.ArrayPartition`
 pub(crate) fn array_partition(alloc: Global, items: &Json, size: &Json) -> Result<Json, EvalFault>
-    ensures { Gives data_of (spec_partition (data_of items.now) (data_of size.now)) result }
+    ensures { Gives data_of (array_partition (data_of items.now) (data_of size.now)) result }
 {
     let items = list(items)?;
     let size = whole(number(size)?)?;

@@ -3,7 +3,7 @@ ghost use Rattle.std.specs.Prelude.{◌≡◌, ◌<◌, ◌%◌};
 ghost use Rattle.std.specs.Int.RustNames.{unsigned_abs};
 ghost use Rattle.asl_json.specs.Data.{chain, pairs};
 ghost use Rattle.asl_json.specs.View.{data_of};
-ghost use Rattle.asl_functions.specs.private.Marks.{blended as spec_blended, joined as spec_joined, added as spec_added, text_mark as spec_text_mark, mark as spec_mark, items_mark as spec_items_mark, members_mark as spec_members_mark, IsApart, AreApart, HasApart};
+ghost use Rattle.asl_functions.specs.private.Marks.{blended, joined, added, text_mark, mark, items_mark, members_mark, IsApart, AreApart, HasApart};
 
 use asl_json::{Items, Json, Members};
 
@@ -33,7 +33,7 @@ const DICT: u64 = 11;
 fn blended(mark: u64, part: u64) -> u64
     requires so_far { mark < MODULUS }
     requires next { part < MODULUS }
-    ensures value { result ≡ spec_blended mark part }
+    ensures value { result ≡ blended mark part }
     ensures below { result < MODULUS }
 {
     (mark * FACTOR + part) % MODULUS
@@ -44,7 +44,7 @@ fn blended(mark: u64, part: u64) -> u64
 fn joined(key: u64, value: u64) -> u64
     requires key { key < MODULUS }
     requires value { value < MODULUS }
-    ensures value { result ≡ spec_joined key value }
+    ensures value { result ≡ joined key value }
     ensures below { result < MODULUS }
 {
     key * (value + 1) % MODULUS
@@ -55,14 +55,14 @@ fn joined(key: u64, value: u64) -> u64
 fn added(mark: u64, member: u64) -> u64
     requires so_far { mark < MODULUS }
     requires member { member < MODULUS }
-    ensures value { result ≡ spec_added mark member }
+    ensures value { result ≡ added mark member }
     ensures below { result < MODULUS }
 {
     (mark + member) % MODULUS
 }
 
 fn text_mark(text: &str) -> u64
-    ensures value { result ≡ spec_text_mark TEXT text.now }
+    ensures value { result ≡ text_mark TEXT text.now }
     ensures below { result < MODULUS }
 {
     let mut mark = TEXT;
@@ -83,7 +83,7 @@ fn number_mark(units: i128) -> u64
 /// The mark of a value, in which no object has a key twice.
 #[cycle(mark)]
 pub(crate) fn mark(value: &Json) -> u64
-    ensures value { result ≡ spec_mark (data_of value.now) }
+    ensures value { result ≡ mark (data_of value.now) }
     ensures below { result < MODULUS }
     ensures apart { IsApart (data_of value.now) }
 {
@@ -100,7 +100,7 @@ pub(crate) fn mark(value: &Json) -> u64
 
 #[cycle(mark)]
 fn items_mark(items: &Items) -> u64
-    ensures value { result ≡ spec_items_mark LIST (chain items.now) }
+    ensures value { result ≡ items_mark LIST (chain items.now) }
     ensures below { result < MODULUS }
     ensures apart { AreApart (chain items.now) }
 {
@@ -114,7 +114,7 @@ fn items_mark(items: &Items) -> u64
 
 #[cycle(mark)]
 fn members_mark(members: &Members) -> u64
-    ensures value { result ≡ spec_members_mark DICT (pairs members.now) }
+    ensures value { result ≡ members_mark DICT (pairs members.now) }
     ensures below { result < MODULUS }
     ensures apart { HasApart (pairs members.now) }
 {

@@ -3,7 +3,7 @@ ghost use Rattle.std.specs.Prelude.{◌≡◌, Ok, IfErr, OnOk};
 ghost use Rattle.asl_json.specs.Data.{Data};
 ghost use Rattle.asl_json.specs.View.{data_of, members_of};
 ghost use Rattle.asl_functions.specs.Gives.{Gives};
-ghost use Rattle.asl_functions.specs.Merge.{merged as spec_merged, false_in, json_merge as spec_json_merge};
+ghost use Rattle.asl_functions.specs.Merge.{merged, false_in, json_merge};
 ghost use Rattle.asl_functions.specs.private.Loops.{with_member, put_in};
 ghost use Rattle.asl_functions.specs.private.Places.{HasPlaces};
 
@@ -21,7 +21,8 @@ fn put_member<'a>(
     member: &'a Member,
 ) -> Result<(), EvalFault>
     requires { HasPlaces places.old members.old }
-    ensures members { OnOk result (members.new ≡ with_member members.old member.now.key (data_of member.now.value)) }
+    ensures members { OnOk result (members.new
+        ≡ with_member members.old member.now.key (data_of member.now.value)) }
     ensures places { OnOk result (HasPlaces places.new members.new) }
     ensures memory { IfErr result (λ e. e ≡ EvalFault.OutOfMemory) }
 {
@@ -58,7 +59,7 @@ fn put_all<'a>(
 
 /// The members of both.
 fn merged(alloc: Global, first: &Members, second: &Members) -> Result<Members, EvalFault>
-    ensures { Gives (λ m. m) (Ok (spec_merged first.now second.now)) result }
+    ensures { Gives (λ m. m) (Ok (merged first.now second.now)) result }
 {
     let mut members = Members::new(alloc);
     let mut places = HashMap::new(alloc);
@@ -84,7 +85,8 @@ pub(crate) fn json_merge(
     second: &Json,
     deep: &Json,
 ) -> Result<Json, EvalFault>
-    ensures { Gives data_of (spec_json_merge (data_of first.now) (data_of second.now) (data_of deep.now)) result }
+    ensures { Gives data_of (json_merge (data_of first.now) (data_of second.now) (data_of deep.now))
+        result }
 {
     let first = object(first)?;
     let second = object(second)?;

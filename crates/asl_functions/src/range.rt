@@ -3,7 +3,7 @@ ghost use Rattle.std.specs.Prelude.{◌≡◌, ◌<◌, ◌^◌, ◌+ℤ◌, [],
 ghost use Rattle.asl_json.specs.View.{data_of, items_of};
 ghost use Rattle.asl_functions.specs.Gives.{Gives};
 ghost use Rattle.asl_functions.specs.Outcome.{or_fails};
-ghost use Rattle.asl_functions.specs.Lists.{is_passed as spec_passed, counted as spec_counted, range as spec_range, whole_range as spec_whole_range, array_range as spec_array_range};
+ghost use Rattle.asl_functions.specs.Lists.{is_passed, counted, range, whole_range, array_range};
 ghost use Rattle.asl_functions.specs.declared.fault.Reason.TheVariants.{Range};
 
 use crate::convert::{number, whole, whole_number};
@@ -16,7 +16,7 @@ const MOST: usize = 1000;
 
 /// Whether a value lies behind the end in the direction of the stride.
 fn is_passed(stride: i128, end: i128, value: i128) -> bool
-    ensures { result ≡ spec_passed stride end value }
+    ensures { result ≡ is_passed stride end value }
 {
     if stride > 0 { end < value } else { value < end }
 }
@@ -42,7 +42,8 @@ fn counted(
     requires first { unsigned_abs first < 10 ^ 18 }
     requires end { unsigned_abs end < 10 ^ 18 }
     requires stride { unsigned_abs stride < 10 ^ 18 }
-    ensures { Gives (λ v. items_of v.items) (or_fails Range (spec_counted most stride end first)) result }
+    ensures { Gives (λ v. items_of v.items) (or_fails Range (counted most stride end first))
+        result }
 {
     let mut values = Vec::new(alloc);
     let mut value = first;
@@ -65,7 +66,8 @@ pub(crate) fn array_range(
     end: &Json,
     stride: &Json,
 ) -> Result<Json, EvalFault>
-    ensures { Gives data_of (spec_array_range (data_of first.now) (data_of end.now) (data_of stride.now)) result }
+    ensures { Gives data_of (array_range (data_of first.now) (data_of end.now) (data_of stride.now))
+        result }
 {
     let first = number(first)?;
     let end = number(end)?;
@@ -75,7 +77,7 @@ pub(crate) fn array_range(
 
 /// The values from a whole number to another by a whole stride.
 fn whole_range(alloc: Global, first: &Dec, end: &Dec, stride: &Dec) -> Result<Json, EvalFault>
-    ensures { Gives data_of (spec_whole_range first.now end.now stride.now) result }
+    ensures { Gives data_of (whole_range first.now end.now stride.now) result }
 {
     let first = whole(first)?;
     let end = whole(end)?;
@@ -88,7 +90,7 @@ fn range(alloc: Global, first: i128, end: i128, stride: i128) -> Result<Json, Ev
     requires first { unsigned_abs first < 10 ^ 18 }
     requires end { unsigned_abs end < 10 ^ 18 }
     requires stride { unsigned_abs stride < 10 ^ 18 }
-    ensures { Gives data_of (spec_range first end stride) result }
+    ensures { Gives data_of (range first end stride) result }
 {
     if stride == 0 {
         return Err(EvalFault::Fails(Reason::Range));

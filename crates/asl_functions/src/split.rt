@@ -4,7 +4,7 @@ ghost use Rattle.std.specs.HashSet.{contains};
 ghost use Rattle.std.specs.Str.{chars};
 ghost use Rattle.asl_json.specs.View.{data_of, items_of};
 ghost use Rattle.asl_functions.specs.Gives.{Gives};
-ghost use Rattle.asl_functions.specs.Texts.{unless_empty, is_among, between, texts_of, string_split as spec_string_split};
+ghost use Rattle.asl_functions.specs.Texts.{unless_empty, is_among, between, texts_of, string_split};
 
 use crate::convert::text;
 use crate::fault::EvalFault;
@@ -30,7 +30,8 @@ fn char_set(alloc: Global, text: &str) -> Result<HashSet<char>, EvalFault>
 
 /// Adds a piece, where it isn't empty.
 fn end_piece(pieces: &mut Vec<Json>, piece: String) -> Result<(), EvalFault>
-    ensures pieces { OnOk result (items_of pieces.new.items ≡ items_of pieces.old.items ++ unless_empty (string_bytes piece)) }
+    ensures pieces { OnOk result (items_of pieces.new.items
+        ≡ items_of pieces.old.items ++ unless_empty (string_bytes piece)) }
     ensures memory { IfErr result (λ e. e ≡ EvalFault.OutOfMemory) }
 {
     if !piece.is_empty() {
@@ -41,7 +42,8 @@ fn end_piece(pieces: &mut Vec<Json>, piece: String) -> Result<(), EvalFault>
 
 /// The pieces of a text between separators.
 fn split(alloc: Global, text: &str, separators: &HashSet<char>) -> Result<Vec<Json>, EvalFault>
-    ensures pieces { (cs : List ℕ) → ((c : ℕ) → contains nat_eq separators.now c ≡ is_among c cs) → Gives (λ v. items_of v.items) (Ok (texts_of (between cs (chars text.now)))) result }
+    ensures pieces { (cs : List ℕ) → ((c : ℕ) → contains nat_eq separators.now c ≡ is_among c cs)
+        → Gives (λ v. items_of v.items) (Ok (texts_of (between cs (chars text.now)))) result }
 {
     let mut pieces = Vec::new(alloc);
     let mut piece = String::new(alloc);
@@ -64,7 +66,7 @@ pub(crate) fn string_split(
     value: &Json,
     separators: &Json,
 ) -> Result<Json, EvalFault>
-    ensures { Gives data_of (spec_string_split (data_of value.now) (data_of separators.now)) result }
+    ensures { Gives data_of (string_split (data_of value.now) (data_of separators.now)) result }
 {
     let text_value = text(value)?;
     let separators = char_set(alloc, text(separators)?)?;

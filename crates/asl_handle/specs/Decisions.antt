@@ -1,4 +1,5 @@
--- What becomes of an error, from the canonical values of Retry and Catch. (Amazon States Language, "Retrying after error",
+-- What becomes of an error, from the canonical values of Retry and Catch. (Amazon States Language,
+-- "Retrying after error",
 -- "Fallback states".)
 use Rattle.std.specs.Prelude.{ℕ, suc, ◌+◌, ◌*◌, min, List, get_or, Option, None, Some, if◌then◌else◌, nat_lt}
 use Rattle.asl_json.specs.Data.{Data, list, Chain, no_items, item}
@@ -36,7 +37,8 @@ used uses i = get_or uses i 0
 
 -- the milliseconds from an error to its retry, behind so many others
 abbrev pub wait_after : Data → ℕ → ℕ
-wait_after r n = delay_after (1000 * interval_of r) (rate_of r) (1000 * cap_seconds (delay_limit_of r)) n
+wait_after r n =
+    delay_after (1000 * interval_of r) (rate_of r) (1000 * cap_seconds (delay_limit_of r)) n
 
 -- 9999-12-31T23:59:59.999Z
 abbrev pub last_moment : ℕ
@@ -45,7 +47,9 @@ last_moment = 253_402_300_799_999
 -- the first retrier that is for the error decides, where it isn't used up
 abbrev pub retried : List ℕ → ℕ → Option (ℕ × Data) → Handling → Handling
 retried uses now None otherwise = otherwise
-retried uses now (Some x) otherwise = if nat_lt (used uses x.0) (attempts_of x.1) then again x.0 (min (now + wait_after x.1 (used uses x.0)) last_moment) else otherwise
+retried uses now (Some x) otherwise =
+    if nat_lt (used uses x.0) (attempts_of x.1)
+    then again x.0 (min (now + wait_after x.1 (used uses x.0)) last_moment) else otherwise
 
 -- the first catcher that is for it
 abbrev pub caught_by : Option (ℕ × Data) → Handling
@@ -54,4 +58,6 @@ caught_by (Some x) = caught x.1
 
 -- of an error at a moment, by how often each retrier was used
 abbrev pub decision : Option Data → Option Data → List ℕ → List ℕ → ℕ → Handling
-decision retry catch error uses now = retried uses now (first_for error 0 (handlers_in retry)) (caught_by (first_for error 0 (handlers_in catch)))
+decision retry catch error uses now =
+    retried uses now (first_for error 0 (handlers_in retry))
+    (caught_by (first_for error 0 (handlers_in catch)))

@@ -6,11 +6,16 @@ use Rattle.asl_json.specs.Meaning.{value_in}
 
 -- nothing names these, not even a list that has the name itself (this project's profile)
 abbrev pub is_beyond : List ℕ → Bool
-is_beyond error = bytes_eq error (codes "States.Runtime") || bytes_eq error (codes "States.DataLimitExceeded")
+is_beyond error =
+    bytes_eq error (codes "States.Runtime") || bytes_eq error (codes "States.DataLimitExceeded")
 
--- a name stands for itself, States.ALL for any error, and States.TaskFailed for any but States.Timeout
+-- a name stands for itself, States.ALL for any error, and States.TaskFailed for any but
+-- States.Timeout
 abbrev pub stands_for : List ℕ → List ℕ → Bool
-stands_for name error = bytes_eq name error || bytes_eq name (codes "States.ALL") || (bytes_eq name (codes "States.TaskFailed") && not (bytes_eq error (codes "States.Timeout")))
+stands_for name error =
+    bytes_eq name error || bytes_eq name (codes "States.ALL")
+    || (bytes_eq name (codes "States.TaskFailed")
+    && not (bytes_eq error (codes "States.Timeout")))
 
 abbrev pub is_name_for : List ℕ → Data → Bool
 is_name_for error (text name) = stands_for name error

@@ -3,7 +3,7 @@ ghost use Rattle.std.specs.Prelude.{◌≡◌, Some, codes, map, option_map};
 ghost use Rattle.asl_json.specs.Data.{chain};
 ghost use Rattle.asl_json.specs.Meaning.{value_in};
 ghost use Rattle.asl_members.specs.Shown.{names_shown};
-ghost use Rattle.asl_handle.specs.Decisions.{first_for as spec_first_for};
+ghost use Rattle.asl_handle.specs.Decisions.{first_for};
 
 use crate::names::are_for;
 use asl_members::{Compiled, ErrorNames, Retrier};
@@ -30,7 +30,8 @@ impl Handler for Catcher {
 
 /// The first that is for the error, with its number.
 pub(crate) fn first_for<'a, T: Handler>(handlers: &'a [T], error: &str) -> Option<(usize, &'a T)>
-    ensures { option_map (λ x. (x.0, T.shown x.1.now)) result ≡ spec_first_for error.now 0 (chain (map T.shown handlers.now)) }
+    ensures { option_map (λ x. (x.0, T.shown x.1.now)) result
+        ≡ first_for error.now 0 (chain (map T.shown handlers.now)) }
 {
     for (number, handler) in handlers.iter().enumerate() {
         if are_for(handler.named(), error) {

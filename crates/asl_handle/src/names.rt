@@ -1,20 +1,20 @@
 // Which errors a retrier or a catcher is for.
 ghost use Rattle.std.specs.Prelude.{◌≡◌, Some};
 ghost use Rattle.asl_members.specs.Shown.{names_shown};
-ghost use Rattle.asl_handle.specs.Names.{is_beyond as spec_is_beyond, stands_for as spec_stands_for, names};
+ghost use Rattle.asl_handle.specs.Names.{is_beyond, stands_for, names};
 
 use asl_members::ErrorNames;
 
 /// Whether nothing names the error.
 fn is_beyond(error: &str) -> bool
-    ensures { result ≡ spec_is_beyond error.now }
+    ensures { result ≡ is_beyond error.now }
 {
     error == "States.Runtime" || error == "States.DataLimitExceeded"
 }
 
 /// Whether a name stands for the error.
 fn stands_for(name: &str, error: &str) -> bool
-    ensures { result ≡ spec_stands_for name.now error.now }
+    ensures { result ≡ stands_for name.now error.now }
 {
     name == error
         || name == "States.ALL"

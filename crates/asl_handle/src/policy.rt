@@ -2,7 +2,7 @@
 ghost use Rattle.std.specs.Prelude.{◌≡◌, ◌<◌, ◌+◌, min, option_map};
 ghost use Rattle.asl_members.specs.Shown.{retrier_object};
 ghost use Rattle.asl_parts.specs.Parts.{catcher_object};
-ghost use Rattle.asl_handle.specs.Decisions.{OnAgain, decision, handlers_in, first_for as spec_first_for, used, wait_after, last_moment};
+ghost use Rattle.asl_handle.specs.Decisions.{OnAgain, decision, handlers_in, first_for, used, wait_after, last_moment};
 ghost use Rattle.asl_handle.specs.Seen.{seen, retry_of, catch_of};
 
 use crate::first::first_for;
@@ -65,7 +65,8 @@ fn retry_at(retrier: &Retrier, uses: u32, now: Moment) -> Moment
 impl<'a> Policy<'a> {
     /// The first retrier that is for the error, with its number.
     fn retrier_for(&self, error: &str) -> Option<(usize, &'a Retrier)>
-        ensures { option_map (λ x. (x.0, retrier_object x.1.now)) result ≡ spec_first_for error.now 0 (handlers_in (retry_of self.now)) }
+        ensures { option_map (λ x. (x.0, retrier_object x.1.now)) result
+            ≡ first_for error.now 0 (handlers_in (retry_of self.now)) }
     {
         match self.retriers {
             Some(retriers) => first_for(retriers.as_slice(), error),
@@ -75,7 +76,8 @@ impl<'a> Policy<'a> {
 
     /// The first catcher that is for the error, with its number.
     fn catcher_for(&self, error: &str) -> Option<(usize, &'a Catcher)>
-        ensures { option_map (λ x. (x.0, catcher_object x.1.now)) result ≡ spec_first_for error.now 0 (handlers_in (catch_of self.now)) }
+        ensures { option_map (λ x. (x.0, catcher_object x.1.now)) result
+            ≡ first_for error.now 0 (handlers_in (catch_of self.now)) }
     {
         match self.catchers {
             Some(catchers) => first_for(catchers.as_slice(), error),
@@ -91,7 +93,8 @@ impl<'a> Policy<'a> {
     /// catches it. A Fail state without `Error` has the empty error. Takes no memory. (Amazon States Language, "Retrying after
     /// error", "Fallback states".)
     pub fn decide(&self, error: &str, uses: &[u32], now: Moment) -> Decision<'a>
-        ensures handling { seen result ≡ decision (retry_of self.now) (catch_of self.now) error.now uses.now now }
+        ensures handling { seen result ≡ decision (retry_of self.now) (catch_of self.now) error.now
+            uses.now now }
         // The count of the retrier's uses can be raised.
         ensures room { OnAgain (seen result) (λ i. used uses.now i < 99_999_999) }
     {

@@ -13,7 +13,8 @@ use Rattle.asl_time.specs.StampText.{stamp_of}
 -- what the line tells before the name: id, previous id, stamp, place and kind, a space behind each
 abbrev pub head_of : Event → List ℕ
 head_of e =
-    decimal e.id ++ 32 ∷ [] ++ (decimal e.previous ++ 32 ∷ []) ++ (stamp_of e.at ++ 32 ∷ []) ++ (place_text e.place ++ 32 ∷ [])
+    decimal e.id ++ 32 ∷ [] ++ (decimal e.previous ++ 32 ∷ []) ++ (stamp_of e.at ++ 32 ∷ [])
+    ++ (place_text e.place ++ 32 ∷ [])
     ++ (kind_name e.kind ++ 32 ∷ [])
 
 -- the name and the body as compact JSON texts, a space between and a line feed behind

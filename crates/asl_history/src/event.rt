@@ -5,7 +5,7 @@ use crate::kind::EventKind;
 use crate::place::Place;
 use asl_json::{Name, Shared};
 use asl_time::Moment;
-use std::alloc::{AllocError, Global};
+use std::alloc::AllocError;
 
 /// Something that happened in an execution (Step Functions Developer Guide, HistoryEvent).
 pub struct Event {
@@ -42,10 +42,10 @@ impl Drop for Event {
 
 impl Event {
     /// An equal event, of the same name and body. The error is that memory ran out.
-    pub fn try_clone(&self, alloc: Global) -> Result<Event, AllocError>
+    pub fn try_clone(&self) -> Result<Event, AllocError>
         ensures { IfOk result (λ e. e ≡ self.now) }
     {
-        let place = self.place.try_clone(alloc)?;
+        let place = self.place.try_clone()?;
         let name = self.name.try_clone()?;
         let body = self.body.try_clone()?;
         Ok(Event {

@@ -123,7 +123,7 @@ impl History {
         let alloc = self.allocator();
         let mut events = Vec::with_capacity(alloc, self.events.len())?;
         for event in &self.events {
-            events.push(event.try_clone(alloc)?)?;
+            events.push(event.try_clone()?)?;
         }
         Ok(History { events })
     }

@@ -57,7 +57,7 @@ impl Model for Place {
 
 impl Place {
     /// The place of the branch that an execution starts with. It takes no memory.
-    pub fn root(_alloc: Global) -> Place
+    pub fn root() -> Place
         ensures { result ≡ [] }
     {
         Place { numbers: None }
@@ -88,7 +88,7 @@ impl Place {
     }
 
     /// An equal place, which shares the numbers. It takes no memory. The error is that there are too many copies.
-    pub fn try_clone(&self, _alloc: Global) -> Result<Place, AllocError>
+    pub fn try_clone(&self) -> Result<Place, AllocError>
         ensures { IfOk result (λ p. p ≡ self.now) }
     {
         match &self.numbers {
@@ -142,10 +142,11 @@ impl Place {
     pub fn read(alloc: Global, text: &str) -> Result<Option<Place>, AllocError>
         ensures found { IfOk result (λ o. IfSome o (λ p. text.now ≡ place_text p)) }
         // A text that spells a place is read as that place.
-        ensures only { IfOk result (λ o. (p : List ℕ) → IsPlace p → text.now ≡ place_text p → o ≡ Some p) }
+        ensures only { IfOk result (λ o. (p : List ℕ) → IsPlace p → text.now ≡ place_text p
+            → o ≡ Some p) }
     {
         if is_slash(text) {
-            return Ok(Some(Place::root(alloc)));
+            return Ok(Some(Place::root()));
         }
         if text.is_empty() {
             return Ok(None);
@@ -164,7 +165,8 @@ impl Place {
 
     /// Appends the text of the place. The error is that memory ran out, and then nothing is appended.
     pub fn put(&self, out: &mut String) -> Result<(), AllocError>
-        ensures ok { OnOk result (string_bytes out.new ≡ string_bytes out.old ++ place_text self.now) }
+        ensures ok { OnOk result (string_bytes out.new
+            ≡ string_bytes out.old ++ place_text self.now) }
         ensures err { OnErr result (string_bytes out.new ≡ string_bytes out.old) }
     {
         if self.is_root() {
@@ -199,7 +201,8 @@ impl Eq for Place {
 
 /// Appends a slash and a number for each. Where memory runs out, some of them may be there.
 fn put_steps(out: &mut String, numbers: &[u32]) -> Result<(), AllocError>
-    ensures ok { OnOk result (string_bytes out.new ≡ string_bytes out.old ++ steps_text numbers.now) }
+    ensures ok { OnOk result (string_bytes out.new
+        ≡ string_bytes out.old ++ steps_text numbers.now) }
     ensures kept { Keeps (string_bytes out.old) (string_bytes out.new) }
 {
     for number in numbers {
@@ -218,7 +221,8 @@ fn is_slash(text: &str) -> bool
 /// The place whose numbers, each behind a slash, are the whole text.
 fn read_steps(alloc: Global, bytes: &[u8]) -> Result<Option<Place>, AllocError>
     ensures found { IfOk result (λ o. IfSome o (λ p. bytes.now ≡ steps_text p)) }
-    ensures only { IfOk result (λ o. (p : List ℕ) → IsPlace p → bytes.now ≡ steps_text p → o ≡ Some p) }
+    ensures only { IfOk result (λ o. (p : List ℕ) → IsPlace p → bytes.now ≡ steps_text p
+        → o ≡ Some p) }
 {
     let mut numbers = Vec::new(alloc);
     let mut rest = bytes;

@@ -59,7 +59,8 @@ fn put_head(out: &mut String, event: &Event) -> Result<(), AllocError>
 
 /// Appends a number and a space. Where memory runs out, the number may be there.
 fn put_number(out: &mut String, number: u64) -> Result<(), AllocError>
-    ensures ok { OnOk result (string_bytes out.new ≡ string_bytes out.old ++ (decimal number ++ 32 ∷ [])) }
+    ensures ok { OnOk result (string_bytes out.new
+        ≡ string_bytes out.old ++ (decimal number ++ 32 ∷ [])) }
     ensures kept { Keeps (string_bytes out.old) (string_bytes out.new) }
 {
     put_decimal(out, number)?;
@@ -68,7 +69,8 @@ fn put_number(out: &mut String, number: u64) -> Result<(), AllocError>
 
 /// Appends the stamp of a moment and a space. Where memory runs out, the stamp may be there.
 fn put_at(out: &mut String, moment: Moment) -> Result<(), AllocError>
-    ensures ok { OnOk result (string_bytes out.new ≡ string_bytes out.old ++ (stamp_of moment ++ 32 ∷ [])) }
+    ensures ok { OnOk result (string_bytes out.new
+        ≡ string_bytes out.old ++ (stamp_of moment ++ 32 ∷ [])) }
     ensures kept { Keeps (string_bytes out.old) (string_bytes out.new) }
 {
     put_stamp(out, moment)?;

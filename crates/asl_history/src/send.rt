@@ -15,14 +15,17 @@ impl History {
     /// failed (Y1) or that memory ran out (Y2); the sink then has the beginning of the text, of the length that the fault
     /// tells.
     pub fn write_all_lines<W: Sink>(&self, sink: &mut W) -> Result<(), WriteFault>
-        ensures ok { OnOk result (W.taken sink.new ≡ W.taken sink.old ++ history_text self.now.events) }
+        ensures ok { OnOk result (W.taken sink.new
+            ≡ W.taken sink.old ++ history_text self.now.events) }
         ensures quiet { OnOk result (W.failures sink.new ≡ W.failures sink.old) }
         // What went out is a beginning of the text, and not the whole of it.
         ensures part { IfErr result (λ fault. W.taken sink.new
             ≡ W.taken sink.old ++ take (sent_of fault) (history_text self.now.events)) }
-        ensures short { IfErr result (λ fault. sent_of fault < length (history_text self.now.events)) }
+        ensures short { IfErr result
+            (λ fault. sent_of fault < length (history_text self.now.events)) }
         // The sink failed, once, at Y1 and not at Y2.
-        ensures failed { IfErr result (λ fault. W.failures sink.new ≡ failures_after fault (W.failures sink.old)) }
+        ensures failed { IfErr result
+            (λ fault. W.failures sink.new ≡ failures_after fault (W.failures sink.old)) }
     {
         let mut buffer = String::new(self.allocator());
         let mut sent = 0u128;
@@ -45,10 +48,12 @@ fn write_line<W: Sink>(
     ensures len { IfOk result (λ n. n ≡ length (line_of event.now)) }
     ensures ok { OnOk result (W.taken sink.new ≡ W.taken sink.old ++ line_of event.now) }
     ensures quiet { OnOk result (W.failures sink.new ≡ W.failures sink.old) }
-    ensures part { IfErr result (λ fault. W.taken sink.new ≡ W.taken sink.old ++ take (sent_of fault) (line_of event.now)) }
+    ensures part { IfErr result
+        (λ fault. W.taken sink.new ≡ W.taken sink.old ++ take (sent_of fault) (line_of event.now)) }
     ensures short { IfErr result (λ fault. sent_of fault < length (line_of event.now)) }
     ensures bound { IfErr result (λ fault. sent_of fault < 2 ^ 64) }
-    ensures failed { IfErr result (λ fault. W.failures sink.new ≡ failures_after fault (W.failures sink.old)) }
+    ensures failed { IfErr result
+        (λ fault. W.failures sink.new ≡ failures_after fault (W.failures sink.old)) }
 {
     buffer.clear();
     if put_line(buffer, event).is_err() {

@@ -19,17 +19,21 @@ Breaks old new text = (n : ℕ) × (n < length text) × (new ≡ old ++ take n t
 
 -- it took the whole of a text, and didn't fail
 abbrev pub IsWhole : {S : Type 0} → (S → List ℕ) → (S → ℕ) → S → S → List ℕ → Type 0
-IsWhole taken failures old new text = (taken new ≡ taken old ++ text) × (failures new ≡ failures old)
+IsWhole taken failures old new text =
+    (taken new ≡ taken old ++ text) × (failures new ≡ failures old)
 
 -- it failed, once, before the end of a text
 abbrev pub IsBroken : {S : Type 0} → (S → List ℕ) → (S → ℕ) → S → S → List ℕ → Type 0
-IsBroken taken failures old new text = Breaks (taken old) (taken new) text × (failures new ≡ counted (failures old))
+IsBroken taken failures old new text =
+    Breaks (taken old) (taken new) text × (failures new ≡ counted (failures old))
 
 -- a text was printed and has this status, or its sink failed and the status is 2
 abbrev pub IsPrinted : {S : Type 0} → (S → List ℕ) → (S → ℕ) → S → S → List ℕ → ℕ → ℕ → Type 0
 IsPrinted taken failures old new text wanted status =
-    (IsWhole taken failures old new text × (status ≡ wanted)) ⊎ (IsBroken taken failures old new text × (status ≡ 2))
+    (IsWhole taken failures old new text × (status ≡ wanted))
+    ⊎ (IsBroken taken failures old new text × (status ≡ 2))
 
 -- a text was told, as far as the sink didn't fail
 abbrev pub IsTold : {S : Type 0} → (S → List ℕ) → (S → ℕ) → S → S → List ℕ → Type 0
-IsTold taken failures old new text = IsWhole taken failures old new text ⊎ IsBroken taken failures old new text
+IsTold taken failures old new text =
+    IsWhole taken failures old new text ⊎ IsBroken taken failures old new text

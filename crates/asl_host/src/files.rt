@@ -31,7 +31,8 @@ pub trait Files {
     fn read(&mut self, alloc: Global, name: &str) -> Result<Vec<u8>, ReadFault>
         ensures given { IfOk result (λ r. gives self.old name.now r.items) }
         ensures bound { IfOk result (λ r. length r.items ≤ most_bytes) }
-        ensures unreadable { IfErr result (λ e. e ≡ ReadFault.Unreadable → lacks self.old name.now) }
+        ensures unreadable { IfErr result
+            (λ e. e ≡ ReadFault.Unreadable → lacks self.old name.now) }
         ensures kept { (n b : List ℕ) → gives self.new n b → gives self.old n b }
         ensures lacking { (n : List ℕ) → lacks self.new n → lacks self.old n };
 }

@@ -31,9 +31,11 @@ impl<W: Write> Stream<W> {
     fn pass(&mut self, bytes: &[u8]) -> Result<usize, SinkFault>
         ensures bound { IfOk result (λ n. n ≤ length bytes.now) }
         ensures some { 0 < length bytes.now → IfOk result (λ n. 0 < n) }
-        ensures taken { IfOk result (λ n. self.new.taken.bytes ≡ self.old.taken.bytes ++ take n bytes.now) }
+        ensures taken { IfOk result (λ n. self.new.taken.bytes
+            ≡ self.old.taken.bytes ++ take n bytes.now) }
         // What the stream itself holds, where that is known.
-        ensures passed { IfOk result (λ n. Appends (W.contents self.old.stream) (W.contents self.new.stream) (take n bytes.now)) }
+        ensures passed { IfOk result (λ n. Appends (W.contents self.old.stream)
+            (W.contents self.new.stream) (take n bytes.now)) }
         ensures kept { OnErr result (self.new.taken ≡ self.old.taken) }
         ensures failures { self.new.failures ≡ self.old.failures }
     {

@@ -1,14 +1,12 @@
 -- Where the machine stands, the text goes on to a call.
 use Rattle.std.proofs.Common.{◌≡◌, ◌<◌, ◌==◌, ℕ, suc, true, false, List, [], ◌∷◌, ◌++◌, length, refl, sym, ◌∙◌, subst, arith}
-use Rattle.std.specs.Prelude.{Result, Ok, Err, Option, Some, None}
+use Rattle.std.specs.Prelude.{Result, Ok, Err}
 use Rattle.std.proofs.lemmas.List.{append-nil}
 use Rattle.std.proofs.lemmas.Bool.{eq-eqb}
 use Rattle.asl_json.specs.Data.{Data, null, number}
 use Rattle.asl_json.specs.Grammar.{null_word}
-use Rattle.asl_json.specs.private.Machine.{part_behind}
-use Rattle.asl_json.specs.declared.number.Part.{Part}
-use Rattle.asl_json.specs.declared.number.Part.TheVariants.{Start}
-use Rattle.asl_json.proofs.Numerals.{part_onto, ending, ending_accepted}
+use Rattle.asl_json.specs.private.Machine.{is_number_front}
+use Rattle.asl_json.proofs.Numerals.{numeral_front, front_decides}
 use Rattle.asl_path.specs.declared.step.Root.{Root}
 use Rattle.asl_path.specs.declared.step.Step.{Step}
 use Rattle.asl_path.specs.Grammar.{IsPrefix as IsPathPrefix}
@@ -17,7 +15,7 @@ use Rattle.asl_path.proofs.Judging.{Judged as PathJudged, path_judged}
 use Rattle.asl_intrinsic.specs.Tree.{Argument, Frame, constant, quoted, path, call, arguments}
 use Rattle.asl_intrinsic.specs.Grammar.{is_name_byte, is_escaped, IsPrefix}
 use Rattle.asl_intrinsic.specs.Fronts.{AwaitsArgument}
-use Rattle.asl_intrinsic.specs.private.Steps.{Mode, prefix, naming, named, opening, wanting, word, chars, escape, figure, along, ended, is_part, is_begun, is_number_front, is_path_front, run_by}
+use Rattle.asl_intrinsic.specs.private.Steps.{Mode, prefix, naming, named, opening, wanting, word, chars, escape, figure, along, ended, is_begun, is_path_front, run_by}
 use Rattle.asl_intrinsic.proofs.Stretches.{goes, alike, prefix_on, name_begins, name_off, named_opens, word_on, word_ends}
 use Rattle.asl_intrinsic.proofs.Leaves.{quote_ends, escape_on, figure_run, fits_on, along_run, along_whole, path_prefix}
 use Rattle.asl_intrinsic.proofs.Turns.{bracket_closes, bracket_ends}
@@ -103,22 +101,11 @@ escape_goes_on s st =
     let g = chars_go_on (s ++ 92 ∷ 39 ∷ []) st in
     record { more = 39 ∷ g.more; tree = g.tree; leads = goes false (escape s) (chars (s ++ 92 ∷ 39 ∷ [])) st st 39 g.more (escape_on s st 39 escapes_quote) ∙ g.leads }
 
-pub front_part : (s : List ℕ) → is_number_front s ≡ true → (p : Part) × (part_behind (Some Start) s ≡ Some p)
-unfolding is_number_front
-front_part s e = at (part_behind (Some Start) s) refl e
-  where
-    at : (o : Option Part) → part_behind (Some Start) s ≡ o → is_part o ≡ true → (p : Part) × (part_behind (Some Start) s ≡ Some p)
-    at None x y = absurd cc
-    at (Some p) x y = (p, x)
-
 figure_goes_on : (s : List ℕ) (f : Frame) (st : List Frame) → is_number_front s ≡ true → GoesOn (figure s) (f ∷ st)
 figure_goes_on s f st e =
-    let x = front_part s e in
-    let a = ending_accepted x.0 in
-    let more = ending x.0 in
-    let whole = part_onto x.0 s more x.1 ∙ a.leads in
-    ends_well (figure s) (f ∷ st) more (constant (number (s ++ more)))
-    (figure_run false a.to s more (closing (f ∷ st)) (f ∷ st) whole ∙ fits_on false a.to (s ++ more) (closing (f ∷ st)) (f ∷ st) whole a.ends refl (number_stops a.to (closing (f ∷ st)) refl))
+    let x = (front_decides s).0 e in
+    ends_well (figure s) (f ∷ st) x.more (constant (number (s ++ x.more)))
+    (figure_run false s x.more (closing (f ∷ st)) (f ∷ st) (numeral_front (s ++ x.more) x.is_numeral) ∙ fits_on false (s ++ x.more) (closing (f ∷ st)) (f ∷ st) x.is_numeral refl (number_stops (s ++ x.more) (closing (f ∷ st)) refl))
 
 pub path_front : (s : List ℕ) → is_path_front s ≡ true → IsPathPrefix s
 unfolding is_path_front
@@ -148,19 +135,15 @@ pub reached_goes_on : (m : Mode) (st : List Frame) (t : List ℕ) → Reached m 
 reached_goes_on (prefix ws) st t h = prefix_goes_on ws st
 reached_goes_on (naming n) st t h = naming_goes_on n st
 reached_goes_on (named n) st t h = named_goes_on n st
-reached_goes_on opening [] t h = absurd h.back_is
 reached_goes_on opening (f ∷ st) t h = opening_goes_on f st
-reached_goes_on wanting [] t h = absurd h.back_is
 reached_goes_on wanting (f ∷ st) t h = wanting_goes_on f st
-reached_goes_on (word ws d) [] t h = absurd h.back_is
 reached_goes_on (word ws d) (f ∷ st) t h = ends_well (word ws d) (f ∷ st) ws (constant d) (word_run ws d (f ∷ st) (closing (f ∷ st)) h.back_is.0)
 reached_goes_on (chars s) st t h = chars_go_on s st
 reached_goes_on (escape s) st t h = escape_goes_on s st
-reached_goes_on (figure s) [] t h = absurd h.back_is
 reached_goes_on (figure s) (f ∷ st) t h = figure_goes_on s f st h.back_is.1
-reached_goes_on (along s) [] t h = absurd h.back_is
 reached_goes_on (along s) (f ∷ st) t h = along_goes_on s f st h.back_is.1
 reached_goes_on (ended a) st t h = ended_goes_on a st
+reached_goes_on x y t h = absurd h.back_is
 
 pub alive : (m : Mode) (st : List Frame) (t : List ℕ) → Reached m st t → IsPrefix t
 alive m st t h = let g = reached_goes_on m st t h in record { more = g.more; is_call = record { tree = g.tree; spelled = run_spells false m st t g.more g.tree h g.leads } }

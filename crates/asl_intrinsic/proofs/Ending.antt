@@ -1,21 +1,21 @@
 -- Numbers and paths end before what may follow an argument, and where an argument begins.
-use Rattle.std.proofs.Common.{◌≡◌, ◌==◌, ℕ, suc, Bool, true, false, List, [], ◌∷◌, ◌++◌, length, refl, sym, ◌∙◌, ap, subst, arith, cond, append_assoc}
-use Rattle.std.specs.Prelude.{Result, Ok, Err, Option, Some, None, ◌||◌}
+use Rattle.std.proofs.Common.{◌≡◌, ◌==◌, ℕ, suc, Bool, true, false, List, [], ◌∷◌, ◌++◌, length, refl, sym, ◌∙◌, ap, arith, cond, append_assoc}
+use Rattle.std.specs.Prelude.{Result, Ok, Err, ◌||◌}
 use Rattle.std.proofs.lemmas.Bool.{eqb-true}
 use Rattle.asl_json.specs.Number.{IsNumeral, is_digit, is_point, is_mark, is_sign}
-use Rattle.asl_json.specs.private.Machine.{part_behind, next_part, leading, marked, pointed}
-use Rattle.asl_json.specs.declared.number.Part.{Part}
-use Rattle.asl_json.specs.declared.number.Part.TheVariants.{Start, Minus, Nought, Whole, Point, Fraction, Mark, Sign, Exponent}
-use Rattle.asl_json.proofs.Numerals.{part_none, numeral_accepted, numeral_some}
+use Rattle.asl_json.specs.Open.{EndsNumber}
+use Rattle.asl_json.specs.private.Leads.{begins}
+use Rattle.asl_json.proofs.Numerals.{numeral_some}
+use Rattle.asl_json.proofs.Passing.{is_figure, figure_ends_number, numeral_begins}
 use Rattle.asl_path.specs.declared.step.Root.{Root}
 use Rattle.asl_path.specs.declared.step.Root.TheVariants.{Input, Context}
 use Rattle.asl_path.specs.declared.step.Step.{Step}
 use Rattle.asl_path.specs.declared.step.Step.TheVariants.{Name}
 use Rattle.asl_path.specs.Grammar.{SpellsRoot, IsPath, is_name_byte, is_digit as is_digit_of_paths}
-use Rattle.asl_path.specs.private.Steps.{Mode, between, dot, name, bracket, quoted, closing, digits, Next, go, stop, begin_step, advance, finish, onward, run, with_root, from_root, steps}
+use Rattle.asl_path.specs.private.Steps.{Mode, between, name, Next, go, stop, begin_step, advance, finish, onward, run, with_root, from_root, steps}
 use Rattle.asl_path.proofs.Passing.{path_passes}
 use Rattle.asl_intrinsic.specs.private.Leads.{is_behind}
-use Rattle.asl_intrinsic.proofs.Leaves.{Stops, EndsFront}
+use Rattle.asl_intrinsic.proofs.Leaves.{EndsFront}
 
 -- what may follow an argument
 abbrev pub Ends : List ℕ → Type 0
@@ -24,55 +24,13 @@ Ends (c ∷ cs) = is_behind c ≡ true
 
 -- ---- numbers
 
-no_digit : (c : ℕ) → is_behind c ≡ true → is_digit c ≡ false
-unfolding is_digit
-no_digit c e = grind (arith, e)
+no_figure : (c : ℕ) → is_behind c ≡ true → is_figure c ≡ false
+unfolding is_figure is_digit is_point is_mark is_sign
+no_figure c e = grind (arith, e)
 
-no_point : (c : ℕ) → is_behind c ≡ true → is_point c ≡ false
-unfolding is_point
-no_point c e = grind (arith, e)
-
-no_mark : (c : ℕ) → is_behind c ≡ true → is_mark c ≡ false
-unfolding is_mark
-no_mark c e = grind (arith, e)
-
-no_sign : (c : ℕ) → is_behind c ≡ true → is_sign c ≡ false
-unfolding is_sign
-no_sign c e = grind (arith, e)
-
-no_minus : (c : ℕ) → is_behind c ≡ true → (c == 45) ≡ false
-no_minus c e = grind (arith, e)
-
-no_nought : (c : ℕ) → is_behind c ≡ true → (c == 48) ≡ false
-no_nought c e = grind (arith, e)
-
-leads_nowhere : (c : ℕ) → is_behind c ≡ true → leading c ≡ None
-unfolding leading
-leads_nowhere c e = rw (no_nought c e, no_digit c e) refl
-
-marks_nothing : (c : ℕ) → is_behind c ≡ true → marked c ≡ None
-unfolding marked
-marks_nothing c e = rw (no_mark c e) refl
-
-points_nowhere : (c : ℕ) → is_behind c ≡ true → pointed c ≡ None
-unfolding pointed
-points_nowhere c e = rw (no_point c e) (marks_nothing c e)
-
-part_ends : (p : Part) (c : ℕ) → is_behind c ≡ true → next_part p c ≡ None
-unfolding next_part
-part_ends Start c e = rw (no_minus c e) (leads_nowhere c e)
-part_ends Minus c e = leads_nowhere c e
-part_ends Nought c e = points_nowhere c e
-part_ends Whole c e = rw (no_digit c e) (points_nowhere c e)
-part_ends Point c e = rw (no_digit c e) refl
-part_ends Fraction c e = rw (no_digit c e) (marks_nothing c e)
-part_ends Mark c e = rw (no_digit c e, no_sign c e) refl
-part_ends Sign c e = rw (no_digit c e) refl
-part_ends Exponent c e = rw (no_digit c e) refl
-
-pub number_stops : (p : Part) (rest : List ℕ) → Ends rest → Stops p rest
-number_stops p [] e = absurd e
-number_stops p (c ∷ cs) e = part_ends p c e
+pub number_stops : (s rest : List ℕ) → Ends rest → EndsNumber s rest
+number_stops s [] e = absurd e
+number_stops s (c ∷ cs) e = figure_ends_number s c cs (no_figure c e)
 
 -- ---- the first byte of a number
 
@@ -80,24 +38,17 @@ pub record BeginsNumber (s : List ℕ) : Type 0 where
   pub first : ℕ
   pub others : List ℕ
   pub parts : s ≡ first ∷ others
-  pub goes_on : next_part Start first ≡ None → ⊥
+  pub begins_it : begins (first ∷ []) ≡ true
 
 pub number_begins : (s : List ℕ) → IsNumeral s → BeginsNumber s
 number_begins [] h = absurd (numeral_some [] h refl)
-number_begins (c ∷ s) h =
-    let a = numeral_accepted (c ∷ s) h in
-    record {
-      first = c;
-      others = s;
-      parts = refl;
-      goes_on = λ n. let two : None ≡ Some a.to = sym (part_none s) ∙ sym (ap (λ (o : Option Part). part_behind o s) n) ∙ a.leads in cc;
-    }
+number_begins (c ∷ s) h = record { first = c; others = s; parts = refl; begins_it = numeral_begins (c ∷ s) h }
 
-pub other_first : (b c : ℕ) → next_part Start b ≡ None → (next_part Start c ≡ None → ⊥) → (c == b) ≡ false
+pub other_first : (b c : ℕ) → begins (b ∷ []) ≡ false → begins (c ∷ []) ≡ true → (c == b) ≡ false
 other_first b c n h = at (c == b) refl
   where
     at : (x : Bool) → (c == b) ≡ x → x ≡ false
-    at true e = absurd (h (subst (λ (z : ℕ). next_part Start z ≡ None) (sym (eqb-true c b e)) n))
+    at true e = let two = sym h ∙ ap (λ (z : ℕ). begins (z ∷ [])) (eqb-true c b e) ∙ n in absurd cc
     at false e = refl
 
 -- ---- paths
@@ -126,12 +77,8 @@ no_step done c e = rw (no_stop c e, no_bracket c e) refl
 
 end_stops : (m : Mode) (done ss : List Step) (c : ℕ) → is_behind c ≡ true → finish m done ≡ Ok ss → advance m done c ≡ stop
 end_stops between done ss c e h = no_step done c e
-end_stops dot done ss c e h = absurd cc
 end_stops (name n) done ss c e h = rw (no_name c e) (no_step (done ++ Name n ∷ []) c e)
-end_stops bracket done ss c e h = absurd cc
-end_stops (quoted q n) done ss c e h = absurd cc
-end_stops (closing n) done ss c e h = absurd cc
-end_stops (digits k v) done ss c e h = absurd cc
+end_stops x done ss c e h = absurd cc
 
 run_stops : (m : Mode) (done ss : List Step) (s : List ℕ) (c : ℕ) (rest : List ℕ) → is_behind c ≡ true → run m done s ≡ Ok ss → run m done (s ++ c ∷ rest) ≡ Err (suc (length rest))
 run_stops m done ss [] c rest e h = ap (λ (z : Next). onward z (suc (length rest)) (λ n d. run n d rest)) (end_stops m done ss c e h)

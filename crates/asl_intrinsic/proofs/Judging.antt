@@ -1,23 +1,22 @@
 -- What the machine answers is right: the call that the text spells, the first byte that can't go on, or a number past the limits.
 use Rattle.std.proofs.Common.{◌≡◌, ◌+◌, ℕ, suc, Bool, true, false, List, [], ◌∷◌, ◌++◌, length, refl, sym, ◌∙◌, ap, subst, arith, cond, append_assoc, inl, inr, ◌⊎◌}
-use Rattle.std.specs.Prelude.{Result, Ok, Err, Option, Some, None}
+use Rattle.std.specs.Prelude.{Result, Ok, Err}
 use Rattle.std.proofs.lemmas.List.{append-nil, length-append}
+use Rattle.std.proofs.lemmas.Bool.Decides.{not_from_Decides}
 use Rattle.asl_json.specs.Data.{number}
 use Rattle.asl_json.specs.Number.{IsNumeral, is_over}
 use Rattle.asl_json.specs.Open.{EndsNumber}
-use Rattle.asl_json.specs.private.Machine.{next_part}
-use Rattle.asl_json.specs.declared.number.Part.{Part}
-use Rattle.asl_json.proofs.Numerals.{part_push, part_longest}
+use Rattle.asl_json.specs.private.Machine.{is_number_front, is_number}
+use Rattle.asl_json.proofs.Numerals.{dead_ends, front_decides, numeral_decides}
 use Rattle.asl_intrinsic.specs.Tree.{Argument, Frame, constant, path}
 use Rattle.asl_intrinsic.specs.Grammar.{states_word, SpellsCall, IsSpelled, IsPrefix}
 use Rattle.asl_intrinsic.specs.Fronts.{AwaitsArgument}
 use Rattle.asl_intrinsic.specs.Faults.{EndsAt}
-use Rattle.asl_intrinsic.specs.private.Steps.{Mode, prefix, naming, named, opening, wanting, word, chars, escape, figure, along, ended, Next, go, stop, is_number_front, is_number, is_path, in_figure, step_by, whole, finish_by, onward, run_by, heard}
-use Rattle.asl_intrinsic.proofs.Leaves.{IsPart, front_on}
+use Rattle.asl_intrinsic.specs.private.Steps.{Mode, prefix, naming, named, opening, wanting, word, chars, escape, figure, along, ended, Next, go, stop, is_path, in_figure, step_by, whole, finish_by, onward, run_by, heard}
 use Rattle.asl_intrinsic.proofs.Stopping.{stops_there}
-use Rattle.asl_intrinsic.proofs.Reaching.{Reached, Holds, step_reaches, finish_spells, number_spelled, at_start}
+use Rattle.asl_intrinsic.proofs.Reaching.{Reached, Holds, step_reaches, finish_spells, at_start}
 use Rattle.asl_intrinsic.proofs.Passing.{free_heard}
-use Rattle.asl_intrinsic.proofs.Alive.{alive, front_part}
+use Rattle.asl_intrinsic.proofs.Alive.{alive}
 
 -- the first byte that can't go on has so many bytes from it on
 pub record SyntaxLeft (t : List ℕ) (left : ℕ) : Type 0 where
@@ -146,18 +145,10 @@ no_prefix front c f h = no_call (front ++ c ∷ h.more) (suc (length h.more)) (f
 
 -- ---- a number past the limits
 
-ends_there : (s : List ℕ) (c : ℕ) (cs : List ℕ) → is_number s ≡ true → is_number_front s ≡ true → is_number_front (s ++ c ∷ []) ≡ false → EndsNumber s (c ∷ cs)
-ends_there s c cs n f e =
-    let x = front_part s f in
-    part_longest x.0 s c cs x.1 (at x.0 x.1 (next_part x.0 c) refl)
-  where
-    at : (p : Part) → IsPart p s → (o : Option Part) → next_part p c ≡ o → o ≡ None
-    at p h None y = refl
-    at p h (Some q) y =
-        let on = front_on q (s ++ c ∷ []) [] (subst (IsPart q) (sym (append-nil (s ++ c ∷ []))) (part_push p q s c y h)) in
-        absurd (let two = sym on ∙ e in cc)
+ends_there : (s : List ℕ) (c : ℕ) (cs : List ℕ) → is_number_front (s ++ c ∷ []) ≡ false → EndsNumber s (c ∷ cs)
+ends_there s c cs e = dead_ends s c cs (not_from_Decides (is_number_front (s ++ c ∷ [])) (front_decides (s ++ c ∷ [])) e)
 
-over_left : (s : List ℕ) (st : List Frame) (t xs : List ℕ) → Reached (figure s) st t → is_number s ≡ true → is_over s ≡ true → (is_number_front s ≡ true → EndsNumber s xs) → NumberLeft (t ++ xs) (length s + length xs)
+over_left : (s : List ℕ) (st : List Frame) (t xs : List ℕ) → Reached (figure s) st t → is_number s ≡ true → is_over s ≡ true → EndsNumber s xs → NumberLeft (t ++ xs) (length s + length xs)
 over_left s [] t xs h n o e = absurd h.back_is
 over_left s (f ∷ st) t xs h n o e = record {
   front = h.front;
@@ -166,8 +157,8 @@ over_left s (f ∷ st) t xs h n o e = record {
   parts = ap (λ (z : List ℕ). z ++ xs) (h.parts ∙ ap (λ (z : List ℕ). h.front ++ z) h.back_is.0) ∙ append_assoc h.front s xs;
   left_is = length-append s xs;
   awaits = record { innermost = f; others = st; opens = h.front_is };
-  number_is = number_spelled s n;
-  longest = e h.back_is.1;
+  number_is = (numeral_decides s).0 n;
+  longest = e;
   over = o;
 }
 
@@ -188,7 +179,7 @@ end_judged m st t h f = at (compared_end m st)
     at (inl e) = told (finish_by true m st) refl (sym e)
     at (inr o) =
         let more : length o.spelled + 0 ≡ length o.spelled = omega arith in
-        subst (Judged (t ++ [])) (sym (o.stops ∙ ap Err (sym more))) (inr (over_left o.spelled st t [] (subst (λ (z : Mode). Reached z st t) o.mode_is h) o.number_is o.over (λ _. tt)))
+        subst (Judged (t ++ [])) (sym (o.stops ∙ ap Err (sym more))) (inr (over_left o.spelled st t [] (subst (λ (z : Mode). Reached z st t) o.mode_is h) o.number_is o.over tt))
 
 -- one byte further
 abbrev Further : List ℕ → ℕ → List ℕ → Type 0
@@ -217,7 +208,7 @@ run_judged m st t (c ∷ cs) h f = at (compared m st c) (λ k su g e. run_judged
     at (inl e) again = subst (λ (z : Next). Judged (t ++ c ∷ cs) (onward z (suc (length cs)) (λ k su. run_by true k su cs))) (sym e) (next (step_by false m st c) again refl (step_reaches false m st t c h))
     at (inr o) again =
         subst (λ (z : Next). Judged (t ++ c ∷ cs) (onward z (suc (length cs)) (λ k su. run_by true k su cs))) (sym o.stops)
-        (inr (over_left o.spelled st t (c ∷ cs) (subst (λ (z : Mode). Reached z st t) o.mode_is h) o.number_is o.over (λ g. ends_there o.spelled c cs o.number_is g o.ends)))
+        (inr (over_left o.spelled st t (c ∷ cs) (subst (λ (z : Mode). Reached z st t) o.mode_is h) o.number_is o.over (ends_there o.spelled c cs o.ends)))
 
 pub heard_judged : (t : List ℕ) → Judged t (heard t)
 heard_judged t = run_judged (prefix states_word) [] [] t at_start (λ rest. refl)

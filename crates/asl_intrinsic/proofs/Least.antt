@@ -4,8 +4,7 @@ use Rattle.std.specs.Prelude.{Result, Err}
 use Rattle.std.proofs.lemmas.List.{append-nil, length-append}
 use Rattle.asl_json.specs.Number.{IsNumeral, is_over}
 use Rattle.asl_json.specs.Open.{EndsNumber}
-use Rattle.asl_json.proofs.Numerals.{numeral_accepted, longest_stops}
-use Rattle.asl_json.specs.declared.number.Part.{Part}
+use Rattle.asl_json.proofs.Numerals.{numeral_front}
 use Rattle.asl_path.proofs.Judging.{ahead}
 use Rattle.asl_intrinsic.specs.Tree.{Argument, Frame}
 use Rattle.asl_intrinsic.specs.Grammar.{states_word, IsSpelled, IsPrefix, Fits}
@@ -13,7 +12,7 @@ use Rattle.asl_intrinsic.specs.Fronts.{SpellsBefore, OpensCall, Opens}
 use Rattle.asl_intrinsic.specs.Faults.{EndsAt, SyntaxAt, NumberAt, IsWrongAt, IsFirstWrong}
 use Rattle.asl_intrinsic.specs.private.Steps.{Mode, prefix, opening, wanting, ended, run, heard}
 use Rattle.asl_intrinsic.proofs.Stretches.{spaces_pass}
-use Rattle.asl_intrinsic.proofs.Leaves.{IsPart, Stops, figure_run, over_on}
+use Rattle.asl_intrinsic.proofs.Leaves.{figure_run, over_on}
 use Rattle.asl_intrinsic.proofs.Turns.{comma_wants}
 use Rattle.asl_intrinsic.proofs.Passing.{Passed, Wants, at_opening, at_comma, wanted, spaced_passes, argument_passes, head_passes, head_begun, head_first, begun_numeral, numeral_first}
 use Rattle.asl_intrinsic.proofs.Ending.{Ends}
@@ -121,17 +120,12 @@ opens_arrives (g ∷ st) f t rest h =
 
 -- ---- where a number is past the limits, the machine has stopped
 
-longest_stops_there : (p : Part) (s rest : List ℕ) → IsPart p s → EndsNumber s rest → Stops p rest
-longest_stops_there p s [] h e = tt
-longest_stops_there p s (c ∷ cs) h e = longest_stops p s c cs h e
-
 number_over : (m : Mode) (st : List Frame) (s rest : List ℕ) → Wants true m st → IsNumeral s → EndsNumber s rest → is_over s ≡ true → run m st (s ++ rest) ≡ Err (length s + length rest)
 number_over m st s rest w n e o =
-    let a = numeral_accepted s n in
     wanted true m st s rest w (numeral_first s n)
     ∙ begun_numeral true st s rest n
-    ∙ figure_run true a.to [] s rest st a.leads
-    ∙ over_on a.to s rest st a.leads a.ends o (longest_stops_there a.to s rest a.leads e)
+    ∙ figure_run true [] s rest st (numeral_front s n)
+    ∙ over_on s rest st n o e
 
 -- with as many bytes left at least
 pub record StopsBefore (t : List ℕ) (left : ℕ) : Type 0 where

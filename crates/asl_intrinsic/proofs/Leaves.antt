@@ -1,17 +1,18 @@
 -- Arguments that are no calls, as stretches of a run.
 use Rattle.std.proofs.Common.{◌≡◌, ◌<◌, ◌≤◌, ◌+◌, ◌-◌, ◌==◌, ℕ, zero, suc, Bool, true, false, List, [], ◌∷◌, ◌++◌, length, take, drop, get_or, refl, sym, ◌∙◌, ap, subst, arith, cond, append_assoc}
-use Rattle.std.specs.Prelude.{Result, Ok, Err, Option, Some, None, nat_lt, ◌&&◌}
+use Rattle.std.specs.Prelude.{Result, Ok, Err, nat_lt, ◌&&◌}
 use Rattle.std.proofs.lemmas.List.{append-nil, take-append-drop, take_more, drop_more, length-append, length-drop, get_or-drop, drop-drop}
 use Rattle.std.proofs.lemmas.Bool.{eqb-true}
+use Rattle.std.proofs.lemmas.Bool.Decides.{not_from_Decides}
+use Rattle.std.specs.Bool.{Decides}
 use Rattle.std.specs.Str.{IsUtf8, IsCharBoundary}
 use Rattle.std.proofs.lemmas.Str.{IsCharBoundary-from_take, IsCharBoundary-before_ascii, IsCharBoundary-after_ascii, IsCharBoundary-end}
 use Rattle.asl_json.specs.Data.{null, boolean, number}
-use Rattle.asl_json.specs.Number.{IsNumeral, is_over}
+use Rattle.asl_json.specs.Number.{IsNumeral, IsNumeralFront, is_over}
 use Rattle.asl_json.specs.Grammar.{null_word, true_word, false_word}
-use Rattle.asl_json.specs.private.Machine.{part_behind, next_part, may_end}
-use Rattle.asl_json.specs.declared.number.Part.{Part}
-use Rattle.asl_json.specs.declared.number.Part.TheVariants.{Start}
-use Rattle.asl_json.proofs.Numerals.{part_none, part_append, part_is_numeral}
+use Rattle.asl_json.specs.Open.{EndsNumber}
+use Rattle.asl_json.specs.private.Machine.{is_number_front, is_number}
+use Rattle.asl_json.proofs.Numerals.{shorter_numeral_front, dead_ends, ends_dead, front_decides, numeral_decides, front_fails, numeral_fails}
 use Rattle.asl_json.proofs.Figures.{number_utf8}
 use Rattle.asl_path.specs.declared.step.Root.{Root}
 use Rattle.asl_path.specs.declared.step.Step.{Step}
@@ -22,7 +23,7 @@ use Rattle.asl_path.specs.private.Steps.{steps}
 use Rattle.asl_path.proofs.Passing.{path_passes}
 use Rattle.asl_path.proofs.Judging.{Judged, path_judged, path_faultless}
 use Rattle.asl_intrinsic.specs.Tree.{Argument, constant, quoted, path, Frame}
-use Rattle.asl_intrinsic.specs.private.Steps.{Mode, prefix, word, chars, escape, figure, along, ended, Next, go, stop, is_part, is_number_front, is_number, is_begun, is_read, is_path_front, is_path, in_chars, in_escape, in_ended, in_figure, in_along, begins, step_by, step, whole, onward, run_by, run}
+use Rattle.asl_intrinsic.specs.private.Steps.{Mode, prefix, word, chars, escape, figure, along, ended, Next, go, stop, is_begun, is_read, is_path_front, is_path, in_chars, in_escape, in_ended, in_figure, in_along, begins, step_by, step, whole, onward, run_by, run}
 use Rattle.asl_intrinsic.specs.Grammar.{states_word, is_escaped}
 use Rattle.asl_intrinsic.specs.private.Leads.{IsQuotedLen, IsPathLen, is_behind, is_stray, first_is, begun}
 use Rattle.asl_intrinsic.proofs.Stretches.{goes, halts, halts_back, alike}
@@ -122,37 +123,21 @@ text_split t spelled behind rest n h e f g st =
 
 -- ---- numbers
 
-abbrev pub IsPart : Part → List ℕ → Type 0
-IsPart p s = part_behind (Some Start) s ≡ Some p
-
-pub front_is : (o : Option Part) (p : Part) (s u : List ℕ) → part_behind (Some Start) s ≡ o → IsPart p (s ++ u) → is_part o ≡ true
-front_is (Some q) p s u e h = refl
-front_is None p s u e h = absurd (let none : part_behind (Some Start) (s ++ u) ≡ None = part_append (Some Start) s u ∙ ap (λ (z : Option Part). part_behind z u) e ∙ part_none u in let two = sym none ∙ h in cc)
-
-pub front_on : (p : Part) (s u : List ℕ) → IsPart p (s ++ u) → is_number_front s ≡ true
-unfolding is_number_front
-front_on p s u h = front_is (part_behind (Some Start) s) p s u refl h
-
 digit_on : (lim : Bool) (s : List ℕ) (st : List Frame) (c : ℕ) → is_number_front (s ++ c ∷ []) ≡ true → step_by lim (figure s) st c ≡ go (figure (s ++ c ∷ [])) st
 unfolding in_figure
 digit_on lim s st c e = rw e refl
 
-pub figure_run : (lim : Bool) (p : Part) (s u rest : List ℕ) (st : List Frame) → IsPart p (s ++ u) → run_by lim (figure s) st (u ++ rest) ≡ run_by lim (figure (s ++ u)) st rest
-figure_run lim p s [] rest st h = ap (λ (z : List ℕ). run_by lim (figure z) st rest) (sym (append-nil s))
-figure_run lim p s (c ∷ u) rest st h =
+pub figure_run : (lim : Bool) (s u rest : List ℕ) (st : List Frame) → IsNumeralFront (s ++ u) → run_by lim (figure s) st (u ++ rest) ≡ run_by lim (figure (s ++ u)) st rest
+figure_run lim s [] rest st h = ap (λ (z : List ℕ). run_by lim (figure z) st rest) (sym (append-nil s))
+figure_run lim s (c ∷ u) rest st h =
     let regrouped : (s ++ c ∷ []) ++ u ≡ s ++ c ∷ u = append_assoc s (c ∷ []) u in
-    let g : IsPart p ((s ++ c ∷ []) ++ u) = ap (part_behind (Some Start)) regrouped ∙ h in
-    goes lim (figure s) (figure (s ++ c ∷ [])) st st c (u ++ rest) (digit_on lim s st c (front_on p (s ++ c ∷ []) u g))
-    ∙ figure_run lim p (s ++ c ∷ []) u rest st g
+    let g : IsNumeralFront ((s ++ c ∷ []) ++ u) = subst IsNumeralFront (sym regrouped) h in
+    goes lim (figure s) (figure (s ++ c ∷ [])) st st c (u ++ rest) (digit_on lim s st c ((front_decides (s ++ c ∷ [])).1 (shorter_numeral_front (s ++ c ∷ []) u g)))
+    ∙ figure_run lim (s ++ c ∷ []) u rest st g
     ∙ ap (λ (z : List ℕ). run_by lim (figure z) st rest) regrouped
 
-pub number_is : (p : Part) (s : List ℕ) (b : Bool) → IsPart p s → may_end p ≡ b → is_number s ≡ b
-unfolding is_number
-number_is p s b h e = rw h e
-
-front_off : (p : Part) (s : List ℕ) (c : ℕ) → IsPart p s → next_part p c ≡ None → is_number_front (s ++ c ∷ []) ≡ false
-unfolding is_number_front
-front_off p s c h e = ap is_part (part_append (Some Start) s (c ∷ []) ∙ ap (λ (z : Option Part). part_behind z (c ∷ [])) h ∙ e)
+front_off : (s : List ℕ) (c : ℕ) (cs : List ℕ) → EndsNumber s (c ∷ cs) → is_number_front (s ++ c ∷ []) ≡ false
+front_off s c cs e = front_fails (s ++ c ∷ []) (ends_dead s c cs e)
 
 -- a byte with which a number doesn't go on
 broken_at : (s : List ℕ) (st : List Frame) (c : ℕ) → is_number_front (s ++ c ∷ []) ≡ false → is_number s ≡ false → step (figure s) st c ≡ stop 0
@@ -167,70 +152,68 @@ fits_at : (lim : Bool) (s : List ℕ) (st : List Frame) (c : ℕ) → is_number_
 unfolding in_figure
 fits_at lim s st c e f g = rw (e, f, g) refl
 
--- what longest_number says of a text: so many bytes, which are so much of a number, and no more
-pub record IsLongest (p : Part) (t : List ℕ) (n : ℕ) : Type 0 where
+-- what follows doesn't make the first bytes a longer front
+no_longer : (P : List ℕ → Type 0) (t : List ℕ) (n c : ℕ) (cs : List ℕ) → drop n t ≡ c ∷ cs → (n < length t → P (take (n + 1) t) → ⊥) → P (take n t ++ c ∷ []) → ⊥
+no_longer P t n c cs e dead p =
+    let lt : n < length t = omega (arith, length-drop n t, ap length e) in
+    let first : get_or t n 0 ≡ c = let two = sym (drop_more t n 0 lt) ∙ e in cc in
+    dead lt (subst P (sym (take_more t n 0 lt ∙ ap (λ (z : ℕ). take n t ++ z ∷ []) first)) p)
+
+-- what number_front says of a text: so many bytes, and whether they are a number
+pub record IsLongest (t : List ℕ) (n : ℕ) (whole : Bool) : Type 0 where
   pub within : n ≤ length t
-  pub part : IsPart p (take n t)
-  pub stops : n < length t → next_part p (get_or t n 0) ≡ None
+  pub alive : IsNumeralFront (take n t)
+  pub ends : EndsNumber (take n t) (drop n t)
+  pub decides : Decides whole (IsNumeral (take n t))
 
-pub longest_of : (p : Part) (bytes t : List ℕ) (n : ℕ) → bytes ≡ t → n ≤ length bytes → IsPart p (take n bytes) → (n < length bytes → next_part p (get_or bytes n 0) ≡ None) → IsLongest p t n
-longest_of p bytes t n e w h stops = subst (λ (z : List ℕ). IsLongest p z n) e (record { within = w; part = h; stops = stops })
+pub longest_of : (bytes t : List ℕ) (n : ℕ) (whole : Bool) → bytes ≡ t → n ≤ length bytes → IsNumeralFront (take n bytes) → (n < length bytes → IsNumeralFront (take (n + 1) bytes) → ⊥) → Decides whole (IsNumeral (take n bytes)) → IsLongest t n whole
+longest_of bytes t n whole e w alive dead d = subst (λ (z : List ℕ). IsLongest z n whole) e (record { within = w; alive = alive; ends = at (drop n bytes) refl; decides = d })
+  where
+    at : (rest : List ℕ) → drop n bytes ≡ rest → EndsNumber (take n bytes) rest
+    at [] e = tt
+    at (c ∷ cs) e = dead_ends (take n bytes) c cs (no_longer IsNumeralFront bytes n c cs e dead)
 
--- what follows the longest number, and that it doesn't go on
-abbrev pub Stops : Part → List ℕ → Type 0
-Stops p [] = Unit {0}
-Stops p (c ∷ cs) = next_part p c ≡ None
+broken_on : (s rest : List ℕ) (st : List Frame) → (IsNumeral s → ⊥) → EndsNumber s rest → run (figure s) st rest ≡ Err (length rest)
+broken_on s [] st h e = ap (λ (b : Bool). cond b (cond (is_over s) (Err (length s)) (whole (constant (number s)) st)) (Err 0)) (numeral_fails s h)
+broken_on s (c ∷ cs) st h e = halts (figure s) st c cs (broken_at s st c (front_off s c cs e) (numeral_fails s h))
 
-stops_at : (p : Part) (t : List ℕ) (n : ℕ) → (n < length t → next_part p (get_or t n 0) ≡ None) → Stops p (drop n t)
-stops_at p [] zero h = tt
-stops_at p [] (suc n) h = tt
-stops_at p (c ∷ t) zero h = h (omega arith)
-stops_at p (c ∷ t) (suc n) h = stops_at p t n (λ lt. h (omega (arith, lt)))
-
-broken_on : (p : Part) (s rest : List ℕ) (st : List Frame) → IsPart p s → may_end p ≡ false → Stops p rest → run (figure s) st rest ≡ Err (length rest)
-broken_on p s [] st h e stops = ap (λ (b : Bool). cond b (cond (is_over s) (Err (length s)) (whole (constant (number s)) st)) (Err 0)) (number_is p s false h e)
-broken_on p s (c ∷ cs) st h e stops = halts (figure s) st c cs (broken_at s st c (front_off p s c h stops) (number_is p s false h e))
-
-pub over_on : (p : Part) (s rest : List ℕ) (st : List Frame) → IsPart p s → may_end p ≡ true → is_over s ≡ true → Stops p rest → run (figure s) st rest ≡ Err (length s + length rest)
-over_on p s [] st h e f stops =
+pub over_on : (s rest : List ℕ) (st : List Frame) → IsNumeral s → is_over s ≡ true → EndsNumber s rest → run (figure s) st rest ≡ Err (length s + length rest)
+over_on s [] st h f e =
     let z : length s ≡ length s + 0 = omega arith in
-    ap (λ (b : Bool). cond b (cond (is_over s) (Err (length s)) (whole (constant (number s)) st)) (Err 0)) (number_is p s true h e)
+    ap (λ (b : Bool). cond b (cond (is_over s) (Err (length s)) (whole (constant (number s)) st)) (Err 0)) ((numeral_decides s).1 h)
     ∙ ap (λ (b : Bool). cond b (Err (length s)) (whole (constant (number s)) st)) f
     ∙ ap Err z
-over_on p s (c ∷ cs) st h e f stops = halts_back (figure s) st c cs (length s) (over_at s st c (front_off p s c h stops) (number_is p s true h e) f)
+over_on s (c ∷ cs) st h f e = halts_back (figure s) st c cs (length s) (over_at s st c (front_off s c cs e) ((numeral_decides s).1 h) f)
 
-pub fits_on : (lim : Bool) (p : Part) (s rest : List ℕ) (st : List Frame) → IsPart p s → may_end p ≡ true → (lim && is_over s) ≡ false → Stops p rest → run_by lim (figure s) st rest ≡ run_by lim (ended (constant (number s))) st rest
-fits_on lim p s [] st h e f stops =
-    ap (λ (b : Bool). cond b (cond (lim && is_over s) (Err (length s)) (whole (constant (number s)) st)) (Err 0)) (number_is p s true h e)
+pub fits_on : (lim : Bool) (s rest : List ℕ) (st : List Frame) → IsNumeral s → (lim && is_over s) ≡ false → EndsNumber s rest → run_by lim (figure s) st rest ≡ run_by lim (ended (constant (number s))) st rest
+fits_on lim s [] st h f e =
+    ap (λ (b : Bool). cond b (cond (lim && is_over s) (Err (length s)) (whole (constant (number s)) st)) (Err 0)) ((numeral_decides s).1 h)
     ∙ ap (λ (b : Bool). cond b (Err (length s)) (whole (constant (number s)) st)) f
-fits_on lim p s (c ∷ cs) st h e f stops = alike lim (figure s) (ended (constant (number s))) st st c cs (fits_at lim s st c (front_off p s c h stops) (number_is p s true h e) f)
+fits_on lim s (c ∷ cs) st h f e = alike lim (figure s) (ended (constant (number s))) st st c cs (fits_at lim s st c (front_off s c cs e) ((numeral_decides s).1 h) f)
 
-front_read : (p : Part) (t : List ℕ) (n : ℕ) (st : List Frame) → IsLongest p t n → run (figure []) st t ≡ run (figure (take n t)) st (drop n t)
-front_read p t n st h = ap (run (figure []) st) (sym (take-append-drop n t)) ∙ figure_run true p [] (take n t) (drop n t) st h.part
+front_read : (t : List ℕ) (n : ℕ) (w : Bool) (st : List Frame) → IsLongest t n w → run (figure []) st t ≡ run (figure (take n t)) st (drop n t)
+front_read t n w st h = ap (run (figure []) st) (sym (take-append-drop n t)) ∙ figure_run true [] (take n t) (drop n t) st h.alive
 
-pub number_broken : (p : Part) (t : List ℕ) (n : ℕ) → IsLongest p t n → may_end p ≡ false → (st : List Frame) → run (figure []) st t ≡ Err (length t - n)
-number_broken p t n h e st = front_read p t n st h ∙ broken_on p (take n t) (drop n t) st h.part e (stops_at p t n h.stops) ∙ ap Err (length-drop n t)
+pub number_broken : (t : List ℕ) (n : ℕ) (w : Bool) → IsLongest t n w → w ≡ false → (st : List Frame) → run (figure []) st t ≡ Err (length t - n)
+number_broken t n w h e st = front_read t n w st h ∙ broken_on (take n t) (drop n t) st (not_from_Decides w h.decides e) h.ends ∙ ap Err (length-drop n t)
 
-pub number_over : (p : Part) (t : List ℕ) (n : ℕ) → IsLongest p t n → may_end p ≡ true → is_over (take n t) ≡ true → (st : List Frame) → run (figure []) st t ≡ Err (length t)
-number_over p t n h e f st =
+number_over : (t : List ℕ) (n : ℕ) (w : Bool) → IsLongest t n w → w ≡ true → is_over (take n t) ≡ true → (st : List Frame) → run (figure []) st t ≡ Err (length t)
+number_over t n w h e f st =
     let parts : length (take n t) + length (drop n t) ≡ length t = sym (length-append (take n t) (drop n t)) ∙ ap length (take-append-drop n t) in
-    front_read p t n st h ∙ over_on p (take n t) (drop n t) st h.part e f (stops_at p t n h.stops) ∙ ap Err parts
+    front_read t n w st h ∙ over_on (take n t) (drop n t) st (h.decides.0 e) f h.ends ∙ ap Err parts
 
-pub number_reads : (p : Part) (t : List ℕ) (n : ℕ) → IsLongest p t n → may_end p ≡ true → is_over (take n t) ≡ false → (st : List Frame) → run (figure []) st t ≡ run (ended (constant (number (take n t)))) st (drop n t)
-number_reads p t n h e f st = front_read p t n st h ∙ fits_on true p (take n t) (drop n t) st h.part e f (stops_at p t n h.stops)
+number_reads : (t : List ℕ) (n : ℕ) (w : Bool) → IsLongest t n w → w ≡ true → is_over (take n t) ≡ false → (st : List Frame) → run (figure []) st t ≡ run (ended (constant (number (take n t)))) st (drop n t)
+number_reads t n w h e f st = front_read t n w st h ∙ fits_on true (take n t) (drop n t) st (h.decides.0 e) f h.ends
 
-pub longest_numeral : (p : Part) (t : List ℕ) (n : ℕ) → IsLongest p t n → may_end p ≡ true → IsNumeral (take n t)
-longest_numeral p t n h e = part_is_numeral p (take n t) e h.part
+pub number_boundary : (t : List ℕ) (n : ℕ) (w : Bool) → IsUtf8 t → IsLongest t n w → w ≡ true → IsCharBoundary t n
+number_boundary t n w u h e = IsCharBoundary-from_take t n u h.within (number_utf8 (take n t) (h.decides.0 e))
 
-pub number_boundary : (p : Part) (t : List ℕ) (n : ℕ) → IsUtf8 t → IsLongest p t n → may_end p ≡ true → IsCharBoundary t n
-number_boundary p t n u h e = IsCharBoundary-from_take t n u h.within (number_utf8 (take n t) (longest_numeral p t n h e))
+pub numeral_over : (t spelled : List ℕ) (n : ℕ) (w : Bool) → IsLongest t n w → w ≡ true → spelled ≡ take n t → is_over spelled ≡ true → (st : List Frame) → run (figure []) st t ≡ Err (length t)
+numeral_over t spelled n w h e f g st = number_over t n w h e (sym (ap is_over f) ∙ g) st
 
-pub numeral_over : (p : Part) (t spelled : List ℕ) (n : ℕ) → IsLongest p t n → may_end p ≡ true → spelled ≡ take n t → is_over spelled ≡ true → (st : List Frame) → run (figure []) st t ≡ Err (length t)
-numeral_over p t spelled n h e f g st = number_over p t n h e (sym (ap is_over f) ∙ g) st
-
-pub numeral_reads : (p : Part) (t spelled d rest : List ℕ) (n : ℕ) → IsLongest p t n → may_end p ≡ true → spelled ≡ take n t → rest ≡ drop n t → (d ≡ spelled) × (is_over spelled ≡ false) → (st : List Frame) → run (figure []) st t ≡ run (ended (constant (number d))) st rest
-numeral_reads p t spelled d rest n h e f r g st =
-    number_reads p t n h e (sym (ap is_over f) ∙ g.1) st
+pub numeral_reads : (t spelled d rest : List ℕ) (n : ℕ) (w : Bool) → IsLongest t n w → w ≡ true → spelled ≡ take n t → rest ≡ drop n t → (d ≡ spelled) × (is_over spelled ≡ false) → (st : List Frame) → run (figure []) st t ≡ run (ended (constant (number d))) st rest
+numeral_reads t spelled d rest n w h e f r g st =
+    number_reads t n w h e (sym (ap is_over f) ∙ g.1) st
     ∙ ap (λ (z : List ℕ). run (ended (constant (number z))) st (drop n t)) (sym (g.0 ∙ f))
     ∙ ap (run (ended (constant (number d))) st) (sym r)
 
@@ -301,10 +284,7 @@ ends_front t n h = at (drop n t) refl
   where
     at : (rest : List ℕ) → drop n t ≡ rest → EndsFront (take n t) rest
     at [] e = tt
-    at (c ∷ cs) e = λ p.
-        let lt : n < length t = omega (arith, length-drop n t, ap length e) in
-        let first : get_or t n 0 ≡ c = let two = sym (drop_more t n 0 lt) ∙ e in cc in
-        h.dead lt (subst IsPrefix (sym (take_more t n 0 lt ∙ ap (λ (z : ℕ). take n t ++ z ∷ []) first)) p)
+    at (c ∷ cs) e = no_longer IsPrefix t n c cs e h.dead
 
 broken_step : (s : List ℕ) (st : List Frame) (c : ℕ) → is_path_front (s ++ c ∷ []) ≡ false → is_path s ≡ false → step (along s) st c ≡ stop 0
 unfolding in_along

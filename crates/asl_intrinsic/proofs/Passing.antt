@@ -1,17 +1,18 @@
 -- What is spelled is heard: each argument leads the machine over its text, unless limits hold and one of its numbers is past them.
 use Rattle.std.proofs.Common.{◌≡◌, ◌<◌, ◌≤◌, ◌+◌, ◌==◌, ℕ, suc, Bool, true, false, List, [], ◌∷◌, ◌++◌, length, refl, sym, ◌∙◌, ap, subst, arith, cond, append_assoc, inl, inr, ◌⊎◌}
-use Rattle.std.specs.Prelude.{Result, Ok, Err, None, not, ◌&&◌}
+use Rattle.std.specs.Prelude.{Result, Ok, Err, not, ◌&&◌}
 use Rattle.std.proofs.lemmas.List.{append-nil, length-append}
 use Rattle.std.proofs.lemmas.Bool.{eqb-true}
-use Rattle.asl_json.specs.Data.{Data, null, boolean, number, text, list, dict}
+use Rattle.asl_json.specs.Data.{Data, null, boolean, number}
 use Rattle.asl_json.specs.Number.{IsNumeral, is_over, is_digit}
 use Rattle.asl_json.specs.Grammar.{null_word, true_word, false_word}
-use Rattle.asl_json.specs.private.Machine.{next_part, leading}
-use Rattle.asl_json.specs.declared.number.Part.TheVariants.{Start}
-use Rattle.asl_json.proofs.Numerals.{numeral_accepted, numeral_some}
+use Rattle.asl_json.specs.private.Leads.{begins as starts_number}
+use Rattle.asl_json.proofs.Numerals.{numeral_front, numeral_some}
 use Rattle.asl_path.specs.private.Leads.{NotFirst}
 use Rattle.asl_intrinsic.specs.Tree.{Argument, Frame, constant, quoted, path, call, Arguments, none, argument, arguments}
-use Rattle.asl_intrinsic.specs.Grammar.{states_word, is_name_byte, AreSpaces, is_escaped, is_inside, is_escape, SpellsConstant, SpellsHead, Spaced, SpellsArgument, SpellsArguments, SpellsMore, SpellsCall, Fits, FitAll, FitsConstant}
+use Rattle.asl_intrinsic.specs.Grammar.{states_word, is_name_byte, AreSpaces, is_escaped, is_inside, is_escape, SpellsConstant, SpellsHead, SpellsArgument, SpellsCall, Fits, FitAll, FitsConstant}
+use Rattle.asl_intrinsic.specs.private.Lists.{SpellsArguments, SpellsMore}
+use Rattle.asl_json.specs.Parts.{Spaced}
 use Rattle.asl_intrinsic.specs.private.Steps.{Mode, prefix, named, opening, wanting, chars, escape, figure, along, ended, Next, go, in_prefix, in_word, begins, step_by, onward, run_by}
 use Rattle.asl_intrinsic.specs.private.Leads.{begun_by}
 use Rattle.asl_intrinsic.proofs.Stretches.{goes, spaces_pass, name_some, named_space, named_opens}
@@ -60,43 +61,43 @@ begun_at lim m st c cs e = ap (λ (z : Next). onward z (suc (length cs)) (λ n s
 
 -- ---- numbers
 
-start_39 : next_part Start 39 ≡ None
-unfolding next_part leading is_digit
+start_39 : starts_number (39 ∷ []) ≡ false
+unfolding is_digit
 start_39 = refl
 
-start_36 : next_part Start 36 ≡ None
-unfolding next_part leading is_digit
+start_36 : starts_number (36 ∷ []) ≡ false
+unfolding is_digit
 start_36 = refl
 
-start_83 : next_part Start 83 ≡ None
-unfolding next_part leading is_digit
+start_83 : starts_number (83 ∷ []) ≡ false
+unfolding is_digit
 start_83 = refl
 
-start_110 : next_part Start 110 ≡ None
-unfolding next_part leading is_digit
+start_110 : starts_number (110 ∷ []) ≡ false
+unfolding is_digit
 start_110 = refl
 
-start_116 : next_part Start 116 ≡ None
-unfolding next_part leading is_digit
+start_116 : starts_number (116 ∷ []) ≡ false
+unfolding is_digit
 start_116 = refl
 
-start_102 : next_part Start 102 ≡ None
-unfolding next_part leading is_digit
+start_102 : starts_number (102 ∷ []) ≡ false
+unfolding is_digit
 start_102 = refl
 
-start_32 : next_part Start 32 ≡ None
-unfolding next_part leading is_digit
+start_32 : starts_number (32 ∷ []) ≡ false
+unfolding is_digit
 start_32 = refl
 
-start_41 : next_part Start 41 ≡ None
-unfolding next_part leading is_digit
+start_41 : starts_number (41 ∷ []) ≡ false
+unfolding is_digit
 start_41 = refl
 
 pub begun_numeral : (lim : Bool) (st : List Frame) (s rest : List ℕ) → IsNumeral s → begun_by lim st (s ++ rest) ≡ run_by lim (figure []) st (s ++ rest)
 begun_numeral lim st s rest h =
     let b = number_begins s h in
     let c = b.first in
-    let differs = λ (k : ℕ) (n : next_part Start k ≡ None). other_first k c n b.goes_on in
+    let differs = λ (k : ℕ) (n : starts_number (k ∷ []) ≡ false). other_first k c n b.begins_it in
     let same : s ++ rest ≡ c ∷ (b.others ++ rest) = ap (λ (z : List ℕ). z ++ rest) b.parts in
     ap (begun_by lim st) same
     ∙ begun_at lim (figure []) st c (b.others ++ rest) (figure_begins lim st c (differs 39 start_39) (differs 36 start_36) (differs 83 start_83) (differs 110 start_110) (differs 116 start_116) (differs 102 start_102))
@@ -106,14 +107,14 @@ numeral_passes : (lim : Bool) (st : List Frame) (s rest : List ℕ) → IsNumera
 numeral_passes lim st s rest h e = at lim (is_over s) refl
   where
     reads : (l : Bool) → begun_by l st (s ++ rest) ≡ run_by l (figure s) st rest
-    reads l = begun_numeral l st s rest h ∙ figure_run l (numeral_accepted s h).to [] s rest st (numeral_accepted s h).leads
+    reads l = begun_numeral l st s rest h ∙ figure_run l [] s rest st (numeral_front s h)
 
     some : (t : List ℕ) → (t ≡ [] → ⊥) → 0 < length t
     some [] n = absurd (n refl)
     some (c ∷ t) n = omega arith
 
     fits : (l : Bool) → (l && is_over s) ≡ false → begun_by l st (s ++ rest) ≡ run_by l (ended (constant (number s))) st rest
-    fits l f = reads l ∙ fits_on l (numeral_accepted s h).to s rest st (numeral_accepted s h).leads (numeral_accepted s h).ends f (number_stops (numeral_accepted s h).to rest e)
+    fits l f = reads l ∙ fits_on l s rest st h f (number_stops s rest e)
 
     at : (l b : Bool) → is_over s ≡ b → Passed l (is_over s ≡ false) (length rest) (begun_by l st (s ++ rest)) (run_by l (ended (constant (number s))) st rest)
     at false b f = inl (record { sound = λ l. absurd (let no = l in cc); on = fits false refl })
@@ -122,7 +123,7 @@ numeral_passes lim st s rest h e = at lim (is_over s) refl
       limits = refl;
       unsound = λ g. let two = sym f ∙ g in cc;
       left = length s + length rest;
-      stops = reads true ∙ over_on (numeral_accepted s h).to s rest st (numeral_accepted s h).leads (numeral_accepted s h).ends f (number_stops (numeral_accepted s h).to rest e);
+      stops = reads true ∙ over_on s rest st h f (number_stops s rest e);
       before = omega (arith, some s (λ n. numeral_some s h n));
     })
 
@@ -146,9 +147,7 @@ constant_passes (boolean true) lim st t rest h e = plain lim (Unit {0}) (length 
 constant_passes (boolean false) lim st t rest h e = plain lim (Unit {0}) (length rest) (begun_by lim st (t ++ rest)) (run_by lim (ended (constant (boolean false))) st rest) tt (ap (λ (z : List ℕ). begun_by lim st (z ++ rest)) h ∙ false_passes lim st rest)
 constant_passes (number s) lim st t rest h e =
     from_equal lim (is_over s ≡ false) (length rest) (begun_by lim st (t ++ rest)) (begun_by lim st (s ++ rest)) (run_by lim (ended (constant (number s))) st rest) (ap (λ (z : List ℕ). begun_by lim st (z ++ rest)) h.0) (numeral_passes lim st s rest h.1 e)
-constant_passes (text s) lim st t rest h e = absurd h
-constant_passes (list ds) lim st t rest h e = absurd h
-constant_passes (dict ms) lim st t rest h e = absurd h
+constant_passes x lim st t rest h e = absurd h
 
 mutual
   chars_pass : (s : List ℕ) (lim : Bool) (u rest : List ℕ) (st : List Frame) → is_inside s ≡ true → run_by lim (chars u) st (s ++ 39 ∷ rest) ≡ run_by lim (ended (quoted (u ++ s))) st rest
@@ -248,16 +247,14 @@ begins_with : (t : List ℕ) (c : ℕ) (cs : List ℕ) → t ≡ c ∷ cs → (c
 begins_with t c cs e f g = record { first = c; others = cs; parts = e; no_space = f; no_bracket = g }
 
 pub numeral_first : (s : List ℕ) → IsNumeral s → BeginsArgument s
-numeral_first s h = let b = number_begins s h in begins_with s b.first b.others b.parts (other_first 32 b.first start_32 b.goes_on) (other_first 41 b.first start_41 b.goes_on)
+numeral_first s h = let b = number_begins s h in begins_with s b.first b.others b.parts (other_first 32 b.first start_32 b.begins_it) (other_first 41 b.first start_41 b.begins_it)
 
 constant_first : (d : Data) (t : List ℕ) → SpellsConstant d t → BeginsArgument t
 constant_first null t h = begins_with t 110 (117 ∷ 108 ∷ 108 ∷ []) h refl refl
 constant_first (boolean true) t h = begins_with t 116 (114 ∷ 117 ∷ 101 ∷ []) h refl refl
 constant_first (boolean false) t h = begins_with t 102 (97 ∷ 108 ∷ 115 ∷ 101 ∷ []) h refl refl
 constant_first (number s) t h = subst BeginsArgument (sym h.0) (numeral_first s h.1)
-constant_first (text s) t h = absurd h
-constant_first (list ds) t h = absurd h
-constant_first (dict ms) t h = absurd h
+constant_first x t h = absurd h
 
 pub head_first : (n t : List ℕ) → SpellsHead n t → BeginsArgument t
 head_first n t h = begins_with t 83 (116 ∷ 97 ∷ 116 ∷ 101 ∷ 115 ∷ 46 ∷ (n ++ (h.spaces ++ 40 ∷ []))) h.parts refl refl
@@ -291,7 +288,7 @@ spaced_ends (c ∷ s) rest h e = let same : c ≡ 32 = eqb-true c 32 h.0 in rw s
 abbrev pub Passes : Bool → Frame → List Frame → Argument → Type 0
 Passes lim f st a = (t rest : List ℕ) → SpellsArgument a t → Ends rest → Passed lim (Fits a) (length rest) (begun_by lim (f ∷ st) (t ++ rest)) (run_by lim (ended a) (f ∷ st) rest)
 
-pub spaced_passes : (a : Argument) (lim : Bool) (m : Mode) (f : Frame) (st : List Frame) (t rest : List ℕ) → Wants lim m (f ∷ st) → Passes lim f st a → Spaced (SpellsArgument a) t → Ends rest
+pub spaced_passes : (a : Argument) (lim : Bool) (m : Mode) (f : Frame) (st : List Frame) (t rest : List ℕ) → Wants lim m (f ∷ st) → Passes lim f st a → Spaced AreSpaces (SpellsArgument a) t → Ends rest
     → Passed lim (Fits a) (length rest) (run_by lim m (f ∷ st) (t ++ rest)) (run_by lim (ended a) (f ∷ st) rest)
 spaced_passes a lim m f st t rest w passes h e =
     let tail = h.behind ++ rest in
@@ -346,7 +343,7 @@ call_starts n ts lim st t rest h =
 first_passes : (a : Argument) (ts : Arguments) (lim : Bool) (n : List ℕ) (done : List Argument) (st : List Frame) (front back rest : List ℕ) (m : Mode) (t : List ℕ) (y : Argument) → t ≡ front ++ back → Wants lim m ((n, done) ∷ st)
     → Passes lim (n, done) st a
     → ((u : List ℕ) → SpellsMore ts u → Passed lim (FitAll ts) (length rest) (run_by lim (ended a) ((n, done) ∷ st) (u ++ rest)) (run_by lim (ended (call n (arguments (done ++ a ∷ items ts)))) st rest))
-    → call n (arguments (done ++ a ∷ items ts)) ≡ y → Spaced (SpellsArgument a) front → SpellsMore ts back
+    → call n (arguments (done ++ a ∷ items ts)) ≡ y → Spaced AreSpaces (SpellsArgument a) front → SpellsMore ts back
     → Passed lim (Fits a × FitAll ts) (length rest) (run_by lim m ((n, done) ∷ st) (t ++ rest)) (run_by lim (ended y) st rest)
 first_passes a ts lim n done st front back rest m t y parts w passes more same f g =
     let tail = back ++ rest in
@@ -398,12 +395,10 @@ mutual
 
 -- a whole text
 pub call_heard : (lim : Bool) (a : Argument) (t : List ℕ) → SpellsCall a t → Passed lim (Fits a) 0 (run_by lim (prefix states_word) [] t) (Ok a)
-call_heard lim (constant d) t h = absurd h
-call_heard lim (quoted s) t h = absurd h
-call_heard lim (path p) t h = absurd h
 call_heard lim (call n ts) t h =
     from_equal lim (FitAll ts) 0 (run_by lim (prefix states_word) [] t) (run_by lim (prefix states_word) [] (t ++ [])) (Ok (call n ts)) (ap (run_by lim (prefix states_word) []) (sym (append-nil t)))
     (call_passes n ts lim [] t [] h (λ u g. arguments_pass ts lim n [] u [] g))
+call_heard lim x t h = absurd h
 
 -- without limits
 pub free_heard : (a : Argument) (t : List ℕ) → SpellsCall a t → run_by false (prefix states_word) [] t ≡ Ok a

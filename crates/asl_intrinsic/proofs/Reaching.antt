@@ -1,25 +1,26 @@
 -- What the machine has read so far: some open calls, and the front of an argument or of a name.
 use Rattle.std.proofs.Common.{◌≡◌, ◌<◌, ◌==◌, ℕ, suc, Bool, true, false, List, [], ◌∷◌, ◌++◌, length, refl, sym, ◌∙◌, ap, subst, arith, cond, append_assoc}
-use Rattle.std.specs.Prelude.{Result, Ok, Err, Option, Some, None, not, ◌&&◌}
+use Rattle.std.specs.Prelude.{Result, Ok, Err, not, ◌&&◌}
 use Rattle.std.proofs.lemmas.List.{append-nil, length-append}
 use Rattle.std.proofs.lemmas.Bool.{eqb-true}
 use Rattle.asl_json.specs.Data.{Data, null, boolean, number}
-use Rattle.asl_json.specs.Number.{IsNumeral, is_over}
+use Rattle.asl_json.specs.Number.{is_over}
 use Rattle.asl_json.specs.Grammar.{null_word, true_word, false_word}
-use Rattle.asl_json.specs.private.Machine.{part_behind}
-use Rattle.asl_json.specs.declared.number.Part.{Part}
-use Rattle.asl_json.specs.declared.number.Part.TheVariants.{Start}
-use Rattle.asl_json.proofs.Numerals.{part_is_numeral}
+use Rattle.asl_json.specs.private.Machine.{is_number_front, is_number}
+use Rattle.asl_json.proofs.Numerals.{numeral_decides}
 use Rattle.asl_path.specs.declared.step.Root.{Root}
 use Rattle.asl_path.specs.declared.step.Step.{Step}
-use Rattle.asl_path.specs.Grammar.{Each, Joined, IsPath}
+use Rattle.asl_json.specs.Parts.{Joined}
+use Rattle.asl_path.specs.Grammar.{Each, IsPath}
 use Rattle.asl_path.specs.private.Steps.{steps}
 use Rattle.asl_path.proofs.Fronts.{each_push}
 use Rattle.asl_path.proofs.Judging.{read_spells}
 use Rattle.asl_intrinsic.specs.Tree.{Argument, Frame, constant, quoted, path, call, Arguments, arguments}
-use Rattle.asl_intrinsic.specs.Grammar.{states_word, is_name_byte, is_space, AreSpaces, is_escaped, is_inside, is_escape, SpellsConstant, SpellsHead, Spaced, SpellsArgument, SpellsArguments, SpellsMore, SpellsCall}
+use Rattle.asl_intrinsic.specs.Grammar.{states_word, is_name_byte, is_space, AreSpaces, is_escaped, is_inside, is_escape, SpellsConstant, SpellsHead, SpellsArgument, SpellsCall}
+use Rattle.asl_intrinsic.specs.private.Lists.{SpellsArguments, SpellsMore}
+use Rattle.asl_json.specs.Parts.{Spaced}
 use Rattle.asl_intrinsic.specs.Fronts.{SpellsBefore, OpensCall, Opens}
-use Rattle.asl_intrinsic.specs.private.Steps.{Mode, prefix, naming, named, opening, wanting, word, chars, escape, figure, along, ended, Next, go, stop, ends_part, is_number_front, is_number, is_read, is_path_front, is_path, closes, in_prefix, in_named, in_naming, in_word, in_chars, in_escape, in_ended, in_figure, in_along, begins, in_opening, in_wanting, step_by, finish_by, onward, run_by}
+use Rattle.asl_intrinsic.specs.private.Steps.{Mode, prefix, naming, named, opening, wanting, word, chars, escape, figure, along, ended, Next, go, stop, is_read, is_path_front, is_path, closes, in_prefix, in_named, in_naming, in_word, in_chars, in_escape, in_ended, in_figure, in_along, begins, in_opening, in_wanting, step_by, finish_by, onward, run_by}
 
 -- ---- what stands behind the open calls
 
@@ -151,7 +152,7 @@ call_opens n st t h = record {
 }
 
 -- arguments before a comma, and one more
-before_push : (ts : List Argument) (a : Argument) (u v : List ℕ) → SpellsBefore ts u → Spaced (SpellsArgument a) v → SpellsBefore (ts ++ a ∷ []) (u ++ (v ++ 44 ∷ []))
+before_push : (ts : List Argument) (a : Argument) (u v : List ℕ) → SpellsBefore ts u → Spaced AreSpaces (SpellsArgument a) v → SpellsBefore (ts ++ a ∷ []) (u ++ (v ++ 44 ∷ []))
 before_push [] a u v h g = record { front = v; back = 44 ∷ []; parts = ap (λ (z : List ℕ). z ++ (v ++ 44 ∷ [])) h; front_is = g; back_is = record { tail = []; parts = refl; tail_is = refl } }
 before_push (b ∷ ts) a u v h g = record {
   front = h.front;
@@ -166,7 +167,7 @@ behind_comma [] a u h = record { tail = u; parts = refl; tail_is = h }
 behind_comma (b ∷ ts) a u h = record { tail = u; parts = refl; tail_is = h }
 
 -- the last argument, and the bracket
-before_last : (ts : List Argument) (a : Argument) (u v : List ℕ) → SpellsBefore ts u → Spaced (SpellsArgument a) v → SpellsArguments (arguments (ts ++ a ∷ [])) (u ++ (v ++ 41 ∷ []))
+before_last : (ts : List Argument) (a : Argument) (u v : List ℕ) → SpellsBefore ts u → Spaced AreSpaces (SpellsArgument a) v → SpellsArguments (arguments (ts ++ a ∷ [])) (u ++ (v ++ 41 ∷ []))
 before_last [] a u v h g = record { front = v; back = 41 ∷ []; parts = ap (λ (z : List ℕ). z ++ (v ++ 41 ∷ [])) h; front_is = g; back_is = refl }
 before_last (b ∷ ts) a u v h g = record {
   front = h.front;
@@ -191,7 +192,7 @@ call_empty n ts u h e =
     }
 
 -- an argument and the spaces round it
-round : (a : Argument) (spaces u : List ℕ) → AreSpaces spaces → Joined (SpellsArgument a) AreSpaces u → Spaced (SpellsArgument a) (spaces ++ u)
+round : (a : Argument) (spaces u : List ℕ) → AreSpaces spaces → Joined (SpellsArgument a) AreSpaces u → Spaced AreSpaces (SpellsArgument a) (spaces ++ u)
 round a spaces u s h = record { before = spaces; inner = h.front; behind = h.back; parts = ap (λ (z : List ℕ). spaces ++ z) h.parts; before_is = s; inner_is = h.front_is; behind_is = h.back_is }
 
 regrouped : (a b c d e : List ℕ) (x : ℕ) → a ≡ b ++ (c ++ d) → (a ++ e) ++ x ∷ [] ≡ b ++ (c ++ ((d ++ e) ++ x ∷ []))
@@ -341,14 +342,6 @@ unfolding in_escape
 escape_reaches s f st t c h =
     holds_cond (t ++ c ∷ []) (is_escaped c) _ _ (λ e. grown (escape s) (chars (s ++ 92 ∷ c ∷ [])) (f ∷ st) t c h (λ u g. (ap (λ (z : List ℕ). z ++ c ∷ []) g.0 ∙ ap (λ (z : List ℕ). 39 ∷ z) (append_assoc s (92 ∷ []) (c ∷ [])), inside_append s (92 ∷ c ∷ []) g.1 (two_inside c e)))) (λ _. tt)
 
-pub number_spelled : (s : List ℕ) → is_number s ≡ true → IsNumeral s
-unfolding is_number
-number_spelled s e = at (part_behind (Some Start) s) refl e
-  where
-    at : (o : Option Part) → part_behind (Some Start) s ≡ o → ends_part o ≡ true → IsNumeral s
-    at None p q = absurd cc
-    at (Some x) p q = part_is_numeral x s q p
-
 pub path_spelled : (s : List ℕ) → is_path s ≡ true → IsPath s
 unfolding is_path
 path_spelled s e = at (steps s) refl e
@@ -373,7 +366,7 @@ unfolding in_figure
 figure_reaches lim s f st t c h =
     holds_cond (t ++ c ∷ []) (is_number_front (s ++ c ∷ [])) _ _ (λ e. grown (figure s) (figure (s ++ c ∷ [])) (f ∷ st) t c h (λ u g. (ap (λ (z : List ℕ). z ++ c ∷ []) g.0, e))) (λ _.
     holds_cond (t ++ c ∷ []) (is_number s) _ _ (λ e.
-    holds_cond (t ++ c ∷ []) (lim && is_over s) _ _ (λ _. tt) (λ _. ended_reaches (constant (number s)) (f ∷ st) t c (turned (figure s) (ended (constant (number s))) (f ∷ st) t h (λ u g. bare (constant (number s)) f st u (g.0, number_spelled s e)))))
+    holds_cond (t ++ c ∷ []) (lim && is_over s) _ _ (λ _. tt) (λ _. ended_reaches (constant (number s)) (f ∷ st) t c (turned (figure s) (ended (constant (number s))) (f ∷ st) t h (λ u g. bare (constant (number s)) f st u (g.0, (numeral_decides s).0 e)))))
     (λ _. tt))
 
 along_reaches : (s : List ℕ) (f : Frame) (st : List Frame) (t : List ℕ) (c : ℕ) → Reached (along s) (f ∷ st) t → Holds (t ++ c ∷ []) (in_along s (f ∷ st) c)
@@ -419,21 +412,15 @@ pub step_reaches : (lim : Bool) (m : Mode) (st : List Frame) (t : List ℕ) (c :
 step_reaches lim (prefix ws) st t c h = prefix_reaches ws st t c h
 step_reaches lim (naming n) st t c h = naming_reaches n st t c h
 step_reaches lim (named n) st t c h = named_reaches n st t c h
-step_reaches lim opening [] t c h = absurd h.back_is
 step_reaches lim opening (f ∷ st) t c h = opening_reaches f st t c h
-step_reaches lim wanting [] t c h = absurd h.back_is
 step_reaches lim wanting (f ∷ st) t c h = wanting_reaches f st t c h
-step_reaches lim (word ws d) [] t c h = absurd h.back_is
 step_reaches lim (word ws d) (f ∷ st) t c h = word_reaches ws d f st t c h
-step_reaches lim (chars s) [] t c h = absurd h.back_is
 step_reaches lim (chars s) (f ∷ st) t c h = chars_reaches s f st t c h
-step_reaches lim (escape s) [] t c h = absurd h.back_is
 step_reaches lim (escape s) (f ∷ st) t c h = escape_reaches s f st t c h
-step_reaches lim (figure s) [] t c h = absurd h.back_is
 step_reaches lim (figure s) (f ∷ st) t c h = figure_reaches lim s f st t c h
-step_reaches lim (along s) [] t c h = absurd h.back_is
 step_reaches lim (along s) (f ∷ st) t c h = along_reaches s f st t c h
 step_reaches lim (ended a) st t c h = ended_reaches a st t c h
+step_reaches lim x y t c h = absurd h.back_is
 
 -- ---- what is heard is spelled
 
@@ -443,14 +430,6 @@ never_whole true false k a e = cc
 never_whole false c k a e = cc
 
 pub finish_spells : (lim : Bool) (m : Mode) (st : List Frame) (t : List ℕ) (a : Argument) → Reached m st t → finish_by lim m st ≡ Ok a → SpellsCall a t
-finish_spells lim (prefix ws) st t a h e = absurd cc
-finish_spells lim (naming n) st t a h e = absurd cc
-finish_spells lim (named n) st t a h e = absurd cc
-finish_spells lim opening st t a h e = absurd cc
-finish_spells lim wanting st t a h e = absurd cc
-finish_spells lim (word ws d) st t a h e = absurd cc
-finish_spells lim (chars s) st t a h e = absurd cc
-finish_spells lim (escape s) st t a h e = absurd cc
 finish_spells lim (figure s) [] t a h e = absurd h.back_is
 finish_spells lim (figure s) (f ∷ st) t a h e = absurd (never_whole (is_number s) (lim && is_over s) (length s) a e)
 finish_spells lim (along s) [] t a h e = absurd h.back_is
@@ -458,7 +437,7 @@ finish_spells lim (along s) (f ∷ st) t a h e = absurd (never_whole (is_path s)
 finish_spells lim (ended b) [] t a h e =
     let same : b ≡ a = cc in
     subst (λ (z : Argument). SpellsCall z t) same (subst (SpellsCall b) (sym (h.parts ∙ ap (λ (z : List ℕ). z ++ h.back) h.front_is)) h.back_is)
-finish_spells lim (ended b) (f ∷ st) t a h e = absurd cc
+finish_spells lim x y t a h e = absurd cc
 
 pub run_spells : (lim : Bool) (m : Mode) (st : List Frame) (t xs : List ℕ) (a : Argument) → Reached m st t → run_by lim m st xs ≡ Ok a → SpellsCall a (t ++ xs)
 run_spells lim m st t [] a h e = subst (SpellsCall a) (sym (append-nil t)) (finish_spells lim m st t a h e)

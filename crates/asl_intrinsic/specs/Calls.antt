@@ -39,9 +39,11 @@ abbrev mutual
   value_of (constant d) x c = Ok d
   value_of (quoted t) x c = Ok (text (meant t))
   value_of (path t) x c = found (part_at t (if is_context t then c else x))
-  value_of (call n ts) x c = and_then (values_of ts x c) (apply_named (function_named n) (first_written ts))
+  value_of (call n ts) x c =
+      and_then (values_of ts x c) (apply_named (function_named n) (first_written ts))
 
   -- from the left, as far as the first fault
   pub values_of : Arguments → Data → Data → Outcome (List Data)
   values_of none x c = Ok []
-  values_of (argument t ts) x c = and_then (value_of t x c) (λ d. and_then (values_of ts x c) (λ ds. Ok (d ∷ ds)))
+  values_of (argument t ts) x c =
+      and_then (value_of t x c) (λ d. and_then (values_of ts x c) (λ ds. Ok (d ∷ ds)))

@@ -27,9 +27,11 @@ abbrev pub misfit : List ℕ → ℕ → Option Function → Option CallFault
 misfit name k None = Some (Unknown name)
 misfit name k (Some f) = if takes f k then None else Some Arity
 
--- what is wrong with a call of this name and so many arguments itself, which stands in so many calls with itself
+-- what is wrong with a call of this name and so many arguments itself, which stands in so many
+-- calls with itself
 unfoldable pub own_fault : ℕ → List ℕ → ℕ → Option CallFault
-own_fault level name k = if nat_lt max_calls level then Some Depth else misfit name k (function_named name)
+own_fault level name k =
+    if nat_lt max_calls level then Some Depth else misfit name k (function_named name)
 
 -- the first fault of the calls, in the order of their names
 abbrev mutual
@@ -37,13 +39,15 @@ abbrev mutual
   first_fault level (constant d) = None
   first_fault level (quoted t) = None
   first_fault level (path t) = None
-  first_fault level (call name ts) = sooner (own_fault level name (count ts)) (first_faults (suc level) ts)
+  first_fault level (call name ts) =
+      sooner (own_fault level name (count ts)) (first_faults (suc level) ts)
 
   pub first_faults : ℕ → Arguments → Option CallFault
   first_faults level none = None
   first_faults level (argument a ts) = sooner (first_fault level a) (first_faults level ts)
 
--- a call of known functions, each with as many arguments as it takes, of which at most ten stand in one another, with numbers in the limits
+-- a call of known functions, each with as many arguments as it takes, of which at most ten stand in
+-- one another, with numbers in the limits
 pub record IsCall (t : List ℕ) : Type 0 where
   pub tree : Argument
   pub spelled : SpellsCall tree t
@@ -55,7 +59,8 @@ abbrev pub EndsAt : List ℕ → List ℕ → Type 0
 EndsAt front [] = IsSpelled front → ⊥
 EndsAt front (c ∷ rest) = IsPrefix (front ++ c ∷ []) → ⊥
 
--- the byte of this number, counted from 0, is the first one that can't go on; the end of the text counts as one
+-- the byte of this number, counted from 0, is the first one that can't go on; the end of the text
+-- counts as one
 pub record SyntaxAt (t : List ℕ) (at : ℕ) : Type 0 where
   pub front : List ℕ
   pub rest : List ℕ

@@ -1,14 +1,12 @@
 -- The fronts of calls: which calls stand open behind them.
 use Rattle.std.specs.Prelude.{◌≡◌, ℕ, List, [], ◌∷◌}
-use Rattle.asl_json.specs.Grammar.{Behind}
-use Rattle.asl_path.specs.Grammar.{Joined}
+use Rattle.asl_json.specs.Parts.{Joined, Spaced, FrontParts}
 use Rattle.asl_intrinsic.specs.Tree.{Argument, Frame}
-use Rattle.asl_intrinsic.specs.Grammar.{comma, AreSpaces, SpellsArgument, SpellsHead, Spaced}
+use Rattle.asl_intrinsic.specs.Grammar.{AreSpaces, SpellsArgument, SpellsHead}
 
 -- arguments, each with a comma behind it
 abbrev pub SpellsBefore : List Argument → List ℕ → Type 0
-SpellsBefore [] t = t ≡ []
-SpellsBefore (a ∷ ts) t = Joined (Spaced (SpellsArgument a)) (Behind comma (SpellsBefore ts)) t
+SpellsBefore = FrontParts (λ a. Spaced AreSpaces (SpellsArgument a))
 
 -- an open call up to where an argument may begin
 abbrev pub OpensCall : Frame → List ℕ → Type 0

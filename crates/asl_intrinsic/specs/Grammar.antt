@@ -1,10 +1,12 @@
--- Which texts spell which calls: by cases on the tree, over whole lists of bytes. Any name will do, and numbers have no limits here.
+-- Which texts spell which calls: by cases on the tree, over whole lists of bytes. Any name will do,
+-- and numbers have no limits here.
 -- (Amazon States Language, "Intrinsic Functions".)
-use Rattle.std.specs.Prelude.{◌≡◌, ◌<◌, ℕ, Bool, true, false, ◌||◌, ◌&&◌, not, ◌==◌, nat_le, List, [], ◌∷◌, ◌++◌, length, if◌then◌else◌}
+use Rattle.std.specs.Prelude.{◌≡◌, ◌<◌, ℕ, Bool, true, false, ◌||◌, ◌&&◌, not, ◌==◌, nat_le, List, [], ◌∷◌, ◌++◌, length, if◌then◌else◌, codes}
 use Rattle.asl_json.specs.Data.{Data, null, boolean, number, text, list, dict}
 use Rattle.asl_json.specs.Number.{is_over}
-use Rattle.asl_json.specs.Grammar.{Behind, Spells}
-use Rattle.asl_path.specs.Grammar.{Each, Joined, IsPath}
+use Rattle.asl_json.specs.Grammar.{Spells}
+use Rattle.asl_json.specs.Parts.{Joined, Spaced, Parts}
+use Rattle.asl_path.specs.Grammar.{Each, IsPath}
 use Rattle.asl_intrinsic.specs.Tree.{Argument, constant, quoted, path, call, Arguments, none, argument}
 
 abbrev pub apostrophe : ℕ
@@ -12,9 +14,6 @@ apostrophe = 39
 
 abbrev pub backslash : ℕ
 backslash = 92
-
-abbrev pub comma : ℕ
-comma = 44
 
 abbrev pub open_bracket : ℕ
 open_bracket = 40
@@ -24,11 +23,12 @@ close_bracket = 41
 
 -- `States.`
 abbrev pub states_word : List ℕ
-states_word = 83 ∷ 116 ∷ 97 ∷ 116 ∷ 101 ∷ 115 ∷ 46 ∷ []
+states_word = codes "States."
 
 -- a letter or a digit
 unfoldable pub is_name_byte : ℕ → Bool
-is_name_byte c = (nat_le 97 c && nat_le c 122) || (nat_le 65 c && nat_le c 90) || (nat_le 48 c && nat_le c 57)
+is_name_byte c =
+    (nat_le 97 c && nat_le c 122) || (nat_le 65 c && nat_le c 90) || (nat_le 48 c && nat_le c 57)
 
 -- no other space, and no line feed
 abbrev pub is_space : ℕ → Bool
@@ -41,11 +41,13 @@ AreSpaces t = Each is_space t
 unfoldable pub is_escaped : ℕ → Bool
 is_escaped c = (c == 39) || (c == 92) || (c == 123) || (c == 125)
 
--- what may stand between two apostrophes: a backslash with one of the bytes above, and any other byte but an apostrophe
+-- what may stand between two apostrophes: a backslash with one of the bytes above, and any other
+-- byte but an apostrophe
 abbrev mutual
   pub is_inside : List ℕ → Bool
   is_inside [] = true
-  is_inside (c ∷ cs) = if c == backslash then is_escape cs else not (c == apostrophe) && is_inside cs
+  is_inside (c ∷ cs) =
+      if c == backslash then is_escape cs else not (c == apostrophe) && is_inside cs
 
   pub is_escape : List ℕ → Bool
   is_escape [] = false
@@ -73,32 +75,18 @@ pub record SpellsHead (name t : List ℕ) : Type 0 where
   pub each : Each is_name_byte name
   pub spaces_are : AreSpaces spaces
 
--- what S says, and spaces round it or none
-pub record Spaced (S : List ℕ → Type 0) (t : List ℕ) : Type 0 where
-  pub before : List ℕ
-  pub inner : List ℕ
-  pub behind : List ℕ
-  pub parts : t ≡ before ++ (inner ++ behind)
-  pub before_is : AreSpaces before
-  pub inner_is : S inner
-  pub behind_is : AreSpaces behind
-
 abbrev mutual
   pub SpellsArgument : Argument → List ℕ → Type 0
   SpellsArgument (constant d) t = SpellsConstant d t
   SpellsArgument (quoted s) t = SpellsQuoted s t
   SpellsArgument (path p) t = (t ≡ p) × IsPath p
-  SpellsArgument (call name ts) t = Joined (SpellsHead name) (SpellsArguments ts) t
+  SpellsArgument (call name ts) t =
+      Joined (SpellsHead name) (Parts AreSpaces close_bracket (argument_parts ts)) t
 
-  -- the arguments of a call with its closing bracket
-  pub SpellsArguments : Arguments → List ℕ → Type 0
-  SpellsArguments none t = Joined AreSpaces (λ e. e ≡ close_bracket ∷ []) t
-  SpellsArguments (argument a ts) t = Joined (Spaced (SpellsArgument a)) (SpellsMore ts) t
-
-  -- those behind the first one
-  pub SpellsMore : Arguments → List ℕ → Type 0
-  SpellsMore none t = t ≡ close_bracket ∷ []
-  SpellsMore (argument a ts) t = Behind comma (Joined (Spaced (SpellsArgument a)) (SpellsMore ts)) t
+  -- the arguments of a call
+  pub argument_parts : Arguments → List (List ℕ → Type 0)
+  argument_parts none = []
+  argument_parts (argument a ts) = Spaced AreSpaces (SpellsArgument a) ∷ argument_parts ts
 
 -- the whole text is a call
 abbrev pub SpellsCall : Argument → List ℕ → Type 0

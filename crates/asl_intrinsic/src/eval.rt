@@ -9,7 +9,7 @@ ghost use Rattle.asl_functions.specs.Gives.{Gives};
 ghost use Rattle.asl_functions.specs.Seen.{seen, all_seen};
 ghost use Rattle.asl_intrinsic.specs.Tree.{arguments};
 ghost use Rattle.asl_intrinsic.specs.private.View.{tree_of};
-ghost use Rattle.asl_intrinsic.specs.Calls.{apply_named as spec_apply_named, first_written as spec_written, is_context, found, value_of, values_of};
+ghost use Rattle.asl_intrinsic.specs.Calls.{apply_named, first_written, is_context, found, value_of, values_of};
 
 use crate::call::{Argument, Arguments};
 use asl_functions::{EvalFault, Function, Value, apply, meaning};
@@ -24,14 +24,17 @@ fn apply_named(
     written: Option<&str>,
     values: &[Value<'_>],
 ) -> Result<Json, EvalFault>
-    ensures { Gives data_of (spec_apply_named (function_named (name_of function)) (option_map (λ t. t.now) written.entry) (all_seen values.now)) result }
+    ensures { Gives data_of
+        (apply_named (function_named (name_of function)) (option_map (λ t. t.now) written.entry)
+        (all_seen values.now)) result }
 {
     apply(alloc, function, written, values)
 }
 
 /// What a path starts from.
 fn root<'a>(path: &RefPath, input: &'a Json, context: &'a Json) -> &'a Json
-    ensures { data_of result.now ≡ (if is_context path.now then data_of context.now else data_of input.now) }
+    ensures { data_of result.now
+        ≡ (if is_context path.now then data_of context.now else data_of input.now) }
 {
     match path.root() {
         Root::Input => input,
@@ -41,7 +44,9 @@ fn root<'a>(path: &RefPath, input: &'a Json, context: &'a Json) -> &'a Json
 
 /// The part that a path names.
 fn part<'a>(path: &RefPath, input: &'a Json, context: &'a Json) -> Result<Value<'a>, EvalFault>
-    ensures { Gives seen (found (part_at path.now (if is_context path.now then data_of context.now else data_of input.now))) result }
+    ensures { Gives seen (found
+        (part_at path.now (if is_context path.now then data_of context.now else data_of input.now)))
+        result }
 {
     match path.get(root(path, input, context)) {
         Some(part) => Ok(Value::Lent(part)),
@@ -59,7 +64,7 @@ fn quoted<'a>(alloc: Global, written: &Txt) -> Result<Value<'a>, EvalFault>
 impl Arguments {
     /// The first argument as it is written between its apostrophes, where it is such a text.
     fn first_written(&self) -> Option<&str>
-        ensures { option_map (λ t. t.now) result ≡ spec_written (arguments self.now) }
+        ensures { option_map (λ t. t.now) result ≡ first_written (arguments self.now) }
     {
         match self.list.first() {
             Some(Argument::Quoted(written)) => Some(written.as_str()),
@@ -75,7 +80,8 @@ impl Arguments {
         input: &'a Json,
         context: &'a Json,
     ) -> Result<Vec<Value<'a>>, EvalFault>
-        ensures { Gives (λ v. all_seen v.items) (values_of (arguments self.now) (data_of input.now) (data_of context.now)) result }
+        ensures { Gives (λ v. all_seen v.items)
+            (values_of (arguments self.now) (data_of input.now) (data_of context.now)) result }
     {
         let mut values = Vec::new(alloc);
         for argument in &self.list {
@@ -94,7 +100,8 @@ impl Argument {
         input: &'a Json,
         context: &'a Json,
     ) -> Result<Value<'a>, EvalFault>
-        ensures { Gives seen (value_of (tree_of self.now) (data_of input.now) (data_of context.now)) result }
+        ensures { Gives seen (value_of (tree_of self.now) (data_of input.now) (data_of context.now))
+            result }
     {
         match self {
             Argument::Constant(value) => Ok(Value::Lent(value)),

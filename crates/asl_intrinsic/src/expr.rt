@@ -3,6 +3,9 @@ ghost use Rattle.std.specs.Prelude.{◌≡◌, IfOk, IfErr};
 ghost use Rattle.asl_intrinsic.specs.private.Steps.{heard};
 ghost use Rattle.asl_json.specs.View.{data_of};
 ghost use Rattle.asl_functions.specs.Gives.{Gives};
+ghost use Rattle.asl_intrinsic.specs.Tree.{Argument as Tree};
+ghost use Rattle.asl_intrinsic.specs.Grammar.{SpellsCall, Fits};
+ghost use Rattle.asl_intrinsic.specs.Calls.{value_of};
 ghost use Rattle.asl_intrinsic.specs.Values.{ev};
 ghost use Rattle.asl_intrinsic.specs.private.Leads.{Fails};
 ghost use Rattle.asl_intrinsic.specs.private.Keeps.{Tells};
@@ -151,6 +154,17 @@ impl Expr {
     /// Evaluates the call on an input and a context: the arguments from the left, then the function. A path that begins
     /// with `$$` leads into the context. The first fault counts.
     pub fn eval(&self, alloc: Global, input: &Json, context: &Json) -> Result<Json, EvalFault>
+        // By the tree that the call spells.
+        ensures tree { (a : Tree) → SpellsCall a self.now → Fits a
+            → Gives data_of (value_of a (data_of input.now) (data_of context.now)) result }
+        // The same by a function of the text.
+        ensures value { Gives data_of (ev self.now (data_of input.now) (data_of context.now))
+            result }
+    {
+        self.evaluated(alloc, input, context)
+    }
+
+    fn evaluated(&self, alloc: Global, input: &Json, context: &Json) -> Result<Json, EvalFault>
         ensures { Gives data_of (ev self.now (data_of input.now) (data_of context.now)) result }
     {
         self.call.eval(alloc, input, context)?.into_json(alloc)

@@ -56,7 +56,9 @@ impl<'a> Open<'a> {
 
     /// The call with one argument more.
     pub(crate) fn with(self, argument: Result<Argument, Wrong<'a>>) -> Result<Open<'a>, Halt>
-        ensures keeps { (level : ℕ) (f : Frame) (a : Tree) → Keeps level self.entry f → KeepsOne (suc level) argument.entry a → IfOk result (λ o. Keeps level o (f.0, f.1 ++ a ∷ [])) }
+        ensures keeps { (level : ℕ) (f : Frame) (a : Tree) → Keeps level self.entry f
+            → KeepsOne (suc level) argument.entry a
+            → IfOk result (λ o. Keeps level o (f.0, f.1 ++ a ∷ [])) }
         ensures memory { IfErr result (λ e. e ≡ Halt.Memory) }
     {
         let Open {
@@ -95,7 +97,8 @@ impl<'a> Open<'a> {
 
     /// The call as an argument, which stands in so many calls with itself.
     pub(crate) fn closed(self, level: usize) -> Result<Argument, Wrong<'a>>
-        ensures { (f : Frame) → Keeps level self.entry f → KeepsOne level result (call f.0 (arguments f.1)) }
+        ensures { (f : Frame) → Keeps level self.entry f
+            → KeepsOne level result (call f.0 (arguments f.1)) }
     {
         let Open {
             name,

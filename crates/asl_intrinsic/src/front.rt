@@ -5,7 +5,7 @@ ghost use Rattle.asl_path.specs.private.Leads.{NotFirst};
 ghost use Rattle.asl_intrinsic.specs.private.Steps.{prefix, opening, run};
 ghost use Rattle.asl_intrinsic.specs.Tree.{Frame};
 ghost use Rattle.asl_intrinsic.specs.Grammar.{is_name_byte as name_byte, states_word};
-ghost use Rattle.asl_intrinsic.specs.private.Leads.{Leads, Skips, is_ascii, after_word as spec_after_word};
+ghost use Rattle.asl_intrinsic.specs.private.Leads.{Leads, Skips, is_ascii, after_word};
 
 use std::alloc::{AllocError, AllocFailed};
 
@@ -74,7 +74,7 @@ pub(crate) fn skip_spaces(text: &str) -> &str
 /// What follows a word that stands in front.
 pub(crate) fn after_word<'a>(text: &'a str, word: &[u8]) -> Result<&'a str, Halt>
     requires { Each is_ascii word.now }
-    ensures run { Leads (λ rest. Ok rest.now) result (spec_after_word word.now text.now) }
+    ensures run { Leads (λ rest. Ok rest.now) result (after_word word.now text.now) }
     ensures within { IfOk result (λ rest. length rest.now ≤ length text.now) }
 {
     let mut rest = text;
@@ -112,7 +112,9 @@ fn name_len(bytes: &[u8]) -> usize
 
 /// The name of a call, and what follows its opening bracket.
 pub(crate) fn head(text: &str) -> Result<(&str, &str), Halt>
-    ensures run { (st : List Frame) → Leads (λ x. run opening ((x.0.now, []) ∷ st) x.1.now) result (run (prefix states_word) st text.now) }
+    ensures run { (st : List Frame)
+        → Leads (λ x. run opening ((x.0.now, []) ∷ st) x.1.now) result
+        (run (prefix states_word) st text.now) }
     ensures shorter { IfOk result (λ x. length x.1.now < length text.now) }
 {
     let rest = after_word(text, b"States.")?;

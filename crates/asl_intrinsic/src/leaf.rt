@@ -1,6 +1,6 @@
 // Reading an argument that is no call.
 ghost use Rattle.std.specs.Prelude.{◌≡◌, ◌<◌, ◌≤◌, ◌∷◌, [], List, Bool, true, false, length, take, drop, slice_index, slice_get, nat_eq, IfOk, IfErr, Some, None, Ok, ℕ};
-ghost use Rattle.asl_json.specs.Data.{null as spec_null, boolean};
+ghost use Rattle.asl_json.specs.Data.{null, boolean};
 ghost use Rattle.asl_json.specs.Grammar.{null_word};
 ghost use Rattle.asl_path.specs.Grammar.{Each};
 ghost use Rattle.asl_intrinsic.specs.private.Steps.{chars, word, figure, along, ended, run};
@@ -13,7 +13,7 @@ ghost use Rattle.asl_intrinsic.specs.declared.front.Halt.{Halt};
 
 use crate::call::Argument;
 use crate::front::{Halt, after_byte, after_word, stuck};
-use asl_json::{Dec, Json, Txt, longest_number};
+use asl_json::{Dec, Json, Txt, number_front};
 use asl_path::{PathFault, RefPath};
 use std::alloc::Global;
 
@@ -53,7 +53,8 @@ fn quoted_len(bytes: &[u8]) -> Result<usize, Halt>
 
 /// A text behind its opening apostrophe, and what follows the closing one.
 fn quoted(alloc: Global, text: &str) -> Result<(Argument, &str), Halt>
-    ensures run { (st : List Frame) → Leads (λ x. run (ended (tree_of x.0)) st x.1.now) result (run (chars []) st text.now) }
+    ensures run { (st : List Frame)
+        → Leads (λ x. run (ended (tree_of x.0)) st x.1.now) result (run (chars []) st text.now) }
     ensures within { IfOk result (λ x. length x.1.now ≤ length text.now) }
     ensures sound { IfOk result (λ x. (level : ℕ) → first_fault level (tree_of x.0) ≡ None) }
 {
@@ -65,12 +66,13 @@ fn quoted(alloc: Global, text: &str) -> Result<(Argument, &str), Halt>
 
 /// The longest number in front, and what follows it.
 fn number(alloc: Global, text: &str) -> Result<(Argument, &str), Halt>
-    ensures run { (st : List Frame) → Leads (λ x. run (ended (tree_of x.0)) st x.1.now) result (run (figure []) st text.now) }
+    ensures run { (st : List Frame)
+        → Leads (λ x. run (ended (tree_of x.0)) st x.1.now) result (run (figure []) st text.now) }
     ensures within { IfOk result (λ x. length x.1.now ≤ length text.now) }
     ensures sound { IfOk result (λ x. (level : ℕ) → first_fault level (tree_of x.0) ≡ None) }
 {
-    let (end, part) = longest_number(text.as_bytes());
-    if !part.may_end() {
+    let (end, whole) = number_front(text.as_bytes());
+    if !whole {
         return Err(Halt::At(text.len() - end));
     }
     let (spelled, rest) = text.split_at(end);
@@ -111,7 +113,8 @@ fn is_stray(text: &str, at: usize) -> bool
 
 /// The longest path in front, and what follows it.
 fn path(alloc: Global, text: &str) -> Result<(Argument, &str), Halt>
-    ensures run { (st : List Frame) → Leads (λ x. run (ended (tree_of x.0)) st x.1.now) result (run (along []) st text.now) }
+    ensures run { (st : List Frame)
+        → Leads (λ x. run (ended (tree_of x.0)) st x.1.now) result (run (along []) st text.now) }
     ensures within { IfOk result (λ x. length x.1.now ≤ length text.now) }
     ensures sound { IfOk result (λ x. (level : ℕ) → first_fault level (tree_of x.0) ≡ None) }
 {
@@ -129,7 +132,9 @@ fn path(alloc: Global, text: &str) -> Result<(Argument, &str), Halt>
 
 /// `null`, and what follows it.
 fn null(text: &str) -> Result<(Argument, &str), Halt>
-    ensures run { (st : List Frame) → Leads (λ x. run (ended (tree_of x.0)) st x.1.now) result (run (word null_word spec_null) st text.now) }
+    ensures run { (st : List Frame)
+        → Leads (λ x. run (ended (tree_of x.0)) st x.1.now) result
+        (run (word null_word null) st text.now) }
     ensures within { IfOk result (λ x. length x.1.now ≤ length text.now) }
     ensures sound { IfOk result (λ x. (level : ℕ) → first_fault level (tree_of x.0) ≡ None) }
 {
@@ -141,7 +146,9 @@ fn null(text: &str) -> Result<(Argument, &str), Halt>
 fn truth<'a>(text: &'a str, letters: &[u8], value: bool) -> Result<(Argument, &'a str), Halt>
     requires some { 0 < length letters.now }
     requires ascii { Each is_ascii letters.now }
-    ensures run { (st : List Frame) → Leads (λ x. run (ended (tree_of x.0)) st x.1.now) result (run (word letters.now (boolean value)) st text.now) }
+    ensures run { (st : List Frame)
+        → Leads (λ x. run (ended (tree_of x.0)) st x.1.now) result
+        (run (word letters.now (boolean value)) st text.now) }
     ensures within { IfOk result (λ x. length x.1.now ≤ length text.now) }
     ensures sound { IfOk result (λ x. (level : ℕ) → first_fault level (tree_of x.0) ≡ None) }
 {
@@ -160,7 +167,8 @@ pub(crate) fn begins_with(text: &str, byte: u8) -> bool
 /// An argument that is no call, and what follows it.
 pub(crate) fn leaf(alloc: Global, text: &str) -> Result<(Argument, &str), Halt>
     requires { first_is 83 text.now ≡ false }
-    ensures run { (st : List Frame) → Leads (λ x. run (ended (tree_of x.0)) st x.1.now) result (begun st text.now) }
+    ensures run { (st : List Frame)
+        → Leads (λ x. run (ended (tree_of x.0)) st x.1.now) result (begun st text.now) }
     ensures within { IfOk result (λ x. length x.1.now ≤ length text.now) }
     ensures sound { IfOk result (λ x. (level : ℕ) → first_fault level (tree_of x.0) ≡ None) }
 {

@@ -41,7 +41,8 @@ fn opened<'a>(
     name: &'a str,
     rest: &'a str,
 ) -> Result<Reader<'a>, Halt>
-    ensures hears { (o : Result Tree ℕ) (st : List Frame) → KeepsAll (reverse calls.entry.items) st → o ≡ run opening ((name.now, []) ∷ st) rest.now → IfOk result (Hears o) }
+    ensures hears { (o : Result Tree ℕ) (st : List Frame) → KeepsAll (reverse calls.entry.items) st
+        → o ≡ run opening ((name.now, []) ∷ st) rest.now → IfOk result (Hears o) }
     ensures memory { IfErr result (λ e. e ≡ Halt.Memory) }
     ensures rest { IfOk result (λ r. waits r ≤ 2 * length rest.now + 1) }
 {
@@ -57,7 +58,9 @@ fn opened<'a>(
 /// Ends the innermost open call.
 fn close<'a>(calls: Vec<Open<'a>>, rest: &'a str) -> Reader<'a>
     requires { 0 < length calls.items }
-    ensures hears { (o : Result Tree ℕ) (f : Frame) (st : List Frame) → KeepsAll (reverse calls.entry.items) (f ∷ st) → o ≡ run (ended (call f.0 (arguments f.1))) st rest.now → Hears o result }
+    ensures hears { (o : Result Tree ℕ) (f : Frame) (st : List Frame)
+        → KeepsAll (reverse calls.entry.items) (f ∷ st)
+        → o ≡ run (ended (call f.0 (arguments f.1))) st rest.now → Hears o result }
     ensures rest { waits result ≤ 2 * length rest.now }
 {
     let mut calls = calls;
@@ -76,7 +79,10 @@ fn close<'a>(calls: Vec<Open<'a>>, rest: &'a str) -> Reader<'a>
 /// The open calls with an argument more of the innermost one.
 fn added<'a>(calls: Vec<Open<'a>>, kept: Result<Argument, Wrong<'a>>) -> Result<Vec<Open<'a>>, Halt>
     requires { 0 < length calls.items }
-    ensures keeps { (f : Frame) (st : List Frame) (a : Tree) → KeepsAll (reverse calls.entry.items) (f ∷ st) → KeepsOne (suc (suc (length st))) kept.entry a → IfOk result (λ cs. KeepsAll (reverse cs.items) ((f.0, f.1 ++ a ∷ []) ∷ st)) }
+    ensures keeps { (f : Frame) (st : List Frame) (a : Tree)
+        → KeepsAll (reverse calls.entry.items) (f ∷ st)
+        → KeepsOne (suc (suc (length st))) kept.entry a
+        → IfOk result (λ cs. KeepsAll (reverse cs.items) ((f.0, f.1 ++ a ∷ []) ∷ st)) }
     ensures some { IfOk result (λ cs. 0 < length cs.items) }
     ensures memory { IfErr result (λ e. e ≡ Halt.Memory) }
 {
@@ -91,7 +97,8 @@ fn added<'a>(calls: Vec<Open<'a>>, kept: Result<Argument, Wrong<'a>>) -> Result<
 
 /// Reads an argument, or the head of one that is a call.
 fn argument<'a>(alloc: Global, calls: Vec<Open<'a>>, rest: &'a str) -> Result<Reader<'a>, Halt>
-    ensures hears { (o : Result Tree ℕ) (st : List Frame) → KeepsAll (reverse calls.entry.items) st → o ≡ begun st rest.now → MatchResult result (Hears o) (λ e. Fails e o) }
+    ensures hears { (o : Result Tree ℕ) (st : List Frame) → KeepsAll (reverse calls.entry.items) st
+        → o ≡ begun st rest.now → MatchResult result (Hears o) (λ e. Fails e o) }
     ensures rest { IfOk result (λ r. waits r ≤ 2 * length rest.now) }
 {
     if begins_with(rest, b'S') {
@@ -113,7 +120,10 @@ fn behind<'a>(
     rest: &'a str,
 ) -> Result<Reader<'a>, Halt>
     requires { 0 < length calls.items }
-    ensures hears { (o : Result Tree ℕ) (f : Frame) (st : List Frame) (a : Tree) → KeepsAll (reverse calls.entry.items) (f ∷ st) → KeepsOne (suc (suc (length st))) kept.entry a → NotFirst is_space rest.now → o ≡ run (ended a) (f ∷ st) rest.now → MatchResult result (Hears o) (λ e. Fails e o) }
+    ensures hears { (o : Result Tree ℕ) (f : Frame) (st : List Frame) (a : Tree)
+        → KeepsAll (reverse calls.entry.items) (f ∷ st)
+        → KeepsOne (suc (suc (length st))) kept.entry a → NotFirst is_space rest.now
+        → o ≡ run (ended a) (f ∷ st) rest.now → MatchResult result (Hears o) (λ e. Fails e o) }
     ensures rest { IfOk result (λ r. waits r < 2 * length rest.now) }
 {
     let calls = added(calls, kept)?;
@@ -133,7 +143,8 @@ fn behind<'a>(
 /// Reads on by an argument, the head of a call, a comma or a closing bracket.
 fn turn(alloc: Global, reader: Reader) -> Result<Reader, Halt>
     requires { 0 < length reader.calls.items }
-    ensures hears { (o : Result Tree ℕ) → Hears o reader.entry → MatchResult result (Hears o) (λ e. Fails e o) }
+    ensures hears { (o : Result Tree ℕ) → Hears o reader.entry
+        → MatchResult result (Hears o) (λ e. Fails e o) }
     ensures shorter { IfOk result (λ r. waits r < waits reader.entry) }
 {
     let Reader { calls, place, rest } = reader;

@@ -3,7 +3,8 @@ use Rattle.std.proofs.Common.{◌≡◌, ℕ, false, List, [], ◌∷◌, ◌++�
 use Rattle.std.proofs.lemmas.List.{append-nil}
 use Rattle.asl_json.specs.Data.{Data}
 use Rattle.asl_json.specs.Distinct.{Members}
-use Rattle.asl_json.specs.Grammar.{comma, colon, open_bracket, open_brace, Joined, Spells}
+use Rattle.asl_json.specs.Grammar.{colon, open_bracket, open_brace, Spells}
+use Rattle.asl_json.specs.Parts.{comma, Joined}
 use Rattle.asl_json.specs.private.Machine.{Mode, value, after, first, key, Next, go, stop, Outcome, reach}
 use Rattle.asl_json.specs.Open.{Frame, in_list, in_dict, SpellsFrontItems, SpellsFront, IsOpen, AwaitsKey}
 use Rattle.asl_json.proofs.Passing.{StopsFigure, AsksKey, first_asks, key_asks, spaces_pass, padded_pass, next_item_pass, member_pass, comma_pass, comma_stops, bracket_pass, brace_pass, name_pass, value_pass}

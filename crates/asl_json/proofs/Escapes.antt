@@ -19,18 +19,15 @@ breaks_along (stops.Fault f) r t same b = same ∙ b
 
 no_hex_step : (q : Within) (s : List ℕ) (c : ℕ) → WantsHex q → is_hex c ≡ false → in_text q s c ≡ breaks
 unfolding in_text
-no_hex_step bare s c w e = absurd w
-no_hex_step slash s c w e = absurd w
 no_hex_step unit_0 s c w e = rw e refl
 no_hex_step (unit_1 a) s c w e = rw e refl
 no_hex_step (unit_2 a b) s c w e = rw e refl
 no_hex_step (unit_3 a b d) s c w e = rw e refl
-no_hex_step (half q) s c w e = absurd w
-no_hex_step (half_slash q) s c w e = absurd w
 no_hex_step (low_0 q) s c w e = rw e refl
 no_hex_step (low_1 q a) s c w e = rw e refl
 no_hex_step (low_2 q a b) s c w e = rw e refl
 no_hex_step (low_3 q a b d) s c w e = rw e refl
+no_hex_step x s c w e = absurd w
 
 pub text_stops : (q : Within) (s : List ℕ) (c : ℕ) (rest : List ℕ) → in_text q s c ≡ breaks → text_run q s (c ∷ rest) ≡ told kinds.Syntax (length (c ∷ rest))
 text_stops q s c rest e = run_step q s c rest breaks e

@@ -2,7 +2,8 @@
 use Rattle.std.proofs.Common.{◌≡◌, ℕ, suc, ◌+◌, ◌≤◌, Bool, true, false, cond, nat_le, ◌&&◌, ◌==◌, List, [], ◌∷◌, ◌++◌, length, Option, Some, None, Result, Ok, Err, refl, sym, ap, subst, ◌∙◌, append_assoc, arith}
 use Rattle.std.proofs.lemmas.List.{append-nil, length-append}
 use Rattle.asl_json.specs.Data.{Data, null, boolean, number, text, list, dict, Chain, no_items, item, chain, Pairs, no_members, member, pairs}
-use Rattle.asl_json.specs.Grammar.{comma, colon, open_bracket, close_bracket, open_brace, close_brace, null_word, is_space, Joined, Spells, IsText, IsPrefix}
+use Rattle.asl_json.specs.Grammar.{colon, open_bracket, close_bracket, open_brace, close_brace, null_word, is_space, Spells, IsText, IsPrefix}
+use Rattle.asl_json.specs.Parts.{comma, Joined}
 use Rattle.asl_json.specs.Text.{quote, SpellsText, lone_spelled}
 use Rattle.asl_json.specs.private.Chars.{Within, Inside, goes, ends, breaks, lone, in_text}
 use Rattle.std.proofs.lemmas.Bool.{and_parts}

@@ -2,7 +2,8 @@
 use Rattle.std.proofs.Common.{◌≡◌, ℕ, suc, Bool, true, false, cond, nat_le, ◌==◌, List, [], ◌∷◌, ◌++◌, length, Option, Some, None, Result, Ok, refl, subst, append_assoc}
 use Rattle.std.proofs.lemmas.List.{append-nil}
 use Rattle.asl_json.specs.Data.{Data, number, chain, pairs}
-use Rattle.asl_json.specs.Grammar.{comma, colon, open_bracket, close_bracket, open_brace, close_brace, is_space}
+use Rattle.asl_json.specs.Grammar.{colon, open_bracket, close_bracket, open_brace, close_brace, is_space}
+use Rattle.asl_json.specs.Parts.{comma}
 use Rattle.asl_json.specs.Text.{quote}
 use Rattle.asl_json.specs.private.Chars.{Inside, goes, ends, breaks, lone, in_text}
 use Rattle.asl_json.specs.Number.{is_over}
@@ -134,15 +135,9 @@ figure_kept true s v st e = number_kept s v st e
 figure_kept false s v st e = absurd cc
 
 finish_kept : (m : Mode) (st : List Frame) (v : Data) → Kept m st → finish true m st ≡ done v → Allowed true 0 v
-finish_kept value st v h e = absurd cc
-finish_kept (word ws d) st v h e = absurd cc
-finish_kept (chars q s) st v h e = absurd cc
 finish_kept (figure p s) st v h e = figure_kept (may_end p) s v st e
 finish_kept (after d) st v h e = ended_kept d v st h.1 e
-finish_kept first st v h e = absurd cc
-finish_kept (key ms) st v h e = absurd cc
-finish_kept (key_chars ms n q s) st v h e = absurd cc
-finish_kept (behind_key ms k) st v h e = absurd cc
+finish_kept x st v h e = absurd cc
 
 next_kept : (f : Mode → List Frame → Result Data Fault) (left : ℕ) (n : Next) (v : Data) → KeptNext n → ((m : Mode) (st : List Frame) → Kept m st → f m st ≡ done v → Allowed true 0 v) → onward (judgement true) f left n ≡ done v → Allowed true 0 v
 next_kept f left (go m st) v h later e = later m st h e

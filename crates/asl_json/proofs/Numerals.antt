@@ -1,8 +1,11 @@
 -- The grammar of numbers, and the parts through which the machine goes over them.
 use Rattle.std.proofs.Common.{◌≡◌, ℕ, Bool, true, false, cond, ◌==◌, List, [], ◌∷◌, ◌++◌, Option, Some, None, refl, sym, ap, subst, ◌∙◌, append_assoc, arith, ◌⊎◌, inl, inr}
 use Rattle.std.proofs.lemmas.Bool.{eqb-true}
-use Rattle.asl_json.specs.Number.{is_digit, is_point, is_mark, is_sign, AreDigits, IsDigits, unsigned, IsInt, IsFrac, IsExp, IsUnsigned, IsNumeral}
-use Rattle.asl_json.specs.private.Machine.{leading, marked, pointed, next_part, part_behind, takes_digits, may_end}
+use Rattle.std.proofs.lemmas.Bool.Decides.{Decides-at}
+use Rattle.std.proofs.lemmas.List.{append-nil}
+use Rattle.std.specs.Bool.{Decides}
+use Rattle.asl_json.specs.Number.{is_digit, is_point, is_mark, is_sign, AreDigits, IsDigits, unsigned, IsInt, IsFrac, IsExp, IsUnsigned, IsNumeral, IsNumeralFront}
+use Rattle.asl_json.specs.private.Machine.{leading, marked, pointed, next_part, part_behind, takes_digits, may_end, is_part, ends_part, is_number_front, is_number}
 use Rattle.asl_json.specs.Open.{EndsNumber}
 use Rattle.asl_json.specs.declared.number.Part.{Part}
 use Rattle.asl_json.specs.declared.number.Part.TheVariants.{Start, Minus, Nought, Whole, Point, Fraction, Mark, Sign, Exponent}
@@ -13,7 +16,7 @@ pub part_none : (s : List ℕ) → part_behind None s ≡ None
 part_none [] = refl
 part_none (c ∷ s) = refl
 
-pub part_append : (o : Option Part) (s t : List ℕ) → part_behind o (s ++ t) ≡ part_behind (part_behind o s) t
+part_append : (o : Option Part) (s t : List ℕ) → part_behind o (s ++ t) ≡ part_behind (part_behind o s) t
 part_append o [] t = refl
 part_append None (c ∷ s) t = sym (part_none t)
 part_append (Some p) (c ∷ s) t = part_append (next_part p c) s t
@@ -22,20 +25,15 @@ part_append (Some p) (c ∷ s) t = part_append (next_part p c) s t
 abbrev pub IsPart : Part → List ℕ → Type 0
 IsPart p s = part_behind (Some Start) s ≡ Some p
 
-pub part_onto : (p : Part) (s t : List ℕ) → IsPart p s → part_behind (Some Start) (s ++ t) ≡ part_behind (Some p) t
+part_onto : (p : Part) (s t : List ℕ) → IsPart p s → part_behind (Some Start) (s ++ t) ≡ part_behind (Some p) t
 part_onto p s t h = part_append (Some Start) s t ∙ ap (λ (o : Option Part). part_behind o t) h
 
 pub part_stays : (p : Part) (c : ℕ) → takes_digits p ≡ true → is_digit c ≡ true → next_part p c ≡ Some p
 unfolding next_part
-part_stays Start c t e = absurd cc
-part_stays Minus c t e = absurd cc
-part_stays Nought c t e = absurd cc
 part_stays Whole c t e = rw e refl
-part_stays Point c t e = absurd cc
 part_stays Fraction c t e = rw e refl
-part_stays Mark c t e = absurd cc
-part_stays Sign c t e = absurd cc
 part_stays Exponent c t e = rw e refl
+part_stays x c t e = absurd cc
 
 pub part_push : (p q : Part) (s : List ℕ) (c : ℕ) → next_part p c ≡ Some q → IsPart p s → IsPart q (s ++ c ∷ [])
 part_push p q s c e h = part_onto p s (c ∷ []) h ∙ e
@@ -216,15 +214,11 @@ Follows Sign s = IsDigits s
 Follows Exponent s = AreDigits s
 
 nothing_follows : (p : Part) → may_end p ≡ true → Follows p []
-nothing_follows Start e = absurd cc
-nothing_follows Minus e = absurd cc
 nothing_follows Nought e = record { int = []; frac = []; exp = []; parts = refl; int_is = refl; frac_is = tt; exp_is = tt }
 nothing_follows Whole e = record { int = []; frac = []; exp = []; parts = refl; int_is = tt; frac_is = tt; exp_is = tt }
-nothing_follows Point e = absurd cc
 nothing_follows Fraction e = record { int = []; frac = []; exp = []; parts = refl; int_is = refl; frac_is = tt; exp_is = tt }
-nothing_follows Mark e = absurd cc
-nothing_follows Sign e = absurd cc
 nothing_follows Exponent e = tt
+nothing_follows x e = absurd cc
 
 -- which way a test went
 record Chosen (b : Bool) (x y : Option Part) (q : Part) : Type 0 where
@@ -370,7 +364,7 @@ ending Mark = 48 ∷ []
 ending Sign = 48 ∷ []
 ending Exponent = []
 
-pub ending_accepted : (p : Part) → Accepts p (ending p)
+ending_accepted : (p : Part) → Accepts p (ending p)
 unfolding next_part leading is_digit
 ending_accepted Start = record { to = Nought; leads = refl; ends = refl }
 ending_accepted Minus = record { to = Nought; leads = refl; ends = refl }
@@ -394,15 +388,77 @@ part_longest p s c cs h stops more w =
     let none = sym (part_onto p s (c ∷ more) h ∙ ap (λ (o : Option Part). part_behind o more) stops ∙ part_none more) ∙ a.leads in
     cc
 
--- and the longest one doesn't go on
+-- ---- the fronts of numerals
+
+pub numeral_front : (s : List ℕ) → IsNumeral s → IsNumeralFront s
+numeral_front s h = record { more = []; is_numeral = subst IsNumeral (sym (append-nil s)) h }
+
+pub shorter_numeral_front : (s t : List ℕ) → IsNumeralFront (s ++ t) → IsNumeralFront s
+shorter_numeral_front s t h = record { more = t ++ h.more; is_numeral = subst IsNumeral (append_assoc s t h.more) h.is_numeral }
+
+pub part_front : (p : Part) (s : List ℕ) → IsPart p s → IsNumeralFront s
+part_front p s h = record { more = ending p; is_numeral = part_goes_on p s h }
+
+-- what stands before more of a number is so much of it
+pub part_before : (p : Part) (s t : List ℕ) → IsPart p (s ++ t) → (q : Part) × IsPart q s
+part_before p s t h = told (part_behind (Some Start) s) refl
+  where
+    told : (o : Option Part) → part_behind (Some Start) s ≡ o → (q : Part) × IsPart q s
+    told (Some q) e = (q, e)
+    told None e = absurd (let none = sym (part_append (Some Start) s t ∙ ap (λ (o : Option Part). part_behind o t) e ∙ part_none t) ∙ h in cc)
+
+-- no number goes on over a byte exactly where none begins with that byte too
+pub dead_ends : (s : List ℕ) (c : ℕ) (cs : List ℕ) → (IsNumeralFront (s ++ c ∷ []) → ⊥) → EndsNumber s (c ∷ cs)
+dead_ends s c cs dead = λ more n. dead (record { more = more; is_numeral = subst IsNumeral (sym (append_assoc s (c ∷ []) more)) n })
+
+pub ends_dead : (s : List ℕ) (c : ℕ) (cs : List ℕ) → EndsNumber s (c ∷ cs) → IsNumeralFront (s ++ c ∷ []) → ⊥
+ends_dead s c cs longest f = longest f.more (subst IsNumeral (append_assoc s (c ∷ []) f.more) f.is_numeral)
+
+pub stops_dead : (p : Part) (s : List ℕ) (c : ℕ) → IsPart p s → next_part p c ≡ None → IsNumeralFront (s ++ c ∷ []) → ⊥
+stops_dead p s c h stops = ends_dead s c [] (part_longest p s c [] h stops)
+
+-- the longest number doesn't go on over the next byte
 pub longest_stops : (p : Part) (s : List ℕ) (c : ℕ) (cs : List ℕ) → IsPart p s → EndsNumber s (c ∷ cs) → next_part p c ≡ None
 longest_stops p s c cs h longest = told (next_part p c) refl
   where
     told : (o : Option Part) → next_part p c ≡ o → o ≡ None
     told None e = refl
-    told (Some q) e =
-        let grown = part_goes_on q (s ++ c ∷ []) (part_push p q s c e h) in
-        absurd (longest (ending q) (subst IsNumeral (append_assoc s (c ∷ []) (ending q)) grown))
+    told (Some q) e = absurd (ends_dead s c cs longest (part_front q (s ++ c ∷ []) (part_push p q s c e h)))
+
+-- ---- the tests of bytes
+
+pub front_decides : (s : List ℕ) → Decides (is_number_front s) (IsNumeralFront s)
+unfolding is_number_front
+front_decides s = (at (part_behind (Some Start) s) refl, λ h. let a = numeral_accepted (s ++ h.more) h.is_numeral in ap is_part (part_before a.to s h.more a.leads).1)
+  where
+    at : (o : Option Part) → part_behind (Some Start) s ≡ o → is_part o ≡ true → IsNumeralFront s
+    at None h e = absurd cc
+    at (Some p) h e = part_front p s h
+
+pub numeral_decides : (s : List ℕ) → Decides (is_number s) (IsNumeral s)
+unfolding is_number
+numeral_decides s = (at (part_behind (Some Start) s) refl, λ h. let a = numeral_accepted s h in ap ends_part a.leads ∙ a.ends)
+  where
+    at : (o : Option Part) → part_behind (Some Start) s ≡ o → ends_part o ≡ true → IsNumeral s
+    at None h e = absurd cc
+    at (Some p) h e = part_is_numeral p s e h
+
+-- a number may end in its part exactly where it is a numeral
+pub part_decides : (p : Part) (s : List ℕ) → IsPart p s → Decides (may_end p) (IsNumeral s)
+unfolding is_number
+part_decides p s h = Decides-at (may_end p) (is_number s) (sym (ap ends_part h)) (numeral_decides s)
+
+fails : {P : Type 0} (b : Bool) → Decides b P → (P → ⊥) → b ≡ false
+fails true d h = absurd (h (d.0 refl))
+fails false d h = refl
+
+pub front_fails : (s : List ℕ) → (IsNumeralFront s → ⊥) → is_number_front s ≡ false
+front_fails s h = fails (is_number_front s) (front_decides s) h
+
+pub numeral_fails : (s : List ℕ) → (IsNumeral s → ⊥) → is_number s ≡ false
+numeral_fails s h = fails (is_number s) (numeral_decides s) h
+
+-- ---- no number is empty
 
 pub numeral_some : (s : List ℕ) → IsNumeral s → s ≡ [] → ⊥
 numeral_some [] h e = let a = numeral_accepted [] h in absurd (none_there a.to (some_is Start a.to a.leads) a.ends)

@@ -3,19 +3,21 @@ use Rattle.std.proofs.Common.{◌≡◌, ℕ, suc, ◌+◌, Bool, true, false, n
 use Rattle.std.proofs.lemmas.List.{append-nil}
 use Rattle.std.proofs.lemmas.Bool.{eqb-true}
 use Rattle.asl_json.specs.Data.{Data, null, boolean, number, text, list, dict, Chain, no_items, item, chain, Pairs, no_members, member, pairs}
-use Rattle.asl_json.specs.Grammar.{comma, colon, open_bracket, close_bracket, open_brace, close_brace, null_word, true_word, false_word, is_space, AreSpaces, SpellsKey, Padded, IsMember, Spells, SpellsItems, SpellsMoreItems, SpellsMembers, SpellsMore, IsText}
+use Rattle.asl_json.specs.Grammar.{colon, open_bracket, close_bracket, open_brace, close_brace, null_word, true_word, false_word, is_space, AreSpaces, SpellsKey, Padded, IsMember, Spells, IsText}
+use Rattle.asl_json.specs.Parts.{comma}
+use Rattle.asl_json.specs.private.Lists.{SpellsItems, SpellsMoreItems, SpellsMembers, SpellsMore}
 use Rattle.asl_json.specs.Text.{quote, SpellsChars, SpellsText}
-use Rattle.asl_json.specs.private.Chars.{Within, bare, Inside, goes, ends, breaks, lone, in_text}
+use Rattle.asl_json.specs.private.Chars.{Within, bare, Inside, goes, in_text}
 use Rattle.asl_json.proofs.Texts.{inside_then, text_reach, goes_is, chars_reach}
 use Rattle.asl_json.specs.Number.{is_digit, is_point, is_mark, is_sign, IsNumeral, is_over}
 use Rattle.asl_json.specs.private.Machine.{leading, marked, pointed, next_part, part_behind, may_end, Mode, value, word, chars, figure, after, first, key, key_chars, behind_key, go, deepens, closes, in_judged, in_value, in_word, chars_next, in_chars, in_figure, in_after, in_first, in_key, key_chars_next, in_key_chars, in_behind_key, step, Outcome, onward, walk, judgement, run}
 use Rattle.asl_json.specs.Distinct.{Members, has_key}
-use Rattle.asl_json.specs.Open.{Frame, in_list, in_dict}
+use Rattle.asl_json.specs.Open.{Frame, in_list, in_dict, EndsNumber}
 use Rattle.asl_json.specs.Limits.{Allowed, AllowedItems, AllowedMembers}
 use Rattle.asl_json.specs.private.Leads.{begins}
 use Rattle.asl_json.specs.declared.number.Part.{Part}
 use Rattle.asl_json.specs.declared.number.Part.TheVariants.{Start, Minus, Nought, Whole, Point, Fraction, Mark, Sign, Exponent}
-use Rattle.asl_json.proofs.Numerals.{part_none, some_is, IsPart, numeral_accepted, numeral_some}
+use Rattle.asl_json.proofs.Numerals.{part_none, part_before, part_longest, some_is, IsPart, numeral_accepted, numeral_some}
 
 -- Over any outcome, with limits or without.
 
@@ -39,16 +41,13 @@ IsSpaced (behind_key ms k) = Unit {0}
 pub space_stays : (lim : Bool) (m : Mode) (st : List Frame) (c : ℕ) → IsSpaced m → is_space c ≡ true → step lim m st c ≡ go m st
 unfolding in_value in_after in_first in_key in_behind_key
 space_stays lim value st c h e = rw e refl
-space_stays lim (word ws d) st c h e = absurd h
-space_stays lim (chars q s) st c h e = absurd h
-space_stays lim (figure p s) st c h e = absurd h
 space_stays lim (after d) [] c h e = rw e refl
 space_stays lim (after d) (in_list ds ∷ st) c h e = rw e refl
 space_stays lim (after d) (in_dict ms k ∷ st) c h e = rw e refl
 space_stays lim first st c h e = rw e refl
 space_stays lim (key ms) st c h e = rw e refl
-space_stays lim (key_chars ms o q s) st c h e = absurd h
 space_stays lim (behind_key ms k) st c h e = rw e refl
+space_stays lim x st c h e = absurd h
 
 pub spaces_pass : {X : Type 0} (w : Outcome X) (lim : Bool) (m : Mode) (st : List Frame) (ws rest : List ℕ) → IsSpaced m → AreSpaces ws → walk w lim m st (ws ++ rest) ≡ walk w lim m st rest
 spaces_pass w lim m st [] rest h s = refl
@@ -72,9 +71,7 @@ false_pass w lim st rest = refl
 chars_then : {X : Type 0} (w : Outcome X) (lim : Bool) (st : List Frame) (s : List ℕ) (u rest : List ℕ) (len : ℕ) (n : Inside) (r : Within) (t : List ℕ) → ((q : Within) (x : List ℕ) → text_reach q x u ≡ goes r t → walk w lim (chars q x) st (u ++ rest) ≡ walk w lim (chars r t) st rest)
     → inside_then (λ q x. text_reach q x u) n ≡ goes r t → onward w (λ m st'. walk w lim m st' (u ++ rest)) len (chars_next s st n) ≡ walk w lim (chars r t) st rest
 chars_then w lim st s u rest len (goes q x) r t h e = h q x e
-chars_then w lim st s u rest len ends r t h e = absurd cc
-chars_then w lim st s u rest len breaks r t h e = absurd cc
-chars_then w lim st s u rest len (lone k) r t h e = absurd cc
+chars_then w lim st s u rest len x r t h e = absurd cc
 
 pub chars_go : {X : Type 0} (w : Outcome X) (lim : Bool) (st : List Frame) (q : Within) (s u rest : List ℕ) (r : Within) (t : List ℕ) → text_reach q s u ≡ goes r t → walk w lim (chars q s) st (u ++ rest) ≡ walk w lim (chars r t) st rest
 unfolding walk in_chars
@@ -85,9 +82,7 @@ key_chars_then : {X : Type 0} (w : Outcome X) (lim : Bool) (ms : Members) (o : �
     → ((q : Within) (x : List ℕ) → text_reach q x u ≡ goes r t → walk w lim (key_chars ms (suc o) q x) st (u ++ rest) ≡ walk w lim (key_chars ms more r t) st rest)
     → inside_then (λ q x. text_reach q x u) n ≡ goes r t → onward w (λ m st'. walk w lim m st' (u ++ rest)) len (key_chars_next lim ms o s st n) ≡ walk w lim (key_chars ms more r t) st rest
 key_chars_then w lim ms o st s u rest len more (goes q x) r t h e = h q x e
-key_chars_then w lim ms o st s u rest len more ends r t h e = absurd cc
-key_chars_then w lim ms o st s u rest len more breaks r t h e = absurd cc
-key_chars_then w lim ms o st s u rest len more (lone k) r t h e = absurd cc
+key_chars_then w lim ms o st s u rest len more x r t h e = absurd cc
 
 pub key_chars_go : {X : Type 0} (w : Outcome X) (lim : Bool) (ms : Members) (o : ℕ) (st : List Frame) (q : Within) (s u rest : List ℕ) (r : Within) (t : List ℕ) → text_reach q s u ≡ goes r t → walk w lim (key_chars ms o q s) st (u ++ rest) ≡ walk w lim (key_chars ms (o + length u) r t) st rest
 unfolding walk in_key_chars
@@ -111,7 +106,7 @@ key_pass w lim ms o s u st rest h new = key_chars_go w lim ms o st bare [] u (qu
 
 -- ---- numbers
 
--- a byte that may stand in a number behind its front
+-- a byte that may stand in a number
 unfoldable pub is_figure : ℕ → Bool
 is_figure c = is_digit c || is_point c || is_mark c || is_sign c
 
@@ -169,29 +164,34 @@ pub part_pass : {X : Type 0} (w : Outcome X) (lim : Bool) (q : Part) (s : List �
 part_pass w lim q [] st rest some h = absurd (some refl)
 part_pass w lim q (c ∷ ds) st rest some h = value_begins w lim st c (ds ++ rest) (part_begins (next_part Start c) q c ds rest refl h) ∙ parts_pass w lim Start q [] (c ∷ ds) st rest h
 
-none_of : (a b c d : Bool) → (a || b || c || d) ≡ false → (a ≡ false) × (b ≡ false) × (c ≡ false)
-none_of true b c d e = absurd cc
-none_of false true c d e = absurd cc
-none_of false false true d e = absurd cc
-none_of false false false d e = (refl, refl, refl)
+figure_stops : (p : Part) (c : ℕ) → is_figure c ≡ false → next_part p c ≡ None
+unfolding is_figure next_part leading pointed marked is_digit is_point is_mark is_sign
+figure_stops Start c h = grind (arith, h)
+figure_stops Minus c h = grind (arith, h)
+figure_stops Nought c h = grind (arith, h)
+figure_stops Whole c h = grind (arith, h)
+figure_stops Point c h = grind (arith, h)
+figure_stops Fraction c h = grind (arith, h)
+figure_stops Mark c h = grind (arith, h)
+figure_stops Sign c h = grind (arith, h)
+figure_stops Exponent c h = grind (arith, h)
 
-figure_stops : (p : Part) (c : ℕ) → may_end p ≡ true → is_figure c ≡ false → next_part p c ≡ None
-unfolding is_figure next_part pointed marked
-figure_stops Start c e h = absurd cc
-figure_stops Minus c e h = absurd cc
-figure_stops Nought c e h = let n = none_of (is_digit c) (is_point c) (is_mark c) (is_sign c) h in rw (n.1, n.2) refl
-figure_stops Whole c e h = let n = none_of (is_digit c) (is_point c) (is_mark c) (is_sign c) h in rw (n.0, n.1, n.2) refl
-figure_stops Point c e h = absurd cc
-figure_stops Fraction c e h = let n = none_of (is_digit c) (is_point c) (is_mark c) (is_sign c) h in rw (n.0, n.2) refl
-figure_stops Mark c e h = absurd cc
-figure_stops Sign c e h = absurd cc
-figure_stops Exponent c e h = let n = none_of (is_digit c) (is_point c) (is_mark c) (is_sign c) h in rw n.0 refl
+-- a byte that stands in no number ends one
+pub figure_ends_number : (s : List ℕ) (c : ℕ) (cs : List ℕ) → is_figure c ≡ false → EndsNumber s (c ∷ cs)
+figure_ends_number s c cs h = λ more n.
+    let a = numeral_accepted (s ++ c ∷ more) n in
+    let x = part_before a.to s (c ∷ more) a.leads in
+    part_longest x.0 s c cs x.1 (figure_stops x.0 c h) more n
+
+pub numeral_begins : (s : List ℕ) → IsNumeral s → begins s ≡ true
+numeral_begins [] h = absurd (numeral_some [] h refl)
+numeral_begins (c ∷ s) h = let a = numeral_accepted (c ∷ s) h in part_begins (next_part Start c) a.to c s [] refl a.leads
 
 -- a number in the limits ends where no number goes on
 pub figure_ends : {X : Type 0} (w : Outcome X) (lim : Bool) (p : Part) (s : List ℕ) (st : List Frame) (rest : List ℕ) → may_end p ≡ true → (lim && is_over s) ≡ false → StopsFigure w lim rest → walk w lim (figure p s) st rest ≡ walk w lim (after (number s)) st rest
 unfolding walk in_figure in_judged
 figure_ends w lim p s st [] may fits stops = stops p s st may fits
-figure_ends w lim p s st (c ∷ cs) may fits stops = alike w lim (figure p s) (after (number s)) st c cs (rw (figure_stops p c may stops, may, fits) refl)
+figure_ends w lim p s st (c ∷ cs) may fits stops = alike w lim (figure p s) (after (number s)) st c cs (rw (figure_stops p c stops, may, fits) refl)
 
 pub number_pass : {X : Type 0} (w : Outcome X) (lim : Bool) (s t : List ℕ) (st : List Frame) (rest : List ℕ) → StopsFigure w lim rest → (t ≡ s) × IsNumeral s → (lim && is_over s) ≡ false → walk w lim value st (t ++ rest) ≡ walk w lim (after (number s)) st rest
 number_pass w lim s t st rest stops h fits =

@@ -4,7 +4,9 @@ use Rattle.std.proofs.lemmas.List.{append-nil, length-append}
 use Rattle.std.proofs.lemmas.Bool.{and_parts, eqb-true}
 use Rattle.asl_json.specs.Data.{Data, null, boolean, number, text, list, dict, no_items, no_members, chain, pairs}
 use Rattle.asl_json.specs.Number.{IsNumeral, is_over}
-use Rattle.asl_json.specs.Grammar.{comma, colon, open_bracket, close_bracket, open_brace, close_brace, is_space, AreSpaces, SpellsKey, Padded, IsMember, Joined, Behind, Spells, SpellsItems, SpellsMoreItems, SpellsMembers, SpellsMore}
+use Rattle.asl_json.specs.Grammar.{colon, open_bracket, close_bracket, open_brace, close_brace, is_space, AreSpaces, SpellsKey, Padded, IsMember, Spells}
+use Rattle.asl_json.specs.Parts.{comma, Joined, Behind}
+use Rattle.asl_json.specs.private.Lists.{SpellsItems, SpellsMoreItems, SpellsMembers, SpellsMore}
 use Rattle.asl_json.specs.Text.{quote, SpellsChars, SpellsText, Lone, IsLone, lone_spelled}
 use Rattle.asl_json.specs.private.Chars.{Within, bare, Inside, goes, ends, breaks, lone, in_text}
 use Rattle.asl_json.proofs.Texts.{OpenText, TextHolds, LoneEnd, text_opens, text_step}

@@ -2,7 +2,8 @@
 use Rattle.std.proofs.Common.{ℕ, ◌≤◌, true, false, List, [], ◌∷◌, ◌++◌, length, refl, sym, ap, arith}
 use Rattle.std.proofs.lemmas.List.{append-nil, length-append}
 use Rattle.asl_json.specs.Data.{Data, null, boolean, number, text, list, dict, Chain, no_items, item, Pairs, no_members, member}
-use Rattle.asl_json.specs.Grammar.{colon, close_bracket, close_brace, SpellsKey, Padded, IsMember, Spells, SpellsItems, SpellsMoreItems, SpellsMembers, SpellsMore, IsText}
+use Rattle.asl_json.specs.Grammar.{colon, close_bracket, close_brace, SpellsKey, Padded, IsMember, Spells, IsText}
+use Rattle.asl_json.specs.private.Lists.{SpellsItems, SpellsMoreItems, SpellsMembers, SpellsMore}
 use Rattle.asl_json.proofs.Quoting.{quoted_spells, text_length}
 use Rattle.asl_json.specs.Compact.{quoted, compact, compact_items, compact_more_items, compact_members, compact_more, IsSpellable, AreSpellableItems, AreSpellable}
 

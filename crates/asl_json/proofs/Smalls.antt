@@ -44,15 +44,10 @@ mark_enters Exponent q c m e = grind (arith, m, e)
 
 mark_stays : (p q : Part) (c : ℕ) → in_exponent p ≡ true → next_part p c ≡ Some q → in_exponent q ≡ true
 unfolding next_part leading marked pointed is_digit is_point is_mark is_sign
-mark_stays Start q c h e = absurd cc
-mark_stays Minus q c h e = absurd cc
-mark_stays Nought q c h e = absurd cc
-mark_stays Whole q c h e = absurd cc
-mark_stays Point q c h e = absurd cc
-mark_stays Fraction q c h e = absurd cc
 mark_stays Mark q c h e = grind (arith, e)
 mark_stays Sign q c h e = grind (arith, e)
 mark_stays Exponent q c h e = grind (arith, e)
+mark_stays x q c h e = absurd cc
 
 point_enters : (p q : Part) (c : ℕ) → is_point c ≡ true → next_part p c ≡ Some q → behind_point q ≡ true
 unfolding next_part leading marked pointed is_digit is_point is_mark is_sign
@@ -68,15 +63,12 @@ point_enters Exponent q c m e = grind (arith, m, e)
 
 point_stays : (p q : Part) (c : ℕ) → behind_point p ≡ true → next_part p c ≡ Some q → behind_point q ≡ true
 unfolding next_part leading marked pointed is_digit is_point is_mark is_sign
-point_stays Start q c h e = absurd cc
-point_stays Minus q c h e = absurd cc
-point_stays Nought q c h e = absurd cc
-point_stays Whole q c h e = absurd cc
 point_stays Point q c h e = grind (arith, e)
 point_stays Fraction q c h e = grind (arith, e)
 point_stays Mark q c h e = grind (arith, e)
 point_stays Sign q c h e = grind (arith, e)
 point_stays Exponent q c h e = grind (arith, e)
+point_stays x q c h e = absurd cc
 
 -- a byte leads into some parts, which no other byte leaves
 record Leads (is : ℕ → Bool) (within : Part → Bool) : Type 0 where

@@ -3,7 +3,8 @@ use Rattle.std.proofs.Common.{◌≡◌, ℕ, zero, suc, ◌+◌, ◌≤◌, ◌
 use Rattle.std.proofs.lemmas.List.{length-drop, get_or-drop}
 use Rattle.std.proofs.lemmas.Bool.{or_parts}
 use Rattle.asl_json.specs.Data.{Data, null, boolean, text, list, dict, chain, pairs}
-use Rattle.asl_json.specs.Grammar.{comma, colon, open_bracket, close_bracket, open_brace, close_brace, is_space, AreSpaces}
+use Rattle.asl_json.specs.Grammar.{colon, open_bracket, close_bracket, open_brace, close_brace, is_space, AreSpaces}
+use Rattle.asl_json.specs.Parts.{comma}
 use Rattle.asl_json.specs.Text.{quote, SpellsChars}
 use Rattle.asl_json.specs.private.Chars.{Within, bare, Inside, goes, ends, breaks, lone, in_text, Textual, closed, broken, text_onward, text_run}
 use Rattle.asl_json.proofs.Texts.{chars_reach, run_reach, run_step}

@@ -95,9 +95,7 @@ goes_is q r s t e = (cc, cc)
 reach_then : (u v : List ℕ) (r : Within) (t : List ℕ) (n : Inside) → ((q : Within) (s : List ℕ) → text_reach q s u ≡ goes r t → text_reach q s (u ++ v) ≡ text_reach r t v)
     → inside_then (λ q s. text_reach q s u) n ≡ goes r t → inside_then (λ q s. text_reach q s (u ++ v)) n ≡ text_reach r t v
 reach_then u v r t (goes q s) h e = h q s e
-reach_then u v r t ends h e = absurd cc
-reach_then u v r t breaks h e = absurd cc
-reach_then u v r t (lone back) h e = absurd cc
+reach_then u v r t x h e = absurd cc
 
 pub text_reach-append : (q : Within) (s u v : List ℕ) (r : Within) (t : List ℕ) → text_reach q s u ≡ goes r t → text_reach q s (u ++ v) ≡ text_reach r t v
 text_reach-append q s [] v r t e = let is = goes_is q r s t e in ap (λ (x : Within). text_reach x s v) is.0 ∙ ap (λ (x : List ℕ). text_reach r x v) is.1
@@ -156,9 +154,7 @@ chars_reach p s u h = rw (h.spelled_is, h.meant_is) (pieces_reach p h.pieces h.p
 run_then : (u rest : List ℕ) (n : Inside) (s : List ℕ) (back : ℕ) (r : Within) (t : List ℕ) → ((q : Within) (x : List ℕ) → text_reach q x u ≡ goes r t → text_run q x (u ++ rest) ≡ text_run r t rest)
     → inside_then (λ q x. text_reach q x u) n ≡ goes r t → text_onward (λ q x. text_run q x (u ++ rest)) s (u ++ rest) n ≡ text_run r t rest
 run_then u rest (goes q x) s back r t h e = h q x e
-run_then u rest ends s back r t h e = absurd cc
-run_then u rest breaks s back r t h e = absurd cc
-run_then u rest (lone k) s back r t h e = absurd cc
+run_then u rest x s back r t h e = absurd cc
 
 pub run_reach : (q : Within) (s u rest : List ℕ) (r : Within) (t : List ℕ) → text_reach q s u ≡ goes r t → text_run q s (u ++ rest) ≡ text_run r t rest
 unfolding text_run

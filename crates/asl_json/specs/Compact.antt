@@ -1,8 +1,10 @@
--- The compact text of a value: no spaces, members in order, numbers as spelled; in texts the quote, the backslash and the
+-- The compact text of a value: no spaces, members in order, numbers as spelled; in texts the quote,
+-- the backslash and the
 -- controls below a space are escaped, by a letter where there is one, and nothing else is.
 use Rattle.std.specs.Prelude.{ℕ, zero, suc, ◌≤◌, ◌/◌, ◌%◌, ◌==◌, ◌||◌, nat_lt, cond, List, [], ◌∷◌, ◌++◌, length, true, false, Option, Some, None}
 use Rattle.asl_json.specs.Data.{Data, null, boolean, number, text, list, dict, Chain, no_items, item, Pairs, no_members, member}
-use Rattle.asl_json.specs.Grammar.{comma, colon, open_bracket, close_bracket, open_brace, close_brace, null_word, true_word, false_word}
+use Rattle.asl_json.specs.Grammar.{colon, open_bracket, close_bracket, open_brace, close_brace, null_word, true_word, false_word}
+use Rattle.asl_json.specs.Parts.{comma}
 use Rattle.asl_json.specs.Text.{quote, backslash, letter_u}
 use Rattle.std.specs.Char.{digit_char}
 use Rattle.asl_json.specs.Number.{IsNumeral}
@@ -10,15 +12,21 @@ use Rattle.asl_json.specs.Limits.{Allowed, max_len}
 
 -- the letter that stands for a control
 unfoldable pub control_letter : ℕ → Option ℕ
-control_letter c = cond (c == 8) (Some 98) (cond (c == 9) (Some 116) (cond (c == 10) (Some 110) (cond (c == 12) (Some 102) (cond (c == 13) (Some 114) None))))
+control_letter c =
+    cond (c == 8) (Some 98)
+    (cond (c == 9) (Some 116)
+    (cond (c == 10) (Some 110) (cond (c == 12) (Some 102) (cond (c == 13) (Some 114) None))))
 
 -- by its letter, else by four lower-case digits
 abbrev pub escaped_control : ℕ → Option ℕ → List ℕ
 escaped_control c (Some letter) = backslash ∷ letter ∷ []
-escaped_control c None = backslash ∷ letter_u ∷ 48 ∷ 48 ∷ digit_char (c / 16) ∷ digit_char (c % 16) ∷ []
+escaped_control c None =
+    backslash ∷ letter_u ∷ 48 ∷ 48 ∷ digit_char (c / 16) ∷ digit_char (c % 16) ∷ []
 
 unfoldable pub escaped_byte : ℕ → List ℕ
-escaped_byte c = cond ((c == quote) || (c == backslash)) (backslash ∷ c ∷ []) (cond (nat_lt c 32) (escaped_control c (control_letter c)) (c ∷ []))
+escaped_byte c =
+    cond ((c == quote) || (c == backslash)) (backslash ∷ c ∷ [])
+    (cond (nat_lt c 32) (escaped_control c (control_letter c)) (c ∷ []))
 
 abbrev pub escaped : List ℕ → List ℕ
 escaped [] = []

@@ -17,6 +17,8 @@ abbrev pub AreDistinct : Members → Members → Type 0
 AreDistinct seen [] = Unit {0}
 AreDistinct seen (m ∷ ms) = (has_key m.0 seen ≡ false) × AreDistinct (seen ++ m ∷ []) ms
 
-pub distinct_push : (seen ms : List (List ℕ × Data)) (m : List ℕ × Data) → AreDistinct seen ms → has_key m.0 (seen ++ ms) ≡ false → AreDistinct seen (ms ++ m ∷ [])
+pub distinct_push : (seen ms : List (List ℕ × Data)) (m : List ℕ × Data) → AreDistinct seen ms
+    → has_key m.0 (seen ++ ms) ≡ false → AreDistinct seen (ms ++ m ∷ [])
 distinct_push seen [] m h new = (rw append-nil at new, tt)
-distinct_push seen (x ∷ ms) m h new = (h.0, distinct_push (seen ++ x ∷ []) ms m h.1 (rw (append_assoc seen (x ∷ []) ms) new))
+distinct_push seen (x ∷ ms) m h new =
+    (h.0, distinct_push (seen ++ x ∷ []) ms m h.1 (rw (append_assoc seen (x ∷ []) ms) new))

@@ -4,6 +4,7 @@ pub mod Number
 pub mod Distinct
 pub mod Sound
 pub mod Text
+pub mod Parts
 pub mod Grammar
 pub mod Limits
 pub mod Open

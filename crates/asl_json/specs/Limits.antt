@@ -1,4 +1,5 @@
--- The limits of a value that stands within so many levels: how deep it nests, how large its numbers are, and that no key comes twice in an object.
+-- The limits of a value that stands within so many levels: how deep it nests, how large its numbers
+-- are, and that no key comes twice in an object.
 use Rattle.std.specs.Prelude.{◌≡◌, ℕ, suc, Bool, false, ◌&&◌, nat_le, [], ◌∷◌, ◌++◌}
 use Rattle.asl_json.specs.Data.{Data, null, boolean, number, text, list, dict, Chain, no_items, item, Pairs, no_members, member}
 use Rattle.asl_json.specs.Number.{is_over}
@@ -28,4 +29,6 @@ abbrev mutual
 
   pub AllowedMembers : Bool → ℕ → Members → Pairs → Type 0
   AllowedMembers lim n seen no_members = Unit {0}
-  AllowedMembers lim n seen (member k d ms) = ((lim && has_key k seen) ≡ false) × (Allowed lim n d × AllowedMembers lim n (seen ++ (k, d) ∷ []) ms)
+  AllowedMembers lim n seen (member k d ms) =
+      ((lim && has_key k seen) ≡ false)
+      × (Allowed lim n d × AllowedMembers lim n (seen ++ (k, d) ∷ []) ms)

@@ -1,4 +1,5 @@
--- Values that mean the same. Numbers by units, lists item by item, objects as sets of pairs (their keys are distinct).
+-- Values that mean the same. Numbers by units, lists item by item, objects as sets of pairs (their
+-- keys are distinct).
 use Rattle.std.specs.Prelude.{ℕ, suc, List, Bool, true, false, ◌&&◌, ◌==◌, Option, Some, None, if◌then◌else◌}
 use Rattle.std.specs.Ordering.{int_eq}
 use Rattle.std.specs.Option.{option_map_or}

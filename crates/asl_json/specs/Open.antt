@@ -1,7 +1,9 @@
--- The fronts of JSON texts: which lists and objects stand open behind them. And what each fault says of a text.
+-- The fronts of JSON texts: which lists and objects stand open behind them. And what each fault
+-- says of a text.
 use Rattle.std.specs.Prelude.{◌≡◌, ◌⊎◌, ℕ, suc, ◌≤◌, ◌==◌, ◌||◌, Bool, true, List, [], ◌∷◌, ◌++◌, length}
 use Rattle.asl_json.specs.Data.{Data}
-use Rattle.asl_json.specs.Grammar.{comma, colon, open_bracket, open_brace, AreSpaces, SpellsKey, Padded, IsMember, Joined, Behind, Spells, IsText, IsPrefix}
+use Rattle.asl_json.specs.Grammar.{colon, open_bracket, open_brace, AreSpaces, SpellsKey, Padded, IsMember, Spells, IsText, IsPrefix}
+use Rattle.asl_json.specs.Parts.{Joined, Behind, FrontParts}
 use Rattle.asl_json.specs.Text.{quote, SpellsChars, Lone, IsLone, lone_spelled}
 use Rattle.asl_json.specs.Number.{IsNumeral, is_over}
 use Rattle.asl_json.specs.Distinct.{Members, has_key}
@@ -10,15 +12,15 @@ use Rattle.asl_json.specs.declared.fault.Fault.{Fault}
 use Rattle.asl_json.specs.declared.fault.Kind.{Kind}
 use Rattle.asl_json.specs.declared.fault.Kind.TheVariants as kinds
 
--- a list that stands open, with its items so far; or an object, with its members so far and the key whose value is being read
+-- a list that stands open, with its items so far; or an object, with its members so far and the key
+-- whose value is being read
 pub data Frame : Type 0 where
   in_list : List Data → Frame
   in_dict : Members → List ℕ → Frame
 
 -- items, each with a comma behind it
 abbrev pub SpellsFrontItems : List Data → List ℕ → Type 0
-SpellsFrontItems [] t = t ≡ []
-SpellsFrontItems (d ∷ ds) t = Joined (Padded (Spells d)) (Behind comma (SpellsFrontItems ds)) t
+SpellsFrontItems = FrontParts (λ d. Padded (Spells d))
 
 -- a list up to where an item may begin
 abbrev pub OpensItem : List Data → List ℕ → Type 0
@@ -26,8 +28,7 @@ OpensItem ds t = Behind open_bracket (Joined (SpellsFrontItems ds) AreSpaces) t
 
 -- members, each with a comma behind it
 abbrev pub SpellsFront : Members → List ℕ → Type 0
-SpellsFront [] t = t ≡ []
-SpellsFront (m ∷ ms) t = Joined (IsMember m.0 (Spells m.1)) (Behind comma (SpellsFront ms)) t
+SpellsFront = FrontParts (λ m. IsMember m.0 (Spells m.1))
 
 -- an opening brace, these members, and S
 abbrev pub Opened : Members → (List ℕ → Type 0) → List ℕ → Type 0
@@ -60,7 +61,8 @@ abbrev pub EndsAt : List ℕ → List ℕ → Type 0
 EndsAt pre [] = (v : Data) → IsText pre v → ⊥
 EndsAt pre (c ∷ post) = IsPrefix (pre ++ c ∷ []) → ⊥
 
--- the place with so many bytes to the end is the first one at which the bytes are no longer the front of a text
+-- the place with so many bytes to the end is the first one at which the bytes are no longer the
+-- front of a text
 pub record SyntaxAt (b : List ℕ) (left : ℕ) : Type 0 where
   pub pre : List ℕ
   pub post : List ℕ

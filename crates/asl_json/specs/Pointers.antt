@@ -7,7 +7,8 @@ use Rattle.std.specs.Fmt.{decimal}
 
 -- '~' is written ~0, and '/' is written ~1
 abbrev pub escaped_char : ℕ → List ℕ
-escaped_char c = if c == 126 then 126 ∷ 48 ∷ [] else if c == 47 then 126 ∷ 49 ∷ [] else encode_utf8 c
+escaped_char c =
+    if c == 126 then 126 ∷ 48 ∷ [] else if c == 47 then 126 ∷ 49 ∷ [] else encode_utf8 c
 
 abbrev pub escaped : List ℕ → List ℕ
 escaped t = flat_map escaped_char (chars t)

@@ -1,4 +1,5 @@
--- The value that a text is read as, as a function of the text. (The law: exactly where the text spells the value in the limits.)
+-- The value that a text is read as, as a function of the text. (The law: exactly where the text
+-- spells the value in the limits.)
 use Rattle.std.specs.Prelude.{◌≡◌, ℕ, List, [], length, nat_lt, true, Option, Some, None, Result, Ok, Err, if◌then◌else◌}
 use Rattle.std.specs.Result.{result_ok}
 use Rattle.asl_json.specs.Data.{Data}

@@ -1,4 +1,5 @@
--- What every value has at all depths: no key twice in an object, numbers in the limits, texts and keys in UTF-8.
+-- What every value has at all depths: no key twice in an object, numbers in the limits, texts and
+-- keys in UTF-8.
 use Rattle.std.specs.Prelude.{[]}
 use Rattle.std.specs.Str.{IsUtf8}
 use Rattle.asl_json.specs.Data.{Data, null, boolean, number, text, list, dict, Chain, no_items, item, Pairs, no_members, member}

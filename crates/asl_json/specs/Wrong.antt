@@ -63,9 +63,12 @@ rank_of (Number at) = 4
 rank_of (Duplicate at) = 5
 rank_of OutOfMemory = 6
 
--- which of two faults is answered: the size, else the one with the least place, at one place the one of lower rank
+-- which of two faults is answered: the size, else the one with the least place, at one place the
+-- one of lower rank
 abbrev pub comes_before : JsonFault → JsonFault → Bool
-comes_before f e = (rank_of f == 0) || nat_lt (place_of f) (place_of e) || ((place_of f == place_of e) && nat_lt (rank_of f) (rank_of e))
+comes_before f e =
+    (rank_of f == 0) || nat_lt (place_of f) (place_of e)
+    || ((place_of f == place_of e) && nat_lt (rank_of f) (rank_of e))
 
 -- memory ran out, or the bytes have this fault
 abbrev pub IsFaultOf : List ℕ → JsonFault → Type 0

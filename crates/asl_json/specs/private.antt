@@ -7,4 +7,5 @@ pub mod Lending
 pub mod Chars
 pub mod Machine
 pub mod Leads
+pub mod Lists
 pub mod Places

@@ -3,8 +3,8 @@
 ghost use Rattle.std.specs.Prelude.{◌≡◌, ◌<◌, ◌+◌, ◌==◌, ◌&&◌, ◌||◌, nat_le, ◌++◌, true, false, List, ℕ, length, encode_utf8, IfOk, IfErr, MatchOption};
 ghost use Rattle.std.specs.Str.{IsUtf8};
 ghost use Rattle.std.specs.Char.{InScalarRange};
-ghost use Rattle.std.specs.Char.Utf16.{is_high_surrogate as spec_high, is_low_surrogate as spec_low, surrogate_pair_char};
-ghost use Rattle.asl_json.specs.Text.{quote, backslash, letter_u, is_plain as spec_plain, is_letter, letter_value, Quad};
+ghost use Rattle.std.specs.Char.Utf16.{is_high_surrogate, is_low_surrogate, surrogate_pair_char};
+ghost use Rattle.asl_json.specs.Text.{quote, backslash, letter_u, is_plain, is_letter, letter_value, Quad};
 ghost use Rattle.asl_json.specs.private.Chars.{Within, bare, slash, unit_0, half, half_slash, low_0, WantsHex, text_run};
 ghost use Rattle.asl_json.specs.private.Machine.{fault};
 ghost use Rattle.asl_json.specs.private.Leads.{FirstIsNot, HexFirst, Breaks, IsUnit, IsLowUnit, IsPartner};
@@ -26,7 +26,8 @@ fn lone(left: usize) -> Stop
 #[tactic(auto, unfolding(crate::specs::Text::is_hex))]
 fn digit(bytes: &[u8]) -> Result<(u32, &[u8]), Stop>
     ensures found { IfOk result (λ x. HexFirst bytes.now x.0 x.1.now) }
-    ensures broken { IfErr result (λ e. (q : Within) (s : List ℕ) → WantsHex q → Breaks e (text_run q s bytes.now)) }
+    ensures broken { IfErr result
+        (λ e. (q : Within) (s : List ℕ) → WantsHex q → Breaks e (text_run q s bytes.now)) }
     ensures shorter { IfOk result (λ x. length x.1.now < length bytes.now) }
     ensures utf8 { IfOk result (λ x. IsUtf8 bytes.now → IsUtf8 x.1.now) }
 {
@@ -68,7 +69,8 @@ fn unit(bytes: &[u8], left: usize) -> Result<(u32, &[u8]), Stop>
 fn low_unit(bytes: &[u8], left: usize) -> Result<(u32, &[u8]), Stop>
     requires { left ≡ length bytes.now + 8 }
     ensures found { IfOk result (λ x. IsLowUnit bytes.now x.0 x.1.now) }
-    ensures broken { IfErr result (λ e. (q : Quad) (s : List ℕ) → Breaks e (text_run (low_0 q) s bytes.now)) }
+    ensures broken { IfErr result
+        (λ e. (q : Quad) (s : List ℕ) → Breaks e (text_run (low_0 q) s bytes.now)) }
     ensures shorter { IfOk result (λ x. length x.1.now < length bytes.now) }
     ensures utf8 { IfOk result (λ x. IsUtf8 bytes.now → IsUtf8 x.1.now) }
 {
@@ -87,7 +89,7 @@ fn low_unit(bytes: &[u8], left: usize) -> Result<(u32, &[u8]), Stop>
 
 /// Whether a text may go on over this byte, or end with it.
 fn goes_on(byte: u8) -> bool
-    ensures { result ≡ ((byte == quote) || spec_plain byte) }
+    ensures { result ≡ ((byte == quote) || is_plain byte) }
 {
     byte == b'"' || is_plain(byte)
 }
@@ -126,7 +128,8 @@ fn other_escape(bytes: &[u8], left: usize) -> Stop
 fn partner(bytes: &[u8], left: usize) -> Result<(u32, &[u8]), Stop>
     requires { left ≡ length bytes.now + 6 }
     ensures found { IfOk result (λ x. IsPartner bytes.now x.0 x.1.now) }
-    ensures broken { IfErr result (λ e. (q : Quad) (s : List ℕ) → Breaks e (text_run (half q) s bytes.now)) }
+    ensures broken { IfErr result
+        (λ e. (q : Quad) (s : List ℕ) → Breaks e (text_run (half q) s bytes.now)) }
     ensures shorter { IfOk result (λ x. length x.1.now < length bytes.now) }
     ensures utf8 { IfOk result (λ x. IsUtf8 bytes.now → IsUtf8 x.1.now) }
 {
@@ -142,7 +145,8 @@ fn partner(bytes: &[u8], left: usize) -> Result<(u32, &[u8]), Stop>
 /// The character that digits behind `\u` stand for, with those of its partner, and what follows them.
 fn by_digits(bytes: &[u8], left: usize) -> Result<(char, &[u8]), Stop>
     requires { left ≡ length bytes.now + 2 }
-    ensures found { IfOk result (λ x. (s : List ℕ) → text_run unit_0 s bytes.now ≡ text_run bare (s ++ encode_utf8 x.0) x.1.now) }
+    ensures found { IfOk result (λ x. (s : List ℕ)
+        → text_run unit_0 s bytes.now ≡ text_run bare (s ++ encode_utf8 x.0) x.1.now) }
     ensures broken { IfErr result (λ e. (s : List ℕ) → Breaks e (text_run unit_0 s bytes.now)) }
     ensures shorter { IfOk result (λ x. length x.1.now < length bytes.now) }
     ensures utf8 { IfOk result (λ x. IsUtf8 bytes.now → IsUtf8 x.1.now) }
@@ -157,15 +161,15 @@ fn by_digits(bytes: &[u8], left: usize) -> Result<(char, &[u8]), Stop>
 
 /// Whether a code unit is a high half.
 fn is_high(code: u32) -> bool
-    ensures { result ≡ spec_high code }
+    ensures { result ≡ is_high_surrogate code }
 {
     code >= 0xd800 && code < 0xdc00
 }
 
 /// The character of two halves.
 fn pair(high: u32, low: u32) -> char
-    requires high { spec_high high ≡ true }
-    requires low { spec_low low ≡ true }
+    requires high { is_high_surrogate high ≡ true }
+    requires low { is_low_surrogate low ≡ true }
     ensures { result ≡ surrogate_pair_char high low }
 {
     scalar(0x10000 + (high - 0xd800) * 0x400 + (low - 0xdc00))
@@ -185,7 +189,8 @@ fn scalar(code: u32) -> char
 /// The character that a letter behind a backslash stands for.
 #[tactic(auto, unfolding(crate::specs::Text::is_letter, crate::specs::Text::letter_value))]
 fn by_letter(letter: u8) -> Option<char>
-    ensures { MatchOption result (is_letter letter ≡ false) (λ c. (is_letter letter ≡ true) × (c ≡ letter_value letter)) }
+    ensures { MatchOption result (is_letter letter ≡ false)
+        (λ c. (is_letter letter ≡ true) × (c ≡ letter_value letter)) }
 {
     match letter {
         b'"' | b'\\' | b'/' => Some(char::from(letter)),
@@ -200,7 +205,8 @@ fn by_letter(letter: u8) -> Option<char>
 
 /// The character that what follows a backslash stands for, and what follows it.
 pub(crate) fn escaped(bytes: &[u8]) -> Result<(char, &[u8]), Stop>
-    ensures found { IfOk result (λ x. (s : List ℕ) → text_run slash s bytes.now ≡ text_run bare (s ++ encode_utf8 x.0) x.1.now) }
+    ensures found { IfOk result (λ x. (s : List ℕ)
+        → text_run slash s bytes.now ≡ text_run bare (s ++ encode_utf8 x.0) x.1.now) }
     ensures broken { IfErr result (λ e. (s : List ℕ) → Breaks e (text_run slash s bytes.now)) }
     ensures shorter { IfOk result (λ x. length x.1.now < length bytes.now) }
     ensures utf8 { IfOk result (λ x. IsUtf8 bytes.now → IsUtf8 x.1.now) }

@@ -1,8 +1,8 @@
 // What stands in front of bytes.
 ghost use Rattle.std.specs.Prelude.{◌≡◌, ◌<◌, ◌≤◌, ◌∷◌, ◌++◌, [], true, false, length, take, slice_index, IfOk, IfErr, IfSome, IfNone, OnOk, OnErr, string_bytes};
 ghost use Rattle.std.specs.Str.{IsUtf8};
-ghost use Rattle.asl_json.specs.Grammar.{is_space as spec_space, AreSpaces};
-ghost use Rattle.asl_json.specs.Text.{is_plain as spec_plain, ArePlain};
+ghost use Rattle.asl_json.specs.Grammar.{is_space, AreSpaces};
+ghost use Rattle.asl_json.specs.Text.{is_plain, ArePlain};
 ghost use Rattle.asl_json.specs.private.Machine.{fault};
 ghost use Rattle.asl_json.specs.private.Leads.{Skips, FirstIsNot, NoPlainFirst};
 
@@ -13,14 +13,14 @@ use std::str;
 
 #[tactic(auto, unfolding(crate::specs::Grammar::is_space))]
 fn is_space(byte: u8) -> bool
-    ensures { result ≡ spec_space byte }
+    ensures { result ≡ is_space byte }
 {
     byte == b' ' || byte == b'\t' || byte == b'\n' || byte == b'\r'
 }
 
 #[tactic(auto, unfolding(crate::specs::Text::is_plain))]
 pub(crate) fn is_plain(byte: u8) -> bool
-    ensures { result ≡ spec_plain byte }
+    ensures { result ≡ is_plain byte }
 {
     byte >= b' ' && byte != b'"' && byte != b'\\'
 }
@@ -43,7 +43,7 @@ const PLAIN: [bool; 256] = [
 
 /// The same as `is_plain`, by a table: quicker for one byte, slower for several at once.
 fn is_plain_alone(byte: u8) -> bool
-    ensures { result ≡ spec_plain byte }
+    ensures { result ≡ is_plain byte }
 {
     PLAIN[usize::from(byte)]
 }
@@ -52,7 +52,7 @@ fn is_plain_alone(byte: u8) -> bool
 fn space_len(bytes: &[u8]) -> usize
     ensures spaces { AreSpaces (take result bytes.now) }
     ensures within { result ≤ length bytes.now }
-    ensures stops { result < length bytes.now → spec_space (slice_index bytes.now result) ≡ false }
+    ensures stops { result < length bytes.now → is_space (slice_index bytes.now result) ≡ false }
 {
     let mut end = 0;
     while end < bytes.len() {
@@ -136,7 +136,7 @@ fn plain_end(bytes: &[u8], from: usize, to: usize) -> usize
     requires within { to ≤ length bytes.now }
     ensures plain { ArePlain (take result bytes.now) }
     ensures within { result ≤ to }
-    ensures stops { result < to → spec_plain (slice_index bytes.now result) ≡ false }
+    ensures stops { result < to → is_plain (slice_index bytes.now result) ≡ false }
 {
     let mut end = from;
     while end < to {
@@ -152,7 +152,7 @@ fn plain_end(bytes: &[u8], from: usize, to: usize) -> usize
 fn plain_len(bytes: &[u8]) -> usize
     ensures plain { ArePlain (take result bytes.now) }
     ensures within { result ≤ length bytes.now }
-    ensures stops { result < length bytes.now → spec_plain (slice_index bytes.now result) ≡ false }
+    ensures stops { result < length bytes.now → is_plain (slice_index bytes.now result) ≡ false }
 {
     let near = bytes.len().min(BLOCK);
     let end = plain_end(bytes, 0, near);

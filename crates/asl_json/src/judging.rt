@@ -5,7 +5,7 @@ ghost use Rattle.std.specs.Str.Lossy.{utf8_valid_len};
 ghost use Rattle.asl_json.specs.Data.{Data};
 ghost use Rattle.asl_json.specs.View.{data_of};
 ghost use Rattle.asl_json.specs.Limits.{max_len};
-ghost use Rattle.asl_json.specs.Wrong.{ReadsAs, HasFault, IsFaultOf, IsFirstOf, IsRead, placed as spec_placed, FitsIn, at_end};
+ghost use Rattle.asl_json.specs.Wrong.{ReadsAs, HasFault, IsFaultOf, IsFirstOf, IsRead, placed, FitsIn, at_end};
 ghost use Rattle.asl_json.specs.declared.fault.JsonFault.{JsonFault};
 ghost use Rattle.asl_json.specs.Reading.{value_read, IsReading};
 
@@ -20,7 +20,7 @@ const MAX_LEN: usize = 1048576;
 /// The fault at its place from the start.
 fn placed(len: usize, stop: Stop) -> JsonFault
     requires { FitsIn len stop }
-    ensures { result ≡ spec_placed len stop }
+    ensures { result ≡ placed len stop }
 {
     match stop {
         Stop::Memory => JsonFault::OutOfMemory,

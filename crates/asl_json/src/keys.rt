@@ -81,7 +81,8 @@ impl Keys {
     /// Takes in the key of the next member behind these. The error is that memory ran out, and then nothing is changed.
     pub fn add(&mut self, alloc: Global, members: &[Member], key: &str) -> Result<(), AllocError>
         requires { Knows self.old (members_of members.now) }
-        ensures ok { OnOk result ((d : Data) → Knows self.new (members_of members.now ++ (key.now, d) ∷ [])) }
+        ensures ok { OnOk result ((d : Data)
+            → Knows self.new (members_of members.now ++ (key.now, d) ∷ [])) }
         ensures err { OnErr result (self.new ≡ self.old) }
     {
         if members.len() < MANY {

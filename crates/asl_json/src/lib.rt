@@ -29,7 +29,7 @@ mod writing;
 pub use fault::JsonFault;
 pub use judging::{a_text_has_the_value_that_it_spells, a_text_is_read_as_one_value, read};
 pub use keys::Keys;
-pub use number::{Part, longest_number};
+pub use number::number_front;
 pub use pointer::Pointer;
 pub use sameness::same;
 pub use shared::{Name, Shared, SharedItems};

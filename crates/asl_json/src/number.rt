@@ -1,10 +1,10 @@
 // Reading numbers.
-ghost use Rattle.std.specs.Prelude.{◌≡◌, ◌<◌, ◌≤◌, true, false, List, ℕ, length, take, slice_index, Some, None, IfOk, IfErr, MatchOption};
+ghost use Rattle.std.specs.Prelude.{◌≡◌, ◌<◌, ◌≤◌, ◌+◌, ◌↔◌, true, false, List, ℕ, length, take, slice_index, Some, None, IfOk, IfErr, MatchOption};
 ghost use Rattle.std.specs.Str.{IsUtf8};
-ghost use Rattle.asl_json.specs.Data.{number as spec_number};
-ghost use Rattle.asl_json.specs.Number.{is_digit as spec_digit, IsNumeral, is_over as spec_over};
+ghost use Rattle.asl_json.specs.Data.{number};
+ghost use Rattle.asl_json.specs.Number.{is_digit, IsNumeral, IsNumeralFront, is_over};
 ghost use Rattle.asl_json.specs.Open.{Frame};
-ghost use Rattle.asl_json.specs.private.Machine.{value, after, run, leading as spec_leading, marked as spec_marked, pointed as spec_pointed, next_part as spec_next, part_behind, may_end as spec_end, takes_digits as spec_takes};
+ghost use Rattle.asl_json.specs.private.Machine.{value, after, run, leading, marked, pointed, next_part, part_behind, may_end, takes_digits};
 ghost use Rattle.asl_json.specs.private.Leads.{Fails, Leads, begins, IsNumberFront};
 
 use crate::fault::{Fault, Kind, Stop};
@@ -15,7 +15,7 @@ use std::alloc::{AllocError, Global};
 
 /// How much of a number there is (RFC 8259, section 6).
 #[derive(Clone, Copy, Debug)]
-pub enum Part {
+pub(crate) enum Part {
     /// Nothing yet.
     Start,
     Minus,
@@ -36,7 +36,7 @@ pub enum Part {
 
 #[tactic(auto, unfolding(crate::specs::Number::is_digit))]
 fn is_digit(byte: u8) -> bool
-    ensures { result ≡ spec_digit byte }
+    ensures { result ≡ is_digit byte }
 {
     byte >= b'0' && byte <= b'9'
 }
@@ -54,7 +54,7 @@ pub(crate) fn begins_number(bytes: &[u8]) -> bool
 /// How a number goes on with its first digit.
 #[tactic(auto, unfolding(crate::specs::private::Machine::leading))]
 fn leading(byte: u8) -> Option<Part>
-    ensures { result ≡ spec_leading byte }
+    ensures { result ≡ leading byte }
 {
     if byte == b'0' {
         return Some(Part::Nought);
@@ -69,7 +69,7 @@ fn leading(byte: u8) -> Option<Part>
 /// How it goes on with an exponent.
 #[tactic(auto, unfolding(crate::specs::private::Machine::marked))]
 fn marked(byte: u8) -> Option<Part>
-    ensures { result ≡ spec_marked byte }
+    ensures { result ≡ marked byte }
 {
     if is_mark(byte) {
         Some(Part::Mark)
@@ -81,7 +81,7 @@ fn marked(byte: u8) -> Option<Part>
 /// How it goes on with a point or an exponent.
 #[tactic(auto, unfolding(crate::specs::private::Machine::pointed))]
 fn pointed(byte: u8) -> Option<Part>
-    ensures { result ≡ spec_pointed byte }
+    ensures { result ≡ pointed byte }
 {
     if is_point(byte) {
         return Some(Part::Point);
@@ -92,7 +92,7 @@ fn pointed(byte: u8) -> Option<Part>
 /// How much of a number there is behind one byte more, where a number may go on with it.
 #[tactic(auto, unfolding(crate::specs::private::Machine::next_part))]
 fn next_part(part: Part, byte: u8) -> Option<Part>
-    ensures { result ≡ spec_next part byte }
+    ensures { result ≡ next_part part byte }
 {
     let digit = is_digit(byte);
     match part {
@@ -111,8 +111,8 @@ fn next_part(part: Part, byte: u8) -> Option<Part>
 
 impl Part {
     /// Whether a number may end there.
-    pub fn may_end(self) -> bool
-        ensures { result ≡ spec_end self }
+    fn may_end(self) -> bool
+        ensures { result ≡ may_end self }
     {
         match self {
             Part::Nought | Part::Whole | Part::Fraction | Part::Exponent => true,
@@ -123,7 +123,7 @@ impl Part {
 
 /// Whether a digit leaves this part as it is.
 fn takes_digits(part: Part) -> bool
-    ensures { result ≡ spec_takes part }
+    ensures { result ≡ takes_digits part }
 {
     matches!(part, Part::Whole | Part::Fraction | Part::Exponent)
 }
@@ -131,7 +131,7 @@ fn takes_digits(part: Part) -> bool
 /// Where the digits end that leave a part as it is, from behind that part on.
 fn digits_end(bytes: &[u8], from: usize, part: Part) -> usize
     requires part { part_behind (Some Part.Start) (take from bytes.now) ≡ Some part }
-    requires takes { spec_takes part ≡ true }
+    requires takes { takes_digits part ≡ true }
     requires within { from ≤ length bytes.now }
     ensures part { part_behind (Some Part.Start) (take result bytes.now) ≡ Some part }
     ensures within { result ≤ length bytes.now }
@@ -145,10 +145,11 @@ fn digits_end(bytes: &[u8], from: usize, part: Part) -> usize
 }
 
 /// How many bytes in front a number may begin with, and how much of it they are. Its cost is that number of bytes.
-pub fn longest_number(bytes: &[u8]) -> (usize, Part)
+fn longest_number(bytes: &[u8]) -> (usize, Part)
     ensures within { result.0 ≤ length bytes.now }
     ensures part { part_behind (Some Part.Start) (take result.0 bytes.now) ≡ Some result.1 }
-    ensures stops { result.0 < length bytes.now → spec_next result.1 (slice_index bytes.now result.0) ≡ None }
+    ensures stops { result.0 < length bytes.now
+        → next_part result.1 (slice_index bytes.now result.0) ≡ None }
 {
     let mut part = Part::Start;
     let mut end = 0;
@@ -165,11 +166,25 @@ pub fn longest_number(bytes: &[u8]) -> (usize, Part)
     (end, part)
 }
 
+/// How many bytes in front a number may begin with, at most, and whether they are a number
+/// (RFC 8259, section 6). Its cost is that number of bytes.
+pub fn number_front(bytes: &[u8]) -> (usize, bool)
+    ensures within { result.0 ≤ length bytes.now }
+    ensures alive { IsNumeralFront (take result.0 bytes.now) }
+    ensures dead { result.0 < length bytes.now
+        → IsNumeralFront (take (result.0 + 1) bytes.now) → ⊥ }
+    ensures whole { (result.1 ≡ true) ↔ IsNumeral (take result.0 bytes.now) }
+{
+    let (end, part) = longest_number(bytes);
+    (end, part.may_end())
+}
+
 /// How many bytes the number in front has, and the part in which it ends.
 fn number_len(bytes: &[u8]) -> Result<(usize, Part), Stop>
     requires { begins bytes.now ≡ true }
     ensures found { IfOk result (λ x. IsNumberFront bytes.now x.0) }
-    ensures part { IfOk result (λ x. (part_behind (Some Part.Start) (take x.0 bytes.now) ≡ Some x.1) × (spec_end x.1 ≡ true)) }
+    ensures part { IfOk result (λ x. (part_behind (Some Part.Start) (take x.0 bytes.now) ≡ Some x.1)
+        × (may_end x.1 ≡ true)) }
     ensures broken { IfErr result (λ e. (st : List Frame) → Fails e (run true value st bytes.now)) }
 {
     let (end, part) = longest_number(bytes);
@@ -181,8 +196,9 @@ fn number_len(bytes: &[u8]) -> Result<(usize, Part), Stop>
 
 /// Whether a number of so many bytes that ends in this part has so few digits that it keeps the limits.
 fn is_small(len: usize, part: Part) -> bool
-    requires { spec_end part ≡ true }
-    ensures { result ≡ true → (s : List ℕ) → length s ≡ len → part_behind (Some Part.Start) s ≡ Some part → spec_over s ≡ false }
+    requires { may_end part ≡ true }
+    ensures { result ≡ true → (s : List ℕ) → length s ≡ len
+        → part_behind (Some Part.Start) s ≡ Some part → is_over s ≡ false }
 {
     match part {
         Part::Nought | Part::Whole => len <= 18,
@@ -193,8 +209,8 @@ fn is_small(len: usize, part: Part) -> bool
 
 /// Whether a number that ends in this part is past the limits. Of most numbers their length tells.
 fn is_past(spelled: &[u8], part: Part) -> bool
-    requires { (part_behind (Some Part.Start) spelled.now ≡ Some part) × (spec_end part ≡ true) }
-    ensures { result ≡ spec_over spelled.now }
+    requires { (part_behind (Some Part.Start) spelled.now ≡ Some part) × (may_end part ≡ true) }
+    ensures { result ≡ is_over spelled.now }
 {
     if is_small(spelled.len(), part) {
         return false;
@@ -206,7 +222,8 @@ impl Dec {
     /// The number that a text spells, or `None` where it is past the limits. It takes no memory, and so never fails.
     pub fn of_numeral(_alloc: Global, text: &str) -> Result<Option<Dec>, AllocError>
         requires { IsNumeral text.now }
-        ensures { IfOk result (λ o. MatchOption o (spec_over text.now ≡ true) (λ d. (d ≡ text.now) × (spec_over text.now ≡ false))) }
+        ensures { IfOk result (λ o. MatchOption o (is_over text.now ≡ true)
+            (λ d. (d ≡ text.now) × (is_over text.now ≡ false))) }
     {
         if is_over(text.as_bytes()) {
             return Ok(None);
@@ -219,7 +236,9 @@ impl Dec {
 pub(crate) fn number(bytes: &[u8]) -> Result<(Dec, &[u8]), Stop>
     requires utf8 { IsUtf8 bytes.now }
     requires begins { begins bytes.now ≡ true }
-    ensures run { (st : List Frame) → Leads (λ x. run true (after (spec_number x.0)) st x.1.now) result (run true value st bytes.now) }
+    ensures run { (st : List Frame)
+        → Leads (λ x. run true (after (number x.0)) st x.1.now) result
+        (run true value st bytes.now) }
     ensures shorter { IfOk result (λ x. length x.1.now < length bytes.now) }
     ensures utf8 { IfOk result (λ x. IsUtf8 x.1.now) }
 {

@@ -77,7 +77,9 @@ fn key<'a>(
 ) -> Result<(Txt, &'a [u8]), Stop>
     requires utf8 { IsUtf8 bytes.now }
     requires known { Knows keys.now (members_of members.now) }
-    ensures run { (st : List Frame) → Leads (λ x. run true value (in_dict (members_of members.now) x.0 ∷ st) x.1.now) result (run true (key (members_of members.now)) st bytes.now) }
+    ensures run { (st : List Frame)
+        → Leads (λ x. run true value (in_dict (members_of members.now) x.0 ∷ st) x.1.now) result
+        (run true (key (members_of members.now)) st bytes.now) }
     ensures shorter { IfOk result (λ x. length x.1.now < length bytes.now) }
     ensures utf8 { IfOk result (λ x. IsUtf8 x.1.now) }
     ensures new { IfOk result (λ x. has_key x.0 (members_of members.now) ≡ false) }
@@ -105,7 +107,9 @@ fn letters<'a>(bytes: &'a [u8], expected: &[u8]) -> Result<&'a [u8], Stop>
     requires some { 0 < length expected.now }
     requires utf8 { IsUtf8 bytes.now }
     requires ascii { IsUtf8 expected.now }
-    ensures run { (d : Data) (st : List Frame) → Leads (λ x. run true (after d) st x.now) result (run true (word expected.now d) st bytes.now) }
+    ensures run { (d : Data) (st : List Frame)
+        → Leads (λ x. run true (after d) st x.now) result
+        (run true (word expected.now d) st bytes.now) }
     ensures shorter { IfOk result (λ x. length x.now < length bytes.now) }
     ensures utf8 { IfOk result (λ x. IsUtf8 x.now) }
 {
@@ -122,7 +126,11 @@ fn letters<'a>(bytes: &'a [u8], expected: &[u8]) -> Result<&'a [u8], Stop>
 /// A value that is a word, where none else begins.
 fn word_value(bytes: &[u8]) -> Result<(Json, &[u8]), Stop>
     requires { IsUtf8 bytes.now }
-    ensures run { (st : List Frame) → NoSpaceFirst bytes.now → FirstIsNot quote bytes.now → FirstIsNot open_bracket bytes.now → FirstIsNot open_brace bytes.now → begins bytes.now ≡ false → NotClosed st bytes.now → Leads (λ x. run true (after (data_of x.0)) st x.1.now) result (run true value st bytes.now) }
+    ensures run { (st : List Frame) → NoSpaceFirst bytes.now → FirstIsNot quote bytes.now
+        → FirstIsNot open_bracket bytes.now → FirstIsNot open_brace bytes.now
+        → begins bytes.now ≡ false → NotClosed st bytes.now
+        → Leads (λ x. run true (after (data_of x.0)) st x.1.now) result
+        (run true value st bytes.now) }
     ensures shorter { IfOk result (λ x. length x.1.now < length bytes.now) }
     ensures utf8 { IfOk result (λ x. IsUtf8 x.1.now) }
 {
@@ -155,7 +163,9 @@ fn too_deep(rest: &[u8]) -> Stop
 #[cycle(read)]
 fn value(alloc: Global, bytes: &[u8], levels: usize) -> Result<(Json, &[u8]), Stop>
     requires { IsUtf8 bytes.now }
-    ensures run { (st : List Frame) → length st + levels ≡ max_depth → WantsValue st bytes.now → Leads (λ x. run true (after (data_of x.0)) st x.1.now) result (run true value st bytes.now) }
+    ensures run { (st : List Frame) → length st + levels ≡ max_depth → WantsValue st bytes.now
+        → Leads (λ x. run true (after (data_of x.0)) st x.1.now) result
+        (run true value st bytes.now) }
     ensures shorter { IfOk result (λ x. length x.1.now < length bytes.now) }
     ensures utf8 { IfOk result (λ x. IsUtf8 x.1.now) }
 {
@@ -189,7 +199,9 @@ fn value(alloc: Global, bytes: &[u8], levels: usize) -> Result<(Json, &[u8]), St
 #[cycle(read)]
 fn items(alloc: Global, bytes: &[u8], levels: usize) -> Result<(Items, &[u8]), Stop>
     requires { IsUtf8 bytes.now }
-    ensures run { (st : List Frame) → length st + levels + 1 ≡ max_depth → Leads (λ x. run true (after (list (chain x.0))) st x.1.now) result (run true value (in_list [] ∷ st) bytes.now) }
+    ensures run { (st : List Frame) → length st + levels + 1 ≡ max_depth
+        → Leads (λ x. run true (after (list (chain x.0))) st x.1.now) result
+        (run true value (in_list [] ∷ st) bytes.now) }
     ensures shorter { IfOk result (λ x. length x.1.now < length bytes.now) }
     ensures utf8 { IfOk result (λ x. IsUtf8 x.1.now) }
 {
@@ -216,7 +228,9 @@ fn items(alloc: Global, bytes: &[u8], levels: usize) -> Result<(Items, &[u8]), S
 #[cycle(read)]
 fn members(alloc: Global, bytes: &[u8], levels: usize) -> Result<(Members, &[u8]), Stop>
     requires { IsUtf8 bytes.now }
-    ensures run { (st : List Frame) → length st + levels + 1 ≡ max_depth → Leads (λ x. run true (after (dict (pairs x.0))) st x.1.now) result (run true first st bytes.now) }
+    ensures run { (st : List Frame) → length st + levels + 1 ≡ max_depth
+        → Leads (λ x. run true (after (dict (pairs x.0))) st x.1.now) result
+        (run true first st bytes.now) }
     ensures shorter { IfOk result (λ x. length x.1.now < length bytes.now) }
     ensures utf8 { IfOk result (λ x. IsUtf8 x.1.now) }
 {

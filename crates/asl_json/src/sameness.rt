@@ -4,7 +4,7 @@ ghost use Rattle.std.specs.Option.{option_map_or};
 ghost use Rattle.asl_json.specs.View.{data_of};
 ghost use Rattle.asl_json.specs.Data.{chain, pairs};
 ghost use Rattle.asl_json.specs.Number.{units_of};
-ghost use Rattle.asl_json.specs.Meaning.{same as spec_same, same_items, each_in, count, value_at};
+ghost use Rattle.asl_json.specs.Meaning.{same, same_items, each_in, count, value_at};
 
 use crate::value::{Items, Json, Members};
 
@@ -46,7 +46,7 @@ impl Members {
 #[cycle(same)]
 #[tactic(auto, using(crate::proofs::Counting::count_pairs, crate::proofs::Counting::and_off))]
 pub fn same(a: &Json, b: &Json) -> bool
-    ensures { result ≡ spec_same (data_of a.now) (data_of b.now) }
+    ensures { result ≡ same (data_of a.now) (data_of b.now) }
 {
     match (a, b) {
         (Json::Null, Json::Null) => true,

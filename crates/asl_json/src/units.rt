@@ -1,6 +1,6 @@
 // What numbers mean, in units of 10^-9.
 ghost use Rattle.std.specs.Prelude.{◌≡◌, ℕ, ◌+◌, ◌*◌, ◌-◌, ◌^◌, ◌<◌, ◌≤◌, ◌++◌, [], min, true, false, cond, pos, neg_ℤ, length, take, drop, slice_index, IfSome, MatchOption};
-ghost use Rattle.asl_json.specs.Number.{is_digit as spec_digit, is_point as spec_point, is_mark as spec_mark, is_sign as spec_sign, AreDigits, IsNumeral, is_negative as spec_negative, magnitude, unsigned as spec_unsigned, before, behind, raised as spec_raised, lowered as spec_lowered, digits_value, amount_limit, is_over as spec_over, units_of, integer as spec_integer, fraction as spec_fraction, exponent as spec_exponent};
+ghost use Rattle.asl_json.specs.Number.{is_digit, is_point, is_mark, is_sign, AreDigits, IsNumeral, is_negative, magnitude, unsigned, before, behind, raised, lowered, digits_value, amount_limit, is_over, units_of, integer, fraction, exponent};
 ghost use Rattle.asl_json.specs.private.Places.{AreZeros, EndsAboveZero, IsStripped, IsShifted, IsUnshiftable, IsAmount, IsBeyond};
 
 /// How many bytes a number may have.
@@ -17,7 +17,7 @@ const MAX_EXPONENT: usize = 1000;
 
 #[tactic(auto, unfolding(crate::specs::Number::is_point))]
 pub(crate) fn is_point(byte: u8) -> bool
-    ensures { result ≡ spec_point byte }
+    ensures { result ≡ is_point byte }
 {
     byte == b'.'
 }
@@ -25,21 +25,21 @@ pub(crate) fn is_point(byte: u8) -> bool
 /// Whether an exponent begins with this byte.
 #[tactic(auto, unfolding(crate::specs::Number::is_mark))]
 pub(crate) fn is_mark(byte: u8) -> bool
-    ensures { result ≡ spec_mark byte }
+    ensures { result ≡ is_mark byte }
 {
     byte == b'e' || byte == b'E'
 }
 
 #[tactic(auto, unfolding(crate::specs::Number::is_sign))]
 pub(crate) fn is_sign(byte: u8) -> bool
-    ensures { result ≡ spec_sign byte }
+    ensures { result ≡ is_sign byte }
 {
     byte == b'+' || byte == b'-'
 }
 
 /// Whether a minus stands in front.
 fn is_negative(bytes: &[u8]) -> bool
-    ensures { result ≡ spec_negative bytes.now }
+    ensures { result ≡ is_negative bytes.now }
 {
     bytes.len() > 0 && bytes[0] == b'-'
 }
@@ -57,7 +57,7 @@ fn behind_minus(bytes: &[u8]) -> &[u8]
 
 /// What follows the plus or minus, where there is one.
 fn behind_sign(bytes: &[u8]) -> &[u8]
-    ensures { result.now ≡ spec_unsigned bytes.now }
+    ensures { result.now ≡ unsigned bytes.now }
 {
     if bytes.len() > 0 && is_sign(bytes[0]) {
         &bytes[1..]
@@ -68,8 +68,8 @@ fn behind_sign(bytes: &[u8]) -> &[u8]
 
 /// What stands before the mark of the exponent, and what behind it.
 fn at_mark(text: &[u8]) -> (&[u8], &[u8])
-    ensures before { result.0.now ≡ before spec_mark text.now }
-    ensures behind { result.1.now ≡ behind spec_mark text.now }
+    ensures before { result.0.now ≡ before is_mark text.now }
+    ensures behind { result.1.now ≡ behind is_mark text.now }
 {
     let mut end = 0;
     while end < text.len() {
@@ -83,8 +83,8 @@ fn at_mark(text: &[u8]) -> (&[u8], &[u8])
 
 /// What stands before the point, and what behind it.
 fn at_point(text: &[u8]) -> (&[u8], &[u8])
-    ensures before { result.0.now ≡ before spec_point text.now }
-    ensures behind { result.1.now ≡ behind spec_point text.now }
+    ensures before { result.0.now ≡ before is_point text.now }
+    ensures behind { result.1.now ≡ behind is_point text.now }
 {
     let mut end = 0;
     while end < text.len() {
@@ -99,7 +99,7 @@ fn at_point(text: &[u8]) -> (&[u8], &[u8])
 #[tactic(auto, using(crate::proofs::Figures::digit_small))]
 /// What a digit means.
 fn digit_value(digit: u8) -> u8
-    requires { spec_digit digit ≡ true }
+    requires { is_digit digit ≡ true }
     ensures value { result ≡ digit - 48 }
     ensures small { result < 10 }
 {
@@ -110,7 +110,8 @@ fn digit_value(digit: u8) -> u8
 fn number_after(front: u128, digits: &[u8]) -> Option<u128>
     requires digits { AreDigits digits.now }
     requires below { front < amount_limit }
-    ensures { MatchOption result (amount_limit ≤ digits_value front digits.now) (λ n. (n ≡ digits_value front digits.now) × (n < amount_limit)) }
+    ensures { MatchOption result (amount_limit ≤ digits_value front digits.now)
+        (λ n. (n ≡ digits_value front digits.now) × (n < amount_limit)) }
 {
     let mut number = front;
     for digit in digits {
@@ -145,7 +146,8 @@ fn short_number(front: u64, digits: &[u8]) -> Option<u64>
 fn digits_number(integer: &[u8], fraction: &[u8]) -> Option<u128>
     requires integer { AreDigits integer.now }
     requires fraction { AreDigits fraction.now }
-    ensures { let value = digits_value (digits_value 0 integer.now) fraction.now in MatchOption result (amount_limit ≤ value) (λ n. (n ≡ value) × (n < amount_limit)) }
+    ensures { let value = digits_value (digits_value 0 integer.now) fraction.now
+        in MatchOption result (amount_limit ≤ value) (λ n. (n ≡ value) × (n < amount_limit)) }
 {
     if let Some(front) = short_number(0, integer) {
         if let Some(number) = short_number(front, fraction) {
@@ -174,9 +176,9 @@ fn exponent_size(digits: &[u8]) -> usize
 
 /// How far an exponent is above 0, and how far below, as far as it matters.
 fn exponent_parts(exponent: &[u8]) -> (usize, usize)
-    requires { AreDigits (spec_unsigned exponent.now) }
-    ensures raised { result.0 ≡ min (spec_raised exponent.now) 1000 }
-    ensures lowered { result.1 ≡ min (spec_lowered exponent.now) 1000 }
+    requires { AreDigits (unsigned exponent.now) }
+    ensures raised { result.0 ≡ min (raised exponent.now) 1000 }
+    ensures lowered { result.1 ≡ min (lowered exponent.now) 1000 }
 {
     let size = exponent_size(behind_sign(exponent));
     if is_negative(exponent) {
@@ -203,7 +205,8 @@ fn significant_len(digits: &[u8]) -> usize
 fn scaled(number: u128, zeros: usize) -> Option<u128>
     requires some { 0 < number }
     requires below { number < amount_limit }
-    ensures { MatchOption result (amount_limit ≤ number * 10 ^ zeros) (λ n. (n ≡ number * 10 ^ zeros) × (n < amount_limit)) }
+    ensures { MatchOption result (amount_limit ≤ number * 10 ^ zeros)
+        (λ n. (n ≡ number * 10 ^ zeros) × (n < amount_limit)) }
 {
     let mut scaled = number;
     for _zero in 0..zeros {
@@ -264,7 +267,8 @@ fn plain_amount(integer: &[u8], fraction: &[u8]) -> Option<u128>
     requires integer { AreDigits integer.now }
     requires fraction { AreDigits fraction.now }
     requires few { length fraction.now ≤ 9 }
-    ensures { MatchOption result (IsBeyond integer.now fraction.now []) (IsAmount integer.now fraction.now []) }
+    ensures { MatchOption result (IsBeyond integer.now fraction.now [])
+        (IsAmount integer.now fraction.now []) }
 {
     let number = digits_number(integer, fraction)?;
     let amount = number * tens(DECIMALS - fraction.len());
@@ -278,9 +282,10 @@ fn plain_amount(integer: &[u8], fraction: &[u8]) -> Option<u128>
 fn amount(integer: &[u8], fraction: &[u8], exponent: &[u8]) -> Option<u128>
     requires integer { AreDigits integer.now }
     requires fraction { AreDigits fraction.now }
-    requires exponent { AreDigits (spec_unsigned exponent.now) }
+    requires exponent { AreDigits (unsigned exponent.now) }
     requires short { length integer.now + length fraction.now ≤ 40 }
-    ensures { MatchOption result (IsBeyond integer.now fraction.now exponent.now) (IsAmount integer.now fraction.now exponent.now) }
+    ensures { MatchOption result (IsBeyond integer.now fraction.now exponent.now)
+        (IsAmount integer.now fraction.now exponent.now) }
 {
     if exponent.len() == 0 && fraction.len() <= DECIMALS {
         return plain_amount(integer, fraction);
@@ -307,9 +312,9 @@ fn signed_units(negative: bool, amount: u128) -> i128
 
 /// The digits of a number before and behind its point, and its exponent with the sign.
 fn parts(spelled: &[u8]) -> (&[u8], &[u8], &[u8])
-    ensures integer { result.0.now ≡ spec_integer spelled.now }
-    ensures fraction { result.1.now ≡ spec_fraction spelled.now }
-    ensures exponent { result.2.now ≡ spec_exponent spelled.now }
+    ensures integer { result.0.now ≡ integer spelled.now }
+    ensures fraction { result.1.now ≡ fraction spelled.now }
+    ensures exponent { result.2.now ≡ exponent spelled.now }
 {
     let (significand, exponent) = at_mark(behind_minus(spelled));
     let (integer, fraction) = at_point(significand);
@@ -319,7 +324,8 @@ fn parts(spelled: &[u8]) -> (&[u8], &[u8], &[u8])
 /// The units of 10^-9 that a number spells, where it keeps the limits.
 pub(crate) fn units(spelled: &[u8]) -> Option<i128>
     requires { IsNumeral spelled.now }
-    ensures { MatchOption result (spec_over spelled.now ≡ true) (λ u. (u ≡ units_of spelled.now) × (spec_over spelled.now ≡ false)) }
+    ensures { MatchOption result (is_over spelled.now ≡ true)
+        (λ u. (u ≡ units_of spelled.now) × (is_over spelled.now ≡ false)) }
 {
     if spelled.len() > MAX_LEN {
         return None;
@@ -335,7 +341,7 @@ const INTEGER: usize = 18;
 /// Whether a number may be past the limits, by its length and those of its parts.
 fn may_be_over(spelled: &[u8]) -> bool
     requires { IsNumeral spelled.now }
-    ensures { result ≡ false → spec_over spelled.now ≡ false }
+    ensures { result ≡ false → is_over spelled.now ≡ false }
 {
     if spelled.len() > MAX_LEN {
         return true;
@@ -350,7 +356,7 @@ fn may_be_over(spelled: &[u8]) -> bool
 /// Whether a number is past the limits. Of most numbers the lengths of its parts tell.
 pub(crate) fn is_over(spelled: &[u8]) -> bool
     requires { IsNumeral spelled.now }
-    ensures { result ≡ spec_over spelled.now }
+    ensures { result ≡ is_over spelled.now }
 {
     if !may_be_over(spelled) {
         return false;

@@ -31,7 +31,8 @@ fn digit(value: u8) -> u8
 /// A control in four digits.
 fn put_digits(out: &mut String, byte: u8) -> Result<(), AllocError>
     requires { byte < 32 }
-    ensures ok { OnOk result (string_bytes out.new ≡ string_bytes out.old ++ escaped_control byte None) }
+    ensures ok { OnOk result (string_bytes out.new
+        ≡ string_bytes out.old ++ escaped_control byte None) }
     ensures err { OnErr result (string_bytes out.new ≡ string_bytes out.old) }
 {
     let escape = [b'\\', b'u', b'0', b'0', digit(byte / 16), digit(byte % 16)];
@@ -42,7 +43,8 @@ fn put_digits(out: &mut String, byte: u8) -> Result<(), AllocError>
 #[tactic(auto, unfolding(crate::specs::Compact::escaped_byte, crate::specs::Compact::control_letter, crate::specs::Text::is_plain))]
 pub(crate) fn letter(byte: u8) -> Option<u8>
     requires { is_plain byte ≡ false }
-    ensures { MatchOption result ((byte < 32) × (escaped_byte byte ≡ escaped_control byte None)) (λ l. (l < 128) × (escaped_byte byte ≡ backslash ∷ l ∷ [])) }
+    ensures { MatchOption result ((byte < 32) × (escaped_byte byte ≡ escaped_control byte None))
+        (λ l. (l < 128) × (escaped_byte byte ≡ backslash ∷ l ∷ [])) }
 {
     match byte {
         b'"' | b'\\' => Some(byte),
@@ -119,7 +121,8 @@ fn separate(out: &mut String, i: usize) -> Result<(), AllocError>
 
 /// Appends the compact text of a value, as `write` gives it. The error is that memory ran out, and then nothing is appended.
 pub fn put(out: &mut String, value: &Json) -> Result<(), AllocError>
-    ensures ok { OnOk result (string_bytes out.new ≡ string_bytes out.old ++ compact (data_of value.now)) }
+    ensures ok { OnOk result (string_bytes out.new
+        ≡ string_bytes out.old ++ compact (data_of value.now)) }
     ensures err { OnErr result (string_bytes out.new ≡ string_bytes out.old) }
 {
     let len = out.as_str().len();
@@ -130,7 +133,8 @@ pub fn put(out: &mut String, value: &Json) -> Result<(), AllocError>
 /// Appends the compact text of a value. Where memory runs out, a part of it may be there.
 #[cycle(put)]
 fn put_value(out: &mut String, value: &Json) -> Result<(), AllocError>
-    ensures ok { OnOk result (string_bytes out.new ≡ string_bytes out.old ++ compact (data_of value.now)) }
+    ensures ok { OnOk result (string_bytes out.new
+        ≡ string_bytes out.old ++ compact (data_of value.now)) }
     ensures kept { Keeps (string_bytes out.old) (string_bytes out.new) }
 {
     match value {
@@ -146,7 +150,8 @@ fn put_value(out: &mut String, value: &Json) -> Result<(), AllocError>
 
 #[cycle(put)]
 fn put_items(out: &mut String, items: &Items) -> Result<(), AllocError>
-    ensures ok { OnOk result (string_bytes out.new ≡ string_bytes out.old ++ 91 ∷ compact_items (chain items.now)) }
+    ensures ok { OnOk result (string_bytes out.new
+        ≡ string_bytes out.old ++ 91 ∷ compact_items (chain items.now)) }
     ensures kept { Keeps (string_bytes out.old) (string_bytes out.new) }
 {
     out.push('[')?;
@@ -160,7 +165,8 @@ fn put_items(out: &mut String, items: &Items) -> Result<(), AllocError>
 
 #[cycle(put)]
 fn put_members(out: &mut String, members: &Members) -> Result<(), AllocError>
-    ensures ok { OnOk result (string_bytes out.new ≡ string_bytes out.old ++ 123 ∷ compact_members (pairs members.now)) }
+    ensures ok { OnOk result (string_bytes out.new
+        ≡ string_bytes out.old ++ 123 ∷ compact_members (pairs members.now)) }
     ensures kept { Keeps (string_bytes out.old) (string_bytes out.new) }
 {
     out.push('{')?;
@@ -179,9 +185,11 @@ fn put_members(out: &mut String, members: &Members) -> Result<(), AllocError>
 pub fn write(alloc: Global, value: &Json) -> Result<String, AllocError>
     ensures text { IfOk result (λ t. string_bytes t ≡ compact (data_of value.now)) }
     // Where some text in the limits is read as the value, this one is.
-    ensures round { IfOk result (λ t. IsReadable (data_of value.now) → ReadsAs (string_bytes t) (data_of value.now)) }
+    ensures round { IfOk result (λ t. IsReadable (data_of value.now)
+        → ReadsAs (string_bytes t) (data_of value.now)) }
     // No text of the value is shorter.
-    ensures shortest { IfOk result (λ t. (b : List ℕ) → IsText b (data_of value.now) → length (string_bytes t) ≤ length b) }
+    ensures shortest { IfOk result (λ t. (b : List ℕ) → IsText b (data_of value.now)
+        → length (string_bytes t) ≤ length b) }
 {
     let mut out = String::new(alloc);
     put_value(&mut out, value)?;

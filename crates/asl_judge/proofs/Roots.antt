@@ -49,3 +49,10 @@ from_input t e = by (root_in t) refl
     by (Some Input) h = starts t Input h
     by (Some Context) h = absurd (let x = sym (ap is_input h) ∙ e in cc)
     by None h = absurd (let x = sym (ap is_input h) ∙ e in cc)
+
+pub no_path : (t : List ℕ) → (IsPath t → ⊥) → root_in t ≡ None
+no_path t h = by (root_in t) refl
+  where
+    by : (o : Option Root) → root_in t ≡ o → o ≡ None
+    by (Some root) e = absurd (h (is_path t (ap is_some e)))
+    by None e = refl

@@ -22,7 +22,8 @@ fn no_names(alloc: Global) -> HashSet<String>
 
 /// The fault of a name that a state before it has.
 fn doubled(alloc: Global, definition: &Json) -> Result<Option<Fault>, AllocError>
-    ensures { IfOk result (Answers (unique_claims [] (states_in Definition (data_of definition.now)))) }
+    ensures { IfOk result (Answers
+        (unique_claims [] (states_in Definition (data_of definition.now)))) }
 {
     match with_states(alloc, no_names(alloc), Sort::Definition, definition)? {
         Ok(_) => Ok(None),

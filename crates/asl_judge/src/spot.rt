@@ -1,7 +1,7 @@
 // Where a value stands.
 ghost use Rattle.std.specs.Prelude.{◌≡◌};
 ghost use Rattle.asl_judge.specs.private.Spots.{spot_of};
-ghost use Rattle.asl_schema.specs.Claims.{one_deeper, at_item as spec_at_item, max_machines};
+ghost use Rattle.asl_schema.specs.Claims.{one_deeper, at_item, max_machines};
 
 use std::collections::HashSet;
 
@@ -35,7 +35,7 @@ pub(crate) fn one_deeper(level: usize) -> usize
 
 /// The spot of an item of a list.
 pub(crate) fn at_item<'a>(spot: Spot<'a>, ends: bool) -> Spot<'a>
-    ensures { spot_of result ≡ spec_at_item (spot_of spot.entry) ends }
+    ensures { spot_of result ≡ at_item (spot_of spot.entry) ends }
 {
     Spot {
         names: spot.names,

@@ -3,7 +3,7 @@ ghost use Rattle.std.specs.Prelude.{◌++◌, ℕ, List, IfOk};
 ghost use Rattle.asl_json.specs.View.{data_of};
 ghost use Rattle.asl_json.specs.Data.{pairs, chain};
 ghost use Rattle.asl_schema.specs.private.Code.{shape_seen};
-ghost use Rattle.asl_schema.specs.Members.{sort_at as spec_sort_at};
+ghost use Rattle.asl_schema.specs.Members.{sort_at};
 ghost use Rattle.asl_schema.specs.States.{Has, Finds, own_name, states_in, item_states, member_states};
 
 use crate::value::{is_list, is_object};
@@ -42,7 +42,8 @@ pub(crate) fn with_states(
     sort: Sort,
     value: &Json,
 ) -> Result<Result<HashSet<String>, Fault>, AllocError>
-    ensures { (ks : List (List ℕ)) → Has seen ks → IfOk result (Finds ks (states_in sort (data_of value.now))) }
+    ensures { (ks : List (List ℕ)) → Has seen ks
+        → IfOk result (Finds ks (states_in sort (data_of value.now))) }
 {
     match value {
         Json::List(items) => {
@@ -69,7 +70,8 @@ fn with_items(
     sort: Sort,
     items: &Items,
 ) -> Result<Result<HashSet<String>, Fault>, AllocError>
-    ensures { (ks : List (List ℕ)) → Has seen ks → IfOk result (Finds ks (item_states sort 0 (chain items.now))) }
+    ensures { (ks : List (List ℕ)) → Has seen ks
+        → IfOk result (Finds ks (item_states sort 0 (chain items.now))) }
 {
     let values = items.values();
     let mut seen = seen;
@@ -89,7 +91,8 @@ fn with_members(
     shape: Shape,
     members: &Members,
 ) -> Result<Result<HashSet<String>, Fault>, AllocError>
-    ensures { (ks : List (List ℕ)) → Has seen ks → IfOk result (Finds ks (member_states (shape_seen shape) 0 (pairs members.now))) }
+    ensures { (ks : List (List ℕ)) → Has seen ks
+        → IfOk result (Finds ks (member_states (shape_seen shape) 0 (pairs members.now))) }
 {
     let pairs = members.members();
     let mut seen = seen;
@@ -110,7 +113,10 @@ fn with_member(
     shape: Shape,
     member: &Member,
 ) -> Result<Result<HashSet<String>, Fault>, AllocError>
-    ensures { (ks : List (List ℕ)) → Has seen ks → IfOk result (Finds ks (own_name (spec_sort_at (shape_seen shape) member.now.key) member.now.key ++ states_in (spec_sort_at (shape_seen shape) member.now.key) (data_of member.now.value))) }
+    ensures { (ks : List (List ℕ)) → Has seen ks
+        → IfOk result
+        (Finds ks (own_name (sort_at (shape_seen shape) member.now.key) member.now.key
+        ++ states_in (sort_at (shape_seen shape) member.now.key) (data_of member.now.value))) }
 {
     let key = member.key.as_str();
     let sort = sort_at(shape, key);

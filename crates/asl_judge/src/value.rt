@@ -5,9 +5,9 @@ ghost use Rattle.asl_json.specs.Number.{units_of};
 ghost use Rattle.asl_json.specs.View.{data_of};
 ghost use Rattle.asl_json.specs.Data.{chain};
 ghost use Rattle.asl_judge.specs.private.Spots.{spot_of};
-ghost use Rattle.asl_schema.specs.Demands.{form_of as spec_form_of, is_of as spec_is_of, path, place, call, timestamp};
-ghost use Rattle.asl_schema.specs.Claims.{root_in, is_input as spec_is_input, is_name as spec_is_name, is_jitter as spec_is_jitter, path_or_call, is_template as spec_is_template, is_nonempty as spec_is_nonempty, item_count, has_all as spec_has_all, is_last as spec_is_last, spot_demands, form_demand, text_demands, number_demands, list_demands, value_demands, demands, is_between_whole, is_between, is_list as spec_is_list, is_object as spec_is_object};
-ghost use Rattle.asl_schema.specs.First.{Judges, sooner as spec_sooner, unless as spec_unless};
+ghost use Rattle.asl_schema.specs.Demands.{form_of, is_of, path, place, call, timestamp};
+ghost use Rattle.asl_schema.specs.Claims.{root_in, is_input, is_name, is_jitter, path_or_call, is_template, is_nonempty, item_count, has_all, is_last, spot_demands, form_demand, text_demands, number_demands, list_demands, value_demands, demands, is_between_whole, is_between, is_list, is_object};
+ghost use Rattle.asl_schema.specs.First.{Judges, sooner, unless};
 
 use crate::spot::{MAX_MACHINES, Spot};
 use asl_intrinsic::{CallFault, Expr};
@@ -20,7 +20,7 @@ use std::alloc::{AllocError, Global};
 
 /// The types of JSON that a value may be of.
 fn form_of(sort: Sort) -> Form
-    ensures { result ≡ spec_form_of sort }
+    ensures { result ≡ form_of sort }
 {
     match sort {
         Sort::Definition
@@ -61,27 +61,27 @@ fn form_of(sort: Sort) -> Form
 
 /// Whether a value of this sort is a template, or a part of one.
 pub(crate) fn is_template(sort: Sort) -> bool
-    ensures { result ≡ spec_is_template sort }
+    ensures { result ≡ is_template sort }
 {
     matches!(sort, Sort::Template)
 }
 
 /// Whether lists of this sort are searched.
 pub(crate) fn is_list(sort: Sort) -> bool
-    ensures { result ≡ spec_is_list sort }
+    ensures { result ≡ is_list sort }
 {
     matches!(form_of(sort), Form::List) || is_template(sort)
 }
 
 /// Whether objects of this sort are searched.
 pub(crate) fn is_object(sort: Sort) -> bool
-    ensures { result ≡ spec_is_object sort }
+    ensures { result ≡ is_object sort }
 {
     matches!(form_of(sort), Form::Object) || is_template(sort)
 }
 
 fn is_of(form: Form, value: &Json) -> bool
-    ensures { result ≡ spec_is_of form (data_of value.now) }
+    ensures { result ≡ is_of form (data_of value.now) }
 {
     match form {
         Form::Object => matches!(value, Json::Dict(_)),
@@ -96,7 +96,7 @@ fn is_of(form: Form, value: &Json) -> bool
 
 /// No fault where the demand holds, else this one.
 pub(crate) fn unless(holds: bool, kind: FaultKind) -> Option<FaultKind>
-    ensures { result ≡ spec_unless holds kind }
+    ensures { result ≡ unless holds kind }
 {
     if holds {
         return None;
@@ -106,7 +106,7 @@ pub(crate) fn unless(holds: bool, kind: FaultKind) -> Option<FaultKind>
 
 /// The one with the lower number, else the first.
 pub(crate) fn sooner(a: Option<FaultKind>, b: Option<FaultKind>) -> Option<FaultKind>
-    ensures { result ≡ spec_sooner a b }
+    ensures { result ≡ sooner a b }
 {
     match (a, b) {
         (None, b) => b,
@@ -122,7 +122,7 @@ pub(crate) fn sooner(a: Option<FaultKind>, b: Option<FaultKind>) -> Option<Fault
 
 /// Whether a text has from 1 to 80 characters.
 fn is_name(text: &str) -> bool
-    ensures { result ≡ spec_is_name text.now }
+    ensures { result ≡ is_name text.now }
 {
     let characters = text
         .as_bytes()
@@ -177,7 +177,7 @@ fn path_fault(alloc: Global, text: &str) -> Result<Option<FaultKind>, AllocError
 }
 
 fn is_input(root: Option<Root>) -> bool
-    ensures { result ≡ spec_is_input root }
+    ensures { result ≡ is_input root }
 {
     match root {
         Some(Root::Input) => true,
@@ -225,7 +225,7 @@ fn stamp_fault(text: &str) -> Option<FaultKind>
 
 /// Whether a text is one of a retrier's `JitterStrategy`.
 fn is_jitter(text: &str) -> bool
-    ensures { result ≡ spec_is_jitter text.now }
+    ensures { result ≡ is_jitter text.now }
 {
     text == "FULL" || text == "NONE"
 }
@@ -285,7 +285,7 @@ fn number_fault(sort: Sort, number: &Dec) -> Option<FaultKind>
 
 /// Whether a list has the name that stands for all errors.
 fn has_all(items: &Items) -> bool
-    ensures { result ≡ spec_has_all (chain items.now) }
+    ensures { result ≡ has_all (chain items.now) }
 {
     for item in items.values() {
         if matches!(item, Json::Text(text) if text.as_str() == "States.ALL") {
@@ -303,13 +303,13 @@ fn is_single(items: &Items) -> bool
 
 /// Whether the name that stands for all errors stands alone, and in the last of the list.
 fn is_last(ends: bool, items: &Items) -> bool
-    ensures { result ≡ spec_is_last ends (chain items.now) }
+    ensures { result ≡ is_last ends (chain items.now) }
 {
     !has_all(items) || (ends && is_single(items))
 }
 
 fn is_nonempty(items: &Items) -> bool
-    ensures { result ≡ spec_is_nonempty (chain items.now) }
+    ensures { result ≡ is_nonempty (chain items.now) }
 {
     !items.values().is_empty()
 }
@@ -322,7 +322,8 @@ fn is_short(items: &Items) -> bool
 
 /// Whether there are some machines, and not too many.
 fn is_fork(items: &Items) -> bool
-    ensures { result ≡ (spec_is_nonempty (chain items.now) && nat_le (item_count (chain items.now)) 999999999) }
+    ensures { result ≡ (is_nonempty (chain items.now)
+        && nat_le (item_count (chain items.now)) 999999999) }
 {
     is_nonempty(items) && is_short(items)
 }

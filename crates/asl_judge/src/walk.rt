@@ -10,9 +10,9 @@ ghost use Rattle.asl_json.specs.Keys.{Knows};
 ghost use Rattle.asl_json.specs.Meaning.{count, value_at};
 ghost use Rattle.asl_schema.specs.private.Code.{shape_seen, rows_of, row_of, group_of, groups_of};
 ghost use Rattle.asl_judge.specs.private.Spots.{spot_of};
-ghost use Rattle.asl_schema.specs.Members.{shape_in as spec_shape_in, sort_at as spec_sort_at, is_among as spec_is_among};
-ghost use Rattle.asl_schema.specs.Claims.{Spot, step, is_true, counts as spec_counts, any_counts as spec_any_counts, is_doubled as spec_is_doubled, any_in as spec_any_in, group_demands, has_any as spec_has_any, is_needed as spec_is_needed, row_claims, names_in, inside, at_member as spec_at_member, is_twice as spec_is_twice, claims, item_claims, member_claims, object_claims, under};
-ghost use Rattle.asl_schema.specs.First.{Found, Answers, Judges, unless as spec_unless, better as spec_better, at_root, under_step};
+ghost use Rattle.asl_schema.specs.Members.{shape_in, sort_at, is_among};
+ghost use Rattle.asl_schema.specs.Claims.{Spot, step, is_true, counts, any_counts, is_doubled, any_in, group_demands, has_any, is_needed, row_claims, names_in, inside, at_member, is_twice, claims, item_claims, member_claims, object_claims, under};
+ghost use Rattle.asl_schema.specs.First.{Found, Answers, Judges, unless, better, at_root, under_step};
 
 use crate::spot::{Spot, at_item, one_deeper};
 use crate::value::{is_list, is_object, is_template, own_fault, sooner, unless};
@@ -26,7 +26,7 @@ use std::collections::HashSet;
 
 /// The one with the lower number, else the earlier one.
 pub(crate) fn better(a: Option<Fault>, b: Option<Fault>) -> Option<Fault>
-    ensures { result ≡ spec_better a b }
+    ensures { result ≡ better a b }
 {
     match (a, b) {
         (None, b) => b,
@@ -76,27 +76,28 @@ fn under_index(alloc: Global, fault: Option<Fault>, at: usize) -> Result<Option<
 
 /// Whether a name is one of a group's.
 fn is_in(group: &Group, name: &str) -> bool
-    ensures { result ≡ spec_is_among name.now (group_of group.now).names }
+    ensures { result ≡ is_among name.now (group_of group.now).names }
 {
     is_among(name, group.names) || is_among(name, group.more)
 }
 
 /// Whether a member is no `End`, or true.
 fn is_there(member: &Member) -> bool
-    ensures { result ≡ (not (bytes_eq member.now.key (codes "End")) || is_true (data_of member.now.value)) }
+    ensures { result ≡ (not (bytes_eq member.now.key (codes "End"))
+        || is_true (data_of member.now.value)) }
 {
     member.key.as_str() != "End" || matches!(member.value, Json::Bool(true))
 }
 
 /// Whether a member counts in a group: a false `End` counts as absent.
 fn counts(group: &Group, member: &Member) -> bool
-    ensures { result ≡ spec_counts (group_of group.now) member.now.key (data_of member.now.value) }
+    ensures { result ≡ counts (group_of group.now) member.now.key (data_of member.now.value) }
 {
     is_in(group, member.key.as_str()) && is_there(member)
 }
 
 fn any_counts(group: &Group, members: &[Member]) -> bool
-    ensures { result ≡ spec_any_counts (group_of group.now) (members_of members.now) }
+    ensures { result ≡ any_counts (group_of group.now) (members_of members.now) }
 {
     for member in members {
         if counts(group, member) {
@@ -108,7 +109,8 @@ fn any_counts(group: &Group, members: &[Member]) -> bool
 
 /// Whether another member of a group of this one is among those before it.
 fn is_doubled(groups: &[Group], before: &[Member], member: &Member) -> bool
-    ensures { result ≡ spec_is_doubled (groups_of groups.now) (members_of before.now) member.now.key (data_of member.now.value) }
+    ensures { result ≡ is_doubled (groups_of groups.now) (members_of before.now) member.now.key
+        (data_of member.now.value) }
 {
     for group in groups {
         if counts(group, member) && any_counts(group, before) {
@@ -120,7 +122,9 @@ fn is_doubled(groups: &[Group], before: &[Member], member: &Member) -> bool
 
 /// The fault of an object in which no member of this group is there.
 fn undecided(group: &Group, members: &[Member]) -> Option<FaultKind>
-    ensures { result ≡ spec_unless (not group.now.exact || spec_any_counts (group_of group.now) (members_of members.now)) FaultKind.Neither }
+    ensures { result ≡ unless
+        (not group.now.exact || any_counts (group_of group.now) (members_of members.now))
+        FaultKind.Neither }
 {
     unless(
         !group.exact || any_counts(group, members),
@@ -130,7 +134,8 @@ fn undecided(group: &Group, members: &[Member]) -> Option<FaultKind>
 
 /// The fault of an object in which no member of a group is there.
 fn group_fault(groups: &[Group], members: &[Member]) -> Option<FaultKind>
-    ensures { Judges (group_demands (groups_of groups.now) (pairs (members_of members.now))) result }
+    ensures { Judges (group_demands (groups_of groups.now) (pairs (members_of members.now)))
+        result }
 {
     let mut fault = None;
     for group in groups {
@@ -140,7 +145,7 @@ fn group_fault(groups: &[Group], members: &[Member]) -> Option<FaultKind>
 }
 
 fn has_any(names: &[&str], members: &[Member]) -> bool
-    ensures { result ≡ spec_has_any (map (λ l. l.now) names.now) (pairs (members_of members.now)) }
+    ensures { result ≡ has_any (map (λ l. l.now) names.now) (pairs (members_of members.now)) }
 {
     for name in names {
         if find(members, name).is_some() {
@@ -151,7 +156,7 @@ fn has_any(names: &[&str], members: &[Member]) -> bool
 }
 
 fn is_needed(row: Row, members: &[Member]) -> bool
-    ensures { result ≡ spec_is_needed (row_of row) (pairs (members_of members.now)) }
+    ensures { result ≡ is_needed (row_of row) (pairs (members_of members.now)) }
 {
     match row {
         Row::Required(_, _) => true,
@@ -162,7 +167,8 @@ fn is_needed(row: Row, members: &[Member]) -> bool
 
 /// The fault of a required member that is missing.
 fn lack(alloc: Global, at: usize, row: Row, members: &[Member]) -> Result<Option<Fault>, AllocError>
-    ensures { IfOk result (Answers (row_claims at (row_of row ∷ []) (pairs (members_of members.now)))) }
+    ensures { IfOk result (Answers
+        (row_claims at (row_of row ∷ []) (pairs (members_of members.now)))) }
 {
     if !is_needed(row, members) || find(members, row.name()).is_some() {
         return Ok(None);
@@ -172,7 +178,9 @@ fn lack(alloc: Global, at: usize, row: Row, members: &[Member]) -> Result<Option
 
 /// The first required member that is missing.
 fn missing(alloc: Global, rows: &[Row], members: &[Member]) -> Result<Option<Fault>, AllocError>
-    ensures { IfOk result (Answers (row_claims (count (pairs (members_of members.now))) (rows_of rows.now) (pairs (members_of members.now)))) }
+    ensures { IfOk result (Answers
+        (row_claims (count (pairs (members_of members.now))) (rows_of rows.now)
+        (pairs (members_of members.now)))) }
 {
     let mut best = None;
     for (i, row) in rows.iter().enumerate() {
@@ -184,7 +192,8 @@ fn missing(alloc: Global, rows: &[Row], members: &[Member]) -> Result<Option<Fau
 
 /// The keys of these members.
 fn keys_of(alloc: Global, members: &[Member]) -> Result<HashSet<String>, AllocError>
-    ensures { IfOk result (λ s. (k : List ℕ) → contains_text s k ≡ has_key k (members_of members.now)) }
+    ensures { IfOk result (λ s. (k : List ℕ)
+        → contains_text s k ≡ has_key k (members_of members.now)) }
 {
     let mut keys = HashSet::new(alloc);
     for member in members {
@@ -195,7 +204,8 @@ fn keys_of(alloc: Global, members: &[Member]) -> Result<HashSet<String>, AllocEr
 
 /// The states of a machine.
 fn states_in(members: &[Member]) -> &[Member]
-    ensures { (k : List ℕ) → has_key k (members_of result.now) ≡ names_in (pairs (members_of members.now)) k }
+    ensures { (k : List ℕ)
+        → has_key k (members_of result.now) ≡ names_in (pairs (members_of members.now)) k }
 {
     match find(members, "States") {
         Some(Json::Dict(states)) => states.members(),
@@ -205,7 +215,8 @@ fn states_in(members: &[Member]) -> &[Member]
 
 /// The names of a machine's states.
 fn state_names(alloc: Global, members: &[Member]) -> Result<HashSet<String>, AllocError>
-    ensures { IfOk result (λ s. (k : List ℕ) → contains_text s k ≡ names_in (pairs (members_of members.now)) k) }
+    ensures { IfOk result (λ s. (k : List ℕ)
+        → contains_text s k ≡ names_in (pairs (members_of members.now)) k) }
 {
     keys_of(alloc, states_in(members))
 }
@@ -284,7 +295,9 @@ fn check_inside(
     shape: Shape,
     members: &Members,
 ) -> Result<Option<Fault>, AllocError>
-    ensures { IfOk result (Answers (member_claims (inside (spot_of spot.entry) sort (pairs members.now)) (shape_seen shape) [] 0 (pairs members.now))) }
+    ensures { IfOk result (Answers
+        (member_claims (inside (spot_of spot.entry) sort (pairs members.now)) (shape_seen shape) []
+        0 (pairs members.now))) }
 {
     match sort {
         Sort::Definition | Sort::Machine | Sort::ItemProcessor => {
@@ -309,7 +322,8 @@ fn check_members(
     shape: Shape,
     members: &Members,
 ) -> Result<Option<Fault>, AllocError>
-    ensures { IfOk result (Answers (member_claims (spot_of spot.entry) (shape_seen shape) [] 0 (pairs members.now))) }
+    ensures { IfOk result (Answers
+        (member_claims (spot_of spot.entry) (shape_seen shape) [] 0 (pairs members.now))) }
 {
     let pairs = members.members();
     let mut keys = Keys::new();
@@ -333,7 +347,7 @@ fn is_twice(
     key: &str,
 ) -> Result<bool, AllocError>
     requires { Knows keys.now (members_of before.now) }
-    ensures { IfOk result (λ b. b ≡ spec_is_twice others (members_of before.now) key.now) }
+    ensures { IfOk result (λ b. b ≡ is_twice others (members_of before.now) key.now) }
 {
     if !is_template(others) {
         return Ok(false);
@@ -351,7 +365,10 @@ fn check_member(
     member: &Member,
 ) -> Result<Option<Fault>, AllocError>
     requires { Knows keys.now (members_of before.now) }
-    ensures { IfOk result (Answers (claims (spec_at_member (spot_of spot.entry) (shape_seen shape) (members_of before.now) member.now.key (data_of member.now.value)) (spec_sort_at (shape_seen shape) member.now.key) (data_of member.now.value))) }
+    ensures { IfOk result (Answers
+        (claims (at_member (spot_of spot.entry) (shape_seen shape) (members_of before.now)
+        member.now.key (data_of member.now.value)) (sort_at (shape_seen shape) member.now.key)
+        (data_of member.now.value))) }
 {
     let key = member.key.as_str();
     let twice = is_twice(alloc, shape.others, keys, before, key)?;

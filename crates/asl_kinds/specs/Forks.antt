@@ -1,4 +1,5 @@
--- Branches under a state: those that it forks, and what they have come to (ASL, "Parallel State", "Map State").
+-- Branches under a state: those that it forks, and what they have come to (ASL, "Parallel State",
+-- "Map State").
 use Rattle.std.specs.Prelude.{ℕ, ◌+◌, false, List, [], ◌∷◌, map, length, nat_le, if◌then◌else◌, Option, Some, None, Result, Ok, Err, codes}
 use Rattle.std.specs.Option.{option_or}
 use Rattle.asl_json.specs.Data.{Data}
@@ -41,7 +42,8 @@ listed Null = Err (no_value (codes "ItemsPath"))
 listed (Bool b) = Err (no_value (codes "ItemsPath"))
 listed (Num n) = Err (no_value (codes "ItemsPath"))
 listed (Text t) = Err (no_value (codes "ItemsPath"))
-listed (ListOf ds) = if nat_le (length ds) 999_999_999 then Ok ds else Err (no_value (codes "ItemsPath"))
+listed (ListOf ds) =
+    if nat_le (length ds) 999_999_999 then Ok ds else Err (no_value (codes "ItemsPath"))
 listed (Dict ms) = Err (no_value (codes "ItemsPath"))
 
 abbrev pub items_by : Given → Result (List Data) ErrorOut
@@ -62,7 +64,8 @@ in_iteration v i d = record {
   moment = v.moment;
 }
 
--- the input of an iteration: what the template makes of the Map's effective input; the item, where there is no template
+-- the input of an iteration: what the template makes of the Map's effective input; the item, where
+-- there is no template
 abbrev pub item_input : Option Data → Json → Facts → Seen → ℕ → Data → Given
 item_input None y f v i d = Ok (json_of d)
 item_input (Some t) y f v i d = filled (Some t) y (context_of f (in_iteration v i d))
@@ -79,7 +82,8 @@ new_before start (Ok x) (Ok rs) = Ok (New start x ∷ rs)
 -- the iterations over these items, numbered from i, that begin at this state
 abbrev pub iterations : List ℕ → Option Data → Json → Facts → Seen → ℕ → List Data → GivenRecords
 iterations start t y f v i [] = Ok []
-iterations start t y f v i (d ∷ ds) = new_before start (item_input t y f v i d) (iterations start t y f v (i + 1) ds)
+iterations start t y f v i (d ∷ ds) =
+    new_before start (item_input t y f v i d) (iterations start t y f v (i + 1) ds)
 
 -- what a Map forks: its items, and an iteration for each; or the error that it raises
 abbrev pub GivenFork : Type 0

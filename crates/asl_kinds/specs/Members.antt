@@ -31,15 +31,18 @@ values_in (Some (dict ms)) = []
 
 -- what InputPath takes, then what Parameters makes of it
 abbrev pub effective_by : Option Data → Option Data → Json → Data → Given
-effective_by path parameters x c = and_then (taken (codes "InputPath") path x c) (λ y. filled parameters y c)
+effective_by path parameters x c =
+    and_then (taken (codes "InputPath") path x c) (λ y. filled parameters y c)
 
 -- the effective input
 abbrev pub effective : Data → Json → Data → Given
-effective d x c = effective_by (value_in (codes "InputPath") d) (value_in (codes "Parameters") d) x c
+effective d x c =
+    effective_by (value_in (codes "InputPath") d) (value_in (codes "Parameters") d) x c
 
 -- a result put into the raw input, and what OutputPath takes of that
 abbrev pub placed_by : Option Data → Option Data → Json → Data → Json → Given
-placed_by path output x c r = and_then (put_into path x r) (λ z. taken (codes "OutputPath") output z c)
+placed_by path output x c r =
+    and_then (put_into path x r) (λ z. taken (codes "OutputPath") output z c)
 
 abbrev pub placed : Data → Json → Data → Json → Given
 placed d x c r = placed_by (value_in (codes "ResultPath") d) (value_in (codes "OutputPath") d) x c r
@@ -53,16 +56,20 @@ result_or (Some r) y = json_of r
 
 -- the effective input; the result, and where it is placed
 abbrev pub pass_output : Data → Json → Data → Given
-pass_output d x c = and_then (effective d x c) (λ y. placed d x c (result_or (value_in (codes "Result") d) y))
+pass_output d x c =
+    and_then (effective d x c) (λ y. placed d x c (result_or (value_in (codes "Result") d) y))
 
 -- ---- Task, and states that fork
 
 -- what ResultSelector makes of a result, and where it is placed
 abbrev pub selected_by : Option Data → Option Data → Option Data → Json → Data → Json → Given
-selected_by selector path output x c r = and_then (filled selector r c) (λ s. placed_by path output x c s)
+selected_by selector path output x c r =
+    and_then (filled selector r c) (λ s. placed_by path output x c s)
 
 abbrev pub selected : Data → Json → Data → Json → Given
-selected d x c r = selected_by (value_in (codes "ResultSelector") d) (value_in (codes "ResultPath") d) (value_in (codes "OutputPath") d) x c r
+selected d x c r =
+    selected_by (value_in (codes "ResultSelector") d) (value_in (codes "ResultPath") d)
+    (value_in (codes "OutputPath") d) x c r
 
 -- no answer of the test case is for this invocation
 abbrev pub no_answer : ErrorOut
@@ -93,7 +100,9 @@ target_by default (Ok None) = text_or no_choice (text_in default)
 target_by default (Ok (Some next)) = text_or no_choice (text_in (Some next))
 
 abbrev pub chosen_target : Data → Data → Data → GivenText
-chosen_target d y c = target_by (value_in (codes "Default") d) (chosen_next (values_in (value_in (codes "Choices") d)) y c)
+chosen_target d y c =
+    target_by (value_in (codes "Default") d)
+    (chosen_next (values_in (value_in (codes "Choices") d)) y c)
 
 -- where a Choice goes on, and with what
 abbrev pub GivenTarget : Type 0
@@ -106,7 +115,9 @@ target_with (Ok t) (Ok z) = Ok (t, z)
 
 abbrev pub choice_by : Data → Data → Given → GivenTarget
 choice_by d c (Err e) = Err e
-choice_by d c (Ok y) = target_with (chosen_target d (data_of y) c) (taken (codes "OutputPath") (value_in (codes "OutputPath") d) y c)
+choice_by d c (Ok y) =
+    target_with (chosen_target d (data_of y) c)
+    (taken (codes "OutputPath") (value_in (codes "OutputPath") d) y c)
 
 -- the target by the effective input, then what OutputPath takes of that
 abbrev pub choice_output : Data → Json → Data → GivenTarget
@@ -127,16 +138,21 @@ abbrev pub later : ℕ → ℕ → ℕ
 later now seconds = min (now + seconds * 1000) 253_402_300_799_999
 
 -- until when a Wait waits that was entered now: by the one of the four members that is there
-abbrev pub until_by : Option Data → Option (List ℕ) → Option Data → Option (List ℕ) → ℕ → Data → Data → GivenMoment
-until_by (Some s) sp t tp now y c = moment_or (no_value (codes "Seconds")) (option_map (later now) (seconds_of s))
-until_by None (Some p) t tp now y c = moment_or (no_value (codes "SecondsPath")) (option_map (later now) (seconds_at p y c))
+abbrev pub until_by : Option Data → Option (List ℕ) → Option Data → Option (List ℕ) → ℕ → Data
+    → Data → GivenMoment
+until_by (Some s) sp t tp now y c =
+    moment_or (no_value (codes "Seconds")) (option_map (later now) (seconds_of s))
+until_by None (Some p) t tp now y c =
+    moment_or (no_value (codes "SecondsPath")) (option_map (later now) (seconds_at p y c))
 until_by None None (Some t) tp now y c = moment_or (no_value (codes "Timestamp")) (moment_of t)
-until_by None None None (Some p) now y c = moment_or (no_value (codes "TimestampPath")) (moment_at p y c)
+until_by None None None (Some p) now y c =
+    moment_or (no_value (codes "TimestampPath")) (moment_at p y c)
 until_by None None None None now y c = Err (no_value (codes "Seconds"))
 
 abbrev pub until_in : Data → ℕ → Data → Data → GivenMoment
 until_in d now y c =
-    until_by (value_in (codes "Seconds") d) (text_in (value_in (codes "SecondsPath") d)) (value_in (codes "Timestamp") d) (text_in (value_in (codes "TimestampPath") d)) now y c
+    until_by (value_in (codes "Seconds") d) (text_in (value_in (codes "SecondsPath") d))
+    (value_in (codes "Timestamp") d) (text_in (value_in (codes "TimestampPath") d)) now y c
 
 abbrev pub wait_by : Data → ℕ → Data → Given → GivenMoment
 wait_by d now c (Err e) = Err e
@@ -144,7 +160,8 @@ wait_by d now c (Ok y) = until_in d now (data_of y) c
 
 -- the same by the raw input
 abbrev pub wait_until : Data → ℕ → Json → Data → GivenMoment
-wait_until d now x c = wait_by d now c (taken (codes "InputPath") (value_in (codes "InputPath") d) x c)
+wait_until d now x c =
+    wait_by d now c (taken (codes "InputPath") (value_in (codes "InputPath") d) x c)
 
 -- ---- Fail
 
@@ -156,7 +173,8 @@ abbrev pub some_text : GivenText → GivenReason
 some_text (Ok t) = Ok (Some t)
 some_text (Err e) = Err e
 
--- the text that stands there; else the one that a field's path or call gives; none where there is neither
+-- the text that stands there; else the one that a field's path or call gives; none where there is
+-- neither
 abbrev pub reason_by : List ℕ → Option (List ℕ) → Option (List ℕ) → Data → Data → GivenReason
 reason_by field (Some t) at x c = Ok (Some t)
 reason_by field None (Some at) x c = some_text (text_at field at x c)
@@ -174,8 +192,11 @@ abbrev pub either : Result ErrorOut ErrorOut → ErrorOut
 either (Ok e) = e
 either (Err e) = e
 
--- the error that a Fail names: first its name, then its cause; what can't be found is an error of its own
+-- the error that a Fail names: first its name, then its cause; what can't be found is an error of
+-- its own
 abbrev pub fail_error : Data → Data → Data → ErrorOut
 fail_error d x c = either (error_and
-    (reason_by (codes "ErrorPath") (text_in (value_in (codes "Error") d)) (text_in (value_in (codes "ErrorPath") d)) x c)
-    (reason_by (codes "CausePath") (text_in (value_in (codes "Cause") d)) (text_in (value_in (codes "CausePath") d)) x c))
+    (reason_by (codes "ErrorPath") (text_in (value_in (codes "Error") d))
+    (text_in (value_in (codes "ErrorPath") d)) x c)
+    (reason_by (codes "CausePath") (text_in (value_in (codes "Cause") d))
+    (text_in (value_in (codes "CausePath") d)) x c))

@@ -7,7 +7,7 @@ ghost use Rattle.asl_states.specs.Show.{choice_object};
 ghost use Rattle.asl_steps.specs.Context.{context_of};
 ghost use Rattle.asl_steps.specs.Seen.{seen};
 ghost use Rattle.asl_data.specs.Gives.{IsRaised, GivesSeen};
-ghost use Rattle.asl_kinds.specs.Members.{undecided as spec_undecided, target_by as spec_target_by, chosen_target, choice_output};
+ghost use Rattle.asl_kinds.specs.Members.{undecided, target_by, chosen_target, choice_output};
 
 use crate::kind::StateKind;
 use asl_choice::RuleFault;
@@ -21,7 +21,7 @@ use std::alloc::{AllocError, Global};
 
 /// Why it can't be said which rule holds, as an error.
 fn undecided(alloc: Global, fault: RuleFault) -> Fault
-    ensures { IsRaised (spec_undecided (fault_of fault.entry)) result }
+    ensures { IsRaised (undecided (fault_of fault.entry)) result }
 {
     match fault {
         RuleFault::Missing(path) => missing(alloc, path),
@@ -35,7 +35,9 @@ fn target_by<'a>(
     default: Option<&'a Target>,
     next: Result<Option<&'a Target>, RuleFault<'a>>,
 ) -> Result<&'a str, Fault>
-    ensures { GivesSeen (λ t. t.now) (spec_target_by (option_map (λ t. text t.now.name) default.entry) (rules_say (λ t. option_map (λ t. text t.now.name) t) next.entry)) result }
+    ensures { GivesSeen (λ t. t.now)
+        (target_by (option_map (λ t. text t.now.name) default.entry)
+        (rules_say (λ t. option_map (λ t. text t.now.name) t) next.entry)) result }
 {
     match next {
         Ok(Some(target)) => Ok(target.name.as_str()),
@@ -55,7 +57,9 @@ fn target<'a>(
     visit: &Visit,
     context: &mut Context,
 ) -> Result<&'a str, Fault>
-    ensures given { GivesSeen (λ t. t.now) (chosen_target (choice_object choice.now) (data_of value.now) (context_of context.old.facts (seen visit.now))) result }
+    ensures given { GivesSeen (λ t. t.now)
+        (chosen_target (choice_object choice.now) (data_of value.now)
+        (context_of context.old.facts (seen visit.now))) result }
     ensures facts { context.new.facts ≡ context.old.facts }
 {
     context.show(alloc, visit)?;
@@ -71,7 +75,9 @@ fn output<'a>(
     visit: &Visit,
     context: &mut Context,
 ) -> Result<(&'a str, Shared), Fault>
-    ensures given { GivesSeen (λ g. (g.0.now, g.1)) (choice_output (choice_object choice.now) input.now (context_of context.old.facts (seen visit.now))) result }
+    ensures given { GivesSeen (λ g. (g.0.now, g.1))
+        (choice_output (choice_object choice.now) input.now
+        (context_of context.old.facts (seen visit.now))) result }
     ensures facts { context.new.facts ≡ context.old.facts }
 {
     let effective = taken(

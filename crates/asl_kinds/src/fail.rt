@@ -26,7 +26,10 @@ fn reason(
     visit: &Visit,
     context: &mut Context,
 ) -> Result<Option<Txt>, Fault>
-    ensures given { Gives (reason_by field.now (text_in (told (option_map (λ r. r.now) reason.entry))) (text_in (told_at (option_map (λ r. r.now) reason.entry))) (data_of input.now) (context_of context.old.facts (seen visit.now))) result }
+    ensures given { Gives (reason_by field.now
+        (text_in (told (option_map (λ r. r.now) reason.entry)))
+        (text_in (told_at (option_map (λ r. r.now) reason.entry))) (data_of input.now)
+        (context_of context.old.facts (seen visit.now))) result }
     ensures facts { context.new.facts ≡ context.old.facts }
 {
     match reason {
@@ -62,7 +65,9 @@ fn error(
     visit: &Visit,
     context: &mut Context,
 ) -> Result<ErrorOut, AllocError>
-    ensures error { IfOk result (λ e. e ≡ fail_error (fail_object fail.now) (data_of input.now) (context_of context.old.facts (seen visit.now))) }
+    ensures error { IfOk result (λ e. e
+        ≡ fail_error (fail_object fail.now) (data_of input.now)
+        (context_of context.old.facts (seen visit.now))) }
     ensures facts { context.new.facts ≡ context.old.facts }
 {
     match named(alloc, fail, input, visit, context) {

@@ -3,7 +3,7 @@ ghost use Rattle.std.specs.Prelude.{◌≡◌, map, option_map, IfOk};
 ghost use Rattle.asl_parts.specs.Member.{completion_object};
 ghost use Rattle.asl_steps.specs.Context.{context_of};
 ghost use Rattle.asl_steps.specs.Seen.{seen};
-ghost use Rattle.asl_kinds.specs.Forks.{forked_with, error_in, first_error as spec_first_error, output_in, outputs as spec_outputs, gathered as spec_gathered};
+ghost use Rattle.asl_kinds.specs.Forks.{forked_with, error_in, first_error, output_in, outputs, gathered};
 ghost use Rattle.asl_kinds.specs.Table.{branch_fails, branches_end, joined};
 
 use crate::making::selected;
@@ -40,7 +40,7 @@ fn error_of(branch: &Record) -> Option<&ErrorOut>
 
 /// The error of the first branch that has failed.
 fn first_error<'a>(branches: &'a [&'a Record]) -> Option<&'a ErrorOut>
-    ensures { option_map (λ e. e.now) result ≡ spec_first_error (map (λ r. r.now) branches.now) }
+    ensures { option_map (λ e. e.now) result ≡ first_error (map (λ r. r.now) branches.now) }
 {
     for branch in branches {
         if let Some(error) = error_of(branch) {
@@ -62,7 +62,7 @@ fn output_of(branch: &Record) -> Option<&Shared>
 
 /// The outputs in the order of the branches; none where one of them hasn't ended well.
 fn outputs(alloc: Global, branches: &[&Record]) -> Result<Option<Items>, AllocError>
-    ensures { IfOk result (λ o. o ≡ spec_outputs (map (λ r. r.now) branches.now)) }
+    ensures { IfOk result (λ o. o ≡ outputs (map (λ r. r.now) branches.now)) }
 {
     let mut outputs = Vec::with_capacity(alloc, branches.len())?;
     for branch in branches {
@@ -76,7 +76,7 @@ fn outputs(alloc: Global, branches: &[&Record]) -> Result<Option<Items>, AllocEr
 
 /// The branches are taken away.
 fn gathered(alloc: Global) -> Progress
-    ensures { result ≡ spec_gathered }
+    ensures { result ≡ gathered }
 {
     Progress {
         children: Children::Removed,
@@ -95,7 +95,9 @@ fn branch_fails(
     input: &Shared,
     error: ErrorOut,
 ) -> Result<Effect, AllocError>
-    ensures { IfOk result (λ e. e ≡ branch_fails failed exited (completion_object completion.now) (seen visit.now) input.now error) }
+    ensures { IfOk result (λ e. e
+        ≡ branch_fails failed exited (completion_object completion.now) (seen visit.now) input.now
+        error) }
 {
     let told = Shared::new(alloc, error_output(alloc, &error)?)?;
     let done = telling(alloc, visit, gathered(alloc), failed, told)?;
@@ -113,7 +115,9 @@ fn branches_end(
     input: &Shared,
     outputs: Items,
 ) -> Result<Effect, AllocError>
-    ensures effect { IfOk result (λ e. e ≡ branches_end succeeded exited (completion_object completion.now) (context_of context.old.facts (seen visit.now)) (seen visit.now) input.now outputs) }
+    ensures effect { IfOk result (λ e. e
+        ≡ branches_end succeeded exited (completion_object completion.now)
+        (context_of context.old.facts (seen visit.now)) (seen visit.now) input.now outputs) }
     ensures facts { context.new.facts ≡ context.old.facts }
 {
     let done = telling(
@@ -140,7 +144,9 @@ pub(crate) fn join(
     exited: EventKind,
     input: &Shared,
 ) -> Result<Effect, AllocError>
-    ensures effect { IfOk result (λ e. e ≡ joined succeeded failed exited (completion_object completion.now) (context_of context.old.facts (seen visit.now)) (seen visit.now) input.now) }
+    ensures effect { IfOk result (λ e. e
+        ≡ joined succeeded failed exited (completion_object completion.now)
+        (context_of context.old.facts (seen visit.now)) (seen visit.now) input.now) }
     ensures facts { context.new.facts ≡ context.old.facts }
 {
     if let Some(error) = first_error(visit.children) {

@@ -1,7 +1,7 @@
 //! The kinds of states: what a step of each does, one row of the state table at a time.
 //!
-//! Modules in reading order: `kind` is what all kinds have in common; `making`, `passing`, `raising`, `forking` and `joining` have what
-//! several share: data, how a state is left, what becomes of an error, branches that begin and branches that have ended; then a module
+//! Modules in reading order: `kind` is what all kinds have in common; `making`, `passing`, `raising` and `joining` have what several
+//! share: data, how a state is left, what becomes of an error, and branches that have ended; then a module
 //! for each kind, and `state` for a state of any kind.
 #![tactic(auto)]
 

@@ -25,7 +25,9 @@ pub(crate) fn effective(
     visit: &Visit,
     context: &mut Context,
 ) -> Result<Shared, Fault>
-    ensures given { Gives (effective_by (path_shown input_path.now) (option_map (λ t. t.now) parameters.entry) input.now (context_of context.old.facts (seen visit.now))) result }
+    ensures given { Gives (effective_by (path_shown input_path.now)
+        (option_map (λ t. t.now) parameters.entry) input.now
+        (context_of context.old.facts (seen visit.now))) result }
     ensures facts { context.new.facts ≡ context.old.facts }
 {
     let value = taken(alloc, "InputPath", input_path, input, visit, context)?;
@@ -42,7 +44,8 @@ pub(crate) fn placed(
     visit: &Visit,
     context: &mut Context,
 ) -> Result<Shared, Fault>
-    ensures given { Gives (placed_by (path_shown result_path.now) (path_shown output_path.now) input.now (context_of context.old.facts (seen visit.now)) given) result }
+    ensures given { Gives (placed_by (path_shown result_path.now) (path_shown output_path.now)
+        input.now (context_of context.old.facts (seen visit.now)) given) result }
     ensures facts { context.new.facts ≡ context.old.facts }
 {
     let placed = put_into(alloc, result_path, input, given)?;
@@ -58,7 +61,11 @@ pub(crate) fn selected(
     visit: &Visit,
     context: &mut Context,
 ) -> Result<Shared, Fault>
-    ensures given { Gives (selected_by (value_in (codes "ResultSelector") (completion_object completion.now)) (value_in (codes "ResultPath") (completion_object completion.now)) (value_in (codes "OutputPath") (completion_object completion.now)) input.now (context_of context.old.facts (seen visit.now)) answered) result }
+    ensures given { Gives (selected_by
+        (value_in (codes "ResultSelector") (completion_object completion.now))
+        (value_in (codes "ResultPath") (completion_object completion.now))
+        (value_in (codes "OutputPath") (completion_object completion.now)) input.now
+        (context_of context.old.facts (seen visit.now)) answered) result }
     ensures facts { context.new.facts ≡ context.old.facts }
 {
     let selected = filled(

@@ -6,9 +6,9 @@ ghost use Rattle.asl_states.specs.Show.{map_object};
 ghost use Rattle.asl_steps.specs.Context.{context_of};
 ghost use Rattle.asl_steps.specs.Seen.{seen};
 ghost use Rattle.asl_data.specs.Gives.{Gives};
-ghost use Rattle.asl_data.specs.Paths.{taken as spec_taken};
-ghost use Rattle.asl_kinds.specs.Forks.{listed as spec_listed, item_input, iterations as spec_iterations};
-ghost use Rattle.asl_kinds.specs.Table.{length_body as spec_length_body, fork_of as spec_fork_of, map_forks, map_with};
+ghost use Rattle.asl_data.specs.Paths.{taken};
+ghost use Rattle.asl_kinds.specs.Forks.{listed, item_input, iterations};
+ghost use Rattle.asl_kinds.specs.Table.{length_body, fork_of, map_forks, map_with};
 ghost use Rattle.asl_steps.specs.Bounds.{AreFew};
 ghost use Rattle.asl_steps.specs.declared.record.Record.TheVariants.{New};
 
@@ -36,7 +36,9 @@ fn list_of(
     visit: &Visit,
     context: &mut Context,
 ) -> Result<Shared, Fault>
-    ensures given { Gives (spec_taken (codes "ItemsPath") (value_in (codes "ItemsPath") (map_object [] map.now)) effective.now (context_of context.old.facts (seen visit.now))) result }
+    ensures given { Gives (taken (codes "ItemsPath")
+        (value_in (codes "ItemsPath") (map_object [] map.now)) effective.now
+        (context_of context.old.facts (seen visit.now))) result }
     ensures facts { context.new.facts ≡ context.old.facts }
 {
     match map.items_path() {
@@ -47,7 +49,7 @@ fn list_of(
 
 /// The items of a list that a Map can go over.
 fn listed(alloc: Global, list: Shared) -> Result<SharedItems, Fault>
-    ensures given { Gives (spec_listed list) result }
+    ensures given { Gives (listed list) result }
     ensures few { IfOk result (λ ds. length ds ≤ 999_999_999) }
 {
     match list.get() {
@@ -66,7 +68,8 @@ fn item_input(
     visit: &Visit,
     context: &mut Context,
 ) -> Result<Shared, Fault>
-    ensures given { Gives (item_input (option_map (λ t. t.now) template.entry) effective.now context.old.facts (seen visit.now) number (data_of item)) result }
+    ensures given { Gives (item_input (option_map (λ t. t.now) template.entry) effective.now
+        context.old.facts (seen visit.now) number (data_of item)) result }
     ensures facts { context.new.facts ≡ context.old.facts }
 {
     let Some(template) = template else {
@@ -111,7 +114,8 @@ fn iterations(
     context: &mut Context,
 ) -> Result<Records, Fault>
     requires { length items.now ≤ 999_999_999 }
-    ensures given { Gives (spec_iterations start.now (option_map (λ t. t.now) template.entry) effective.now context.old.facts (seen visit.now) 0 items.now) result }
+    ensures given { Gives (iterations start.now (option_map (λ t. t.now) template.entry)
+        effective.now context.old.facts (seen visit.now) 0 items.now) result }
     ensures few { IfOk result (λ rs. length rs ≡ length items.now) }
     ensures facts { context.new.facts ≡ context.old.facts }
 {
@@ -128,7 +132,7 @@ fn iterations(
 /// What is told of the start: how many iterations there are.
 fn length_body(alloc: Global, items: &SharedItems) -> Result<Shared, AllocError>
     requires { length items.now ≤ 999_999_999 }
-    ensures { IfOk result (λ v. v ≡ spec_length_body items.now) }
+    ensures { IfOk result (λ v. v ≡ length_body items.now) }
 {
     let mut members = Members::with_capacity(alloc, 1)?;
     let length = Json::Num(Dec::of_whole(items.values().len() as i128));
@@ -144,7 +148,8 @@ fn fork_of(
     visit: &Visit,
     context: &mut Context,
 ) -> Result<(SharedItems, Records), Fault>
-    ensures given { Gives (spec_fork_of (map_object [] map.now) context.old.facts (seen visit.now) input.now) result }
+    ensures given { Gives (fork_of (map_object [] map.now) context.old.facts (seen visit.now)
+        input.now) result }
     ensures few { IfOk result (λ r. (length r.0 ≤ 999_999_999) × (length r.1 ≡ length r.0)) }
     ensures facts { context.new.facts ≡ context.old.facts }
 {
@@ -169,7 +174,9 @@ fn forks(
 ) -> Result<Effect, AllocError>
     requires items { length items ≤ 999_999_999 }
     requires iterations { length iterations ≡ length items }
-    ensures effect { IfOk result (λ e. e ≡ map_forks (map_object [] map.now) (seen visit.now) done input.now (Ok (items, iterations))) }
+    ensures effect { IfOk result (λ e. e
+        ≡ map_forks (map_object [] map.now) (seen visit.now) done input.now
+        (Ok (items, iterations))) }
     ensures fits { IfOk result (λ e. AreFew e.children) }
 {
     let started = length_body(alloc, &items)?;
@@ -186,7 +193,8 @@ fn begins(
     context: &mut Context,
     input: &Shared,
 ) -> Result<Effect, AllocError>
-    ensures effect { IfOk result (λ e. e ≡ map_with (map_object [] map.now) context.old.facts (seen visit.now) (Some input.now)) }
+    ensures effect { IfOk result (λ e. e
+        ≡ map_with (map_object [] map.now) context.old.facts (seen visit.now) (Some input.now)) }
     ensures fits { IfOk result (λ e. AreFew e.children) }
     ensures facts { context.new.facts ≡ context.old.facts }
 {

@@ -44,7 +44,9 @@ fn forks(
     input: &Shared,
     effective: &Shared,
 ) -> Result<Effect, AllocError>
-    ensures effect { IfOk result (λ e. e ≡ parallel_forks (parallel_object [] parallel.now) (seen visit.now) done input.now (Ok effective.now)) }
+    ensures effect { IfOk result (λ e. e
+        ≡ parallel_forks (parallel_object [] parallel.now) (seen visit.now) done input.now
+        (Ok effective.now)) }
     ensures fits { IfOk result (λ e. AreFew e.children) }
 {
     let started = empty_object(alloc)?;
@@ -63,7 +65,9 @@ fn begins(
     context: &mut Context,
     input: &Shared,
 ) -> Result<Effect, AllocError>
-    ensures effect { IfOk result (λ e. e ≡ parallel_with (parallel_object [] parallel.now) (context_of context.old.facts (seen visit.now)) (seen visit.now) (Some input.now)) }
+    ensures effect { IfOk result (λ e. e
+        ≡ parallel_with (parallel_object [] parallel.now)
+        (context_of context.old.facts (seen visit.now)) (seen visit.now) (Some input.now)) }
     ensures fits { IfOk result (λ e. AreFew e.children) }
     ensures facts { context.new.facts ≡ context.old.facts }
 {

@@ -5,7 +5,7 @@ ghost use Rattle.asl_states.specs.Show.{pass_object};
 ghost use Rattle.asl_steps.specs.Context.{context_of};
 ghost use Rattle.asl_steps.specs.Seen.{seen};
 ghost use Rattle.asl_data.specs.Gives.{Gives};
-ghost use Rattle.asl_kinds.specs.Members.{pass_output, result_or as spec_result_or};
+ghost use Rattle.asl_kinds.specs.Members.{pass_output, result_or};
 
 use crate::kind::StateKind;
 use crate::making::{effective, placed};
@@ -19,7 +19,8 @@ use std::alloc::{AllocError, Global};
 
 /// The result of a Pass that has one, else its effective input.
 fn result_or(alloc: Global, given: Option<&Json>, effective: Shared) -> Result<Shared, AllocError>
-    ensures { IfOk result (λ v. v ≡ spec_result_or (option_map (λ w. data_of w.now) given.entry) effective) }
+    ensures { IfOk result (λ v. v
+        ≡ result_or (option_map (λ w. data_of w.now) given.entry) effective) }
 {
     match given {
         Some(value) => copied(alloc, value),
@@ -35,7 +36,8 @@ fn output(
     visit: &Visit,
     context: &mut Context,
 ) -> Result<Shared, Fault>
-    ensures given { Gives (pass_output (pass_object pass.now) input.now (context_of context.old.facts (seen visit.now))) result }
+    ensures given { Gives (pass_output (pass_object pass.now) input.now
+        (context_of context.old.facts (seen visit.now))) result }
     ensures facts { context.new.facts ≡ context.old.facts }
 {
     let (path, parameters) = (pass.input_path(), pass.parameters());

@@ -5,7 +5,7 @@ ghost use Rattle.asl_parts.specs.Texts.{text_in};
 ghost use Rattle.asl_steps.specs.Seen.{seen};
 ghost use Rattle.asl_data.specs.Paths.{Given};
 ghost use Rattle.asl_data.specs.Gives.{Gives};
-ghost use Rattle.asl_kinds.specs.Table.{passed as spec_passed};
+ghost use Rattle.asl_kinds.specs.Table.{passed};
 
 use asl_data::Fault;
 use asl_history::EventKind;
@@ -33,7 +33,9 @@ pub(crate) fn passed(
     next: Option<&str>,
     given: Result<Shared, Fault>,
 ) -> Result<Effect, AllocError>
-    ensures { (g : Given) → Gives g given → IfOk result (λ e. e ≡ spec_passed (seen visit.now) done exited (option_map (λ n. n.now) next.entry) g) }
+    ensures { (g : Given) → Gives g given
+        → IfOk result
+        (λ e. e ≡ passed (seen visit.now) done exited (option_map (λ n. n.now) next.entry) g) }
 {
     match given {
         Ok(output) => leaving(alloc, visit, done, exited, next, output),

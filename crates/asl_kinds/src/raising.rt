@@ -10,7 +10,7 @@ ghost use Rattle.asl_parts.specs.Parts.{catcher_object};
 ghost use Rattle.asl_data.specs.Paths.{Given};
 ghost use Rattle.asl_data.specs.Gives.{Gives};
 ghost use Rattle.asl_kinds.specs.Members.{next_in};
-ghost use Rattle.asl_kinds.specs.Table.{error_name as spec_error_name, handled, raised, settled as spec_settled};
+ghost use Rattle.asl_kinds.specs.Table.{error_name, handled, raised, settled};
 
 use crate::passing::{passed, target};
 use asl_data::{Fault, put_into};
@@ -24,7 +24,7 @@ use std::alloc::{AllocError, Global};
 
 /// The name of an error; empty where it has none.
 fn error_name(error: &ErrorOut) -> &str
-    ensures { result.now ≡ spec_error_name error.now }
+    ensures { result.now ≡ error_name error.now }
 {
     match &error.error {
         Some(name) => name.as_str(),
@@ -34,7 +34,8 @@ fn error_name(error: &ErrorOut) -> &str
 
 /// How many retriers there are.
 pub(crate) fn count_of(retriers: Option<&Retriers>) -> usize
-    ensures { result ≡ item_count (handlers_in (option_map (λ rs. list (chain rs.now)) retriers.entry)) }
+    ensures { result ≡ item_count
+        (handlers_in (option_map (λ rs. list (chain rs.now)) retriers.entry)) }
 {
     match retriers {
         Some(retriers) => retriers.as_slice().len(),
@@ -52,7 +53,9 @@ fn caught(
     input: &Shared,
     error: &ErrorOut,
 ) -> Result<Effect, AllocError>
-    ensures { IfOk result (λ e. e ≡ handled None (seen visit.now) done exited input.now error.now (caught (catcher_object catcher.now))) }
+    ensures { IfOk result (λ e. e
+        ≡ handled None (seen visit.now) done exited input.now error.now
+        (caught (catcher_object catcher.now))) }
 {
     let output = Shared::new(alloc, error_output(alloc, error)?)?;
     let given = put_into(alloc, catcher.result_path(), input, output);
@@ -70,7 +73,10 @@ pub(crate) fn raise(
     input: &Shared,
     error: ErrorOut,
 ) -> Result<Effect, AllocError>
-    ensures { IfOk result (λ e. e ≡ raised (value_in (codes "Retry") (completion_object completion.now)) (value_in (codes "Catch") (completion_object completion.now)) (seen visit.now) done exited input.now error) }
+    ensures { IfOk result (λ e. e
+        ≡ raised (value_in (codes "Retry") (completion_object completion.now))
+        (value_in (codes "Catch") (completion_object completion.now)) (seen visit.now) done exited
+        input.now error) }
 {
     let policy = Policy {
         retriers: completion.retry(),
@@ -96,7 +102,11 @@ pub(crate) fn settled(
     input: &Shared,
     given: Result<Shared, Fault>,
 ) -> Result<Effect, AllocError>
-    ensures { (g : Given) → Gives g given → IfOk result (λ e. e ≡ spec_settled (value_in (codes "Retry") (completion_object completion.now)) (value_in (codes "Catch") (completion_object completion.now)) (next_in (completion_object completion.now)) (seen visit.now) done exited input.now g) }
+    ensures { (g : Given) → Gives g given
+        → IfOk result
+        (λ e. e ≡ settled (value_in (codes "Retry") (completion_object completion.now))
+        (value_in (codes "Catch") (completion_object completion.now))
+        (next_in (completion_object completion.now)) (seen visit.now) done exited input.now g) }
 {
     match given {
         Ok(output) => leaving(

@@ -23,7 +23,8 @@ fn output(
     visit: &Visit,
     context: &mut Context,
 ) -> Result<Shared, Fault>
-    ensures given { Gives (passed_on (succeed_object succeed.now) input.now (context_of context.old.facts (seen visit.now))) result }
+    ensures given { Gives (passed_on (succeed_object succeed.now) input.now
+        (context_of context.old.facts (seen visit.now))) result }
     ensures facts { context.new.facts ≡ context.old.facts }
 {
     let effective = taken(

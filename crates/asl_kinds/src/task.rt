@@ -3,8 +3,8 @@ ghost use Rattle.std.specs.Prelude.{◌≡◌, IfOk, option_map};
 ghost use Rattle.asl_states.specs.Show.{task_object};
 ghost use Rattle.asl_steps.specs.Context.{context_of};
 ghost use Rattle.asl_steps.specs.Seen.{seen};
-ghost use Rattle.asl_kinds.specs.Members.{no_answer as spec_no_answer};
-ghost use Rattle.asl_kinds.specs.Table.{invoked as spec_invoked, task_fails, task_returns, task_answered};
+ghost use Rattle.asl_kinds.specs.Members.{no_answer};
+ghost use Rattle.asl_kinds.specs.Table.{invoked, task_fails, task_returns, task_answered};
 
 use crate::kind::StateKind;
 use crate::making::{effective, selected};
@@ -27,7 +27,7 @@ fn invoked(
     done: Progress,
     effective: Shared,
 ) -> Result<Progress, AllocError>
-    ensures { IfOk result (λ d. d ≡ spec_invoked (seen visit.now) done effective) }
+    ensures { IfOk result (λ d. d ≡ invoked (seen visit.now) done effective) }
 {
     let done = telling(alloc, visit, done, EventKind::TaskScheduled, effective)?;
     let started = empty_object(alloc)?;
@@ -45,7 +45,7 @@ fn invoked(
 
 /// No answer of the test case is for this invocation.
 fn no_answer(alloc: Global) -> Result<ErrorOut, AllocError>
-    ensures { IfOk result (λ e. e ≡ spec_no_answer) }
+    ensures { IfOk result (λ e. e ≡ no_answer) }
 {
     match raised(alloc, "States.Runtime", "no mocked answer") {
         Fault::Raised(error) => Ok(error),
@@ -62,7 +62,8 @@ fn fails(
     input: &Shared,
     error: ErrorOut,
 ) -> Result<Effect, AllocError>
-    ensures { IfOk result (λ e. e ≡ task_fails (task_object task.now) (seen visit.now) done input.now error) }
+    ensures { IfOk result (λ e. e
+        ≡ task_fails (task_object task.now) (seen visit.now) done input.now error) }
 {
     let told = Shared::new(alloc, error_output(alloc, &error)?)?;
     let done = telling(alloc, visit, done, EventKind::TaskFailed, told)?;
@@ -88,7 +89,9 @@ fn returns(
     input: &Shared,
     value: &Json,
 ) -> Result<Effect, AllocError>
-    ensures effect { IfOk result (λ e. e ≡ task_returns (task_object task.now) (context_of context.old.facts (seen visit.now)) (seen visit.now) done input.now value.now) }
+    ensures effect { IfOk result (λ e. e
+        ≡ task_returns (task_object task.now) (context_of context.old.facts (seen visit.now))
+        (seen visit.now) done input.now value.now) }
     ensures facts { context.new.facts ≡ context.old.facts }
 {
     let value = copied(alloc, value)?;
@@ -117,7 +120,9 @@ fn answered(
     input: &Shared,
     answer: Option<&Answer>,
 ) -> Result<Effect, AllocError>
-    ensures effect { IfOk result (λ e. e ≡ task_answered (task_object task.now) (context_of context.old.facts (seen visit.now)) (seen visit.now) done input.now (option_map (λ a. a.now) answer.entry)) }
+    ensures effect { IfOk result (λ e. e
+        ≡ task_answered (task_object task.now) (context_of context.old.facts (seen visit.now))
+        (seen visit.now) done input.now (option_map (λ a. a.now) answer.entry)) }
     ensures facts { context.new.facts ≡ context.old.facts }
 {
     match answer {

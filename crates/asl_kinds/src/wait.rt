@@ -6,7 +6,7 @@ ghost use Rattle.asl_steps.specs.Context.{context_of};
 ghost use Rattle.asl_steps.specs.Seen.{seen};
 ghost use Rattle.asl_data.specs.Gives.{Gives};
 ghost use Rattle.asl_data.specs.Paths.{no_value};
-ghost use Rattle.asl_kinds.specs.Members.{moment_or, later as spec_later, until_in, wait_until, passed_on};
+ghost use Rattle.asl_kinds.specs.Members.{moment_or, later, until_in, wait_until, passed_on};
 
 use crate::kind::StateKind;
 use crate::passing::{passed, target};
@@ -20,7 +20,7 @@ use std::alloc::{AllocError, Global};
 
 /// The moment so many seconds later, or the last one.
 fn later(now: Moment, seconds: u32) -> Moment
-    ensures { result ≡ spec_later now seconds }
+    ensures { result ≡ later now seconds }
 {
     add(now, u64::from(seconds) * 1000)
 }
@@ -43,7 +43,8 @@ fn until(
     visit: &Visit,
     context: &mut Context,
 ) -> Result<Moment, Fault>
-    ensures given { Gives (until_in (wait_object wait.now) visit.now.moment (data_of value.now) (context_of context.old.facts (seen visit.now))) result }
+    ensures given { Gives (until_in (wait_object wait.now) visit.now.moment (data_of value.now)
+        (context_of context.old.facts (seen visit.now))) result }
     ensures facts { context.new.facts ≡ context.old.facts }
 {
     let now = visit.moment;
@@ -73,7 +74,8 @@ fn waits(
     visit: &Visit,
     context: &mut Context,
 ) -> Result<Moment, Fault>
-    ensures given { Gives (wait_until (wait_object wait.now) visit.now.moment input.now (context_of context.old.facts (seen visit.now))) result }
+    ensures given { Gives (wait_until (wait_object wait.now) visit.now.moment input.now
+        (context_of context.old.facts (seen visit.now))) result }
     ensures facts { context.new.facts ≡ context.old.facts }
 {
     let effective = taken(alloc, "InputPath", wait.input_path(), input, visit, context)?;
@@ -88,7 +90,8 @@ fn output(
     visit: &Visit,
     context: &mut Context,
 ) -> Result<Shared, Fault>
-    ensures given { Gives (passed_on (wait_object wait.now) input.now (context_of context.old.facts (seen visit.now))) result }
+    ensures given { Gives (passed_on (wait_object wait.now) input.now
+        (context_of context.old.facts (seen visit.now))) result }
     ensures facts { context.new.facts ≡ context.old.facts }
 {
     let effective = taken(alloc, "InputPath", wait.input_path(), input, visit, context)?;

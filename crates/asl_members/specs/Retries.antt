@@ -1,4 +1,5 @@
--- What a retrier says of its attempts and delays, from its canonical object. (Amazon States Language, "Retrying after error".)
+-- What a retrier says of its attempts and delays, from its canonical object. (Amazon States
+-- Language, "Retrying after error".)
 use Rattle.std.specs.Prelude.{ℕ, nat_abs, ℤ, Option, Some, None, codes}
 use Rattle.asl_json.specs.Data.{Data, number}
 use Rattle.asl_json.specs.Meaning.{value_in}

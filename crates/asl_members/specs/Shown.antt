@@ -38,7 +38,14 @@ names_shown ns = list (chain (map text ns))
 
 -- the canonical members of a retrier
 abbrev pub retrier_members : Retrier → List (List ℕ × Option Data)
-retrier_members r = (codes "Comment", option_map text r.comment) ∷ (codes "ErrorEquals", Some (names_shown r.errors)) ∷ (codes "IntervalSeconds", option_map number r.interval) ∷ (codes "MaxAttempts", option_map number r.attempts) ∷ (codes "BackoffRate", option_map number r.rate) ∷ (codes "MaxDelaySeconds", option_map number r.delay_limit) ∷ (codes "JitterStrategy", option_map jitter_shown r.jitter) ∷ []
+retrier_members r =
+    (codes "Comment", option_map text r.comment)
+    ∷ (codes "ErrorEquals", Some (names_shown r.errors))
+    ∷ (codes "IntervalSeconds", option_map number r.interval)
+    ∷ (codes "MaxAttempts", option_map number r.attempts)
+    ∷ (codes "BackoffRate", option_map number r.rate)
+    ∷ (codes "MaxDelaySeconds", option_map number r.delay_limit)
+    ∷ (codes "JitterStrategy", option_map jitter_shown r.jitter) ∷ []
 
 abbrev pub retrier_object : Retrier → Data
 retrier_object r = dict (pairs (present (retrier_members r)))

@@ -36,7 +36,8 @@ pub fn read_optional<T: Compile>(
     value: Option<&Json>,
 ) -> Result<Option<T>, AllocError>
     requires { IfSome (option_map (λ v. data_of v.now) value) T.Fits }
-    ensures { IfOk result (λ x. option_map T.shown x ≡ option_map (λ v. data_of v.now) value.entry) }
+    ensures { IfOk result (λ x. option_map T.shown x
+        ≡ option_map (λ v. data_of v.now) value.entry) }
 {
     match value {
         Some(value) => Ok(Some(T::read(alloc, value)?)),

@@ -150,7 +150,8 @@ impl ErrorNames {
 impl Retrier {
     /// The errors that it is for (`ErrorEquals`).
     pub fn errors(&self) -> &ErrorNames
-        ensures { Some (names_shown result.now) ≡ value_in (codes "ErrorEquals") (retrier_object self.now) }
+        ensures { Some (names_shown result.now)
+            ≡ value_in (codes "ErrorEquals") (retrier_object self.now) }
     {
         &self.errors
     }
@@ -287,7 +288,8 @@ impl Retriers {
         value: Option<&Json>,
     ) -> Result<Option<Retriers>, AllocError>
         requires { Fits retriers_sort (option_map (λ v. data_of v.now) value) }
-        ensures { IfOk result (λ x. option_map (λ rs. list (chain rs)) x ≡ option_map (λ v. canon retriers_sort (data_of v.now)) value.entry) }
+        ensures { IfOk result (λ x. option_map (λ rs. list (chain rs)) x
+            ≡ option_map (λ v. canon retriers_sort (data_of v.now)) value.entry) }
     {
         match value {
             Some(value) => Ok(Some(Retriers::read(alloc, value)?)),

@@ -143,10 +143,5 @@ unread_answer b (json.Utf8 at) h k = (h, (k, λ e. absurd (cc e)))
 unread_answer b json.OutOfMemory h k = tt
 
 pub unread_only : (d : Data) (f : JsonFault) → IsRead {X = JsonValue} data_of d (Err f) → unread f ≡ OutOfMemory
-unread_only d (json.Syntax at) h = absurd h
-unread_only d (json.Duplicate at) h = absurd h
-unread_only d (json.Depth at) h = absurd h
-unread_only d (json.Number at) h = absurd h
-unread_only d json.Size h = absurd h
-unread_only d (json.Utf8 at) h = absurd h
 unread_only d json.OutOfMemory h = refl
+unread_only d x h = absurd h

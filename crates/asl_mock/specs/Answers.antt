@@ -28,13 +28,15 @@ cause_of (Some d) = Some (text_of (Some d))
 
 abbrev pub thrown : Option Data → Answer
 thrown None = Throws [] None
-thrown (Some d) = Throws (text_of (value_in (codes "Error") d)) (cause_of (value_in (codes "Cause") d))
+thrown (Some d) =
+    Throws (text_of (value_in (codes "Error") d)) (cause_of (value_in (codes "Cause") d))
 
 abbrev pub answer_by : Option Data → Option Data → Answer
 answer_by (Some v) t = Returns (json_of v)
 answer_by None t = thrown t
 
--- an object with one member: `Return` and any value, or `Throw` and an object with `Error` and at most `Cause`
+-- an object with one member: `Return` and any value, or `Throw` and an object with `Error` and at
+-- most `Cause`
 abbrev pub answer_of : Data → Answer
 answer_of d = answer_by (value_in (codes "Return") d) (value_in (codes "Throw") d)
 
@@ -99,7 +101,9 @@ abbrev pub Machines : Type 0
 Machines = List (Named Machine)
 
 abbrev pub mocks_of : Data → Machines
-mocks_of d = machines_of (responses_of (members_at (codes "MockedResponses") d)) (members_at (codes "StateMachines") d)
+mocks_of d =
+    machines_of (responses_of (members_at (codes "MockedResponses") d))
+    (members_at (codes "StateMachines") d)
 
 -- ---- which answer is given
 
@@ -114,6 +118,7 @@ abbrev pub answer_in : ℕ → Option Response → Option Answer
 answer_in n None = None
 answer_in n (Some r) = first_with n r
 
--- the answer of number n to the state of this name, where the case names a response for it that has one
+-- the answer of number n to the state of this name, where the case names a response for it that has
+-- one
 abbrev pub answer_to : Case → List ℕ → ℕ → Option Answer
 answer_to c state n = answer_in n (value_for state c)

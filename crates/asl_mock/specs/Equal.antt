@@ -1,4 +1,5 @@
--- Which cases are equal: those with the same answers to the same states, in the same order. The spelling of a value counts, and
+-- Which cases are equal: those with the same answers to the same states, in the same order. The
+-- spelling of a value counts, and
 -- so does the order of its members.
 use Rattle.std.specs.Prelude.{Bool, false, ◌&&◌, nat_eq}
 use Rattle.std.specs.Cmp.Lexicographic.{pointwise}
@@ -17,7 +18,9 @@ answer_equal (Returns v) (Throws f d) = false
 answer_equal (Throws e c) (Returns w) = false
 
 abbrev pub ranged_equal : Ranged → Ranged → Bool
-ranged_equal a b = (nat_eq a.span.low b.span.low && nat_eq a.span.high b.span.high) && answer_equal a.answer b.answer
+ranged_equal a b =
+    (nat_eq a.span.low b.span.low && nat_eq a.span.high b.span.high)
+    && answer_equal a.answer b.answer
 
 abbrev pub response_equal : Response → Response → Bool
 response_equal = pointwise ranged_equal

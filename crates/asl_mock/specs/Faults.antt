@@ -20,7 +20,8 @@ abbrev pub bad_keys_in : List ℕ × Data → List Place
 bad_keys_in r = in_each bad_key (members_in r.1)
 
 abbrev pub bad_keys : Data → List Place
-bad_keys d = under (codes "MockedResponses") (in_each bad_keys_in (members_at (codes "MockedResponses") d))
+bad_keys d =
+    under (codes "MockedResponses") (in_each bad_keys_in (members_at (codes "MockedResponses") d))
 
 -- M4: a key with a number of an earlier key of the same response
 
@@ -40,13 +41,15 @@ is_apart (Some s) ms = if list_any (meets s) ms then false else true
 
 abbrev pub overlaps_behind : Members → Members → List Place
 overlaps_behind seen [] = []
-overlaps_behind seen (m ∷ ms) = under m.0 (unless (is_apart (span_in m.0) seen)) ++ overlaps_behind (seen ++ m ∷ []) ms
+overlaps_behind seen (m ∷ ms) =
+    under m.0 (unless (is_apart (span_in m.0) seen)) ++ overlaps_behind (seen ++ m ∷ []) ms
 
 abbrev pub overlaps_in : List ℕ × Data → List Place
 overlaps_in r = overlaps_behind [] (members_in r.1)
 
 abbrev pub overlaps : Data → List Place
-overlaps d = under (codes "MockedResponses") (in_each overlaps_in (members_at (codes "MockedResponses") d))
+overlaps d =
+    under (codes "MockedResponses") (in_each overlaps_in (members_at (codes "MockedResponses") d))
 
 -- M5: the name of a response that isn't there
 
@@ -57,14 +60,21 @@ abbrev pub lost_in_case : List (Named Response) → List ℕ × Data → List Pl
 lost_in_case rs c = in_each (lost_name rs) (members_in c.1)
 
 abbrev pub lost_in_machine : List (Named Response) → List ℕ × Data → List Place
-lost_in_machine rs m = under (codes "TestCases") (in_each (lost_in_case rs) (members_at (codes "TestCases") m.1))
+lost_in_machine rs m =
+    under (codes "TestCases") (in_each (lost_in_case rs) (members_at (codes "TestCases") m.1))
 
 abbrev pub lost_names : Data → List Place
-lost_names d = under (codes "StateMachines") (in_each (lost_in_machine (responses_of (members_at (codes "MockedResponses") d))) (members_at (codes "StateMachines") d))
+lost_names d =
+    under (codes "StateMachines")
+    (in_each (lost_in_machine (responses_of (members_at (codes "MockedResponses") d)))
+    (members_at (codes "StateMachines") d))
 
--- all faults, a number and a place each: the lowest number first, and of one number in document order
+-- all faults, a number and a place each: the lowest number first, and of one number in document
+-- order
 abbrev pub numbered : ℕ → List Place → List (ℕ × Place)
 numbered n ps = map (λ (p : Place). (n, p)) ps
 
 abbrev pub faults : Data → List (ℕ × Place)
-faults d = numbered 2 (misfits Top d) ++ (numbered 3 (bad_keys d) ++ (numbered 4 (overlaps d) ++ numbered 5 (lost_names d)))
+faults d =
+    numbered 2 (misfits Top d)
+    ++ (numbered 3 (bad_keys d) ++ (numbered 4 (overlaps d) ++ numbered 5 (lost_names d)))

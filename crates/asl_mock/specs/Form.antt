@@ -1,4 +1,5 @@
--- What a mock file is made of, value by value. (AWS Step Functions, "Mocked service integrations", the file MockConfigFile.json.)
+-- What a mock file is made of, value by value. (AWS Step Functions, "Mocked service integrations",
+-- the file MockConfigFile.json.)
 use Rattle.std.specs.Prelude.{ℕ, List, [], ◌∷◌, ◌++◌, Bool, true, false, ◌&&◌, ◌||◌, ◌==◌, if◌then◌else◌, codes, is_some}
 use Rattle.asl_json.specs.Data.{Data, null, boolean, number, text, list, dict, Pairs, no_members, member}
 use Rattle.asl_json.specs.Same.{bytes_eq}
@@ -9,7 +10,9 @@ use Rattle.asl_mock.specs.declared.shape.Shape.TheVariants.{Any, Text, Top, Mach
 
 -- what a member of this key is
 abbrev pub part_shape : Shape → List ℕ → Shape
-part_shape Top k = if bytes_eq k (codes "StateMachines") then Machines else if bytes_eq k (codes "MockedResponses") then Responses else Any
+part_shape Top k =
+    if bytes_eq k (codes "StateMachines") then Machines else if bytes_eq k (codes "MockedResponses")
+    then Responses else Any
 part_shape Machines k = Machine
 part_shape Machine k = if bytes_eq k (codes "TestCases") then Cases else Any
 part_shape Cases k = Case
@@ -38,7 +41,8 @@ fits Machine d = has (codes "TestCases") d
 -- exactly one of the two
 fits Answer d = (members_count d == 1) && (has (codes "Return") d || has (codes "Throw") d)
 -- `Error`, and `Cause` at most
-fits Thrown d = has (codes "Error") d && (members_count d == (if has (codes "Cause") d then 2 else 1))
+fits Thrown d =
+    has (codes "Error") d && (members_count d == (if has (codes "Cause") d then 2 else 1))
 fits Text d = false
 fits Any d = true
 fits Top d = true

@@ -1,4 +1,5 @@
--- Which numbers the key of an answer stands for: `N` for itself, `low-high` for all from low to high.
+-- Which numbers the key of an answer stands for: `N` for itself, `low-high` for all from low to
+-- high.
 use Rattle.std.specs.Prelude.{ℕ, ◌+◌, ◌-◌, ◌*◌, List, [], ◌∷◌, Bool, ◌&&◌, nat_le, ◌==◌, Option, Some, None, if◌then◌else◌, length}
 use Rattle.std.specs.List.{before_first, after_first, list_any}
 use Rattle.std.specs.Str.{all_ascii_digits}
@@ -27,4 +28,7 @@ is_dash b = b == 45
 
 -- the numbers of a key, where it is one
 abbrev pub span_in : List ℕ → Option Span
-span_in t = if list_any is_dash t then span_of (number_in (before_first is_dash t)) (number_in (after_first is_dash t)) else span_of (number_in t) (number_in t)
+span_in t =
+    if list_any is_dash t
+    then span_of (number_in (before_first is_dash t)) (number_in (after_first is_dash t))
+    else span_of (number_in t) (number_in t)

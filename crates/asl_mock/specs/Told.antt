@@ -45,7 +45,8 @@ pub record IsFault (b : List ℕ) (e : MockFault) : Type 0 where
   pub reads : ReadsAs b value
   pub fault : IsFaultIn value e
 
--- memory ran out; or the bytes are no JSON text, with its fault; or this is the first fault of the value
+-- memory ran out; or the bytes are no JSON text, with its fault; or this is the first fault of the
+-- value
 abbrev pub IsAnswer : List ℕ → MockFault → Type 0
 IsAnswer b (Json f) = IsFaultOf b f × (IsFirstOf b f × (f ≡ json.OutOfMemory → ⊥))
 IsAnswer b (Shape p) = IsFault b (Shape p)

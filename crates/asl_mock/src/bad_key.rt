@@ -2,7 +2,7 @@
 ghost use Rattle.std.specs.Prelude.{◌≡◌, IfOk};
 ghost use Rattle.asl_json.specs.View.{members_of};
 ghost use Rattle.asl_mock.specs.Places.{first_of, in_each};
-ghost use Rattle.asl_mock.specs.Faults.{bad_key as spec_bad_key, bad_keys_in};
+ghost use Rattle.asl_mock.specs.Faults.{bad_key, bad_keys_in};
 
 use crate::key::span_in;
 use crate::place::Place;
@@ -12,7 +12,7 @@ use std::alloc::{AllocError, Global};
 
 /// The first key of a response that stands for no numbers. The error is that memory ran out.
 fn bad_key(alloc: Global, answers: &[Member]) -> Result<Option<Place>, AllocError>
-    ensures { IfOk result (λ found. found ≡ first_of (in_each spec_bad_key (members_of answers.now))) }
+    ensures { IfOk result (λ found. found ≡ first_of (in_each bad_key (members_of answers.now))) }
 {
     for member in answers {
         let key = member.key.as_str();
@@ -28,7 +28,8 @@ pub(crate) fn first_bad_key(
     alloc: Global,
     responses: &[Member],
 ) -> Result<Option<Place>, AllocError>
-    ensures { IfOk result (λ found. found ≡ first_of (in_each bad_keys_in (members_of responses.now))) }
+    ensures { IfOk result (λ found. found
+        ≡ first_of (in_each bad_keys_in (members_of responses.now))) }
 {
     for member in responses {
         let key = member.key.as_str();

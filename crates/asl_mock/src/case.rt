@@ -188,7 +188,9 @@ fn states(
     members: &[Member],
 ) -> Result<Result<IndexMap<String, Response>, Place>, AllocError>
     requires { AreDistinct [] (members_of members.now) }
-    ensures { IfOk result (Gives (λ v. named v.entries) (case_of (named responses.now.entries) (members_of members.now)) (in_each (lost_name (named responses.now.entries)) (members_of members.now))) }
+    ensures { IfOk result (Gives (λ v. named v.entries)
+        (case_of (named responses.now.entries) (members_of members.now))
+        (in_each (lost_name (named responses.now.entries)) (members_of members.now))) }
 {
     let mut states = IndexMap::new(alloc);
     for member in members {
@@ -208,7 +210,9 @@ fn cases_in(
     members: &[Member],
 ) -> Result<Result<IndexMap<String, Case>, Place>, AllocError>
     requires { AreDistinct [] (members_of members.now) }
-    ensures { IfOk result (Gives (λ v. named v.entries) (machine_of (named responses.now.entries) (members_of members.now)) (in_each (lost_in_case (named responses.now.entries)) (members_of members.now))) }
+    ensures { IfOk result (Gives (λ v. named v.entries)
+        (machine_of (named responses.now.entries) (members_of members.now))
+        (in_each (lost_in_case (named responses.now.entries)) (members_of members.now))) }
 {
     let mut cases = IndexMap::new(alloc);
     for member in members {
@@ -229,7 +233,9 @@ pub(crate) fn machines(
     members: &[Member],
 ) -> Result<Result<IndexMap<String, Cases>, Place>, AllocError>
     requires { AreDistinct [] (members_of members.now) }
-    ensures { IfOk result (Gives (λ v. named v.entries) (machines_of (named responses.now.entries) (members_of members.now)) (in_each (lost_in_machine (named responses.now.entries)) (members_of members.now))) }
+    ensures { IfOk result (Gives (λ v. named v.entries)
+        (machines_of (named responses.now.entries) (members_of members.now))
+        (in_each (lost_in_machine (named responses.now.entries)) (members_of members.now))) }
 {
     let mut machines = IndexMap::new(alloc);
     for member in members {

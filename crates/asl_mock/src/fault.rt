@@ -1,7 +1,7 @@
 // Why bytes are no mock file, and why a case isn't found.
 ghost use Rattle.std.specs.Prelude.{◌≡◌, IfOk, string_bytes};
 ghost use Rattle.asl_mock.specs.Lines.{with_place, mock_line, case_line};
-ghost use Rattle.asl_mock.specs.Told.{unread as spec_unread};
+ghost use Rattle.asl_mock.specs.Told.{unread};
 
 use asl_json::{JsonFault, Pointer};
 use std::alloc::{AllocError, Global};
@@ -35,7 +35,7 @@ pub enum CaseFault {
 
 /// The fault of bytes that aren't read.
 pub(crate) fn unread(fault: JsonFault) -> MockFault
-    ensures { result ≡ spec_unread fault }
+    ensures { result ≡ unread fault }
 {
     match fault {
         JsonFault::OutOfMemory => MockFault::OutOfMemory,

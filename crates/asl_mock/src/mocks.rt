@@ -94,7 +94,8 @@ impl Mocks {
         // What is read is a file without faults, and holds what it spells.
         ensures found { IfOk result (IsMockFile bytes.now) }
         // Each file without faults is read, unless memory runs out.
-        ensures only { (d : Data) → ReadsAs bytes.now d → faults d ≡ [] → IfErr result (λ e. e ≡ OutOfMemory) }
+        ensures only { (d : Data) → ReadsAs bytes.now d → faults d ≡ []
+            → IfErr result (λ e. e ≡ OutOfMemory) }
         // The fault is the first of the lowest number.
         ensures fault { IfErr result (IsAnswer bytes.now) }
     {

@@ -1,7 +1,7 @@
 // Answers in the order of their numbers.
 ghost use Rattle.std.specs.Prelude.{◌≡◌, ◌≤◌, ◌<◌, ℕ, IfOk, IfErr, length, slice_index_or, option_map};
 ghost use Rattle.asl_json.specs.View.{data_of};
-ghost use Rattle.asl_mock.specs.Key.{span_in as spec_span_in};
+ghost use Rattle.asl_mock.specs.Key.{span_in};
 ghost use Rattle.asl_mock.specs.Answers.{first_with};
 ghost use Rattle.asl_mock.specs.private.Apart.{AreApart, Meets, IsGap, Added};
 ghost use Rattle.asl_mock.specs.declared.response.Ranged.{Ranged};
@@ -15,8 +15,10 @@ use std::alloc::{AllocError, Global};
 fn begun(answers: &[Ranged], number: u32) -> usize
     requires { AreApart answers.now }
     ensures within { result ≤ length answers.now }
-    ensures below { (k : ℕ) (d : Ranged) → k < result → (slice_index_or answers.now k d).span.low ≤ number }
-    ensures above { (k : ℕ) (d : Ranged) → result ≤ k → k < length answers.now → number < (slice_index_or answers.now k d).span.low }
+    ensures below { (k : ℕ) (d : Ranged) → k < result
+        → (slice_index_or answers.now k d).span.low ≤ number }
+    ensures above { (k : ℕ) (d : Ranged) → result ≤ k → k < length answers.now
+        → number < (slice_index_or answers.now k d).span.low }
 {
     answers.partition_point(|ranged| ranged.span.low <= number)
 }
@@ -60,7 +62,8 @@ pub(crate) fn added(
     member: &Member,
 ) -> Result<Option<Vec<Ranged>>, AllocError>
     requires { AreApart answers.items }
-    ensures { IfOk result (Added (spec_span_in member.now.key) (data_of member.now.value) answers.items) }
+    ensures { IfOk result (Added (span_in member.now.key) (data_of member.now.value)
+        answers.items) }
 {
     let mut answers = answers;
     let Some(span) = span_in(member.key.as_str()) else {

@@ -1,7 +1,7 @@
 // Responses: the answers to a state by number.
 ghost use Rattle.std.specs.Prelude.{◌≡◌, IfOk, option_map};
 ghost use Rattle.asl_json.specs.View.{data_of};
-ghost use Rattle.asl_mock.specs.Answers.{text_of as spec_text_of, thrown as spec_thrown, answer_of as spec_answer_of};
+ghost use Rattle.asl_mock.specs.Answers.{text_of, thrown, answer_of};
 
 use crate::key::Span;
 use asl_json::{Json, Txt};
@@ -88,7 +88,7 @@ impl Eq for Ranged {
 
 /// A copy of a text; of any other value an empty one. The error is that memory ran out.
 fn text_of(alloc: Global, value: Option<&Json>) -> Result<Txt, AllocError>
-    ensures { IfOk result (λ t. t ≡ spec_text_of (option_map (λ v. data_of v.now) value.entry)) }
+    ensures { IfOk result (λ t. t ≡ text_of (option_map (λ v. data_of v.now) value.entry)) }
 {
     match value {
         Some(Json::Text(text)) => text.try_clone(alloc),
@@ -98,7 +98,7 @@ fn text_of(alloc: Global, value: Option<&Json>) -> Result<Txt, AllocError>
 
 /// The error of a `Throw`. The error of this call is that memory ran out.
 fn thrown(alloc: Global, value: Option<&Json>) -> Result<Answer, AllocError>
-    ensures { IfOk result (λ a. a ≡ spec_thrown (option_map (λ v. data_of v.now) value.entry)) }
+    ensures { IfOk result (λ a. a ≡ thrown (option_map (λ v. data_of v.now) value.entry)) }
 {
     let Some(value) = value else {
         let error = Txt::new(String::new(alloc));
@@ -114,7 +114,7 @@ fn thrown(alloc: Global, value: Option<&Json>) -> Result<Answer, AllocError>
 
 /// The answer that a value spells. The error is that memory ran out.
 pub(crate) fn answer_of(alloc: Global, value: &Json) -> Result<Answer, AllocError>
-    ensures { IfOk result (λ a. a ≡ spec_answer_of (data_of value.now)) }
+    ensures { IfOk result (λ a. a ≡ answer_of (data_of value.now)) }
 {
     match value.get("Return") {
         Some(value) => Ok(Answer::Returns(value.try_clone(alloc)?)),

@@ -95,7 +95,8 @@ impl Eq for Response {
 
 /// The response of these answers, or the first key that has a number of one before it. The error is that memory ran out.
 fn response_in(alloc: Global, members: &[Member]) -> Result<Result<Response, Place>, AllocError>
-    ensures { IfOk result (Gives (λ r. r) (response_of (members_of members.now)) (overlaps_behind [] (members_of members.now))) }
+    ensures { IfOk result (Gives (λ r. r) (response_of (members_of members.now))
+        (overlaps_behind [] (members_of members.now))) }
 {
     let mut answers = Vec::new(alloc);
     for member in members {
@@ -113,7 +114,8 @@ pub(crate) fn responses(
     members: &[Member],
 ) -> Result<Result<IndexMap<String, Response>, Place>, AllocError>
     requires { AreDistinct [] (members_of members.now) }
-    ensures { IfOk result (Gives (λ v. named v.entries) (responses_of (members_of members.now)) (in_each overlaps_in (members_of members.now))) }
+    ensures { IfOk result (Gives (λ v. named v.entries) (responses_of (members_of members.now))
+        (in_each overlaps_in (members_of members.now))) }
 {
     let mut responses = IndexMap::new(alloc);
     for member in members {

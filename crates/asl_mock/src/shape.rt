@@ -1,7 +1,7 @@
 // What a mock file is made of.
 ghost use Rattle.std.specs.Prelude.{◌≡◌};
 ghost use Rattle.asl_json.specs.View.{data_of};
-ghost use Rattle.asl_mock.specs.Form.{part_shape as spec_part, takes_any as spec_any, takes_text as spec_text, fits as spec_fits, members_count};
+ghost use Rattle.asl_mock.specs.Form.{part_shape, takes_any, takes_text, fits, members_count};
 
 use asl_json::Json;
 
@@ -25,7 +25,7 @@ pub(crate) enum Shape {
 impl Shape {
     /// What its member of this key is.
     pub(crate) fn part(self, key: &str) -> Shape
-        ensures { result ≡ spec_part self key.now }
+        ensures { result ≡ part_shape self key.now }
     {
         match self {
             Shape::Top => top_part(key),
@@ -48,7 +48,7 @@ impl Shape {
 
     /// Whether any value may stand there.
     pub(crate) fn takes_any(self) -> bool
-        ensures { result ≡ spec_any self }
+        ensures { result ≡ takes_any self }
     {
         match self {
             Shape::Any => true,
@@ -58,7 +58,7 @@ impl Shape {
 
     /// Whether a text may stand there.
     pub(crate) fn takes_text(self) -> bool
-        ensures { result ≡ spec_text self }
+        ensures { result ≡ takes_text self }
     {
         match self {
             Shape::Any | Shape::Text => true,
@@ -68,7 +68,7 @@ impl Shape {
 
     /// Whether an object has the members that it needs, and none besides.
     pub(crate) fn fits(self, value: &Json) -> bool
-        ensures { result ≡ spec_fits self (data_of value.now) }
+        ensures { result ≡ fits self (data_of value.now) }
     {
         match self {
             Shape::Machine => value.get("TestCases").is_some(),
@@ -81,7 +81,7 @@ impl Shape {
 }
 
 fn top_part(key: &str) -> Shape
-    ensures { result ≡ spec_part Shape.Top key.now }
+    ensures { result ≡ part_shape Shape.Top key.now }
 {
     match key {
         "StateMachines" => Shape::Machines,
@@ -101,13 +101,13 @@ fn count(value: &Json) -> usize
 }
 
 fn is_answer(value: &Json) -> bool
-    ensures { result ≡ spec_fits Shape.Answer (data_of value.now) }
+    ensures { result ≡ fits Shape.Answer (data_of value.now) }
 {
     count(value) == 1 && (value.get("Return").is_some() || value.get("Throw").is_some())
 }
 
 fn is_thrown(value: &Json) -> bool
-    ensures { result ≡ spec_fits Shape.Thrown (data_of value.now) }
+    ensures { result ≡ fits Shape.Thrown (data_of value.now) }
 {
     let known = if value.get("Cause").is_some() { 2 } else { 1 };
     value.get("Error").is_some() && count(value) == known

@@ -2,7 +2,7 @@
 ghost use Rattle.std.specs.Prelude.{◌≡◌, ◌∷◌, ◌++◌, [], None, OnOk, OnErr, option_map};
 ghost use Rattle.asl_json.specs.Distinct.{AreDistinct};
 ghost use Rattle.asl_json.specs.View.{data_of, members_of};
-ghost use Rattle.asl_mock.specs.Tables.{named, value_for, members_in as spec_members_in, members_at as spec_members_at};
+ghost use Rattle.asl_mock.specs.Tables.{named, value_for, members_in, members_at};
 
 use asl_json::{Json, Member, Txt};
 use indexmap::IndexMap;
@@ -23,7 +23,8 @@ pub(crate) fn add<T: Drop>(
     value: T,
 ) -> Result<(), AllocError>
     requires { value_for name.now (named values.old.entries) ≡ None }
-    ensures ok { OnOk result (named values.new.entries ≡ named values.old.entries ++ (name.now, value) ∷ []) }
+    ensures ok { OnOk result (named values.new.entries
+        ≡ named values.old.entries ++ (name.now, value) ∷ []) }
     ensures err { OnErr result (values.new.entries ≡ values.old.entries) }
 {
     let copy = name.try_clone(alloc)?;
@@ -34,7 +35,7 @@ pub(crate) fn add<T: Drop>(
 
 /// The members of an object; any other value has none.
 pub(crate) fn members_in(value: &Json) -> &[Member]
-    ensures members { members_of result.now ≡ spec_members_in (data_of value.now) }
+    ensures members { members_of result.now ≡ members_in (data_of value.now) }
     ensures distinct { AreDistinct [] (members_of result.now) }
 {
     match value {
@@ -45,7 +46,7 @@ pub(crate) fn members_in(value: &Json) -> &[Member]
 
 /// The members of the object under this key.
 pub(crate) fn members_at<'a>(value: &'a Json, key: &str) -> &'a [Member]
-    ensures members { members_of result.now ≡ spec_members_at key.now (data_of value.now) }
+    ensures members { members_of result.now ≡ members_at key.now (data_of value.now) }
     ensures distinct { AreDistinct [] (members_of result.now) }
 {
     match value.get(key) {

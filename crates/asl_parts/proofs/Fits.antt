@@ -91,11 +91,7 @@ unfolding task_rows parallel_rows map_rows
 completion_sorts kind.Task e = (refl, refl, refl, refl, refl)
 completion_sorts kind.Parallel e = (refl, refl, refl, refl, refl)
 completion_sorts kind.Map e = (refl, refl, refl, refl, refl)
-completion_sorts kind.Pass e = absurd cc
-completion_sorts kind.Choice e = absurd cc
-completion_sorts kind.Wait e = absurd cc
-completion_sorts kind.Succeed e = absurd cc
-completion_sorts kind.Fail e = absurd cc
+completion_sorts x e = absurd cc
 
 pub selector_fits : (ms : List Named) (P : Data → Type 0) (o : Option Data) → ((d : Data) → IsClean sort.Template d → P d) → IsOfAny has_completion ms → o ≡ value_at (codes "ResultSelector") (pairs ms) → IfSome o P
 selector_fits ms P o f h at = member_fits h.kind ms (codes "ResultSelector") sort.Template P o (completion_sorts h.kind h.chosen).0 f h.is at

@@ -40,7 +40,8 @@ pub record IsOfAny (p : Kind → Bool) (ms : List Named) : Type 0 where
 -- members are those of the canonical form, row by row
 abbrev pub Shows : Shape → Pairs → List Row → Slots → Type 0
 Shows sh ms [] [] = Unit {0}
-Shows sh ms (r ∷ rs) (m ∷ os) = (m.0 ≡ r.name) × (m.1 ≡ kept_at r.name (sort_at sh r.name) ms) × Shows sh ms rs os
+Shows sh ms (r ∷ rs) (m ∷ os) =
+    (m.0 ≡ r.name) × (m.1 ≡ kept_at r.name (sort_at sh r.name) ms) × Shows sh ms rs os
 Shows sh ms rs os = ⊥
 
 -- what becomes of a result is as the members say

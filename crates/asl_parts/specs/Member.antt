@@ -29,13 +29,16 @@ template_names = codes "Parameters" ∷ codes "ItemSelector" ∷ codes "ResultSe
 
 -- the members by which a state says what becomes of its result or its error
 abbrev pub completion_names : List (List ℕ)
-completion_names = codes "ResultSelector" ∷ codes "ResultPath" ∷ codes "OutputPath" ∷ codes "Retry" ∷ codes "Catch" ∷ codes "Next" ∷ codes "End" ∷ []
+completion_names =
+    codes "ResultSelector" ∷ codes "ResultPath" ∷ codes "OutputPath" ∷ codes "Retry" ∷ codes "Catch"
+    ∷ codes "Next" ∷ codes "End" ∷ []
 
 -- an object of those members alone
 abbrev pub completion_object : Completion → Data
 completion_object o = object (completion_members o)
 
--- the path that a value is: a text that begins with `$`. A null names nothing, and another text is a call
+-- the path that a value is: a text that begins with `$`. A null names nothing, and another text is
+-- a call
 abbrev pub path_of : Option Data → Option (List ℕ)
 path_of (Some (text t)) = if is_path t then Some t else None
 path_of _ = None

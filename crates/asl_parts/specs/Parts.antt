@@ -34,11 +34,19 @@ next_members n = (codes "Next", next_shown n) ∷ (codes "End", end_shown n) ∷
 
 -- how long a task may take
 abbrev pub limits_members : TimeLimits → Slots
-limits_members l = (codes "TimeoutSeconds", option_map number l.timeout) ∷ (codes "TimeoutSecondsPath", option_map text l.timeout_path) ∷ (codes "HeartbeatSeconds", option_map number l.heartbeat) ∷ (codes "HeartbeatSecondsPath", option_map text l.heartbeat_path) ∷ []
+limits_members l =
+    (codes "TimeoutSeconds", option_map number l.timeout)
+    ∷ (codes "TimeoutSecondsPath", option_map text l.timeout_path)
+    ∷ (codes "HeartbeatSeconds", option_map number l.heartbeat)
+    ∷ (codes "HeartbeatSecondsPath", option_map text l.heartbeat_path) ∷ []
 
 -- the canonical members of a catcher
 abbrev pub catcher_members : Catcher → Slots
-catcher_members c = (codes "Comment", option_map text c.comment) ∷ (codes "ErrorEquals", Some (names_shown c.errors)) ∷ (codes "ResultPath", path_shown c.result_path) ∷ (codes "Next", Some (text c.next.name)) ∷ []
+catcher_members c =
+    (codes "Comment", option_map text c.comment)
+    ∷ (codes "ErrorEquals", Some (names_shown c.errors))
+    ∷ (codes "ResultPath", path_shown c.result_path) ∷ (codes "Next", Some (text c.next.name))
+    ∷ []
 
 abbrev pub catcher_object : Catcher → Data
 catcher_object c = object (catcher_members c)
@@ -49,11 +57,17 @@ catcher_objects cs = map catcher_object cs
 -- ---- what several types of states have
 
 abbrev pub common_members : List ℕ → Common → Slots
-common_members kind c = (codes "Type", Some (text kind)) ∷ (codes "Comment", option_map text c.comment) ∷ (codes "QueryLanguage", option_map text c.query_language) ∷ []
+common_members kind c =
+    (codes "Type", Some (text kind)) ∷ (codes "Comment", option_map text c.comment)
+    ∷ (codes "QueryLanguage", option_map text c.query_language) ∷ []
 
 -- a list, where it is there
 abbrev pub listed : Option (List Data) → Option Data
 listed ds = option_map (λ (xs : List Data). list (chain xs)) ds
 
 abbrev pub completion_members : Completion → Slots
-completion_members o = (codes "ResultSelector", o.result_selector) ∷ (codes "ResultPath", path_shown o.result_path) ∷ (codes "OutputPath", path_shown o.output_path) ∷ (codes "Retry", listed o.retry) ∷ (codes "Catch", listed o.catch) ∷ (codes "Next", next_shown o.next) ∷ (codes "End", end_shown o.next) ∷ []
+completion_members o =
+    (codes "ResultSelector", o.result_selector) ∷ (codes "ResultPath", path_shown o.result_path)
+    ∷ (codes "OutputPath", path_shown o.output_path) ∷ (codes "Retry", listed o.retry)
+    ∷ (codes "Catch", listed o.catch) ∷ (codes "Next", next_shown o.next)
+    ∷ (codes "End", end_shown o.next) ∷ []

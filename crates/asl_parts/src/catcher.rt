@@ -66,7 +66,8 @@ impl Model for Catchers {
 impl Catcher {
     /// `ErrorEquals`.
     pub fn errors(&self) -> &ErrorNames
-        ensures { Some (names_shown result.now) ≡ value_in (codes "ErrorEquals") (catcher_object self.now) }
+        ensures { Some (names_shown result.now)
+            ≡ value_in (codes "ErrorEquals") (catcher_object self.now) }
     {
         &self.errors
     }
@@ -144,7 +145,8 @@ impl Catchers {
         value: Option<&Json>,
     ) -> Result<Option<Catchers>, AllocError>
         requires { Fits catchers_sort (option_map (λ v. data_of v.now) value) }
-        ensures { IfOk result (λ x. option_map (λ cs. list (chain cs)) x ≡ option_map (λ v. canon catchers_sort (data_of v.now)) value.entry) }
+        ensures { IfOk result (λ x. option_map (λ cs. list (chain cs)) x
+            ≡ option_map (λ v. canon catchers_sort (data_of v.now)) value.entry) }
     {
         match value {
             Some(value) => Ok(Some(Catchers::read(alloc, value)?)),

@@ -35,8 +35,10 @@ impl Common {
     /// Compiles these members of a state without faults. The error is that memory ran out.
     pub fn read(alloc: Global, members: &Members) -> Result<Common, AllocError>
         requires { IsOfAny of_any_type members.now }
-        ensures comment { IfOk result (λ c. option_map text c.comment ≡ value_at (codes "Comment") (pairs members.now)) }
-        ensures language { IfOk result (λ c. option_map text c.query_language ≡ value_at (codes "QueryLanguage") (pairs members.now)) }
+        ensures comment { IfOk result (λ c. option_map text c.comment
+            ≡ value_at (codes "Comment") (pairs members.now)) }
+        ensures language { IfOk result (λ c. option_map text c.query_language
+            ≡ value_at (codes "QueryLanguage") (pairs members.now)) }
     {
         Ok(Common {
             comment: read_optional(alloc, members.find("Comment"))?,
@@ -47,7 +49,8 @@ impl Common {
     /// The object of a state of this type with these members. The error is that memory ran out.
     pub fn object(&self, alloc: Global, kind: &str, own: Vec<Entry>) -> Result<Json, AllocError>
         requires { are_apart [] (common_members kind.now self.now ++ entries_of own.items) ≡ true }
-        ensures { IfOk result (λ j. data_of j ≡ shown_object (common_members kind.now self.now ++ entries_of own.items)) }
+        ensures { IfOk result (λ j. data_of j
+            ≡ shown_object (common_members kind.now self.now ++ entries_of own.items)) }
     {
         let kind = Json::Text(Txt::of(alloc, kind)?);
         let comment = json_optional(alloc, &self.comment)?;

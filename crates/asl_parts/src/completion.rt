@@ -51,42 +51,48 @@ impl Drop for Completion {
 impl Completion {
     /// `ResultSelector`.
     pub fn result_selector(&self) -> Option<&Template>
-        ensures { option_map (λ x. x.now) result ≡ value_in (codes "ResultSelector") (completion_object self.now) }
+        ensures { option_map (λ x. x.now) result
+            ≡ value_in (codes "ResultSelector") (completion_object self.now) }
     {
         self.result_selector.as_ref()
     }
 
     /// `ResultPath`.
     pub fn result_path(&self) -> &PathField
-        ensures { path_shown result.now ≡ value_in (codes "ResultPath") (completion_object self.now) }
+        ensures { path_shown result.now
+            ≡ value_in (codes "ResultPath") (completion_object self.now) }
     {
         &self.result_path
     }
 
     /// `OutputPath`.
     pub fn output_path(&self) -> &PathField
-        ensures { path_shown result.now ≡ value_in (codes "OutputPath") (completion_object self.now) }
+        ensures { path_shown result.now
+            ≡ value_in (codes "OutputPath") (completion_object self.now) }
     {
         &self.output_path
     }
 
     /// `Retry`.
     pub fn retry(&self) -> Option<&Retriers>
-        ensures { option_map (λ x. list (chain x.now)) result ≡ value_in (codes "Retry") (completion_object self.now) }
+        ensures { option_map (λ x. list (chain x.now)) result
+            ≡ value_in (codes "Retry") (completion_object self.now) }
     {
         self.retry.as_ref()
     }
 
     /// `Catch`.
     pub fn catch(&self) -> Option<&Catchers>
-        ensures { option_map (λ x. list (chain x.now)) result ≡ value_in (codes "Catch") (completion_object self.now) }
+        ensures { option_map (λ x. list (chain x.now)) result
+            ≡ value_in (codes "Catch") (completion_object self.now) }
     {
         self.catch.as_ref()
     }
 
     /// `Next` or `"End": true`.
     pub fn next(&self) -> &Transition
-        ensures next { next_shown result.now ≡ value_in (codes "Next") (completion_object self.now) }
+        ensures next { next_shown result.now
+            ≡ value_in (codes "Next") (completion_object self.now) }
         ensures end { end_shown result.now ≡ value_in (codes "End") (completion_object self.now) }
     {
         &self.next
@@ -109,7 +115,8 @@ impl Completion {
 
     /// Its members, behind these. The error is that memory ran out.
     pub fn entries(&self, alloc: Global, before: Vec<Entry>) -> Result<Vec<Entry>, AllocError>
-        ensures { IfOk result (λ es. entries_of es.items ≡ entries_of before.items ++ completion_members self.now) }
+        ensures { IfOk result (λ es. entries_of es.items
+            ≡ entries_of before.items ++ completion_members self.now) }
     {
         let own = with_optional(alloc, before, "ResultSelector", &self.result_selector)?;
         let own = with_path(alloc, own, "ResultPath", &self.result_path)?;

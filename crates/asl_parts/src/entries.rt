@@ -21,7 +21,8 @@ pub fn and(
     name: &'static str,
     value: Option<Json>,
 ) -> Result<Vec<Entry>, AllocError>
-    ensures { IfOk result (λ es. entries_of es.items ≡ entries_of before.items ++ (name.now, option_map data_of value) ∷ []) }
+    ensures { IfOk result (λ es. entries_of es.items
+        ≡ entries_of before.items ++ (name.now, option_map data_of value) ∷ []) }
 {
     let mut all = before;
     all.push(entry(name, value))?;
@@ -30,7 +31,8 @@ pub fn and(
 
 /// Members, and then others. The error is that memory ran out.
 pub fn joined(before: Vec<Entry>, after: Vec<Entry>) -> Result<Vec<Entry>, AllocError>
-    ensures { IfOk result (λ es. entries_of es.items ≡ entries_of before.items ++ entries_of after.items) }
+    ensures { IfOk result (λ es. entries_of es.items
+        ≡ entries_of before.items ++ entries_of after.items) }
 {
     let mut all = before;
     let mut rest = after;
@@ -45,7 +47,8 @@ pub fn with<T: Compiled>(
     name: &'static str,
     value: &T,
 ) -> Result<Vec<Entry>, AllocError>
-    ensures { IfOk result (λ es. entries_of es.items ≡ entries_of before.items ++ (name.now, Some (T.shown value.now)) ∷ []) }
+    ensures { IfOk result (λ es. entries_of es.items
+        ≡ entries_of before.items ++ (name.now, Some (T.shown value.now)) ∷ []) }
 {
     let value = value.json(alloc)?;
     and(before, name, Some(value))
@@ -58,7 +61,8 @@ pub fn with_optional<T: Compiled>(
     name: &'static str,
     value: &Option<T>,
 ) -> Result<Vec<Entry>, AllocError>
-    ensures { IfOk result (λ es. entries_of es.items ≡ entries_of before.items ++ (name.now, option_map T.shown value.now) ∷ []) }
+    ensures { IfOk result (λ es. entries_of es.items
+        ≡ entries_of before.items ++ (name.now, option_map T.shown value.now) ∷ []) }
 {
     let value = json_optional(alloc, value)?;
     and(before, name, value)
@@ -71,7 +75,8 @@ pub fn with_path(
     name: &'static str,
     path: &PathField,
 ) -> Result<Vec<Entry>, AllocError>
-    ensures { IfOk result (λ es. entries_of es.items ≡ entries_of before.items ++ (name.now, path_shown path.now) ∷ []) }
+    ensures { IfOk result (λ es. entries_of es.items
+        ≡ entries_of before.items ++ (name.now, path_shown path.now) ∷ []) }
 {
     let value = path.json(alloc)?;
     and(before, name, value)

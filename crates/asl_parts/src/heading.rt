@@ -34,9 +34,12 @@ impl Heading {
     /// Compiles these members of a definition without faults. The error is that memory ran out.
     pub fn read(alloc: Global, members: &Members) -> Result<Heading, AllocError>
         requires { IsClean Definition (dict (pairs members.now)) }
-        ensures language { IfOk result (λ h. option_map text h.query_language ≡ value_at (codes "QueryLanguage") (pairs members.now)) }
-        ensures version { IfOk result (λ h. option_map text h.version ≡ value_at (codes "Version") (pairs members.now)) }
-        ensures timeout { IfOk result (λ h. option_map number h.timeout ≡ value_at (codes "TimeoutSeconds") (pairs members.now)) }
+        ensures language { IfOk result (λ h. option_map text h.query_language
+            ≡ value_at (codes "QueryLanguage") (pairs members.now)) }
+        ensures version { IfOk result (λ h. option_map text h.version
+            ≡ value_at (codes "Version") (pairs members.now)) }
+        ensures timeout { IfOk result (λ h. option_map number h.timeout
+            ≡ value_at (codes "TimeoutSeconds") (pairs members.now)) }
     {
         Ok(Heading {
             query_language: read_optional(alloc, members.find("QueryLanguage"))?,

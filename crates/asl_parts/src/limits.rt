@@ -41,10 +41,14 @@ impl TimeLimits {
     /// Compiles these members of a Task state without faults. The error is that memory ran out.
     pub fn read(alloc: Global, members: &Members) -> Result<TimeLimits, AllocError>
         requires { IsOfKind task_kind members.now }
-        ensures timeout { IfOk result (λ l. option_map number l.timeout ≡ value_at (codes "TimeoutSeconds") (pairs members.now)) }
-        ensures timeout_path { IfOk result (λ l. option_map text l.timeout_path ≡ value_at (codes "TimeoutSecondsPath") (pairs members.now)) }
-        ensures heartbeat { IfOk result (λ l. option_map number l.heartbeat ≡ value_at (codes "HeartbeatSeconds") (pairs members.now)) }
-        ensures heartbeat_path { IfOk result (λ l. option_map text l.heartbeat_path ≡ value_at (codes "HeartbeatSecondsPath") (pairs members.now)) }
+        ensures timeout { IfOk result (λ l. option_map number l.timeout
+            ≡ value_at (codes "TimeoutSeconds") (pairs members.now)) }
+        ensures timeout_path { IfOk result (λ l. option_map text l.timeout_path
+            ≡ value_at (codes "TimeoutSecondsPath") (pairs members.now)) }
+        ensures heartbeat { IfOk result (λ l. option_map number l.heartbeat
+            ≡ value_at (codes "HeartbeatSeconds") (pairs members.now)) }
+        ensures heartbeat_path { IfOk result (λ l. option_map text l.heartbeat_path
+            ≡ value_at (codes "HeartbeatSecondsPath") (pairs members.now)) }
     {
         Ok(TimeLimits {
             timeout: read_optional(alloc, members.find("TimeoutSeconds"))?,
@@ -56,7 +60,8 @@ impl TimeLimits {
 
     /// Its members, behind these. The error is that memory ran out.
     pub fn entries(&self, alloc: Global, before: Vec<Entry>) -> Result<Vec<Entry>, AllocError>
-        ensures { IfOk result (λ es. entries_of es.items ≡ entries_of before.items ++ limits_members self.now) }
+        ensures { IfOk result (λ es. entries_of es.items
+            ≡ entries_of before.items ++ limits_members self.now) }
     {
         let own = with_optional(alloc, before, "TimeoutSeconds", &self.timeout)?;
         let own = with_optional(alloc, own, "TimeoutSecondsPath", &self.timeout_path)?;

@@ -49,7 +49,8 @@ impl Target {
     /// Compiles the value of a required member. The error is that memory ran out.
     pub fn read(alloc: Global, value: Option<&Json>) -> Result<Target, AllocError>
         requires { IsThere target_sort (option_map (λ v. data_of v.now) value) }
-        ensures { IfOk result (λ t. Some (text t.name) ≡ option_map (λ v. data_of v.now) value.entry) }
+        ensures { IfOk result (λ t. Some (text t.name)
+            ≡ option_map (λ v. data_of v.now) value.entry) }
     {
         let Some(Json::Text(name)) = value else {
             unreachable!();
@@ -62,7 +63,8 @@ impl Target {
     /// Compiles the value of a member, where it is there. The error is that memory ran out.
     pub fn read_optional(alloc: Global, value: Option<&Json>) -> Result<Option<Target>, AllocError>
         requires { Fits target_sort (option_map (λ v. data_of v.now) value) }
-        ensures { IfOk result (λ x. option_map (λ t. text t.name) x ≡ option_map (λ v. data_of v.now) value.entry) }
+        ensures { IfOk result (λ x. option_map (λ t. text t.name) x
+            ≡ option_map (λ v. data_of v.now) value.entry) }
     {
         match value {
             Some(Json::Text(name)) => Ok(Some(Target {
@@ -81,7 +83,8 @@ impl Target {
 
     /// Its name as JSON, where it is there. The error is that memory ran out.
     pub fn json_optional(alloc: Global, target: &Option<Target>) -> Result<Option<Json>, AllocError>
-        ensures { IfOk result (λ j. option_map data_of j ≡ option_map (λ t. text t.name) target.now) }
+        ensures { IfOk result (λ j. option_map data_of j
+            ≡ option_map (λ t. text t.name) target.now) }
     {
         match target {
             None => Ok(None),
@@ -94,8 +97,10 @@ impl Transition {
     /// Compiles `Next` and `End` of a state without faults. The error is that memory ran out.
     pub fn read(alloc: Global, members: &Members) -> Result<Transition, AllocError>
         requires { IsOfAny goes_on members.now }
-        ensures next { IfOk result (λ n. next_shown n ≡ kept_at (codes "Next") target_sort (pairs members.now)) }
-        ensures end { IfOk result (λ n. end_shown n ≡ kept_at (codes "End") Truth (pairs members.now)) }
+        ensures next { IfOk result (λ n. next_shown n
+            ≡ kept_at (codes "Next") target_sort (pairs members.now)) }
+        ensures end { IfOk result (λ n. end_shown n
+            ≡ kept_at (codes "End") Truth (pairs members.now)) }
     {
         match members.find("Next") {
             Some(name) => Ok(Transition::To(Target::read(alloc, Some(name))?)),
@@ -105,7 +110,8 @@ impl Transition {
 
     /// `Next` and `End`, behind these members. The error is that memory ran out.
     pub fn entries(&self, alloc: Global, before: Vec<Entry>) -> Result<Vec<Entry>, AllocError>
-        ensures { IfOk result (λ es. entries_of es.items ≡ entries_of before.items ++ next_members self.now) }
+        ensures { IfOk result (λ es. entries_of es.items
+            ≡ entries_of before.items ++ next_members self.now) }
     {
         let own = match self {
             Transition::End => vec![in alloc;

@@ -57,24 +57,19 @@ item_other (suc i) (suc j) f ne (item d ds) es h =
     subst (λ (z : Chain). item_at (suc j) z ≡ item_at j ds) x.1.1 (item_other i j f (λ e. ne (ap suc e)) ds x.0 x.1.0)
 
 child_other : (v w : Data) (s u : Step) (f : Data → Option Data) → (s ≡ u → ⊥) → put_child v s f ≡ Some w → child w u ≡ child v u
-child_other null w s u f ne h = absurd cc
-child_other (boolean b) w s u f ne h = absurd cc
-child_other (number x) w s u f ne h = absurd cc
-child_other (text x) w s u f ne h = absurd cc
-child_other (list ds) w (Name k) u f ne h = absurd cc
 child_other (list ds) w (Index i) (Name l) f ne h =
     let x = mapped (put_item i f ds) list w h in
     subst (λ (z : Data). child z (Name l) ≡ None) x.1.1 refl
 child_other (list ds) w (Index i) (Index j) f ne h =
     let x = mapped (put_item i f ds) list w h in
     subst (λ (z : Data). child z (Index j) ≡ item_at j ds) x.1.1 (item_other i j f (λ e. ne (ap Index e)) ds x.0 x.1.0)
-child_other (dict ms) w (Index i) u f ne h = absurd cc
 child_other (dict ms) w (Name k) (Index j) f ne h =
     let x = mapped (put_member k f ms) dict w h in
     subst (λ (z : Data). child z (Index j) ≡ None) x.1.1 refl
 child_other (dict ms) w (Name k) (Name l) f ne h =
     let x = mapped (put_member k f ms) dict w h in
     subst (λ (z : Data). child z (Name l) ≡ value_at l ms) x.1.1 (member_other k l f (λ e. ne (ap Name e)) ms x.0 x.1.0)
+child_other x w y u f ne h = absurd cc
 
 -- ---- the same member or item, of which g sees what f leaves
 
@@ -112,18 +107,13 @@ item_kept (suc i) f g keeps (item d ds) es h =
     subst (λ (z : Chain). then_at g (item_at (suc i) z) ≡ then_at g (item_at i ds)) x.1.1 (item_kept i f g keeps ds x.0 x.1.0)
 
 child_kept : (v w : Data) (s : Step) (f g : Data → Option Data) → Leaves f g → put_child v s f ≡ Some w → then_at g (child w s) ≡ then_at g (child v s)
-child_kept null w s f g keeps h = absurd cc
-child_kept (boolean b) w s f g keeps h = absurd cc
-child_kept (number x) w s f g keeps h = absurd cc
-child_kept (text x) w s f g keeps h = absurd cc
-child_kept (list ds) w (Name k) f g keeps h = absurd cc
 child_kept (list ds) w (Index i) f g keeps h =
     let x = mapped (put_item i f ds) list w h in
     subst (λ (z : Data). then_at g (child z (Index i)) ≡ then_at g (item_at i ds)) x.1.1 (item_kept i f g keeps ds x.0 x.1.0)
-child_kept (dict ms) w (Index i) f g keeps h = absurd cc
 child_kept (dict ms) w (Name k) f g keeps h =
     let x = mapped (put_member k f ms) dict w h in
     subst (λ (z : Data). then_at g (child z (Name k)) ≡ then_at g (value_at k ms)) x.1.1 (member_kept k f g keeps ms x.0 x.1.0)
+child_kept x w y f g keeps h = absurd cc
 
 empty_child : (s : Step) → child (dict no_members) s ≡ None
 empty_child (Name k) = refl

@@ -5,7 +5,8 @@ use Rattle.std.proofs.lemmas.List.{append-nil, length-append}
 use Rattle.std.proofs.lemmas.Bool.{eqb-true}
 use Rattle.asl_path.specs.declared.step.Step.{Step}
 use Rattle.asl_path.specs.declared.step.Step.TheVariants.{Name, Index}
-use Rattle.asl_path.specs.Grammar.{single_quote, double_quote, is_digit, is_name_byte, is_between, Each, number_from, SpellsDotted, SpellsIndex, SpellsStep, Joined, SpellsSteps}
+use Rattle.asl_path.specs.Grammar.{single_quote, double_quote, is_digit, is_name_byte, is_between, Each, number_from, SpellsDotted, SpellsIndex, SpellsStep, SpellsSteps}
+use Rattle.asl_json.specs.Parts.{Joined}
 use Rattle.asl_path.specs.private.Steps.{Mode, between, dot, name, bracket, quoted, closing, digits, Next, go, stop, begin_step, advance, finish}
 
 abbrev pub IsQuote : ℕ → Type 0
@@ -235,11 +236,7 @@ finish_spells between done ss t h e =
     let same : t ≡ h.front = h.parts ∙ ap (λ (z : List ℕ). h.front ++ z) h.back_is ∙ append-nil h.front in
     let steps_are : done ≡ ss = cc in
     subst (λ (z : List Step). SpellsSteps z t) steps_are (subst (SpellsSteps done) (sym same) h.front_is)
-finish_spells dot done ss t h e = absurd cc
 finish_spells (name n) done ss t h e =
     let steps_are : done ++ Name n ∷ [] ≡ ss = cc in
     subst (λ (z : List Step). SpellsSteps z t) steps_are (subst (SpellsSteps (done ++ Name n ∷ [])) (sym h.parts) (steps_push done (Name n) h.front h.back h.front_is (inl h.back_is)))
-finish_spells bracket done ss t h e = absurd cc
-finish_spells (quoted q n) done ss t h e = absurd cc
-finish_spells (closing n) done ss t h e = absurd cc
-finish_spells (digits k v) done ss t h e = absurd cc
+finish_spells x done ss t h e = absurd cc

@@ -48,18 +48,13 @@ item_again (suc i) f g n (item d ds) es h =
     subst (λ (z : Chain). put_item (suc i) g z ≡ put_item (suc i) g (item d ds)) x.1.1 (ap (λ o. option_map (λ es. item d es) o) (item_again i f g n ds x.0 x.1.0))
 
 child_again : (v w : Data) (s : Step) (f g : Data → Option Data) → Ignores f g → put_child v s f ≡ Some w → put_child w s g ≡ put_child v s g
-child_again null w s f g n h = absurd (cc)
-child_again (boolean b) w s f g n h = absurd (cc)
-child_again (number x) w s f g n h = absurd (cc)
-child_again (text x) w s f g n h = absurd (cc)
-child_again (list ds) w (Name k) f g n h = absurd (cc)
 child_again (list ds) w (Index i) f g n h =
     let x = mapped (put_item i f ds) list w h in
     subst (λ (z : Data). put_child z (Index i) g ≡ put_child (list ds) (Index i) g) x.1.1 (ap (λ o. option_map list o) (item_again i f g n ds x.0 x.1.0))
-child_again (dict ms) w (Index i) f g n h = absurd (cc)
 child_again (dict ms) w (Name k) f g n h =
     let x = mapped (put_member k f ms) dict w h in
     subst (λ (z : Data). put_child z (Name k) g ≡ put_child (dict ms) (Name k) g) x.1.1 (ap (λ o. option_map dict o) (member_again k f g n ms x.0 x.1.0))
+child_again x w y f g n h = absurd cc
 
 -- what is put last stays
 pub put_again : (ss : List Step) (v w x r : Data) → put v ss x ≡ Some w → put w ss r ≡ put v ss r
@@ -99,20 +94,15 @@ item_there (suc i) f (item d ds) es h =
     record { from = y.from; into = y.into; made = y.made; is = subst (λ (z : Chain). item_at (suc i) z ≡ Some y.into) x.1.1 y.is }
 
 child_there : (v w : Data) (s : Step) (f : Data → Option Data) → put_child v s f ≡ Some w → Made f (child w s)
-child_there null w s f h = absurd (cc)
-child_there (boolean b) w s f h = absurd (cc)
-child_there (number x) w s f h = absurd (cc)
-child_there (text x) w s f h = absurd (cc)
-child_there (list ds) w (Name k) f h = absurd (cc)
 child_there (list ds) w (Index i) f h =
     let x = mapped (put_item i f ds) list w h in
     let y = item_there i f ds x.0 x.1.0 in
     record { from = y.from; into = y.into; made = y.made; is = subst (λ (z : Data). child z (Index i) ≡ Some y.into) x.1.1 y.is }
-child_there (dict ms) w (Index i) f h = absurd (cc)
 child_there (dict ms) w (Name k) f h =
     let x = mapped (put_member k f ms) dict w h in
     let y = member_there k f ms x.0 x.1.0 in
     record { from = y.from; into = y.into; made = y.made; is = subst (λ (z : Data). child z (Name k) ≡ Some y.into) x.1.1 y.is }
+child_there x w y f h = absurd cc
 
 -- what was put is there
 pub at_put : (ss : List Step) (v w r : Data) → put v ss r ≡ Some w → at w ss ≡ Some r
@@ -178,14 +168,9 @@ item_same zero f (item d ds) w h e =
 item_same (suc i) f (item d ds) w h e = ap (λ o. option_map (λ es. item d es) o) (item_same i f ds w h e)
 
 child_same : (v w : Data) (s : Step) (f : Data → Option Data) → child v s ≡ Some w → f w ≡ Some w → put_child v s f ≡ Some v
-child_same null w s f h e = absurd cc
-child_same (boolean b) w s f h e = absurd cc
-child_same (number x) w s f h e = absurd cc
-child_same (text x) w s f h e = absurd cc
-child_same (list ds) w (Name k) f h e = absurd cc
 child_same (list ds) w (Index i) f h e = ap (λ o. option_map list o) (item_same i f ds w h e)
-child_same (dict ms) w (Index i) f h e = absurd cc
 child_same (dict ms) w (Name k) f h e = ap (λ o. option_map dict o) (member_same k f ms w h e)
+child_same x w y f h e = absurd cc
 
 -- to put what is there changes nothing
 pub put_same : (ss : List Step) (v r : Data) → at v ss ≡ Some r → put v ss r ≡ Some v

@@ -14,7 +14,8 @@ abbrev pub EndsAt : List ℕ → List ℕ → Type 0
 EndsAt front [] = IsPath front → ⊥
 EndsAt front (c ∷ rest) = IsPrefix (front ++ c ∷ []) → ⊥
 
--- the byte of this number, counted from 0, is the first one that can't go on; the end of the text counts as one
+-- the byte of this number, counted from 0, is the first one that can't go on; the end of the text
+-- counts as one
 pub record FaultAt (t : List ℕ) (at : ℕ) : Type 0 where
   pub front : List ℕ
   pub rest : List ℕ
@@ -29,5 +30,6 @@ IsFaultOf t NoMemory = Unit {0}
 
 -- both values come back, and without a match there is no such value
 abbrev pub HandsBack : List ℕ → Json → Json → PutFault → Type 0
-HandsBack t base part (NoMatch b p) = (b ≡ base) × (p ≡ part) × (with_part t (data_of base) (data_of part) ≡ None)
+HandsBack t base part (NoMatch b p) =
+    (b ≡ base) × (p ≡ part) × (with_part t (data_of base) (data_of part) ≡ None)
 HandsBack t base part (OutOfMemory b p) = (b ≡ base) × (p ≡ part)

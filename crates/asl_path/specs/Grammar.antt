@@ -1,6 +1,8 @@
--- Which texts are paths, and the root and steps that each spells: by cases on the steps, over whole lists of bytes.
+-- Which texts are paths, and the root and steps that each spells: by cases on the steps, over whole
+-- lists of bytes.
 -- (Amazon States Language, "Paths" and "Reference Paths".)
 use Rattle.std.specs.Prelude.{◌≡◌, ◌⊎◌, ◌<◌, ◌≤◌, ℕ, ◌+◌, ◌*◌, ◌-◌, Bool, true, ◌||◌, ◌&&◌, not, ◌==◌, nat_le, List, [], ◌∷◌, ◌++◌, length}
+use Rattle.asl_json.specs.Parts.{Joined}
 use Rattle.asl_path.specs.declared.step.Root.{Root}
 use Rattle.asl_path.specs.declared.step.Root.TheVariants.{Input, Context}
 use Rattle.asl_path.specs.declared.step.Step.{Step}
@@ -29,7 +31,9 @@ is_digit c = nat_le 48 c && nat_le c 57
 
 -- a letter, a digit, '_', '-' or a byte of a character past ASCII
 unfoldable pub is_name_byte : ℕ → Bool
-is_name_byte c = nat_le 128 c || (nat_le 97 c && nat_le c 122) || (nat_le 65 c && nat_le c 90) || is_digit c || (c == 95) || (c == 45)
+is_name_byte c =
+    nat_le 128 c || (nat_le 97 c && nat_le c 122) || (nat_le 65 c && nat_le c 90) || is_digit c
+    || (c == 95) || (c == 45)
 
 -- what may stand between two of these quotes: neither the quote nor the backslash
 unfoldable pub is_between : ℕ → ℕ → Bool
@@ -66,16 +70,9 @@ pub record SpellsIndex (index : ℕ) (t : List ℕ) : Type 0 where
   pub means : number_from 0 digits ≡ index
 
 abbrev pub SpellsStep : Step → List ℕ → Type 0
-SpellsStep (Name n) t = SpellsDotted n t ⊎ (SpellsQuoted single_quote n t ⊎ SpellsQuoted double_quote n t)
+SpellsStep (Name n) t =
+    SpellsDotted n t ⊎ (SpellsQuoted single_quote n t ⊎ SpellsQuoted double_quote n t)
 SpellsStep (Index i) t = SpellsIndex i t
-
--- first what A says, then what B says
-pub record Joined (A B : List ℕ → Type 0) (t : List ℕ) : Type 0 where
-  pub front : List ℕ
-  pub back : List ℕ
-  pub parts : t ≡ front ++ back
-  pub front_is : A front
-  pub back_is : B back
 
 abbrev pub SpellsSteps : List Step → List ℕ → Type 0
 SpellsSteps [] t = t ≡ []

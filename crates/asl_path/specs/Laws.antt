@@ -40,7 +40,8 @@ IsThere = (t : List ℕ) (v r w : Data) → with_part t v r ≡ Some w → part_
 
 -- the last put stays
 abbrev pub LastStays : Type 0
-LastStays = (t : List ℕ) (v q r w : Data) → with_part t v q ≡ Some w → with_part t w r ≡ with_part t v r
+LastStays =
+    (t : List ℕ) (v q r w : Data) → with_part t v q ≡ Some w → with_part t w r ≡ with_part t v r
 
 -- to put what is there changes nothing
 abbrev pub SameChangesNothing : Type 0
@@ -58,4 +59,6 @@ AreApart (s ∷ ss) (u ∷ us) = (s ≡ u → ⊥) ⊎ ((s ≡ u) × AreApart ss
 
 -- what paths apart from it name stays
 abbrev pub LeavesTheRest : Type 0
-LeavesTheRest = (a b : Root) (ss us : List Step) (t o : List ℕ) → SpellsPath a ss t → SpellsPath b us o → AreApart ss us → (v r w : Data) → with_part t v r ≡ Some w → part_at o w ≡ part_at o v
+LeavesTheRest =
+    (a b : Root) (ss us : List Step) (t o : List ℕ) → SpellsPath a ss t → SpellsPath b us o
+    → AreApart ss us → (v r w : Data) → with_part t v r ≡ Some w → part_at o w ≡ part_at o v

@@ -1,4 +1,5 @@
--- What a path text says of a value. (Which part that is, by the grammar and the steps: the law of one meaning.)
+-- What a path text says of a value. (Which part that is, by the grammar and the steps: the law of
+-- one meaning.)
 use Rattle.std.specs.Prelude.{ℕ, List, Option, None, Result, Ok, Err}
 use Rattle.asl_json.specs.Data.{Data}
 use Rattle.asl_path.specs.declared.step.Root.{Root}

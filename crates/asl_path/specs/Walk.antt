@@ -24,7 +24,9 @@ at v (s ∷ ss) = option_and_then {T = Data} {U = Data} (λ w. at w ss) (child v
 -- the member of this name with f of its value, or f of an empty object behind the others
 abbrev pub put_member : List ℕ → (Data → Option Data) → Pairs → Option Pairs
 put_member k f no_members = option_map (λ w. member k w no_members) (f (dict no_members))
-put_member k f (member l d ms) = if bytes_eq k l then option_map (λ w. member l w ms) (f d) else option_map (λ ns. member l d ns) (put_member k f ms)
+put_member k f (member l d ms) =
+    if bytes_eq k l then option_map (λ w. member l w ms) (f d)
+    else option_map (λ ns. member l d ns) (put_member k f ms)
 
 abbrev pub put_item : ℕ → (Data → Option Data) → Chain → Option Chain
 put_item i f no_items = None

@@ -1,7 +1,8 @@
 // Paths.
-ghost use Rattle.std.specs.Prelude.{◌≡◌, Some, IfOk, IfErr, option_map};
+ghost use Rattle.std.specs.Prelude.{◌≡◌, Some, List, IfOk, IfErr, option_map};
 ghost use Rattle.asl_json.specs.View.{data_of};
-ghost use Rattle.asl_path.specs.Grammar.{IsPath, StartsFrom};
+ghost use Rattle.asl_path.specs.Grammar.{IsPath, SpellsPath, StartsFrom};
+ghost use Rattle.asl_path.specs.Walk.{at, put};
 ghost use Rattle.asl_path.specs.private.Steps.{steps};
 ghost use Rattle.asl_path.specs.Paths.{part_at, with_part};
 ghost use Rattle.asl_path.specs.private.Leads.{Fails};
@@ -160,7 +161,12 @@ impl RefPath {
     /// the input or the Context Object. Takes no memory. Its cost is the number of steps and the width of the objects
     /// on the way.
     pub fn get<'a>(&self, value: &'a Json) -> Option<&'a Json>
-        ensures { option_map (λ v. data_of v.now) result ≡ part_at self.now (data_of value.now) }
+        // By the steps that the path spells.
+        ensures steps { (r : Root) (ss : List Step) → SpellsPath r ss self.now
+            → option_map (λ v. data_of v.now) result ≡ at (data_of value.now) ss }
+        // The same by a function of the text.
+        ensures value { option_map (λ v. data_of v.now) result
+            ≡ part_at self.now (data_of value.now) }
     {
         walk(value, &self.steps)
     }
@@ -171,7 +177,12 @@ impl RefPath {
     /// It succeeds exactly if `with_part` has a value, unless memory runs out. It copies no value. Its cost is the
     /// number of steps and the width of the objects on the way.
     pub fn put(&self, alloc: Global, base: Json, part: Json) -> Result<Json, PutFault>
-        ensures ok { IfOk result (λ v. with_part self.now (data_of base) (data_of part) ≡ Some (data_of v)) }
+        // By the steps that the path spells.
+        ensures steps { IfOk result (λ v. (r : Root) (ss : List Step) → SpellsPath r ss self.now
+            → put (data_of base) ss (data_of part) ≡ Some (data_of v)) }
+        // The same by a function of the text.
+        ensures ok { IfOk result (λ v. with_part self.now (data_of base) (data_of part)
+            ≡ Some (data_of v)) }
         ensures err { IfErr result (HandsBack self.now base part) }
     {
         put_at(alloc, base, &self.steps, part)

@@ -144,8 +144,10 @@ fn object(alloc: Global, name: &Txt) -> Result<Opened, AllocError>
 
 /// Objects for these names, each within the one before.
 fn objects(alloc: Global, steps: &[Step]) -> Result<Vec<Opened>, Stop>
-    ensures ok { IfOk result (λ os. Reaches (dict no_members) steps.now os.items (dict no_members) []) }
-    ensures why { IfErr result (λ e. e ≡ Stop.NoMatch → (r : Data) → put (dict no_members) steps.now r ≡ None) }
+    ensures ok { IfOk result (λ os. Reaches (dict no_members) steps.now os.items (dict no_members)
+        []) }
+    ensures why { IfErr result
+        (λ e. e ≡ Stop.NoMatch → (r : Data) → put (dict no_members) steps.now r ≡ None) }
 {
     let mut opened = Vec::new(alloc);
     let mut rest = steps;
@@ -192,7 +194,9 @@ fn add(
 /// The answer for the whole value, from that for the part innermost.
 fn finish(opened: Vec<Opened>, answer: Result<Json, PutFault>) -> Result<Json, PutFault>
     requires { AreOpen opened.items }
-    ensures { (base here part : Json) (ss rest : List Step) → Along (data_of base) ss opened.items (data_of here) rest → IsPut here rest part answer → IsPut base ss part result }
+    ensures { (base here part : Json) (ss rest : List Step)
+        → Along (data_of base) ss opened.items (data_of here) rest → IsPut here rest part answer
+        → IsPut base ss part result }
 {
     match answer {
         Ok(value) => Ok(close_all(opened, value)),

@@ -1,7 +1,7 @@
 // Reading the steps of a path from left to right.
 ghost use Rattle.std.specs.Prelude.{◌≡◌, ◌<◌, ◌≤◌, ◌+◌, ◌^◌, ◌∷◌, ◌++◌, [], ℕ, List, true, false, length, take, slice_index, nat_eq, IfOk, IfErr, IfSome, IfNone, Ok};
 ghost use Rattle.std.specs.Str.{IsUtf8};
-ghost use Rattle.asl_path.specs.Grammar.{is_name_byte as name_byte, is_digit as spec_digit, is_between as between_quotes};
+ghost use Rattle.asl_path.specs.Grammar.{is_name_byte as name_byte, is_digit, is_between as between_quotes};
 ghost use Rattle.asl_path.specs.private.Steps.{digits, run, between, dot, bracket, quoted as mode_quoted, steps};
 ghost use Rattle.asl_path.specs.Grammar.{Each};
 ghost use Rattle.asl_path.specs.private.Leads.{Leads, NotFirst};
@@ -80,7 +80,8 @@ fn name_len(bytes: &[u8]) -> usize
 fn quoted_len(bytes: &[u8], quote: u8) -> usize
     ensures each { Each (between_quotes quote) (take result bytes.now) }
     ensures within { result ≤ length bytes.now }
-    ensures ends { result < length bytes.now → between_quotes quote (slice_index bytes.now result) ≡ false }
+    ensures ends { result < length bytes.now
+        → between_quotes quote (slice_index bytes.now result) ≡ false }
 {
     let mut end = 0;
     while end < bytes.len() {
@@ -114,7 +115,8 @@ fn txt(alloc: Global, bytes: &[u8]) -> Result<Txt, Halt>
 /// A name behind its dot, and what follows it.
 fn dotted(alloc: Global, bytes: &[u8]) -> Result<(Step, &[u8]), Halt>
     requires { IsUtf8 bytes.now }
-    ensures run { (done : List Step) → Leads (λ x. run between (done ++ x.0 ∷ []) x.1.now) result (run dot done bytes.now) }
+    ensures run { (done : List Step)
+        → Leads (λ x. run between (done ++ x.0 ∷ []) x.1.now) result (run dot done bytes.now) }
     ensures utf8 { IfOk result (λ x. IsUtf8 x.1.now) }
     ensures within { IfOk result (λ x. length x.1.now ≤ length bytes.now) }
 {
@@ -143,7 +145,9 @@ fn after_byte(bytes: &[u8], byte: u8) -> Option<&[u8]>
 fn quoted(alloc: Global, bytes: &[u8], quote: u8) -> Result<(Step, &[u8]), Halt>
     requires utf8 { IsUtf8 bytes.now }
     requires ascii { quote < 128 }
-    ensures run { (done : List Step) → Leads (λ x. run between (done ++ x.0 ∷ []) x.1.now) result (run (mode_quoted quote []) done bytes.now) }
+    ensures run { (done : List Step)
+        → Leads (λ x. run between (done ++ x.0 ∷ []) x.1.now) result
+        (run (mode_quoted quote []) done bytes.now) }
     ensures utf8 { IfOk result (λ x. IsUtf8 x.1.now) }
     ensures within { IfOk result (λ x. length x.1.now ≤ length bytes.now) }
 {
@@ -161,7 +165,7 @@ fn quoted(alloc: Global, bytes: &[u8], quote: u8) -> Result<(Step, &[u8]), Halt>
 
 #[tactic(auto, unfolding(crate::specs::Grammar::is_digit))]
 fn is_digit(byte: u8) -> bool
-    ensures { result ≡ spec_digit byte }
+    ensures { result ≡ is_digit byte }
 {
     byte >= b'0' && byte <= b'9'
 }
@@ -170,7 +174,7 @@ fn is_digit(byte: u8) -> bool
 fn first_digit(bytes: &[u8]) -> Option<(usize, &[u8])>
     ensures found { IfSome result (λ x. bytes.now ≡ (48 + x.0) ∷ x.1.now) }
     ensures small { IfSome result (λ x. x.0 < 10) }
-    ensures none { IfNone result (NotFirst spec_digit bytes.now) }
+    ensures none { IfNone result (NotFirst is_digit bytes.now) }
     ensures utf8 { IfSome result (λ x. IsUtf8 bytes.now → IsUtf8 x.1.now) }
 {
     if bytes.len() == 0 {
@@ -188,7 +192,9 @@ fn index(bytes: &[u8], count: u32, value: usize) -> Result<(Step, &[u8]), Halt>
     requires utf8 { IsUtf8 bytes.now }
     requires few { count ≤ 9 }
     requires small { value < 10 ^ count }
-    ensures run { (done : List Step) → Leads (λ x. run between (done ++ x.0 ∷ []) x.1.now) result (run (digits count value) done bytes.now) }
+    ensures run { (done : List Step)
+        → Leads (λ x. run between (done ++ x.0 ∷ []) x.1.now) result
+        (run (digits count value) done bytes.now) }
     ensures utf8 { IfOk result (λ x. IsUtf8 x.1.now) }
     ensures within { IfOk result (λ x. length x.1.now ≤ length bytes.now) }
 {
@@ -207,7 +213,8 @@ fn index(bytes: &[u8], count: u32, value: usize) -> Result<(Step, &[u8]), Halt>
 /// A name or an index behind its bracket, and what follows it.
 fn bracketed(alloc: Global, bytes: &[u8]) -> Result<(Step, &[u8]), Halt>
     requires { IsUtf8 bytes.now }
-    ensures run { (done : List Step) → Leads (λ x. run between (done ++ x.0 ∷ []) x.1.now) result (run bracket done bytes.now) }
+    ensures run { (done : List Step)
+        → Leads (λ x. run between (done ++ x.0 ∷ []) x.1.now) result (run bracket done bytes.now) }
     ensures utf8 { IfOk result (λ x. IsUtf8 x.1.now) }
     ensures within { IfOk result (λ x. length x.1.now ≤ length bytes.now) }
 {
@@ -227,7 +234,8 @@ fn bracketed(alloc: Global, bytes: &[u8]) -> Result<(Step, &[u8]), Halt>
 fn step(alloc: Global, bytes: &[u8]) -> Result<(Step, &[u8]), Halt>
     requires utf8 { IsUtf8 bytes.now }
     requires some { 0 < length bytes.now }
-    ensures run { (done : List Step) → Leads (λ x. run between (done ++ x.0 ∷ []) x.1.now) result (run between done bytes.now) }
+    ensures run { (done : List Step)
+        → Leads (λ x. run between (done ++ x.0 ∷ []) x.1.now) result (run between done bytes.now) }
     ensures utf8 { IfOk result (λ x. IsUtf8 x.1.now) }
     ensures shorter { IfOk result (λ x. length x.1.now < length bytes.now) }
 {

@@ -16,7 +16,8 @@ refusal_with limits w p t = refusal_of w p t (limit_of limits (forker_at p w.bra
 -- the first of these branches whose place isn't refused at a moment
 abbrev pub first_of : Limits → World → ℕ → List Branch → Option (List ℕ)
 first_of limits w t [] = None
-first_of limits w t (b ∷ bs) = if is_none (refusal_with limits w b.place t) then Some b.place else first_of limits w t bs
+first_of limits w t (b ∷ bs) =
+    if is_none (refusal_with limits w b.place t) then Some b.place else first_of limits w t bs
 
 -- the first place that isn't refused at a moment
 abbrev pub first_at : Limits → World → ℕ → Option (List ℕ)
@@ -35,9 +36,11 @@ lesser (Some m) (Some n) = Some (min m n)
 -- the least moment that one of these branches waits for
 abbrev pub least_of : Limits → World → List Branch → Option ℕ
 least_of limits w [] = None
-least_of limits w (b ∷ bs) = lesser (awaited_by (refusal_with limits w b.place w.last)) (least_of limits w bs)
+least_of limits w (b ∷ bs) =
+    lesser (awaited_by (refusal_with limits w b.place w.last)) (least_of limits w bs)
 
--- what comes next: nothing, since the execution is over or its history full; a step at a place; or a moment
+-- what comes next: nothing, since the execution is over or its history full; a step at a place; or
+-- a moment
 pub data Pick : Type 0 where
   Ended : Pick
   Filled : Pick
@@ -49,14 +52,17 @@ pick_of (Some p) m = Place p
 pick_of None (Some t) = Moment t
 pick_of None None = Ended
 
--- the first place that isn't refused at the last moment; else the least moment that a branch waits for, or at which the execution's
+-- the first place that isn't refused at the last moment; else the least moment that a branch waits
+-- for, or at which the execution's
 -- time is over
 abbrev pub pick : Limits → World → Pick
 pick limits w =
     if is_over w.outcome then Ended
-    else (if is_full w then Filled else pick_of (first_at limits w w.last) (lesser (least_of limits w w.branches) w.deadline))
+    else (if is_full w then Filled
+    else pick_of (first_at limits w w.last) (lesser (least_of limits w w.branches) w.deadline))
 
--- what is picked can be done: it says that the execution is over or its history full only where that is so; a step at its place isn't
+-- what is picked can be done: it says that the execution is over or its history full only where
+-- that is so; a step at its place isn't
 -- refused; and at its moment, which is later than the last one, a step at some place isn't
 abbrev pub CanBeDone : Limits → World → Pick → Type 0
 CanBeDone limits w Ended = is_over w.outcome ≡ true

@@ -13,7 +13,8 @@ use Rattle.asl_frames.specs.Branches.{Branch, branches_after}
 use Rattle.asl_run.specs.declared.outcome.Outcome.{Outcome}
 use Rattle.asl_run.specs.declared.outcome.Outcome.TheVariants.{Running, Succeeded, Failed as Lost, TimedOut}
 
--- the running branches in the order of their places; how often each state was invoked, by the machine's list of states; what was
+-- the running branches in the order of their places; how often each state was invoked, by the
+-- machine's list of states; what was
 -- told; the last moment; the one at which its time is over, where it has a time limit; the outcome
 pub record World : Type 0 where
   pub branches : List Branch
@@ -54,7 +55,8 @@ counts_after n raises counts = if raises then raised n counts else counts
 -- events at a place, each behind those before it
 abbrev pub events_after : List ℕ → ℕ → List Draft → List Event → List Event
 events_after p now [] es = es
-events_after p now (d ∷ ds) es = events_after p now ds (es ++ event_after es now d.kind p d.name d.body ∷ [])
+events_after p now (d ∷ ds) es =
+    events_after p now ds (es ++ event_after es now d.kind p d.name d.body ∷ [])
 
 abbrev pub outcome_after : Option Ended → Outcome → Outcome
 outcome_after None o = o
@@ -82,7 +84,9 @@ abbrev pub timed_out : ℕ → World → World
 timed_out now w = record {
   branches = w.branches;
   counts = w.counts;
-  events = w.events ++ event_after w.events now ExecutionTimedOut [] [] (error_output timeout_error) ∷ [];
+  events =
+      w.events ++ event_after w.events now ExecutionTimedOut [] [] (error_output timeout_error)
+      ∷ [];
   last = now;
   deadline = w.deadline;
   outcome = TimedOut;

@@ -6,7 +6,7 @@ ghost use Rattle.asl_json.specs.Compact.{compact};
 ghost use Rattle.asl_time.specs.StampText.{stamp_of};
 ghost use Rattle.asl_history.specs.Lines.{history_text};
 ghost use Rattle.asl_run.specs.Lines.{refusal_words, awaited, with_stamp, reply_text, step_line, status_text, status_line, end_text, is_success};
-ghost use Rattle.asl_steps.specs.Rows.{error_output as spec_error_output};
+ghost use Rattle.asl_steps.specs.Rows.{error_output};
 
 use crate::outcome::Outcome;
 use crate::refusal::Refusal;
@@ -59,7 +59,8 @@ fn put_until(out: &mut String, moment: Moment) -> Result<(), AllocError>
 
 /// Appends why a step was refused. Where memory runs out, a part of it may be there.
 fn put_refusal(out: &mut String, refusal: Refusal) -> Result<(), AllocError>
-    ensures ok { OnOk result (string_bytes out.new ≡ string_bytes out.old ++ with_stamp (refusal_words refusal) (awaited refusal)) }
+    ensures ok { OnOk result (string_bytes out.new
+        ≡ string_bytes out.old ++ with_stamp (refusal_words refusal) (awaited refusal)) }
     ensures kept { Keeps (string_bytes out.old) (string_bytes out.new) }
 {
     out.push_str(refusal.words())?;
@@ -83,7 +84,8 @@ fn put_reply(out: &mut String, reply: Option<Refusal>) -> Result<(), AllocError>
 /// Appends the line of a step: `step`, the place, and `ok` or why it was refused. The error is that memory ran out, and then
 /// nothing is appended.
 pub fn put_step(out: &mut String, place: &Place, reply: Option<Refusal>) -> Result<(), AllocError>
-    ensures ok { OnOk result (string_bytes out.new ≡ string_bytes out.old ++ step_line place.now reply) }
+    ensures ok { OnOk result (string_bytes out.new
+        ≡ string_bytes out.old ++ step_line place.now reply) }
     ensures err { OnErr result (string_bytes out.new ≡ string_bytes out.old) }
 {
     let len = out.as_str().len();
@@ -93,7 +95,8 @@ pub fn put_step(out: &mut String, place: &Place, reply: Option<Refusal>) -> Resu
 
 /// Appends the line of a step. Where memory runs out, a part of it may be there.
 fn put_step_parts(out: &mut String, place: &Place, reply: Option<Refusal>) -> Result<(), AllocError>
-    ensures ok { OnOk result (string_bytes out.new ≡ string_bytes out.old ++ step_line place.now reply) }
+    ensures ok { OnOk result (string_bytes out.new
+        ≡ string_bytes out.old ++ step_line place.now reply) }
     ensures kept { Keeps (string_bytes out.old) (string_bytes out.new) }
 {
     out.push_str("step ")?;
@@ -105,7 +108,8 @@ fn put_step_parts(out: &mut String, place: &Place, reply: Option<Refusal>) -> Re
 
 /// Appends the lines of a history. Where memory runs out, some of them may be there.
 fn put_history(out: &mut String, history: &History) -> Result<(), AllocError>
-    ensures ok { OnOk result (string_bytes out.new ≡ string_bytes out.old ++ history_text history.now.events) }
+    ensures ok { OnOk result (string_bytes out.new
+        ≡ string_bytes out.old ++ history_text history.now.events) }
     ensures kept { Keeps (string_bytes out.old) (string_bytes out.new) }
 {
     for event in history.events() {
@@ -116,7 +120,8 @@ fn put_history(out: &mut String, history: &History) -> Result<(), AllocError>
 
 /// Appends a status and the data that it has. Where memory runs out, the status may be there.
 fn put_data(out: &mut String, status: &str, value: &Json) -> Result<(), AllocError>
-    ensures ok { OnOk result (string_bytes out.new ≡ string_bytes out.old ++ (status.now ++ compact (data_of value.now))) }
+    ensures ok { OnOk result (string_bytes out.new
+        ≡ string_bytes out.old ++ (status.now ++ compact (data_of value.now))) }
     ensures kept { Keeps (string_bytes out.old) (string_bytes out.new) }
 {
     out.push_str(status)?;
@@ -130,7 +135,8 @@ fn put_failure(
     status: &str,
     error: &ErrorOut,
 ) -> Result<(), AllocError>
-    ensures ok { OnOk result (string_bytes out.new ≡ string_bytes out.old ++ (status.now ++ compact (data_of (spec_error_output error.now)))) }
+    ensures ok { OnOk result (string_bytes out.new
+        ≡ string_bytes out.old ++ (status.now ++ compact (data_of (error_output error.now)))) }
     ensures kept { Keeps (string_bytes out.old) (string_bytes out.new) }
 {
     let output = error_output(alloc, error)?;
@@ -139,7 +145,8 @@ fn put_failure(
 
 /// Appends the status, and the output or the error output. Where memory runs out, a part of it may be there.
 fn put_outcome(alloc: Global, out: &mut String, outcome: &Outcome) -> Result<(), AllocError>
-    ensures ok { OnOk result (string_bytes out.new ≡ string_bytes out.old ++ status_text outcome.now) }
+    ensures ok { OnOk result (string_bytes out.new
+        ≡ string_bytes out.old ++ status_text outcome.now) }
     ensures kept { Keeps (string_bytes out.old) (string_bytes out.new) }
 {
     match outcome {
@@ -155,7 +162,8 @@ fn put_outcome(alloc: Global, out: &mut String, outcome: &Outcome) -> Result<(),
 
 /// Appends the line of the outcome. Where memory runs out, a part of it may be there.
 fn put_status(alloc: Global, out: &mut String, outcome: &Outcome) -> Result<(), AllocError>
-    ensures ok { OnOk result (string_bytes out.new ≡ string_bytes out.old ++ status_line outcome.now) }
+    ensures ok { OnOk result (string_bytes out.new
+        ≡ string_bytes out.old ++ status_line outcome.now) }
     ensures kept { Keeps (string_bytes out.old) (string_bytes out.new) }
 {
     put_outcome(alloc, out, outcome)?;

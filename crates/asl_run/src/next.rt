@@ -27,7 +27,9 @@ pub enum Next<'a> {
 impl World {
     /// The branch that may step first from a moment on.
     fn soonest<L: Limits>(&self, limits: &L, moment: Moment) -> Option<Turn<'_>>
-        ensures turn { option_map turn_of result ≡ soonest (max self.now.last moment) (dues_among (L.limits limits.now) self.now.branches) }
+        ensures turn { option_map turn_of result
+            ≡ soonest (max self.now.last moment)
+            (dues_among (L.limits limits.now) self.now.branches) }
         ensures goes { is_over self.now.outcome ≡ false → is_some result ≡ true }
     {
         self.root.soonest(limits, self.present(moment))

@@ -1,7 +1,7 @@
 // What an execution's time limit makes of it.
 ghost use Rattle.std.specs.Prelude.{◌≡◌, IfOk, Some};
-ghost use Rattle.asl_steps.specs.Rows.{error_output as spec_error_output};
-ghost use Rattle.asl_run.specs.World.{timeout_error as spec_timeout_error, is_late as spec_is_late};
+ghost use Rattle.asl_steps.specs.Rows.{error_output};
+ghost use Rattle.asl_run.specs.World.{timeout_error, is_late};
 ghost use Rattle.asl_run.specs.Picking.{lesser};
 
 use asl_json::{Shared, Txt};
@@ -11,7 +11,7 @@ use std::alloc::{AllocError, Global};
 
 /// The error of an execution whose time is over: `States.Timeout`. (Amazon States Language, "Errors".)
 pub(crate) fn timeout_error(alloc: Global) -> Result<ErrorOut, AllocError>
-    ensures { IfOk result (λ e. e ≡ spec_timeout_error) }
+    ensures { IfOk result (λ e. e ≡ timeout_error) }
 {
     let name = Txt::of(alloc, "States.Timeout")?;
     Ok(ErrorOut {
@@ -22,7 +22,7 @@ pub(crate) fn timeout_error(alloc: Global) -> Result<ErrorOut, AllocError>
 
 /// The same, as an event tells it.
 pub(crate) fn timeout_output(alloc: Global) -> Result<Shared, AllocError>
-    ensures { IfOk result (λ v. v ≡ spec_error_output spec_timeout_error) }
+    ensures { IfOk result (λ v. v ≡ error_output timeout_error) }
 {
     let error = timeout_error(alloc)?;
     Ok(Shared::new(alloc, error_output(alloc, &error)?)?)
@@ -30,7 +30,7 @@ pub(crate) fn timeout_output(alloc: Global) -> Result<Shared, AllocError>
 
 /// Whether the time of an execution is over at this moment, where it has a time limit.
 pub(crate) fn is_late(now: Moment, deadline: Option<Moment>) -> bool
-    ensures { result ≡ spec_is_late now deadline }
+    ensures { result ≡ is_late now deadline }
 {
     match deadline {
         Some(deadline) => deadline.millis() <= now.millis(),

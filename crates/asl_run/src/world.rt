@@ -7,9 +7,9 @@ ghost use Rattle.asl_json.specs.View.{data_of};
 ghost use Rattle.asl_frames.specs.Branches.{record_at, children_at, forker_at, iteration_at};
 ghost use Rattle.asl_frames.specs.Trees.{branches_of, nodes_of};
 ghost use Rattle.asl_frames.specs.private.Links.{ArePlaced, latest};
-ghost use Rattle.asl_run.specs.World.{world_with, counts_after, outcome_after, count_of, is_over, is_late as spec_is_late, timed_out};
+ghost use Rattle.asl_run.specs.World.{world_with, counts_after, outcome_after, count_of, is_over, is_late, timed_out};
 ghost use Rattle.asl_run.specs.private.Telling.{placed, AllAt, told_after, last_id};
-ghost use Rattle.asl_run.specs.Refusals.{refusal_of, opening_at, most_events, is_full as spec_is_full};
+ghost use Rattle.asl_run.specs.Refusals.{refusal_of, opening_at, most_events, is_full};
 
 use crate::outcome::Outcome;
 use crate::refusal::Refusal;
@@ -74,7 +74,7 @@ fn placed(alloc: Global, place: &Place, drafts: Drafts) -> Result<Vec<(Place, Dr
 {
     let mut placed = Vec::new(alloc);
     for draft in drafts.list {
-        placed.push((place.try_clone(alloc)?, draft))?;
+        placed.push((place.try_clone()?, draft))?;
     }
     Ok(placed)
 }
@@ -165,7 +165,7 @@ fn started(alloc: Global, input: Shared, moment: Moment) -> Result<History, Allo
     history.append(
         moment,
         EventKind::ExecutionStarted,
-        Place::root(alloc),
+        Place::root(),
         nameless,
         input,
     );
@@ -212,8 +212,10 @@ impl World {
 
     /// The frame at a place; none where no branch runs there.
     pub fn frame_at(&self, place: &Place) -> Option<&Frame>
-        ensures record { option_map (λ f. f.now.head.current) result ≡ record_at place.now self.now.branches }
-        ensures children { IfSome result (λ f. children_at [] (branches_of f.now) ≡ children_at place.now self.now.branches) }
+        ensures record { option_map (λ f. f.now.head.current) result
+            ≡ record_at place.now self.now.branches }
+        ensures children { IfSome result
+            (λ f. children_at [] (branches_of f.now) ≡ children_at place.now self.now.branches) }
     {
         self.root.find(place)
     }
@@ -227,7 +229,8 @@ impl World {
 
     /// The number and the item of the innermost iteration of a Map that a place is at or under.
     pub fn iteration_at(&self, place: &Place) -> Option<(u32, &Json)>
-        ensures { option_map (λ i. (i.0, data_of i.1.now)) result ≡ iteration_at place.now self.now.branches }
+        ensures { option_map (λ i. (i.0, data_of i.1.now)) result
+            ≡ iteration_at place.now self.now.branches }
     {
         self.root.iteration(place)
     }
@@ -265,7 +268,7 @@ impl World {
 
     /// Whether no step is taken any more since there are so many events.
     pub fn is_full(&self) -> bool
-        ensures { result ≡ spec_is_full self.now }
+        ensures { result ≡ is_full self.now }
     {
         self.history.len() > FULL
     }
@@ -297,7 +300,7 @@ impl World {
 
     /// Whether its time is over where a step is handed this moment.
     pub fn is_late(&self, moment: Moment) -> bool
-        ensures { result ≡ spec_is_late (max self.now.last moment) self.now.deadline }
+        ensures { result ≡ is_late (max self.now.last moment) self.now.deadline }
     {
         is_late(self.present(moment), self.deadline)
     }
@@ -359,7 +362,7 @@ impl World {
     {
         let nameless = Name::new(alloc, "")?;
         let error = timeout_output(alloc)?;
-        let root = Place::root(alloc);
+        let root = Place::root();
         let previous = latest_along(&self.root, &root);
         self.history.reserve(1)?;
         self.history.append_linked(

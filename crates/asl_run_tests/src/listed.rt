@@ -176,7 +176,7 @@ fn state_of<'a>(machine: &'a Machine, current: &Record) -> Option<(usize, &'a St
 fn stepped(alloc: Global, place: &Place, after: Record) -> Result<Vec<Branch>, AllocError> {
     let mut family = Vec::new(alloc);
     family.push(Branch {
-        place: place.try_clone(alloc)?,
+        place: place.try_clone()?,
         current: after,
     })?;
     Ok(family)
@@ -251,7 +251,7 @@ fn tell(
     place: &Place,
     draft: Draft,
 ) -> Result<(), AllocError> {
-    let at = place.try_clone(alloc)?;
+    let at = place.try_clone()?;
     history.reserve(1)?;
     history.append(moment, draft.kind, at, draft.name, draft.body);
     Ok(())
@@ -274,7 +274,7 @@ fn tell_all(
 /// The branch that an execution begins with.
 fn first(alloc: Global, setup: &Setup) -> Result<Branch, AllocError> {
     Ok(Branch {
-        place: Place::root(alloc),
+        place: Place::root(),
         current: Record::Ready {
             state: Name::new(alloc, setup.machine.start())?,
             input: setup.input.try_clone()?,
@@ -300,7 +300,7 @@ fn started(alloc: Global, setup: &Setup) -> Result<History, AllocError> {
         name: Name::new(alloc, "")?,
         body: setup.input.try_clone()?,
     };
-    let root = Place::root(alloc);
+    let root = Place::root();
     tell(alloc, &mut history, setup.start, &root, draft)?;
     Ok(history)
 }
@@ -484,7 +484,7 @@ impl Listed {
             name: Name::new(alloc, "")?,
             body: Shared::new(alloc, body)?,
         };
-        let root = Place::root(alloc);
+        let root = Place::root();
         tell(alloc, &mut self.history, now, &root, draft)?;
         self.last = now;
         self.outcome = Outcome::TimedOut;

@@ -361,7 +361,7 @@ fn opened(rt: &HostRuntime) -> Option<Execution> {
 
 /// Whether the branch at the root is about to enter a state with this input.
 fn is_ready(rt: &HostRuntime, execution: &Execution, state: &str, input: &str) -> bool {
-    match execution.view(&Place::root(rt.alloc())) {
+    match execution.view(&Place::root()) {
         Some(
             Record::Ready {
                 state: name,
@@ -378,7 +378,7 @@ fn is_written(rt: &HostRuntime, value: &Json, text: &str) -> bool {
 
 #[test]
 fn an_execution_is_stepped_and_viewed(rt: HostRuntime) -> Result<(), Fail> {
-    let root = Place::root(rt.alloc());
+    let root = Place::root();
     let mut execution = opened(&rt).ok_or("not opened")?;
     assert_eq!(rt; execution.setup().name_of_machine.as_str(), "M");
     assert!(rt; is_ready(&rt, &execution, "P", "{}"));

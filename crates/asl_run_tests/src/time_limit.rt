@@ -60,7 +60,7 @@ const TOO_LONG: &str =
 fn the_deadline_is_awaited_where_nothing_comes_before_it(rt: HostRuntime) -> Result<(), Fail> {
     let alloc = rt.alloc();
     let mut execution = opened(alloc, TOO_LONG)?;
-    let root = Place::root(alloc);
+    let root = Place::root();
     assert!(rt; execution.step(&root, Moment::FIRST).is_ok());
     assert!(rt; matches!(execution.next(), Next::At(moment) if moment.millis() == 5_000));
     let before = Moment::of_millis(4_999).ok_or("no moment")?;
@@ -103,7 +103,7 @@ fn a_full_history_has_room_for_the_end_of_its_time(rt: HostRuntime) -> Result<()
     let mut execution = opened(rt.alloc(), definition)?;
     assert!(rt; matches!(execution.drive(20_000), Ok((12_496, Ended::Full))));
     assert!(rt; matches!(execution.next(), Next::Full));
-    let root = Place::root(rt.alloc());
+    let root = Place::root();
     let refused = execution.step(&root, Moment::FIRST);
     assert!(rt; matches!(refused, Err(Refusal::HistoryFull)));
     let deadline = Moment::of_millis(5_000).ok_or("no moment")?;

@@ -58,10 +58,5 @@ of_kind t k e =
     named_so (bytes_eq t (codes "Fail")) kind.Fail k None t refl e (λ e. absurd cc))))))))
 
 pub type_is : (o : Option Data) (k : Kind) → kind_named o ≡ Some k → o ≡ Some (text (kind_text k))
-type_is None k e = absurd cc
-type_is (Some null) k e = absurd cc
-type_is (Some (boolean b)) k e = absurd cc
-type_is (Some (number n)) k e = absurd cc
-type_is (Some (list ds)) k e = absurd cc
-type_is (Some (dict ms)) k e = absurd cc
 type_is (Some (text t)) k e = ap (λ (x : List ℕ). Some (text x)) (of_kind t k e)
+type_is x k e = absurd cc

@@ -12,7 +12,7 @@ use Rattle.asl_schema.specs.declared.sort.Sort.{Sort}
 use Rattle.asl_schema.specs.declared.sort.Sort.TheVariants as sort
 use Rattle.asl_schema.specs.declared.sort.Kind.{Kind}
 use Rattle.asl_schema.specs.declared.sort.Kind.TheVariants as kind
-use Rattle.asl_schema.specs.Members.{Group, exactly_one, at_most_one, Shape, sort_at, state_shape, is_among, transition, wait_time, processor_group, selector_group, operators, connectives, rule_groups, task_rows, pass_rows, wait_rows, parallel_rows, map_rows}
+use Rattle.asl_schema.specs.Members.{Group, exactly_one, at_most_one, Shape, sort_at, state_shape, is_among, transition, wait_time, processor_group, selector_group, operators, test_rows, connectives, rule_groups, task_rows, pass_rows, wait_rows, parallel_rows, map_rows}
 use Rattle.asl_schema.specs.Claims.{counts, any_in, is_true, has_any}
 use Rattle.asl_schema.specs.Clean.{IsCleanInside, Fits, GoesOneWay, is_ending, goes_on}
 use Rattle.asl_schema.proofs.Inside.{fits_at, any_there, or_right}
@@ -97,7 +97,7 @@ pub rule_some : (names : List ℕ → Bool) (sh : Shape) (ms : Pairs) → sh.gro
 rule_some names sh ms e c = some_there names sh rule_tests ms c (subst (IsGroup rule_tests) (sym e) (inl refl)) refl
 
 end_no_test : is_among (codes "End") (operators ++ connectives) ≡ false
-unfolding operators
+unfolding operators test_rows
 end_no_test = refl
 
 pub rule_one : (names : List ℕ → Bool) (sh : Shape) (ms : Pairs) (k l : List ℕ) → sh.groups ≡ rule_groups → IsCleanInside names sh ms → is_among k (operators ++ connectives) ≡ true → is_among l (operators ++ connectives) ≡ true → bytes_eq k l ≡ false → is_some (value_at k ms) ≡ true → is_some (value_at l ms) ≡ false

@@ -39,7 +39,8 @@ abbrev pub picked : List Row → Pairs → List Named
 picked [] ms = []
 picked (r ∷ rs) ms = opt r.name (kept r.name (value_at r.name ms)) ++ picked rs ms
 
--- an object of this sort with these members, of which the second list is canonical; states stay in their order
+-- an object of this sort with these members, of which the second list is canonical; states stay in
+-- their order
 abbrev pub arranged : Sort → List Row → Pairs → Pairs → Data
 arranged sort.Definition rs ms cs = dict (pairs (picked rs cs))
 arranged sort.Machine rs ms cs = dict (pairs (picked rs cs))

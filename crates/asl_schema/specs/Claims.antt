@@ -1,4 +1,5 @@
--- What is demanded of a definition, place by place, in document order. (Amazon States Language, "Structure of a State Machine".)
+-- What is demanded of a definition, place by place, in document order. (Amazon States Language,
+-- "Structure of a State Machine".)
 use Rattle.std.specs.Prelude.{ℕ, suc, List, [], ◌∷◌, ◌++◌, Bool, true, false, ◌||◌, ◌&&◌, not, ◌==◌, Option, Some, None, is_some, if◌then◌else◌, codes, map, nat_lt, nat_le, int_lt, count_by, pos, ℤ, Result, Ok, Err}
 use Rattle.std.specs.Fmt.{decimal}
 use Rattle.asl_json.specs.Data.{Data, null, boolean, number, text, list, dict, Chain, no_items, item, Pairs, no_members, member}
@@ -35,7 +36,8 @@ here q = (q, [])
 abbrev pub step : ℕ → List ℕ → Step
 step i k = record { at = i; name = k }
 
--- where a value stands: the names of the machine's states, how many machines it stands in, whether what holds it is the last
+-- where a value stands: the names of the machine's states, how many machines it stands in, whether
+-- what holds it is the last
 -- of its list, its key, and whether another member of its group stands before it
 pub record Spot : Type 0 where
   pub names : List ℕ → Bool
@@ -115,15 +117,20 @@ text_demands p sort.Timestamp t = timestamp t ∷ []
 text_demands p sort.Jitter t = in_range (is_jitter t) ∷ []
 text_demands p s t = []
 
--- the largest whole number that a member may be (Step Functions, for Seconds, TimeoutSeconds, IntervalSeconds and the like)
+-- the largest whole number that a member may be (Step Functions, for Seconds, TimeoutSeconds,
+-- IntervalSeconds and the like)
 abbrev pub most_whole : ℕ
 most_whole = 99999999
 
 abbrev pub number_demands : Sort → List ℕ → List Demand
-number_demands sort.FromZero n = in_range (is_between_whole (pos 0) (pos most_whole) (whole_of n)) ∷ []
-number_demands sort.FromOne n = in_range (is_between_whole (pos 1) (pos most_whole) (whole_of n)) ∷ []
-number_demands sort.Rate n = in_range (is_between (pos 1000000000) (pos 1000000000000) (units_of n)) ∷ []
-number_demands sort.DelayLimit n = in_range (is_between_whole (pos 1) (pos 31622399) (whole_of n)) ∷ []
+number_demands sort.FromZero n =
+    in_range (is_between_whole (pos 0) (pos most_whole) (whole_of n)) ∷ []
+number_demands sort.FromOne n =
+    in_range (is_between_whole (pos 1) (pos most_whole) (whole_of n)) ∷ []
+number_demands sort.Rate n =
+    in_range (is_between (pos 1000000000) (pos 1000000000000) (units_of n)) ∷ []
+number_demands sort.DelayLimit n =
+    in_range (is_between_whole (pos 1) (pos 31622399) (whole_of n)) ∷ []
 number_demands s n = []
 
 abbrev pub is_nonempty : Chain → Bool
@@ -197,7 +204,9 @@ is_needed r ms = r.required || has_any r.users ms
 
 abbrev pub row_claims : ℕ → List Row → Pairs → List Claim
 row_claims i [] ms = []
-row_claims i (r ∷ rs) ms = (if is_needed r ms then (there (value_at r.name ms), step i r.name ∷ []) ∷ [] else []) ++ row_claims (suc i) rs ms
+row_claims i (r ∷ rs) ms =
+    (if is_needed r ms then (there (value_at r.name ms), step i r.name ∷ []) ∷ [] else [])
+    ++ row_claims (suc i) rs ms
 
 -- which lists and objects are searched
 
@@ -229,9 +238,30 @@ names_in ms k = is_some (value_at k (members_in (value_at (codes "States") ms)))
 
 -- where the members of an object stand
 abbrev pub inside : Spot → Sort → Pairs → Spot
-inside p sort.Definition ms = record { names = names_in ms; level = one_deeper p.level; ends = p.ends; key = p.key; doubled = p.doubled }
-inside p sort.Machine ms = record { names = names_in ms; level = one_deeper p.level; ends = p.ends; key = p.key; doubled = p.doubled }
-inside p sort.ItemProcessor ms = record { names = names_in ms; level = one_deeper p.level; ends = p.ends; key = p.key; doubled = p.doubled }
+inside p sort.Definition ms =
+    record {
+      names = names_in ms;
+      level = one_deeper p.level;
+      ends = p.ends;
+      key = p.key;
+      doubled = p.doubled;
+    }
+inside p sort.Machine ms =
+    record {
+      names = names_in ms;
+      level = one_deeper p.level;
+      ends = p.ends;
+      key = p.key;
+      doubled = p.doubled;
+    }
+inside p sort.ItemProcessor ms =
+    record {
+      names = names_in ms;
+      level = one_deeper p.level;
+      ends = p.ends;
+      key = p.key;
+      doubled = p.doubled;
+    }
 inside p s ms = p
 
 -- of `k` and `k.$` in an object of a template the other one stands before
@@ -239,7 +269,15 @@ abbrev pub is_twice : Sort → Members → List ℕ → Bool
 is_twice s seen k = is_template s && is_double seen k
 
 abbrev pub at_member : Spot → Shape → Members → List ℕ → Data → Spot
-at_member p sh seen k d = record { names = p.names; level = p.level; ends = p.ends; key = k; doubled = is_doubled sh.groups seen k d || is_twice sh.others seen k }
+at_member p sh seen k d =
+    record {
+      names = p.names;
+      level = p.level;
+      ends = p.ends;
+      key = k;
+      doubled = is_doubled
+          sh.groups seen k d || is_twice sh.others seen k;
+    }
 
 abbrev pub at_item : Spot → Bool → Spot
 at_item p ends = record { names = p.names; level = p.level; ends = ends; key = []; doubled = false }
@@ -253,20 +291,33 @@ abbrev mutual
   claims p s (boolean b) = heres (demands p s (boolean b))
   claims p s (number n) = heres (demands p s (number n))
   claims p s (text t) = heres (demands p s (text t))
-  claims p s (list ds) = heres (demands p s (list ds)) ++ (if is_list s then item_claims p (item_sort s) 0 ds else [])
-  claims p s (dict ms) = heres (demands p s (dict ms)) ++ (if is_object s then heres (group_demands (shape_in s ms).groups ms) ++ (member_claims (inside p s ms) (shape_in s ms) [] 0 ms ++ row_claims (count ms) (shape_in s ms).rows ms) else [])
+  claims p s (list ds) =
+      heres (demands p s (list ds)) ++ (if is_list s then item_claims p (item_sort s) 0 ds else [])
+  claims p s (dict ms) =
+      heres (demands p s (dict ms))
+      ++ (if is_object s
+      then heres (group_demands (shape_in s ms).groups ms)
+      ++ (member_claims (inside p s ms) (shape_in s ms) [] 0 ms
+      ++ row_claims (count ms) (shape_in s ms).rows ms) else [])
 
   pub item_claims : Spot → Sort → ℕ → Chain → List Claim
   item_claims p s i no_items = []
-  item_claims p s i (item d ds) = map (under (step i (decimal i))) (claims (at_item p (not (is_nonempty ds))) s d) ++ item_claims p s (suc i) ds
+  item_claims p s i (item d ds) =
+      map (under (step i (decimal i))) (claims (at_item p (not (is_nonempty ds))) s d)
+      ++ item_claims p s (suc i) ds
 
   -- behind other members of the object
   pub member_claims : Spot → Shape → Members → ℕ → Pairs → List Claim
   member_claims p sh seen i no_members = []
-  member_claims p sh seen i (member k d ms) = map (under (step i k)) (claims (at_member p sh seen k d) (sort_at sh k) d) ++ member_claims p sh (seen ++ (k, d) ∷ []) (suc i) ms
+  member_claims p sh seen i (member k d ms) =
+      map (under (step i k)) (claims (at_member p sh seen k d) (sort_at sh k) d)
+      ++ member_claims p sh (seen ++ (k, d) ∷ []) (suc i) ms
 
 abbrev pub outside : Spot
 outside = record { names = λ k. false; level = 0; ends = true; key = []; doubled = false }
 
 abbrev pub object_claims : Spot → Sort → Pairs → List Claim
-object_claims p s ms = heres (group_demands (shape_in s ms).groups ms) ++ (member_claims (inside p s ms) (shape_in s ms) [] 0 ms ++ row_claims (count ms) (shape_in s ms).rows ms)
+object_claims p s ms =
+    heres (group_demands (shape_in s ms).groups ms)
+    ++ (member_claims (inside p s ms) (shape_in s ms) [] 0 ms
+    ++ row_claims (count ms) (shape_in s ms).rows ms)

@@ -74,7 +74,8 @@ AreItemsClean names s (d ∷ ds) = IsCleanAmong names s d × AreItemsClean names
 -- nor with states and their names
 abbrev pub AreStatesClean : (List ℕ → Bool) → Members → Type 0
 AreStatesClean names [] = Unit {0}
-AreStatesClean names (m ∷ ms) = IsCleanAmong names sort.State m.1 × (is_name m.0 ≡ true) × AreStatesClean names ms
+AreStatesClean names (m ∷ ms) =
+    IsCleanAmong names sort.State m.1 × (is_name m.0 ≡ true) × AreStatesClean names ms
 
 -- the types of states that name what comes next
 abbrev pub goes_on : Kind → Bool

@@ -1,4 +1,5 @@
--- What is demanded of the values of a definition. To break a demand is a fault, and each demand says one sentence.
+-- What is demanded of the values of a definition. To break a demand is a fault, and each demand
+-- says one sentence.
 use Rattle.std.specs.Prelude.{◌≡◌, ℕ, List, Bool, true, false, Option, is_some, codes}
 use Rattle.asl_json.specs.Data.{Data, null, boolean, number, text, list, dict}
 use Rattle.asl_path.specs.Grammar.{IsPath, StartsFrom}

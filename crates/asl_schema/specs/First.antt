@@ -1,4 +1,5 @@
--- Which of some demands that are broken is answered: the lowest number, and of its places the first in document order.
+-- Which of some demands that are broken is answered: the lowest number, and of its places the first
+-- in document order.
 use Rattle.std.specs.Prelude.{◌≡◌, ◌<◌, ◌≤◌, ℕ, List, [], ◌∷◌, ◌++◌, Option, Some, None, Bool, nat_lt, option_map, if◌then◌else◌}
 use Rattle.asl_schema.specs.declared.fault.FaultKind.{FaultKind}
 use Rattle.asl_schema.specs.declared.fault.Step.{Step}

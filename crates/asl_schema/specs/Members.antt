@@ -26,50 +26,6 @@ optional k s = record { name = k; required = false; users = []; sort = s }
 abbrev pub beside : List (List ℕ) → List ℕ → Sort → Row
 beside ls k s = record { name = k; required = false; users = ls; sort = s }
 
--- the tests of a rule
-unfoldable pub operators : List (List ℕ)
-operators =
-    codes "StringEquals"
-    ∷ codes "StringEqualsPath"
-    ∷ codes "StringLessThan"
-    ∷ codes "StringLessThanPath"
-    ∷ codes "StringGreaterThan"
-    ∷ codes "StringGreaterThanPath"
-    ∷ codes "StringLessThanEquals"
-    ∷ codes "StringLessThanEqualsPath"
-    ∷ codes "StringGreaterThanEquals"
-    ∷ codes "StringGreaterThanEqualsPath"
-    ∷ codes "NumericEquals"
-    ∷ codes "NumericEqualsPath"
-    ∷ codes "NumericLessThan"
-    ∷ codes "NumericLessThanPath"
-    ∷ codes "NumericGreaterThan"
-    ∷ codes "NumericGreaterThanPath"
-    ∷ codes "NumericLessThanEquals"
-    ∷ codes "NumericLessThanEqualsPath"
-    ∷ codes "NumericGreaterThanEquals"
-    ∷ codes "NumericGreaterThanEqualsPath"
-    ∷ codes "TimestampEquals"
-    ∷ codes "TimestampEqualsPath"
-    ∷ codes "TimestampLessThan"
-    ∷ codes "TimestampLessThanPath"
-    ∷ codes "TimestampGreaterThan"
-    ∷ codes "TimestampGreaterThanPath"
-    ∷ codes "TimestampLessThanEquals"
-    ∷ codes "TimestampLessThanEqualsPath"
-    ∷ codes "TimestampGreaterThanEquals"
-    ∷ codes "TimestampGreaterThanEqualsPath"
-    ∷ codes "BooleanEquals"
-    ∷ codes "BooleanEqualsPath"
-    ∷ codes "StringMatches"
-    ∷ codes "IsNull"
-    ∷ codes "IsPresent"
-    ∷ codes "IsNumeric"
-    ∷ codes "IsString"
-    ∷ codes "IsBoolean"
-    ∷ codes "IsTimestamp"
-    ∷ []
-
 unfoldable pub definition_rows : List Row
 definition_rows =
     optional (codes "Comment") Text
@@ -253,6 +209,14 @@ test_rows =
     ∷ optional (codes "IsTimestamp") Truth
     ∷ []
 
+abbrev pub row_names : List Row → List (List ℕ)
+row_names [] = []
+row_names (r ∷ rs) = r.name ∷ row_names rs
+
+-- the tests of a rule
+unfoldable pub operators : List (List ℕ)
+operators = row_names test_rows
+
 unfoldable pub inner_rule_rows : List Row
 inner_rule_rows =
     optional (codes "Comment") Text
@@ -333,7 +297,9 @@ abbrev pub transition : Group
 transition = exactly_one (two (codes "Next") (codes "End"))
 
 abbrev pub wait_time : Group
-wait_time = exactly_one (codes "Seconds" ∷ codes "SecondsPath" ∷ codes "Timestamp" ∷ codes "TimestampPath" ∷ [])
+wait_time =
+    exactly_one (codes "Seconds" ∷ codes "SecondsPath" ∷ codes "Timestamp" ∷ codes "TimestampPath"
+    ∷ [])
 
 -- the machine of a Map, in either spelling
 abbrev pub processor_group : Group
@@ -347,17 +313,23 @@ abbrev pub connectives : List (List ℕ)
 connectives = codes "And" ∷ codes "Or" ∷ codes "Not" ∷ []
 
 abbrev pub kind_groups : Kind → List Group
-kind_groups kind.Task = at_most_one (two (codes "TimeoutSeconds") (codes "TimeoutSecondsPath")) ∷ at_most_one (two (codes "HeartbeatSeconds") (codes "HeartbeatSecondsPath")) ∷ transition ∷ []
+kind_groups kind.Task =
+    at_most_one (two (codes "TimeoutSeconds") (codes "TimeoutSecondsPath"))
+    ∷ at_most_one (two (codes "HeartbeatSeconds") (codes "HeartbeatSecondsPath")) ∷ transition
+    ∷ []
 kind_groups kind.Pass = transition ∷ []
 kind_groups kind.Choice = []
 kind_groups kind.Wait = wait_time ∷ transition ∷ []
 kind_groups kind.Parallel = transition ∷ []
 kind_groups kind.Map = processor_group ∷ selector_group ∷ transition ∷ []
 kind_groups kind.Succeed = []
-kind_groups kind.Fail = at_most_one (two (codes "Error") (codes "ErrorPath")) ∷ at_most_one (two (codes "Cause") (codes "CausePath")) ∷ []
+kind_groups kind.Fail =
+    at_most_one (two (codes "Error") (codes "ErrorPath"))
+    ∷ at_most_one (two (codes "Cause") (codes "CausePath")) ∷ []
 
 abbrev pub rule_groups : List Group
-rule_groups = exactly_one (operators ++ connectives) ∷ at_most_one (codes "Variable" ∷ connectives) ∷ []
+rule_groups =
+    exactly_one (operators ++ connectives) ∷ at_most_one (codes "Variable" ∷ connectives) ∷ []
 
 -- what an object may have: its rows, what every other member is to be, and its groups
 pub record Shape : Type 0 where

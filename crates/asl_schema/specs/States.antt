@@ -34,16 +34,20 @@ abbrev mutual
 
   pub item_states : Sort → ℕ → Chain → List Named
   item_states s i no_items = []
-  item_states s i (item d ds) = map (further (step i (decimal i))) (states_in s d) ++ item_states s (suc i) ds
+  item_states s i (item d ds) =
+      map (further (step i (decimal i))) (states_in s d) ++ item_states s (suc i) ds
 
   pub member_states : Shape → ℕ → Pairs → List Named
   member_states sh i no_members = []
-  member_states sh i (member k d ms) = map (further (step i k)) (own_name (sort_at sh k) k ++ states_in (sort_at sh k) d) ++ member_states sh (suc i) ms
+  member_states sh i (member k d ms) =
+      map (further (step i k)) (own_name (sort_at sh k) k ++ states_in (sort_at sh k) d)
+      ++ member_states sh (suc i) ms
 
 -- behind states of these names
 abbrev pub unique_claims : List (List ℕ) → List Named → List Claim
 unique_claims seen [] = []
-unique_claims seen (n ∷ ns) = (unique (not (is_among n.0 seen)), n.1) ∷ unique_claims (seen ++ n.0 ∷ []) ns
+unique_claims seen (n ∷ ns) =
+    (unique (not (is_among n.0 seen)), n.1) ∷ unique_claims (seen ++ n.0 ∷ []) ns
 
 abbrev pub names_of : List Named → List (List ℕ)
 names_of ns = map (λ (n : Named). n.0) ns
@@ -53,6 +57,7 @@ abbrev pub Has : {Y S : Type 0} → HashSet (String Y) S → List (List ℕ) →
 Has s ks = (k : List ℕ) → contains_text s k ≡ is_among k ks
 
 -- behind states of these names: the first that has a name again, or the set of all names
-abbrev pub Finds : {Y S : Type 0} → List (List ℕ) → List Named → Result (HashSet (String Y) S) Found → Type 0
+abbrev pub Finds : {Y S : Type 0} → List (List ℕ) → List Named → Result (HashSet (String Y) S) Found
+    → Type 0
 Finds ks ns (Ok s) = Each Hold (unique_claims ks ns) × Has s (ks ++ names_of ns)
 Finds ks ns (Err f) = IsFirst (unique_claims ks ns) f

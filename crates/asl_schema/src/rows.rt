@@ -5,7 +5,7 @@ ghost use Rattle.asl_json.specs.Data.{pairs};
 ghost use Rattle.asl_json.specs.Meaning.{value_at};
 ghost use Rattle.asl_schema.specs.private.Code.{row_of, rows_of, groups_of, shape_seen};
 ghost use Rattle.asl_schema.specs.declared.sort.Sort.{Sort};
-ghost use Rattle.asl_schema.specs.Members.{shape_of as spec_shape_of, kind_rows as spec_kind_rows, kind_groups as spec_kind_groups, kind_of as spec_kind_of, kind_named as spec_kind_named, shape_in as spec_shape_in, sort_at as spec_sort_at, other_sort as spec_other_sort, item_sort as spec_item_sort, is_among as spec_is_among, sort_in, unsupported_names, part_sort as spec_part_sort};
+ghost use Rattle.asl_schema.specs.Members.{shape_of, kind_rows, kind_groups, kind_of, kind_named, shape_in, sort_at, other_sort, item_sort, is_among, sort_in, unsupported_names, part_sort};
 
 use crate::rows::Row::{Beside, Optional, Required};
 use crate::sort::{Kind, Sort};
@@ -468,7 +468,7 @@ const RULE_GROUPS: &[Group] = &[
 
 #[tactic(auto, unfolding(crate::specs::Members::task_rows, crate::specs::Members::pass_rows, crate::specs::Members::choice_rows, crate::specs::Members::wait_rows, crate::specs::Members::parallel_rows, crate::specs::Members::map_rows, crate::specs::Members::succeed_rows, crate::specs::Members::fail_rows))]
 fn kind_rows(kind: Kind) -> &'static [Row]
-    ensures { rows_of result.now ≡ spec_kind_rows kind }
+    ensures { rows_of result.now ≡ kind_rows kind }
 {
     match kind {
         Kind::Task => TASK,
@@ -483,7 +483,7 @@ fn kind_rows(kind: Kind) -> &'static [Row]
 }
 
 fn kind_groups(kind: Kind) -> &'static [Group]
-    ensures { groups_of result.now ≡ spec_kind_groups kind }
+    ensures { groups_of result.now ≡ kind_groups kind }
 {
     match kind {
         Kind::Task => TASK_GROUPS,
@@ -522,7 +522,7 @@ fn searched_as(rows: &'static [Row], others: Sort) -> Shape
 /// What an object of this sort may have; for a state by its type.
 #[tactic(auto, unfolding(crate::specs::Members::definition_rows, crate::specs::Members::machine_rows, crate::specs::Members::item_processor_rows, crate::specs::Members::processor_config_rows, crate::specs::Members::untyped_rows, crate::specs::Members::operators, crate::specs::Members::inner_rule_rows, crate::specs::Members::test_rows, crate::specs::Members::rule_rows, crate::specs::Members::retrier_rows, crate::specs::Members::catcher_rows))]
 fn shape_of(sort: Sort, kind: Option<Kind>) -> Shape
-    ensures { shape_seen result ≡ spec_shape_of sort kind }
+    ensures { shape_seen result ≡ shape_of sort kind }
 {
     match sort {
         Sort::Definition => known(DEFINITION, NO_GROUPS),
@@ -545,7 +545,7 @@ fn shape_of(sort: Sort, kind: Option<Kind>) -> Shape
 
 /// What the items of a list are to be.
 pub fn item_sort(sort: Sort) -> Sort
-    ensures { result ≡ spec_item_sort sort }
+    ensures { result ≡ item_sort sort }
 {
     match sort {
         Sort::Machines => Sort::Machine,
@@ -561,7 +561,7 @@ pub fn item_sort(sort: Sort) -> Sort
 
 /// The type of states of this name.
 pub fn kind_of(name: &str) -> Option<Kind>
-    ensures { result ≡ spec_kind_of name.now }
+    ensures { result ≡ kind_of name.now }
 {
     match name {
         "Task" => Some(Kind::Task),
@@ -578,7 +578,7 @@ pub fn kind_of(name: &str) -> Option<Kind>
 
 /// Whether a name is one of these.
 pub fn is_among(name: &str, names: &[&str]) -> bool
-    ensures { result ≡ spec_is_among name.now (map (λ l. l.now) names.now) }
+    ensures { result ≡ is_among name.now (map (λ l. l.now) names.now) }
 {
     for other in names {
         if name == *other {
@@ -591,14 +591,14 @@ pub fn is_among(name: &str, names: &[&str]) -> bool
 /// Whether a member stands for what isn't supported.
 #[tactic(auto, unfolding(crate::specs::Members::unsupported_names))]
 fn is_unsupported(name: &str) -> bool
-    ensures { result ≡ spec_is_among name.now unsupported_names }
+    ensures { result ≡ is_among name.now unsupported_names }
 {
     is_among(name, UNSUPPORTED)
 }
 
 /// What a member of a template's object is to be.
 fn part_sort(name: &str) -> Sort
-    ensures { result ≡ spec_part_sort name.now }
+    ensures { result ≡ part_sort name.now }
 {
     if name_before(name).is_some() {
         return Sort::Computed;
@@ -608,7 +608,7 @@ fn part_sort(name: &str) -> Sort
 
 /// What a member is to be that stands in no row.
 fn other_sort(others: Sort, name: &str) -> Sort
-    ensures { result ≡ spec_other_sort others name.now }
+    ensures { result ≡ other_sort others name.now }
 {
     match others {
         Sort::Unknown => {
@@ -644,7 +644,7 @@ impl Row {
 
 /// What a member of this name is to be.
 pub fn sort_at(shape: Shape, name: &str) -> Sort
-    ensures { result ≡ spec_sort_at (shape_seen shape) name.now }
+    ensures { result ≡ sort_at (shape_seen shape) name.now }
 {
     for row in shape.rows {
         if name == row.name() {
@@ -656,7 +656,8 @@ pub fn sort_at(shape: Shape, name: &str) -> Sort
 
 /// The value at a name.
 pub fn find<'a>(members: &'a [Member], name: &str) -> Option<&'a Json>
-    ensures { option_map (λ v. data_of v.now) result ≡ value_at name.now (pairs (members_of members.now)) }
+    ensures { option_map (λ v. data_of v.now) result
+        ≡ value_at name.now (pairs (members_of members.now)) }
 {
     for member in members {
         if name == member.key.as_str() {
@@ -668,7 +669,7 @@ pub fn find<'a>(members: &'a [Member], name: &str) -> Option<&'a Json>
 
 /// The type that an object names, where it is one.
 pub fn kind_named(value: Option<&Json>) -> Option<Kind>
-    ensures { result ≡ spec_kind_named (option_map (λ v. data_of v.now) value.entry) }
+    ensures { result ≡ kind_named (option_map (λ v. data_of v.now) value.entry) }
 {
     match value {
         Some(Json::Text(name)) => kind_of(name.as_str()),
@@ -678,7 +679,7 @@ pub fn kind_named(value: Option<&Json>) -> Option<Kind>
 
 /// What an object of these members may have.
 pub fn shape_in(sort: Sort, members: &[Member]) -> Shape
-    ensures { shape_seen result ≡ spec_shape_in sort (pairs (members_of members.now)) }
+    ensures { shape_seen result ≡ shape_in sort (pairs (members_of members.now)) }
 {
     shape_of(sort, kind_named(find(members, "Type")))
 }

@@ -1,4 +1,5 @@
--- What is chosen for a run: a machine's name, behind which `#` and the name of a test case may stand.
+-- What is chosen for a run: a machine's name, behind which `#` and the name of a test case may
+-- stand.
 use Rattle.std.specs.Prelude.{◌≡◌, ℕ, ◌==◌, List, [], ◌∷◌, Result, Ok, Err, codes}
 use Rattle.std.specs.List.{before_first, after_first}
 use Rattle.asl_mock.specs.Answers.{Case, Machines}

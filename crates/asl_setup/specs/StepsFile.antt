@@ -11,7 +11,8 @@ abbrev pub before_lines : ℕ → List (List ℕ) → List (List ℕ)
 before_lines c [] = (c ∷ []) ∷ []
 before_lines c (line ∷ lines) = (c ∷ line) ∷ lines
 
--- the lines of a file: each line feed ends one, and what stands behind the last line feed is one unless it's empty
+-- the lines of a file: each line feed ends one, and what stands behind the last line feed is one
+-- unless it's empty
 abbrev pub lines_in : List ℕ → List (List ℕ)
 lines_in [] = []
 lines_in (c ∷ cs) = if c == 10 then [] ∷ lines_in cs else before_lines c (lines_in cs)

@@ -31,9 +31,13 @@ impl Emulation {
         input: &[u8],
         steps: &[u8],
     ) -> Result<Emulation, EmulateFault>
-        ensures found { IfOk result (λ e. AreTextsOf definition.now mocks.now chosen.now input.now steps.now e.setup.machine e.setup.case e.setup.input e.steps.items) }
-        ensures setup { IfOk result (λ e. e.setup ≡ setup_for e.setup.machine chosen.now e.setup.case e.setup.input (start_at e.steps.items)) }
-        ensures fault { IfErr result (Unless (IsRefused definition.now mocks.now chosen.now input.now steps.now)) }
+        ensures found { IfOk result (λ e. AreTextsOf definition.now mocks.now chosen.now input.now
+            steps.now e.setup.machine e.setup.case e.setup.input e.steps.items) }
+        ensures setup { IfOk result (λ e. e.setup
+            ≡ setup_for e.setup.machine chosen.now e.setup.case e.setup.input
+            (start_at e.steps.items)) }
+        ensures fault { IfErr result
+            (Unless (IsRefused definition.now mocks.now chosen.now input.now steps.now)) }
     {
         let mut setup = Setup::read(alloc, definition, mocks, chosen, input)?;
         let steps = steps_of(alloc, steps)?;

@@ -1,7 +1,7 @@
 // What an execution begins with.
 ghost use Rattle.std.specs.Prelude.{◌≡◌, IfOk, IfErr};
 ghost use Rattle.asl_setup.specs.Emulations.{AreSetupTextsOf, IsSetupRefused};
-ghost use Rattle.asl_setup.specs.Texts.{Unless, setup_for as spec_setup_for};
+ghost use Rattle.asl_setup.specs.Texts.{Unless, setup_for};
 
 use crate::fault::EmulateFault;
 use crate::texts::{case_of, input_of, machine_of, mocks_of, setup_for};
@@ -55,9 +55,11 @@ impl Setup {
         chosen: &str,
         input: &[u8],
     ) -> Result<Setup, EmulateFault>
-        ensures found { IfOk result (λ s. AreSetupTextsOf definition.now mocks.now chosen.now input.now s.machine s.case s.input) }
-        ensures setup { IfOk result (λ s. s ≡ spec_setup_for s.machine chosen.now s.case s.input 0) }
-        ensures fault { IfErr result (Unless (IsSetupRefused definition.now mocks.now chosen.now input.now)) }
+        ensures found { IfOk result (λ s. AreSetupTextsOf definition.now mocks.now chosen.now
+            input.now s.machine s.case s.input) }
+        ensures setup { IfOk result (λ s. s ≡ setup_for s.machine chosen.now s.case s.input 0) }
+        ensures fault { IfErr result
+            (Unless (IsSetupRefused definition.now mocks.now chosen.now input.now)) }
     {
         let machine = machine_of(alloc, definition)?;
         let file = mocks_of(alloc, mocks)?;

@@ -103,5 +103,6 @@ pub fn read_steps(alloc: Global, bytes: &[u8]) -> Result<Vec<StepAt>, StepsFault
 
 /// A file spells at most one list of steps. A law: calling it does nothing.
 pub fn files_spell_one_list_of_steps()
-    ensures { (bytes : List ℕ) (ss us : List StepAt) → IsStepsFile bytes ss → IsStepsFile bytes us → ss ≡ us }
+    ensures { (bytes : List ℕ) (ss us : List StepAt) → IsStepsFile bytes ss → IsStepsFile bytes us
+        → ss ≡ us }
 {}

@@ -1,4 +1,5 @@
--- What a Map state runs for each item, and on what input, in either spelling. (Amazon States Language, "Map State".)
+-- What a Map state runs for each item, and on what input, in either spelling. (Amazon States
+-- Language, "Map State".)
 use Rattle.std.specs.Prelude.{ℕ, List, [], ◌∷◌, Option, Some, None, codes}
 use Rattle.std.specs.Option.{option_or}
 use Rattle.asl_json.specs.Data.{Data}
@@ -8,7 +9,8 @@ use Rattle.asl_json.specs.Meaning.{value_in}
 abbrev pub processor_in : Data → Option Data
 processor_in d = option_or (value_in (codes "Iterator") d) (value_in (codes "ItemProcessor") d)
 
--- the template for the inputs of its iterations: the value of `Parameters` or of `ItemSelector`, of which at most one is there
+-- the template for the inputs of its iterations: the value of `Parameters` or of `ItemSelector`, of
+-- which at most one is there
 abbrev pub selector_in : Data → Option Data
 selector_in d = option_or (value_in (codes "Parameters") d) (value_in (codes "ItemSelector") d)
 

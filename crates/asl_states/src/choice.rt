@@ -102,8 +102,10 @@ impl ChoiceRule {
     }
 
     fn holds<'a>(&'a self, input: &Json, context: &Json) -> Result<bool, RuleFault<'a>>
-        ensures truth { seen (λ b. b) result ≡ rule_holds (choice_rule_object self.now) (data_of input.now) (data_of context.now) }
-        ensures next { value_in (codes "Next") (choice_rule_object self.now) ≡ Some (text self.now.next.name) }
+        ensures truth { seen (λ b. b) result
+            ≡ rule_holds (choice_rule_object self.now) (data_of input.now) (data_of context.now) }
+        ensures next { value_in (codes "Next") (choice_rule_object self.now)
+            ≡ Some (text self.now.next.name) }
     {
         self.rule.holds(input, context)
     }
@@ -137,7 +139,8 @@ impl ChoiceRules {
         input: &Json,
         context: &Json,
     ) -> Result<Option<&'a Target>, RuleFault<'a>>
-        ensures { seen (λ t. option_map (λ t. text t.now.name) t) result ≡ chosen_next self.now (data_of input.now) (data_of context.now) }
+        ensures { seen (λ t. option_map (λ t. text t.now.name) t) result
+            ≡ chosen_next self.now (data_of input.now) (data_of context.now) }
     {
         for rule in &self.rules {
             if rule.holds(input, context)? {
@@ -182,14 +185,16 @@ impl Choice {
 
     /// `Choices`.
     pub fn choices(&self) -> &ChoiceRules
-        ensures { Some (list (chain result.now)) ≡ value_in (codes "Choices") (choice_object self.now) }
+        ensures { Some (list (chain result.now))
+            ≡ value_in (codes "Choices") (choice_object self.now) }
     {
         &self.choices
     }
 
     /// `Default`.
     pub fn default(&self) -> Option<&Target>
-        ensures { option_map (λ x. text x.now.name) result ≡ value_in (codes "Default") (choice_object self.now) }
+        ensures { option_map (λ x. text x.now.name) result
+            ≡ value_in (codes "Default") (choice_object self.now) }
     {
         self.default.as_ref()
     }

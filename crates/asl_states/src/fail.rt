@@ -8,7 +8,8 @@ ghost use Rattle.asl_parts.specs.Built.{IsOfKind};
 ghost use Rattle.asl_json.specs.View.{data_of};
 ghost use Rattle.asl_schema.specs.declared.sort.Sort.TheVariants.{Text, PathOrCall as path_or_call};
 ghost use Rattle.asl_schema.specs.Clean.{Fits};
-ghost use Rattle.asl_states.specs.Show.{fail_object, told as spec_told, told_at};
+ghost use Rattle.asl_states.specs.Show.{fail_object, told_at};
+ghost use Rattle.asl_states.specs.Show as Show;
 ghost use Rattle.asl_json.specs.Meaning.{value_in};
 
 use asl_json::{Json, Members, Txt};
@@ -61,7 +62,7 @@ impl FailText {
         requires told { Fits Text (option_map (λ v. data_of v.now) told) }
         requires at { Fits path_or_call (option_map (λ v. data_of v.now) at) }
         requires one { is_some told ≡ true → is_some at ≡ false }
-        ensures told { IfOk result (λ r. spec_told r ≡ option_map (λ v. data_of v.now) told.entry) }
+        ensures told { IfOk result (λ r. Show.told r ≡ option_map (λ v. data_of v.now) told.entry) }
         ensures at { IfOk result (λ r. told_at r ≡ option_map (λ v. data_of v.now) at.entry) }
     {
         if let Some(text) = told {
@@ -76,7 +77,7 @@ impl FailText {
 
 /// The value of `Error` or `Cause` as JSON.
 fn told_json(alloc: Global, reason: &Option<FailText>) -> Result<Option<Json>, AllocError>
-    ensures { IfOk result (λ j. option_map data_of j ≡ spec_told reason.now) }
+    ensures { IfOk result (λ j. option_map data_of j ≡ Show.told reason.now) }
 {
     match reason {
         Some(FailText::Told(text)) => Ok(Some(text.json(alloc)?)),
@@ -97,16 +98,20 @@ fn path_json(alloc: Global, reason: &Option<FailText>) -> Result<Option<Json>, A
 impl Fail {
     /// `Error` or `ErrorPath`.
     pub fn error(&self) -> Option<&FailText>
-        ensures told { spec_told (option_map (λ r. r.now) result) ≡ value_in (codes "Error") (fail_object self.now) }
-        ensures at { told_at (option_map (λ r. r.now) result) ≡ value_in (codes "ErrorPath") (fail_object self.now) }
+        ensures told { Show.told (option_map (λ r. r.now) result)
+            ≡ value_in (codes "Error") (fail_object self.now) }
+        ensures at { told_at (option_map (λ r. r.now) result)
+            ≡ value_in (codes "ErrorPath") (fail_object self.now) }
     {
         self.error.as_ref()
     }
 
     /// `Cause` or `CausePath`.
     pub fn cause(&self) -> Option<&FailText>
-        ensures told { spec_told (option_map (λ r. r.now) result) ≡ value_in (codes "Cause") (fail_object self.now) }
-        ensures at { told_at (option_map (λ r. r.now) result) ≡ value_in (codes "CausePath") (fail_object self.now) }
+        ensures told { Show.told (option_map (λ r. r.now) result)
+            ≡ value_in (codes "Cause") (fail_object self.now) }
+        ensures at { told_at (option_map (λ r. r.now) result)
+            ≡ value_in (codes "CausePath") (fail_object self.now) }
     {
         self.cause.as_ref()
     }

@@ -64,42 +64,51 @@ fn template_of(selector: &Option<Selector>) -> Option<&Template>
 impl Map {
     /// `InputPath`.
     pub fn input_path(&self) -> &PathField
-        ensures { (t : List Named) → path_shown result.now ≡ value_in (codes "InputPath") (map_object t self.now) }
+        ensures { (t : List Named)
+            → path_shown result.now ≡ value_in (codes "InputPath") (map_object t self.now) }
     {
         &self.input_path
     }
 
     /// `ItemsPath`.
     pub fn items_path(&self) -> Option<&RefPath>
-        ensures { (t : List Named) → option_map (λ x. text x.now) result ≡ value_in (codes "ItemsPath") (map_object t self.now) }
+        ensures { (t : List Named)
+            → option_map (λ x. text x.now) result
+            ≡ value_in (codes "ItemsPath") (map_object t self.now) }
     {
         self.items_path.as_ref()
     }
 
     /// `MaxConcurrency`.
     pub fn max_concurrency(&self) -> Option<&Count>
-        ensures { (t : List Named) → option_map (λ x. number x.now) result ≡ value_in (codes "MaxConcurrency") (map_object t self.now) }
+        ensures { (t : List Named)
+            → option_map (λ x. number x.now) result
+            ≡ value_in (codes "MaxConcurrency") (map_object t self.now) }
     {
         self.max_concurrency.as_ref()
     }
 
     /// `Parameters` or `ItemSelector`: the template for the inputs of iterations.
     pub fn item_selector(&self) -> Option<&Template>
-        ensures { (t : List Named) → option_map (λ x. x.now) result ≡ selector_in (map_object t self.now) }
+        ensures { (t : List Named)
+            → option_map (λ x. x.now) result ≡ selector_in (map_object t self.now) }
     {
         template_of(&self.selector)
     }
 
     /// `Iterator` or `ItemProcessor`: the machine that is run for each item.
     pub fn item_processor(&self) -> &Body
-        ensures { (t : List Named) → (k : List ℕ) → is_among k machine_names ≡ true → value_in k (body_of t result.now) ≡ member_in k (processor_in (map_object t self.now)) }
+        ensures { (t : List Named) → (k : List ℕ) → is_among k machine_names ≡ true
+            → value_in k (body_of t result.now)
+            ≡ member_in k (processor_in (map_object t self.now)) }
     {
         self.processor.machine()
     }
 
     /// What becomes of its result or its error.
     pub fn completion(&self) -> &Completion
-        ensures { (t : List Named) → (k : List ℕ) → is_among k completion_names ≡ true → value_in k (completion_object result.now) ≡ value_in k (map_object t self.now) }
+        ensures { (t : List Named) → (k : List ℕ) → is_among k completion_names ≡ true
+            → value_in k (completion_object result.now) ≡ value_in k (map_object t self.now) }
     {
         &self.completion
     }
@@ -108,7 +117,12 @@ impl Map {
     pub fn read(alloc: Global, members: &Members, processor: Processor) -> Result<Map, AllocError>
         requires { IsOfKind map_kind members.now }
         ensures processor { IfOk result (λ x. x.processor ≡ processor) }
-        ensures object { IfOk result (λ x. (t : List Named) → as_iterator processor (machine_shown t processor) ≡ kept_at (codes "Iterator") machine_sort (pairs members.now) → as_item_processor processor (machine_shown t processor) ≡ kept_at (codes "ItemProcessor") processor_sort (pairs members.now) → map_object t x ≡ canon state_sort (dict (pairs members.now))) }
+        ensures object { IfOk result (λ x. (t : List Named)
+            → as_iterator processor (machine_shown t processor)
+            ≡ kept_at (codes "Iterator") machine_sort (pairs members.now)
+            → as_item_processor processor (machine_shown t processor)
+            ≡ kept_at (codes "ItemProcessor") processor_sort (pairs members.now)
+            → map_object t x ≡ canon state_sort (dict (pairs members.now))) }
     {
         Ok(Map {
             common: Common::read(alloc, members)?,
@@ -127,7 +141,9 @@ impl Map {
 
     /// Its canonical object over a table, given its machine.
     pub fn json(&self, alloc: Global, machine: Json) -> Result<Json, AllocError>
-        ensures { IfOk result (λ j. (t : List Named) → data_of machine ≡ machine_shown t self.now.processor → data_of j ≡ map_object t self.now) }
+        ensures { IfOk result (λ j. (t : List Named)
+            → data_of machine ≡ machine_shown t self.now.processor
+            → data_of j ≡ map_object t self.now) }
     {
         let own = with_path(alloc, Vec::new(alloc), "InputPath", &self.input_path)?;
         let own = with_optional(alloc, own, "ItemsPath", &self.items_path)?;

@@ -116,7 +116,8 @@ impl Task {
     }
 
     fn template(&self, member: &str) -> Option<&Template>
-        ensures { option_map (λ x. x.now) result ≡ template_member member.now (task_object self.now) }
+        ensures { option_map (λ x. x.now) result
+            ≡ template_member member.now (task_object self.now) }
     {
         match member {
             "Parameters" => template_in(&self.parameters),
@@ -139,7 +140,8 @@ impl Pass {
     }
 
     fn template(&self, member: &str) -> Option<&Template>
-        ensures { option_map (λ x. x.now) result ≡ template_member member.now (pass_object self.now) }
+        ensures { option_map (λ x. x.now) result
+            ≡ template_member member.now (pass_object self.now) }
     {
         match member {
             "Parameters" => template_in(&self.parameters),
@@ -176,7 +178,8 @@ impl Wait {
 
 impl Parallel {
     fn path(&self, member: &str) -> Option<&RefPath>
-        ensures { (t : List Named) → option_map (λ p. p.now) result ≡ path_member member.now (parallel_object t self.now) }
+        ensures { (t : List Named)
+            → option_map (λ p. p.now) result ≡ path_member member.now (parallel_object t self.now) }
     {
         match member {
             "InputPath" => field_path(&self.input_path),
@@ -187,7 +190,9 @@ impl Parallel {
     }
 
     fn template(&self, member: &str) -> Option<&Template>
-        ensures { (t : List Named) → option_map (λ x. x.now) result ≡ template_member member.now (parallel_object t self.now) }
+        ensures { (t : List Named)
+            → option_map (λ x. x.now) result
+            ≡ template_member member.now (parallel_object t self.now) }
     {
         match member {
             "Parameters" => template_in(&self.parameters),
@@ -199,7 +204,8 @@ impl Parallel {
 
 impl Map {
     fn path(&self, member: &str) -> Option<&RefPath>
-        ensures { (t : List Named) → option_map (λ p. p.now) result ≡ path_member member.now (map_object t self.now) }
+        ensures { (t : List Named)
+            → option_map (λ p. p.now) result ≡ path_member member.now (map_object t self.now) }
     {
         match member {
             "InputPath" => field_path(&self.input_path),
@@ -211,7 +217,8 @@ impl Map {
     }
 
     fn template(&self, member: &str) -> Option<&Template>
-        ensures { (t : List Named) → option_map (λ x. x.now) result ≡ template_member member.now (map_object t self.now) }
+        ensures { (t : List Named)
+            → option_map (λ x. x.now) result ≡ template_member member.now (map_object t self.now) }
     {
         match member {
             "Parameters" => as_parameters(&self.selector),
@@ -224,7 +231,8 @@ impl Map {
 
 impl Succeed {
     fn path(&self, member: &str) -> Option<&RefPath>
-        ensures { option_map (λ p. p.now) result ≡ path_member member.now (succeed_object self.now) }
+        ensures { option_map (λ p. p.now) result
+            ≡ path_member member.now (succeed_object self.now) }
     {
         match member {
             "InputPath" => field_path(&self.input_path),
@@ -251,7 +259,8 @@ impl State {
     /// `HeartbeatSecondsPath`, `SecondsPath`, `TimestampPath`, `ErrorPath` and `CausePath`. `None` for any other name, and where
     /// the state has no such member, or its value is null or a call of an intrinsic function. Takes no memory.
     pub fn path(&self, member: &str) -> Option<&RefPath>
-        ensures { (t : List Named) → option_map (λ p. p.now) result ≡ path_member member.now (state_of t self.now) }
+        ensures { (t : List Named)
+            → option_map (λ p. p.now) result ≡ path_member member.now (state_of t self.now) }
     {
         match self {
             State::Task(task) => task.path(member),
@@ -268,7 +277,8 @@ impl State {
     /// The template of its own member of this name: of `Parameters`, `ItemSelector` and `ResultSelector`. `None` for any other name, and where
     /// the state has no such member. Takes no memory.
     pub fn template(&self, member: &str) -> Option<&Template>
-        ensures { (t : List Named) → option_map (λ x. x.now) result ≡ template_member member.now (state_of t self.now) }
+        ensures { (t : List Named)
+            → option_map (λ x. x.now) result ≡ template_member member.now (state_of t self.now) }
     {
         match self {
             State::Task(task) => task.template(member),

@@ -46,28 +46,34 @@ impl Drop for Parallel {
 impl Parallel {
     /// `InputPath`.
     pub fn input_path(&self) -> &PathField
-        ensures { (t : List Named) → path_shown result.now ≡ value_in (codes "InputPath") (parallel_object t self.now) }
+        ensures { (t : List Named)
+            → path_shown result.now ≡ value_in (codes "InputPath") (parallel_object t self.now) }
     {
         &self.input_path
     }
 
     /// `Parameters`.
     pub fn parameters(&self) -> Option<&Template>
-        ensures { (t : List Named) → option_map (λ x. x.now) result ≡ value_in (codes "Parameters") (parallel_object t self.now) }
+        ensures { (t : List Named)
+            → option_map (λ x. x.now) result
+            ≡ value_in (codes "Parameters") (parallel_object t self.now) }
     {
         self.parameters.as_ref()
     }
 
     /// `Branches`.
     pub fn branches(&self) -> &Bodies
-        ensures { (t : List Named) → Some (list (chain (bodies_of t result.now))) ≡ value_in (codes "Branches") (parallel_object t self.now) }
+        ensures { (t : List Named)
+            → Some (list (chain (bodies_of t result.now)))
+            ≡ value_in (codes "Branches") (parallel_object t self.now) }
     {
         &self.branches
     }
 
     /// What becomes of its result or its error.
     pub fn completion(&self) -> &Completion
-        ensures { (t : List Named) → (k : List ℕ) → is_among k completion_names ≡ true → value_in k (completion_object result.now) ≡ value_in k (parallel_object t self.now) }
+        ensures { (t : List Named) → (k : List ℕ) → is_among k completion_names ≡ true
+            → value_in k (completion_object result.now) ≡ value_in k (parallel_object t self.now) }
     {
         &self.completion
     }
@@ -76,7 +82,10 @@ impl Parallel {
     pub fn read(alloc: Global, members: &Members, branches: Bodies) -> Result<Parallel, AllocError>
         requires { IsOfKind parallel_kind members.now }
         ensures branches { IfOk result (λ x. x.branches ≡ branches) }
-        ensures object { IfOk result (λ x. (t : List Named) → Some (list (chain (bodies_of t branches))) ≡ kept_at (codes "Branches") part_sort (pairs members.now) → parallel_object t x ≡ canon state_sort (dict (pairs members.now))) }
+        ensures object { IfOk result (λ x. (t : List Named)
+            → Some (list (chain (bodies_of t branches)))
+            ≡ kept_at (codes "Branches") part_sort (pairs members.now)
+            → parallel_object t x ≡ canon state_sort (dict (pairs members.now))) }
     {
         Ok(Parallel {
             common: Common::read(alloc, members)?,
@@ -89,7 +98,8 @@ impl Parallel {
 
     /// Its canonical object over a table, given its machines.
     pub fn json(&self, alloc: Global, branches: Items) -> Result<Json, AllocError>
-        ensures { IfOk result (λ j. (t : List Named) → branches ≡ bodies_of t self.now.branches → data_of j ≡ parallel_object t self.now) }
+        ensures { IfOk result (λ j. (t : List Named) → branches ≡ bodies_of t self.now.branches
+            → data_of j ≡ parallel_object t self.now) }
     {
         let own = with_path(alloc, Vec::new(alloc), "InputPath", &self.input_path)?;
         let own = with_optional(alloc, own, "Parameters", &self.parameters)?;

@@ -46,7 +46,8 @@ impl Drop for Pass {
 impl Pass {
     /// `Comment`.
     pub fn comment(&self) -> Option<&Txt>
-        ensures { option_map (λ t. text t.now) result ≡ value_in (codes "Comment") (pass_object self.now) }
+        ensures { option_map (λ t. text t.now) result
+            ≡ value_in (codes "Comment") (pass_object self.now) }
     {
         self.common.comment.as_ref()
     }
@@ -60,14 +61,16 @@ impl Pass {
 
     /// `Parameters`.
     pub fn parameters(&self) -> Option<&Template>
-        ensures { option_map (λ t. t.now) result ≡ value_in (codes "Parameters") (pass_object self.now) }
+        ensures { option_map (λ t. t.now) result
+            ≡ value_in (codes "Parameters") (pass_object self.now) }
     {
         self.parameters.as_ref()
     }
 
     /// `Result`.
     pub fn result(&self) -> Option<&Json>
-        ensures { option_map (λ v. data_of v.now) result ≡ value_in (codes "Result") (pass_object self.now) }
+        ensures { option_map (λ v. data_of v.now) result
+            ≡ value_in (codes "Result") (pass_object self.now) }
     {
         self.result.as_ref()
     }

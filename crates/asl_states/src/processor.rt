@@ -53,7 +53,8 @@ impl Processor {
     /// The machine as JSON, under the one name or the other: as `Iterator` and as `ItemProcessor`.
     pub(crate) fn named(&self, machine: Json) -> (Option<Json>, Option<Json>)
         ensures iterator { option_map data_of result.0 ≡ as_iterator self.now (data_of machine) }
-        ensures item_processor { option_map data_of result.1 ≡ as_item_processor self.now (data_of machine) }
+        ensures item_processor { option_map data_of result.1
+            ≡ as_item_processor self.now (data_of machine) }
     {
         match self {
             Processor::Iterator(_) => (Some(machine), None),
@@ -87,10 +88,13 @@ impl Selector {
         item_selector: Option<&Json>,
     ) -> Result<Option<Selector>, AllocError>
         requires parameters { Fits template_sort (option_map (λ v. data_of v.now) parameters) }
-        requires item_selector { Fits template_sort (option_map (λ v. data_of v.now) item_selector) }
+        requires item_selector { Fits template_sort
+            (option_map (λ v. data_of v.now) item_selector) }
         requires one { is_some parameters ≡ true → is_some item_selector ≡ false }
-        ensures parameters { IfOk result (λ s. parameters_shown s ≡ option_map (λ v. data_of v.now) parameters.entry) }
-        ensures item_selector { IfOk result (λ s. item_selector_shown s ≡ option_map (λ v. data_of v.now) item_selector.entry) }
+        ensures parameters { IfOk result (λ s. parameters_shown s
+            ≡ option_map (λ v. data_of v.now) parameters.entry) }
+        ensures item_selector { IfOk result (λ s. item_selector_shown s
+            ≡ option_map (λ v. data_of v.now) item_selector.entry) }
     {
         if let Some(template) = parameters {
             return Ok(Some(Selector::Parameters(Compile::read(alloc, template)?)));

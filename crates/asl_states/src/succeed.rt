@@ -36,7 +36,8 @@ impl Drop for Succeed {
 impl Succeed {
     /// `Comment`.
     pub fn comment(&self) -> Option<&Txt>
-        ensures { option_map (λ t. text t.now) result ≡ value_in (codes "Comment") (succeed_object self.now) }
+        ensures { option_map (λ t. text t.now) result
+            ≡ value_in (codes "Comment") (succeed_object self.now) }
     {
         self.common.comment.as_ref()
     }
@@ -58,7 +59,8 @@ impl Succeed {
     /// Compiles the members of a Succeed state without faults. The error is that memory ran out.
     pub fn read(alloc: Global, members: &Members) -> Result<Succeed, AllocError>
         requires { IsOfKind succeed_kind members.now }
-        ensures { IfOk result (λ s. succeed_object s ≡ canon state_sort (dict (pairs members.now))) }
+        ensures { IfOk result (λ s. succeed_object s
+            ≡ canon state_sort (dict (pairs members.now))) }
     {
         Ok(Succeed {
             common: Common::read(alloc, members)?,

@@ -62,42 +62,48 @@ impl Task {
 
     /// `Parameters`.
     pub fn parameters(&self) -> Option<&Template>
-        ensures { option_map (λ x. x.now) result ≡ value_in (codes "Parameters") (task_object self.now) }
+        ensures { option_map (λ x. x.now) result
+            ≡ value_in (codes "Parameters") (task_object self.now) }
     {
         self.parameters.as_ref()
     }
 
     /// `TimeoutSeconds`.
     pub fn timeout(&self) -> Option<&Count>
-        ensures { option_map (λ x. number x.now) result ≡ value_in (codes "TimeoutSeconds") (task_object self.now) }
+        ensures { option_map (λ x. number x.now) result
+            ≡ value_in (codes "TimeoutSeconds") (task_object self.now) }
     {
         self.limits.timeout.as_ref()
     }
 
     /// `TimeoutSecondsPath`.
     pub fn timeout_path(&self) -> Option<&RefPath>
-        ensures { option_map (λ x. text x.now) result ≡ value_in (codes "TimeoutSecondsPath") (task_object self.now) }
+        ensures { option_map (λ x. text x.now) result
+            ≡ value_in (codes "TimeoutSecondsPath") (task_object self.now) }
     {
         self.limits.timeout_path.as_ref()
     }
 
     /// `HeartbeatSeconds`.
     pub fn heartbeat(&self) -> Option<&Count>
-        ensures { option_map (λ x. number x.now) result ≡ value_in (codes "HeartbeatSeconds") (task_object self.now) }
+        ensures { option_map (λ x. number x.now) result
+            ≡ value_in (codes "HeartbeatSeconds") (task_object self.now) }
     {
         self.limits.heartbeat.as_ref()
     }
 
     /// `HeartbeatSecondsPath`.
     pub fn heartbeat_path(&self) -> Option<&RefPath>
-        ensures { option_map (λ x. text x.now) result ≡ value_in (codes "HeartbeatSecondsPath") (task_object self.now) }
+        ensures { option_map (λ x. text x.now) result
+            ≡ value_in (codes "HeartbeatSecondsPath") (task_object self.now) }
     {
         self.limits.heartbeat_path.as_ref()
     }
 
     /// What becomes of its result or its error.
     pub fn completion(&self) -> &Completion
-        ensures { (k : List ℕ) → is_among k completion_names ≡ true → value_in k (completion_object result.now) ≡ value_in k (task_object self.now) }
+        ensures { (k : List ℕ) → is_among k completion_names ≡ true
+            → value_in k (completion_object result.now) ≡ value_in k (task_object self.now) }
     {
         &self.completion
     }

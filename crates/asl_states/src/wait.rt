@@ -65,10 +65,14 @@ impl Drop for Wait {
 impl Delay {
     fn read(alloc: Global, members: &Members) -> Result<Delay, AllocError>
         requires { IsOfKind wait_kind members.now }
-        ensures seconds { IfOk result (λ d. seconds_shown d ≡ value_at (codes "Seconds") (pairs members.now)) }
-        ensures seconds_path { IfOk result (λ d. seconds_path_shown d ≡ value_at (codes "SecondsPath") (pairs members.now)) }
-        ensures timestamp { IfOk result (λ d. timestamp_shown d ≡ value_at (codes "Timestamp") (pairs members.now)) }
-        ensures timestamp_path { IfOk result (λ d. timestamp_path_shown d ≡ value_at (codes "TimestampPath") (pairs members.now)) }
+        ensures seconds { IfOk result (λ d. seconds_shown d
+            ≡ value_at (codes "Seconds") (pairs members.now)) }
+        ensures seconds_path { IfOk result (λ d. seconds_path_shown d
+            ≡ value_at (codes "SecondsPath") (pairs members.now)) }
+        ensures timestamp { IfOk result (λ d. timestamp_shown d
+            ≡ value_at (codes "Timestamp") (pairs members.now)) }
+        ensures timestamp_path { IfOk result (λ d. timestamp_path_shown d
+            ≡ value_at (codes "TimestampPath") (pairs members.now)) }
     {
         if let Some(seconds) = members.find("Seconds") {
             return Ok(Delay::Seconds(Count::read(alloc, seconds)?));
@@ -136,10 +140,14 @@ impl Wait {
 
     /// `Seconds`, `SecondsPath`, `Timestamp` or `TimestampPath`, of which exactly one is there.
     pub fn delay(&self) -> &Delay
-        ensures seconds { seconds_shown result.now ≡ value_in (codes "Seconds") (wait_object self.now) }
-        ensures seconds_path { seconds_path_shown result.now ≡ value_in (codes "SecondsPath") (wait_object self.now) }
-        ensures timestamp { timestamp_shown result.now ≡ value_in (codes "Timestamp") (wait_object self.now) }
-        ensures timestamp_path { timestamp_path_shown result.now ≡ value_in (codes "TimestampPath") (wait_object self.now) }
+        ensures seconds { seconds_shown result.now
+            ≡ value_in (codes "Seconds") (wait_object self.now) }
+        ensures seconds_path { seconds_path_shown result.now
+            ≡ value_in (codes "SecondsPath") (wait_object self.now) }
+        ensures timestamp { timestamp_shown result.now
+            ≡ value_in (codes "Timestamp") (wait_object self.now) }
+        ensures timestamp_path { timestamp_path_shown result.now
+            ≡ value_in (codes "TimestampPath") (wait_object self.now) }
     {
         &self.delay
     }

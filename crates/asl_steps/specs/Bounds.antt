@@ -36,4 +36,5 @@ pub record IsBounded (v : Seen) (invoking : Bool) (e : Effect) : Type 0 where
   pub at_root : IsSome e.outcome → v.place ≡ []
   pub only_ends : IsSome e.outcome → is_finished e.after ≡ true
   -- and it is given where the branch there ends
-  pub ends : v.place ≡ [] → is_finished v.current ≡ false → is_finished e.after ≡ true → IsSome e.outcome
+  pub ends : v.place ≡ [] → is_finished v.current ≡ false → is_finished e.after ≡ true
+      → IsSome e.outcome

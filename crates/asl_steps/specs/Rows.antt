@@ -1,4 +1,5 @@
--- The pieces of which the rows of the state table are made (Step Functions Developer Guide, "HistoryEvent").
+-- The pieces of which the rows of the state table are made (Step Functions Developer Guide,
+-- "HistoryEvent").
 use Rattle.std.specs.Prelude.{ℕ, pos, ◌-◌, nat_le, Bool, false, if◌then◌else◌, List, [], ◌∷◌, ◌++◌, Option, Some, None, codes, length, slice_index}
 use Rattle.std.specs.Fmt.{signed_decimal}
 use Rattle.asl_json.specs.Data.{Data, text, number}
@@ -79,14 +80,22 @@ beginning v entered x = beginning_by v entered x v.current
 
 -- one more event of the state
 abbrev pub telling : Seen → Progress → EventKind → Json → Progress
-telling v done kind body = record { children = done.children; raises = done.raises; events = done.events ++ draft kind (name_in v.current) body ∷ [] }
+telling v done kind body =
+    record {
+      children = done.children;
+      raises = done.raises;
+      events = done.events
+          ++ draft kind (name_in v.current) body ∷ [];
+    }
 
 -- ---- a state is retried
 
 -- the branch waits until a moment, and one of so many retriers was used once more
 abbrev pub retrying : Seen → Progress → Json → ℕ → ℕ → ℕ → Effect
 retrying v done x n i until = record {
-  after = Again (name_in v.current) x (entered_at v.moment v.current) (uses_after n i (uses_in v.current)) until;
+  after =
+      Again (name_in v.current) x (entered_at v.moment v.current)
+      (uses_after n i (uses_in v.current)) until;
   children = done.children;
   raises = done.raises;
   events = done.events;
@@ -95,11 +104,14 @@ retrying v done x n i until = record {
 
 -- ---- a state forks
 
--- the state waits for these branches. It keeps its raw input x, when it was entered, and how often each of its so many retriers
+-- the state waits for these branches. It keeps its raw input x, when it was entered, and how often
+-- each of its so many retriers
 -- was used; items are a Map's
 abbrev pub forking : Seen → Progress → Json → ℕ → List Data → List Record → Effect
 forking v done x retriers items branches = record {
-  after = Forked (name_in v.current) x (entered_at v.moment v.current) (uses_from retriers (uses_in v.current)) items;
+  after =
+      Forked (name_in v.current) x (entered_at v.moment v.current)
+      (uses_from retriers (uses_in v.current)) items;
   children = Made branches;
   raises = done.raises;
   events = done.events;
@@ -143,7 +155,9 @@ left v done exited next x = record {
   after = moved next x;
   children = done.children;
   raises = done.raises;
-  events = (done.events ++ draft exited (name_in v.current) x ∷ []) ++ told_success next v.forker v.place x;
+  events =
+      (done.events ++ draft exited (name_in v.current) x ∷ [])
+      ++ told_success next v.forker v.place x;
   outcome = ended next v.place x;
 }
 
@@ -174,7 +188,8 @@ failing v done e = record {
   outcome = failed v.place e;
 }
 
--- ---- the data limit (Step Functions Developer Guide, "Quotas": the size of a state's output, and of what a service answers)
+-- ---- the data limit (Step Functions Developer Guide, "Quotas": the size of a state's output, and
+-- of what a service answers)
 
 -- the most bytes of its compact text
 abbrev pub data_limit : ℕ
@@ -184,8 +199,11 @@ abbrev pub is_within_limit : Json → Bool
 is_within_limit x = nat_le (length (compact (data_of x))) data_limit
 
 abbrev pub over_limit : ErrorOut
-over_limit = record { error = Some (codes "States.DataLimitExceeded"); cause = Some (codes "data limit") }
+over_limit =
+    record { error = Some (codes "States.DataLimitExceeded"); cause = Some (codes "data limit") }
 
--- a state is left with this output; one above the limit is an error, which nothing retries or catches
+-- a state is left with this output; one above the limit is an error, which nothing retries or
+-- catches
 abbrev pub leaving : Seen → Progress → EventKind → Option (List ℕ) → Json → Effect
-leaving v done exited next x = if is_within_limit x then left v done exited next x else failing v done over_limit
+leaving v done exited next x =
+    if is_within_limit x then left v done exited next x else failing v done over_limit

@@ -8,7 +8,7 @@ ghost use Rattle.asl_json.specs.View.{data_of};
 ghost use Rattle.asl_time.specs.StampText.{stamp_of};
 ghost use Rattle.asl_steps.specs.Records.{entered_at, uses_in};
 ghost use Rattle.asl_steps.specs.Seen.{seen};
-ghost use Rattle.asl_steps.specs.Context.{execution_id as spec_execution_id, execution_of, state_machine_of, retry_count as spec_retry_count, state_of as spec_state_of, item_of as spec_item_of, map_part, token_of, task_part, members_with, context_of, IsAbout};
+ghost use Rattle.asl_steps.specs.Context.{execution_id, execution_of, state_machine_of, retry_count, state_of, item_of, map_part, token_of, task_part, members_with, context_of, IsAbout};
 
 use crate::facts::Facts;
 use crate::record::{Record, Uses};
@@ -83,7 +83,7 @@ fn stamp(alloc: Global, moment: Moment) -> Result<Json, AllocError>
 
 /// The id of an execution, as a value.
 fn execution_id(alloc: Global, facts: &Facts) -> Result<Json, AllocError>
-    ensures { IfOk result (λ v. data_of v ≡ text (spec_execution_id facts.now)) }
+    ensures { IfOk result (λ v. data_of v ≡ text (execution_id facts.now)) }
 {
     let mut id = String::from_str(alloc, "execution:")?;
     id.push_str(facts.machine.as_str())?;
@@ -132,7 +132,7 @@ fn sum_of(uses: &Uses) -> u128
 
 /// `RetryCount`, where a branch is doing this.
 fn retry_count(current: &Record) -> i128
-    ensures { pos (spec_retry_count (uses_in current.now)) ≡ result }
+    ensures { pos (retry_count (uses_in current.now)) ≡ result }
 {
     match current {
         Record::Again { uses, .. } | Record::Forked { uses, .. } => {
@@ -161,7 +161,7 @@ pub(crate) fn entered_at(current: &Record, now: Moment) -> Moment
 
 /// `State`, where a branch is doing this.
 fn state_of(alloc: Global, current: &Record, now: Moment) -> Result<Json, AllocError>
-    ensures { IfOk result (λ v. data_of v ≡ spec_state_of now current.now) }
+    ensures { IfOk result (λ v. data_of v ≡ state_of now current.now) }
 {
     let count = Json::Num(Dec::of_whole(retry_count(current)));
     let members = with(
@@ -178,7 +178,7 @@ fn state_of(alloc: Global, current: &Record, now: Moment) -> Result<Json, AllocE
 
 /// `Item`, of an iteration of this number over this item.
 fn item_of(alloc: Global, number: u32, value: &Json) -> Result<Json, AllocError>
-    ensures { IfOk result (λ v. data_of v ≡ spec_item_of (number, data_of value.now)) }
+    ensures { IfOk result (λ v. data_of v ≡ item_of (number, data_of value.now)) }
 {
     let index = Json::Num(Dec::of_whole(i128::from(number)));
     let members = with(alloc, Members::new(alloc), "Index", index)?;
@@ -193,7 +193,8 @@ fn with_map(
     iteration: Option<(u32, &Json)>,
 ) -> Result<Members, AllocError>
     requires { has_key (codes "Map") members ≡ false }
-    ensures { IfOk result (λ ms. ms ≡ members ++ map_part (option_map (λ i. (i.0, data_of i.1.now)) iteration.entry)) }
+    ensures { IfOk result (λ ms. ms
+        ≡ members ++ map_part (option_map (λ i. (i.0, data_of i.1.now)) iteration.entry)) }
 {
     let Some((number, value)) = iteration else {
         return Ok(members);
@@ -236,7 +237,8 @@ fn with_task(
 
 /// The members of a Context Object whose fixed parts aren't there yet.
 fn unfixed(alloc: Global) -> Result<Members, AllocError>
-    ensures { IfOk result (λ ms. ms ≡ (codes "Execution", null) ∷ (codes "StateMachine", null) ∷ []) }
+    ensures { IfOk result (λ ms. ms
+        ≡ (codes "Execution", null) ∷ (codes "StateMachine", null) ∷ []) }
 {
     let members = with(alloc, Members::new(alloc), "Execution", Json::Null)?;
     with(alloc, members, "StateMachine", Json::Null)
@@ -294,7 +296,8 @@ impl Context {
     /// Makes the object that a step sees. The error is that memory ran out.
     #[tactic(auto, unfolding(crate::specs::Context::context_of))]
     pub fn show(&mut self, alloc: Global, visit: &Visit) -> Result<(), AllocError>
-        ensures shown { OnOk result (data_of self.new.shown ≡ context_of self.old.facts (seen visit.now)) }
+        ensures shown { OnOk result (data_of self.new.shown
+            ≡ context_of self.old.facts (seen visit.now)) }
         ensures facts { self.new.facts ≡ self.old.facts }
     {
         let state = state_of(alloc, visit.current, visit.moment)?;

@@ -49,7 +49,8 @@ impl Drafts {
 
     /// These drafts and one more.
     pub fn and(self, kind: EventKind, name: Name, body: Shared) -> Result<Drafts, AllocError>
-        ensures { IfOk result (λ d. d ≡ self ++ record { kind = kind; name = name; body = body } ∷ []) }
+        ensures { IfOk result (λ d. d
+            ≡ self ++ record { kind = kind; name = name; body = body } ∷ []) }
     {
         let mut list = self.list;
         list.push(Draft { kind, name, body })?;

@@ -1,6 +1,6 @@
 // What a branch is doing.
 ghost use Rattle.std.specs.Prelude.{◌≡◌, IfOk, option_map};
-ghost use Rattle.asl_steps.specs.Records.{is_failed as spec_is_failed, is_done as spec_is_done, state_in, name_in, entering_with, beginning_with, pausing_with, uses_in};
+ghost use Rattle.asl_steps.specs.Records.{is_failed, is_done, state_in, name_in, entering_with, beginning_with, pausing_with, uses_in};
 
 use asl_json::{Name, Shared, SharedItems, Txt, clone_text};
 use asl_time::Moment;
@@ -287,13 +287,13 @@ impl Record {
     }
 
     pub fn is_failed(&self) -> bool
-        ensures { result ≡ spec_is_failed self.now }
+        ensures { result ≡ is_failed self.now }
     {
         matches!(self, Record::Failed(_))
     }
 
     pub fn is_done(&self) -> bool
-        ensures { result ≡ spec_is_done self.now }
+        ensures { result ≡ is_done self.now }
     {
         matches!(self, Record::Done(_))
     }

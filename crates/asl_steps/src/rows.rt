@@ -2,7 +2,7 @@
 ghost use Rattle.std.specs.Prelude.{◌≡◌, ◌↔◌, ◌<◌, ◌+◌, ◌^◌, ◌++◌, replicate, slice_set, ◌∷◌, [], Some, None, List, ℕ, length, slice_index, IfOk, IsTrue, option_map, codes};
 ghost use Rattle.asl_steps.specs.Records.{name_in, uses_in, uses_from};
 ghost use Rattle.asl_steps.specs.Seen.{seen};
-ghost use Rattle.asl_steps.specs.Rows.{idle as spec_idle, number_at, index_of, iteration_event as spec_iteration_event, told_begin, told_success, told_failure, left as spec_left, is_within_limit as spec_is_within_limit, over_limit as spec_over_limit, leaving as spec_leaving, failing as spec_failing, error_output as spec_error_output, entering as spec_entering, unstarted as spec_unstarted, beginning as spec_beginning, telling as spec_telling, retrying as spec_retrying, forking as spec_forking, pausing as spec_pausing, moved as spec_moved, ended as spec_ended, failed as spec_failed};
+ghost use Rattle.asl_steps.specs.Rows.{idle, number_at, index_of, iteration_event, told_begin, told_success, told_failure, left, is_within_limit, over_limit, leaving, failing, error_output, entering, unstarted, beginning, telling, retrying, forking, pausing, moved, ended, failed};
 
 use crate::context::entered_at;
 use crate::effect::{Children, Drafts, Effect, Ended, Progress, Records};
@@ -15,7 +15,7 @@ use std::alloc::{AllocError, Global};
 
 /// Nothing happens.
 pub fn idle(alloc: Global, current: &Record) -> Result<Effect, AllocError>
-    ensures { IfOk result (λ e. e ≡ spec_idle current.now) }
+    ensures { IfOk result (λ e. e ≡ idle current.now) }
 {
     Ok(Effect {
         after: current.try_clone(alloc)?,
@@ -65,7 +65,8 @@ fn with_iteration(
     forker: Option<&Name>,
     place: &Place,
 ) -> Result<Drafts, AllocError>
-    ensures { IfOk result (λ d. d ≡ events ++ spec_iteration_event kind (option_map (λ n. n.now) forker.entry) place.now) }
+    ensures { IfOk result (λ d. d
+        ≡ events ++ iteration_event kind (option_map (λ n. n.now) forker.entry) place.now) }
 {
     match forker {
         Some(name) => events.and(kind, name.try_clone()?, index_of(alloc, place)?),
@@ -75,7 +76,8 @@ fn with_iteration(
 
 /// The events with which a branch begins.
 fn begun(alloc: Global, visit: &Visit) -> Result<Drafts, AllocError>
-    ensures { IfOk result (λ d. d ≡ told_begin (seen visit.now).current (seen visit.now).forker (seen visit.now).place) }
+    ensures { IfOk result (λ d. d
+        ≡ told_begin (seen visit.now).current (seen visit.now).forker (seen visit.now).place) }
 {
     let events = Drafts::new(alloc);
     match visit.current {
@@ -99,7 +101,7 @@ pub fn entering(
     entered: EventKind,
     input: &Shared,
 ) -> Result<Progress, AllocError>
-    ensures { IfOk result (λ d. d ≡ spec_entering (seen visit.now) entered input.now) }
+    ensures { IfOk result (λ d. d ≡ entering (seen visit.now) entered input.now) }
 {
     let events = begun(alloc, visit)?;
     let name = name_of(alloc, visit.current)?;
@@ -117,7 +119,7 @@ pub fn beginning(
     entered: EventKind,
     input: &Shared,
 ) -> Result<Progress, AllocError>
-    ensures { IfOk result (λ d. d ≡ spec_beginning (seen visit.now) entered input.now) }
+    ensures { IfOk result (λ d. d ≡ beginning (seen visit.now) entered input.now) }
 {
     match visit.current {
         Record::Again { .. } => Ok(unstarted(alloc)),
@@ -133,7 +135,7 @@ pub fn telling(
     kind: EventKind,
     body: Shared,
 ) -> Result<Progress, AllocError>
-    ensures { IfOk result (λ d. d ≡ spec_telling (seen visit.now) done kind body) }
+    ensures { IfOk result (λ d. d ≡ telling (seen visit.now) done kind body) }
 {
     let Progress {
         children,
@@ -162,7 +164,8 @@ pub fn zeros(alloc: Global, count: usize) -> Result<Vec<u32>, AllocError>
 /// Raises the count of this number, where there is one.
 pub fn raise_at(counts: &mut Vec<u32>, number: usize)
     requires { slice_index counts.old.items number < 2 ^ 31 }
-    ensures { counts.new.items ≡ slice_set counts.old.items number (slice_index counts.old.items number + 1) }
+    ensures { counts.new.items
+        ≡ slice_set counts.old.items number (slice_index counts.old.items number + 1) }
 {
     if number < counts.len() {
         counts[number] += 1;
@@ -190,7 +193,8 @@ pub fn retrying(
     until: Moment,
 ) -> Result<Effect, AllocError>
     requires { slice_index (uses_from retriers (uses_in visit.now.current.now)) retrier < 2 ^ 31 }
-    ensures { IfOk result (λ e. e ≡ spec_retrying (seen visit.now) done input.now retriers retrier until) }
+    ensures { IfOk result (λ e. e
+        ≡ retrying (seen visit.now) done input.now retriers retrier until) }
 {
     let Progress {
         children,
@@ -228,7 +232,8 @@ pub fn forking(
     items: SharedItems,
     branches: Records,
 ) -> Result<Effect, AllocError>
-    ensures { IfOk result (λ e. e ≡ spec_forking (seen visit.now) done input.now retriers items branches) }
+    ensures { IfOk result (λ e. e
+        ≡ forking (seen visit.now) done input.now retriers items branches) }
 {
     let Progress {
         children: _children,
@@ -255,7 +260,7 @@ pub fn forking(
 
 /// Nothing was done yet.
 pub fn unstarted(alloc: Global) -> Progress
-    ensures { result ≡ spec_unstarted }
+    ensures { result ≡ unstarted }
 {
     Progress {
         children: Children::Kept,
@@ -272,7 +277,7 @@ pub fn pausing(
     input: &Shared,
     until: Moment,
 ) -> Result<Effect, AllocError>
-    ensures { IfOk result (λ e. e ≡ spec_pausing (seen visit.now) done input.now until) }
+    ensures { IfOk result (λ e. e ≡ pausing (seen visit.now) done input.now until) }
 {
     let Progress {
         children,
@@ -296,7 +301,7 @@ pub fn pausing(
 
 /// What a branch does next: it goes on to the next state with this data, or ends with it.
 fn moved(alloc: Global, next: Option<&str>, output: &Shared) -> Result<Record, AllocError>
-    ensures { IfOk result (λ r. r ≡ spec_moved (option_map (λ n. n.now) next.entry) output.now) }
+    ensures { IfOk result (λ r. r ≡ moved (option_map (λ n. n.now) next.entry) output.now) }
 {
     let output = output.try_clone()?;
     match next {
@@ -316,7 +321,9 @@ fn with_success(
     events: Drafts,
     output: &Shared,
 ) -> Result<Drafts, AllocError>
-    ensures { IfOk result (λ d. d ≡ events ++ told_success (option_map (λ n. n.now) next.entry) (seen visit.now).forker (seen visit.now).place output.now) }
+    ensures { IfOk result (λ d. d
+        ≡ events ++ told_success (option_map (λ n. n.now) next.entry) (seen visit.now).forker
+        (seen visit.now).place output.now) }
 {
     if next.is_some() {
         return Ok(events);
@@ -336,7 +343,8 @@ fn with_success(
 
 /// The outcome, where a branch that ends is that of the execution.
 fn ended(next: Option<&str>, place: &Place, output: &Shared) -> Result<Option<Ended>, AllocError>
-    ensures { IfOk result (λ o. o ≡ spec_ended (option_map (λ n. n.now) next.entry) place.now output.now) }
+    ensures { IfOk result (λ o. o
+        ≡ ended (option_map (λ n. n.now) next.entry) place.now output.now) }
 {
     if next.is_none() && place.is_root() {
         return Ok(Some(Ended::Succeeded(output.try_clone()?)));
@@ -353,7 +361,8 @@ fn left(
     next: Option<&str>,
     output: Shared,
 ) -> Result<Effect, AllocError>
-    ensures { IfOk result (λ e. e ≡ spec_left (seen visit.now) done exited (option_map (λ n. n.now) next.entry) output) }
+    ensures { IfOk result (λ e. e
+        ≡ left (seen visit.now) done exited (option_map (λ n. n.now) next.entry) output) }
 {
     let Progress {
         children,
@@ -375,7 +384,7 @@ fn left(
 
 /// An error as data: an object of its name and its cause, each where there is one.
 pub fn error_output(alloc: Global, error: &ErrorOut) -> Result<Json, AllocError>
-    ensures { IfOk result (λ v. v ≡ spec_error_output error.now) }
+    ensures { IfOk result (λ v. v ≡ error_output error.now) }
 {
     let mut members = Members::with_capacity(alloc, 2)?;
     if let Some(name) = &error.error {
@@ -397,7 +406,8 @@ fn with_failure(
     events: Drafts,
     error: &ErrorOut,
 ) -> Result<Drafts, AllocError>
-    ensures { IfOk result (λ d. d ≡ events ++ told_failure (seen visit.now).forker (seen visit.now).place error.now) }
+    ensures { IfOk result (λ d. d
+        ≡ events ++ told_failure (seen visit.now).forker (seen visit.now).place error.now) }
 {
     if visit.place.is_root() {
         let nameless = Name::new(alloc, "")?;
@@ -415,7 +425,7 @@ fn with_failure(
 
 /// The outcome, where a branch that fails is that of the execution.
 fn failed(alloc: Global, place: &Place, error: &ErrorOut) -> Result<Option<Ended>, AllocError>
-    ensures { IfOk result (λ o. o ≡ spec_failed place.now error.now) }
+    ensures { IfOk result (λ o. o ≡ failed place.now error.now) }
 {
     if place.is_root() {
         return Ok(Some(Ended::Failed(error.try_clone(alloc)?)));
@@ -430,7 +440,7 @@ pub fn failing(
     done: Progress,
     error: ErrorOut,
 ) -> Result<Effect, AllocError>
-    ensures { IfOk result (λ e. e ≡ spec_failing (seen visit.now) done error) }
+    ensures { IfOk result (λ e. e ≡ failing (seen visit.now) done error) }
 {
     let Progress {
         children,
@@ -453,14 +463,14 @@ const DATA_LIMIT: usize = 262_144;
 
 /// Whether the compact text of a value keeps the limit.
 pub fn is_within_limit(value: &Json) -> bool
-    ensures { result ≡ spec_is_within_limit value.now }
+    ensures { result ≡ is_within_limit value.now }
 {
     value.text_within(DATA_LIMIT)
 }
 
 /// The error of a value above the limit.
 pub fn over_limit(alloc: Global) -> Result<ErrorOut, AllocError>
-    ensures { IfOk result (λ e. e ≡ spec_over_limit) }
+    ensures { IfOk result (λ e. e ≡ over_limit) }
 {
     Ok(ErrorOut {
         error: Some(Txt::of(alloc, "States.DataLimitExceeded")?),
@@ -477,7 +487,8 @@ pub fn leaving(
     next: Option<&str>,
     output: Shared,
 ) -> Result<Effect, AllocError>
-    ensures { IfOk result (λ e. e ≡ spec_leaving (seen visit.now) done exited (option_map (λ n. n.now) next.entry) output) }
+    ensures { IfOk result (λ e. e
+        ≡ leaving (seen visit.now) done exited (option_map (λ n. n.now) next.entry) output) }
 {
     if is_within_limit(&output) {
         left(alloc, visit, done, exited, next, output)

@@ -17,75 +17,31 @@ use Rattle.asl_template.specs.declared.fault.TemplateFault.TheVariants.{NotText,
 
 says_only : (r : Rule) (k : Kind) (p q : List ℕ) → Says r k → Carries k p (NotText q) → Tells r p (NotText q)
 says_only no_text kind.NotText p q h e = e
-says_only no_text kind.Both p q h e = absurd h
-says_only no_text (kind.PathText at) p q h e = absurd h
-says_only no_text (kind.CallText c) p q h e = absurd h
-says_only beside kind.NotText p q h e = absurd h
 says_only beside kind.Both p q h e = absurd e
-says_only beside (kind.PathText at) p q h e = absurd h
-says_only beside (kind.CallText c) p q h e = absurd h
-says_only (path t) kind.NotText p q h e = absurd h
-says_only (path t) kind.Both p q h e = absurd h
 says_only (path t) (kind.PathText at) p q h e = absurd e
-says_only (path t) (kind.CallText c) p q h e = absurd h
-says_only (call t) kind.NotText p q h e = absurd h
-says_only (call t) kind.Both p q h e = absurd h
-says_only (call t) (kind.PathText at) p q h e = absurd h
 says_only (call t) (kind.CallText c) p q h e = absurd e
+says_only x y p q h e = absurd h
 
 says_both : (r : Rule) (k : Kind) (p q : List ℕ) → Says r k → Carries k p (Both q) → Tells r p (Both q)
 says_both no_text kind.NotText p q h e = absurd e
-says_both no_text kind.Both p q h e = absurd h
-says_both no_text (kind.PathText at) p q h e = absurd h
-says_both no_text (kind.CallText c) p q h e = absurd h
-says_both beside kind.NotText p q h e = absurd h
 says_both beside kind.Both p q h e = e
-says_both beside (kind.PathText at) p q h e = absurd h
-says_both beside (kind.CallText c) p q h e = absurd h
-says_both (path t) kind.NotText p q h e = absurd h
-says_both (path t) kind.Both p q h e = absurd h
 says_both (path t) (kind.PathText at) p q h e = absurd e
-says_both (path t) (kind.CallText c) p q h e = absurd h
-says_both (call t) kind.NotText p q h e = absurd h
-says_both (call t) kind.Both p q h e = absurd h
-says_both (call t) (kind.PathText at) p q h e = absurd h
 says_both (call t) (kind.CallText c) p q h e = absurd e
+says_both x y p q h e = absurd h
 
 says_path : (r : Rule) (k : Kind) (p q : List ℕ) (n : ℕ) → Says r k → Carries k p (PathText q n) → Tells r p (PathText q n)
 says_path no_text kind.NotText p q n h e = absurd e
-says_path no_text kind.Both p q n h e = absurd h
-says_path no_text (kind.PathText at) p q n h e = absurd h
-says_path no_text (kind.CallText c) p q n h e = absurd h
-says_path beside kind.NotText p q n h e = absurd h
 says_path beside kind.Both p q n h e = absurd e
-says_path beside (kind.PathText at) p q n h e = absurd h
-says_path beside (kind.CallText c) p q n h e = absurd h
-says_path (path t) kind.NotText p q n h e = absurd h
-says_path (path t) kind.Both p q n h e = absurd h
 says_path (path t) (kind.PathText at) p q n h e = (e.0, subst (FaultAt t) (sym e.1) h)
-says_path (path t) (kind.CallText c) p q n h e = absurd h
-says_path (call t) kind.NotText p q n h e = absurd h
-says_path (call t) kind.Both p q n h e = absurd h
-says_path (call t) (kind.PathText at) p q n h e = absurd h
 says_path (call t) (kind.CallText c) p q n h e = absurd e
+says_path x y p q n h e = absurd h
 
 says_call : (r : Rule) (k : Kind) (p q : List ℕ) (f : CallFault) → Says r k → Carries k p (CallText q f) → Tells r p (CallText q f)
 says_call no_text kind.NotText p q f h e = absurd e
-says_call no_text kind.Both p q f h e = absurd h
-says_call no_text (kind.PathText at) p q f h e = absurd h
-says_call no_text (kind.CallText c) p q f h e = absurd h
-says_call beside kind.NotText p q f h e = absurd h
 says_call beside kind.Both p q f h e = absurd e
-says_call beside (kind.PathText at) p q f h e = absurd h
-says_call beside (kind.CallText c) p q f h e = absurd h
-says_call (path t) kind.NotText p q f h e = absurd h
-says_call (path t) kind.Both p q f h e = absurd h
 says_call (path t) (kind.PathText at) p q f h e = absurd e
-says_call (path t) (kind.CallText c) p q f h e = absurd h
-says_call (call t) kind.NotText p q f h e = absurd h
-says_call (call t) kind.Both p q f h e = absurd h
-says_call (call t) (kind.PathText at) p q f h e = absurd h
 says_call (call t) (kind.CallText c) p q f h e = (let s = subst (λ (x : CallFault). IsFaultOf t x × (x ≡ NoMemory → ⊥)) (sym e.1) h in (e.0, s.0, s.1))
+says_call x y p q f h e = absurd h
 
 is_told : (d : Data) (f : Found) (e : TemplateFault) (h : IsFound (claims d) f) → Tells h.claim.0 (pointer_text f.1) e → IsTold d e
 is_told d f e h told = record { claim = h.claim; is_first = h.is_first; told = subst (λ (ss : List Step). Tells h.claim.0 (pointer_text ss) e) (sym h.at) told }

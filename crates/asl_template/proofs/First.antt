@@ -68,18 +68,7 @@ same_number no_text NotText h = refl
 same_number beside Both h = refl
 same_number (path t) (PathText at) h = refl
 same_number (call t) (CallText e) h = refl
-same_number no_text Both h = absurd h
-same_number no_text (PathText at) h = absurd h
-same_number no_text (CallText e) h = absurd h
-same_number beside NotText h = absurd h
-same_number beside (PathText at) h = absurd h
-same_number beside (CallText e) h = absurd h
-same_number (path t) NotText h = absurd h
-same_number (path t) Both h = absurd h
-same_number (path t) (CallText e) h = absurd h
-same_number (call t) NotText h = absurd h
-same_number (call t) Both h = absurd h
-same_number (call t) (PathText at) h = absurd h
+same_number x y h = absurd h
 
 pub found_first : (xs ys : List Claim) (f : Found) → IsFound xs f → Each Holds ys → IsFound (xs ++ ys) f
 found_first xs ys f h hs = record { claim = h.claim; is_first = stays xs ys h.claim h.is_first (each_more Holds (NotAbove h.claim) ys (λ b holds broken. absurd (holds broken)) hs); says = h.says; at = h.at }

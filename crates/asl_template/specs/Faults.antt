@@ -1,4 +1,5 @@
--- Which values are templates, and which fault is answered for any other. (Amazon States Language, "Payload Template".)
+-- Which values are templates, and which fault is answered for any other. (Amazon States Language,
+-- "Payload Template".)
 use Rattle.std.specs.Prelude.{◌≡◌, ◌<◌, ◌≤◌, ℕ, suc, List, [], ◌∷◌, ◌++◌, Bool, true, false, if◌then◌else◌, map}
 use Rattle.asl_json.specs.Data.{Data, null, boolean, number, text, list, dict, Chain, no_items, item, Pairs, no_members, member}
 use Rattle.asl_json.specs.Distinct.{Members}
@@ -9,7 +10,8 @@ use Rattle.asl_intrinsic.specs.Faults.{IsCall}
 use Rattle.asl_template.specs.Names.{name_before, is_double}
 use Rattle.asl_template.specs.Filling.{is_path, chosen}
 
--- what the rules say of a member: its value is to be a text, it is beside another of its name, its text is to be a path, or a call
+-- what the rules say of a member: its value is to be a text, it is beside another of its name, its
+-- text is to be a path, or a call
 pub data Rule : Type 0 where
   no_text : Rule
   beside : Rule
@@ -62,7 +64,11 @@ abbrev mutual
   -- behind other members of the object
   pub member_claims : Members → Pairs → List Claim
   member_claims seen no_members = []
-  member_claims seen (member k d ms) = map (under (Name k)) (double_claims (is_double seen k) ++ chosen (name_before k) ((text_claim d, []) ∷ []) (claims d)) ++ member_claims (seen ++ (k, d) ∷ []) ms
+  member_claims seen (member k d ms) =
+      map (under (Name k))
+      (double_claims (is_double seen k)
+      ++ chosen (name_before k) ((text_claim d, []) ∷ []) (claims d))
+      ++ member_claims (seen ++ (k, d) ∷ []) ms
 
 -- each of these has the property
 abbrev pub Each : (Claim → Type 0) → List Claim → Type 0

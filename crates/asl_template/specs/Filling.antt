@@ -1,4 +1,5 @@
--- What a template gives on an input and a Context Object. (Amazon States Language, "Payload Template".)
+-- What a template gives on an input and a Context Object. (Amazon States Language, "Payload
+-- Template".)
 use Rattle.std.specs.Prelude.{ℕ, List, [], ◌∷◌, Bool, false, ◌==◌, Option, Some, None, if◌then◌else◌, Result, Ok, Err}
 use Rattle.asl_json.specs.Data.{Data, null, boolean, number, text, list, dict, Chain, no_items, item, Pairs, no_members, member}
 use Rattle.asl_path.specs.Paths.{part_at}
@@ -48,7 +49,8 @@ called k (Err NoMemory) = Err OutOfMemory
 
 -- what the text of a computed member gives
 abbrev pub text_value : List ℕ → List ℕ → Data → Data → Outcome Data
-text_value k t x c = if is_path t then found k (part_at t (if is_context t then c else x)) else called k (ev t x c)
+text_value k t x c =
+    if is_path t then found k (part_at t (if is_context t then c else x)) else called k (ev t x c)
 
 -- what a computed member gives; in a template it has a text
 abbrev pub computed : List ℕ → Data → Data → Data → Outcome Data
@@ -71,8 +73,11 @@ abbrev mutual
 
   pub fill_items : Chain → Data → Data → Outcome Chain
   fill_items no_items x c = Ok no_items
-  fill_items (item d ds) x c = and_then (fill d x c) (λ e. and_then (fill_items ds x c) (λ es. Ok (item e es)))
+  fill_items (item d ds) x c =
+      and_then (fill d x c) (λ e. and_then (fill_items ds x c) (λ es. Ok (item e es)))
 
   pub fill_members : Pairs → Data → Data → Outcome Pairs
   fill_members no_members x c = Ok no_members
-  fill_members (member k d ms) x c = and_then (chosen (name_before k) (computed k d x c) (fill d x c)) (λ e. and_then (fill_members ms x c) (λ ns. Ok (member (name_of k) e ns)))
+  fill_members (member k d ms) x c =
+      and_then (chosen (name_before k) (computed k d x c) (fill d x c))
+      (λ e. and_then (fill_members ms x c) (λ ns. Ok (member (name_of k) e ns)))

@@ -1,17 +1,18 @@
 -- Keys of a template's members. (Amazon States Language, "Payload Template".)
-use Rattle.std.specs.Prelude.{ℕ, List, [], ◌∷◌, ◌++◌, Bool, false, ◌||◌, Option, Some, None, if◌then◌else◌, map, option_map}
+use Rattle.std.specs.Prelude.{ℕ, List, [], ◌∷◌, ◌++◌, Bool, false, ◌||◌, Option, Some, None, if◌then◌else◌, map, option_map, codes}
 use Rattle.asl_json.specs.Data.{Data}
 use Rattle.asl_json.specs.Distinct.{Members, has_key}
 use Rattle.asl_json.specs.Same.{bytes_eq}
 
 -- ".$", in which the key of a computed member ends
 abbrev pub mark : List ℕ
-mark = 46 ∷ 36 ∷ []
+mark = codes ".$"
 
 -- the name before the mark, of a key that ends in it
 abbrev pub name_before : List ℕ → Option (List ℕ)
 name_before [] = None
-name_before (c ∷ k) = if bytes_eq (c ∷ k) mark then Some [] else option_map (λ (n : List ℕ). c ∷ n) (name_before k)
+name_before (c ∷ k) =
+    if bytes_eq (c ∷ k) mark then Some [] else option_map (λ (n : List ℕ). c ∷ n) (name_before k)
 
 abbrev pub first_of : {A : Type 0} → Option A → A → A
 first_of (Some a) b = a

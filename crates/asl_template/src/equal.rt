@@ -1,6 +1,7 @@
 // Whether two templates are equal: whether they were read from equal values, spelling included.
 ghost use Rattle.std.specs.Prelude.{◌≡◌, ◌&&◌, ◌++◌};
-ghost use Rattle.asl_json.specs.Data.{chain, pairs, text as spec_text};
+ghost use Rattle.asl_json.specs.Data.{chain, pairs};
+ghost use Rattle.asl_json.specs.Data as Data;
 ghost use Rattle.asl_json.specs.Same.{equal, equal_items, equal_members, bytes_eq};
 ghost use Rattle.asl_template.specs.Names.{mark};
 ghost use Rattle.asl_template.specs.private.View.{part_data, field_data, Fits};
@@ -57,7 +58,8 @@ fn equals_fields(a: &Fields, b: &Fields) -> bool
 fn equals_field(a: &Field, b: &Field) -> bool
     requires fits { Fits a.now }
     requires other_fits { Fits b.now }
-    ensures { result ≡ (bytes_eq (field_data a.now).0 (field_data b.now).0 && equal (field_data a.now).1 (field_data b.now).1) }
+    ensures { result ≡ (bytes_eq (field_data a.now).0 (field_data b.now).0
+        && equal (field_data a.now).1 (field_data b.now).1) }
 {
     match a {
         Field::Kept(key, part) => match b {
@@ -73,7 +75,8 @@ fn equals_field(a: &Field, b: &Field) -> bool
 /// Whether a member is the computed one of this name and text.
 fn is_computed(field: &Field, name: &Txt, text: &str) -> bool
     requires { Fits field.now }
-    ensures { result ≡ (bytes_eq (name.now ++ mark) (field_data field.now).0 && equal (spec_text text.now) (field_data field.now).1) }
+    ensures { result ≡ (bytes_eq (name.now ++ mark) (field_data field.now).0
+        && equal (Data.text text.now) (field_data field.now).1) }
 {
     match field {
         Field::Kept(_, _) => false,

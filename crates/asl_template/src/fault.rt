@@ -1,7 +1,7 @@
 // Why a value is no template.
 ghost use Rattle.std.specs.Prelude.{◌≡◌, ◌∷◌, ◌++◌, [], IfOk, reverse};
 ghost use Rattle.asl_path.specs.declared.step.Step.TheVariants.{Name, Index};
-ghost use Rattle.asl_template.specs.private.Broken.{number_of_kind, better as spec_better, under_read, taken, listed, judged_read};
+ghost use Rattle.asl_template.specs.private.Broken.{number_of_kind, better, under_read, taken, listed, judged_read};
 ghost use Rattle.asl_template.specs.Places.{pointer_text, step_part};
 ghost use Rattle.asl_template.specs.Answer.{Carries};
 
@@ -141,7 +141,7 @@ fn pointer_of(alloc: Global, steps: &[Step]) -> Result<Pointer, AllocError>
 
 /// The one with the lower number, else the earlier one.
 fn better(a: Fault, b: Fault) -> Fault
-    ensures { result ≡ spec_better a b }
+    ensures { result ≡ better a b }
 {
     if b.number() < a.number() {
         return b;

@@ -8,7 +8,7 @@ ghost use Rattle.asl_intrinsic.specs.Values.{ev};
 ghost use Rattle.asl_template.specs.Names.{mark, name_before, name_of};
 ghost use Rattle.asl_template.specs.private.View.{part_data, field_data, Fits};
 ghost use Rattle.asl_template.specs.Gives.{Gives};
-ghost use Rattle.asl_template.specs.Filling.{found, word_of as spec_word_of, called, computed, chosen, fill as spec_fill, fill_items, fill_members};
+ghost use Rattle.asl_template.specs.Filling.{found, word_of, called, computed, chosen, fill, fill_items, fill_members};
 
 use crate::name::marked;
 use crate::part::{Field, Fields, Part, Parts};
@@ -75,7 +75,8 @@ pub fn is_on_context(text: &str) -> bool
 
 /// The part that the path of a computed member names.
 fn part_of(alloc: Global, name: &Txt, path: &RefPath, value: &Json) -> Result<Json, FillFault>
-    ensures { Gives data_of (found (name.now ++ mark) (part_at path.now (data_of value.now))) result }
+    ensures { Gives data_of (found (name.now ++ mark) (part_at path.now (data_of value.now)))
+        result }
 {
     match path.get(value) {
         Some(part) => Ok(part.try_clone(alloc)?),
@@ -84,7 +85,7 @@ fn part_of(alloc: Global, name: &Txt, path: &RefPath, value: &Json) -> Result<Js
 }
 
 fn word_of(reason: Reason) -> Word
-    ensures { result ≡ spec_word_of reason }
+    ensures { result ≡ word_of reason }
 {
     match reason {
         Reason::Unfit => Word::Unfit,
@@ -102,7 +103,8 @@ fn value_of(
     input: &Json,
     context: &Json,
 ) -> Result<Json, FillFault>
-    ensures { Gives data_of (called (name.now ++ mark) (ev call.now (data_of input.now) (data_of context.now))) result }
+    ensures { Gives data_of
+        (called (name.now ++ mark) (ev call.now (data_of input.now) (data_of context.now))) result }
 {
     match call.eval(alloc, input, context) {
         Ok(value) => Ok(value),
@@ -126,7 +128,8 @@ pub(crate) fn fill(
     input: &Json,
     context: &Json,
 ) -> Result<Json, FillFault>
-    ensures { Gives data_of (spec_fill (part_data part.now) (data_of input.now) (data_of context.now)) result }
+    ensures { Gives data_of (fill (part_data part.now) (data_of input.now) (data_of context.now))
+        result }
 {
     match part {
         Part::Null => Ok(Json::Null),
@@ -145,7 +148,8 @@ fn fill_parts(
     input: &Json,
     context: &Json,
 ) -> Result<Items, FillFault>
-    ensures { Gives (λ v. chain v) (fill_items (chain parts.now) (data_of input.now) (data_of context.now)) result }
+    ensures { Gives (λ v. chain v)
+        (fill_items (chain parts.now) (data_of input.now) (data_of context.now)) result }
 {
     let mut values = Vec::new(alloc);
     for part in &parts.parts {
@@ -161,7 +165,8 @@ fn fill_fields(
     input: &Json,
     context: &Json,
 ) -> Result<Members, FillFault>
-    ensures { Gives (λ v. pairs v) (fill_members (pairs fields.now) (data_of input.now) (data_of context.now)) result }
+    ensures { Gives (λ v. pairs v)
+        (fill_members (pairs fields.now) (data_of input.now) (data_of context.now)) result }
 {
     let mut members = Members::new(alloc);
     for field in &fields.fields {
@@ -175,7 +180,11 @@ fn fill_fields(
 #[cycle(fill)]
 fn fill_field(alloc: Global, field: &Field, input: &Json, context: &Json) -> Result<Json, FillFault>
     requires { Fits field.now }
-    ensures { Gives data_of (chosen (name_before (field_data field.now).0) (computed (field_data field.now).0 (field_data field.now).1 (data_of input.now) (data_of context.now)) (spec_fill (field_data field.now).1 (data_of input.now) (data_of context.now))) result }
+    ensures { Gives data_of
+        (chosen (name_before (field_data field.now).0)
+        (computed (field_data field.now).0 (field_data field.now).1 (data_of input.now)
+        (data_of context.now))
+        (fill (field_data field.now).1 (data_of input.now) (data_of context.now))) result }
 {
     match field {
         Field::Kept(_, part) => fill(alloc, part, input, context),

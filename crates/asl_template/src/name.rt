@@ -1,13 +1,13 @@
 // Keys of members.
 ghost use Rattle.std.specs.Prelude.{◌≡◌, ◌++◌, IfOk, option_map};
-ghost use Rattle.asl_template.specs.Names.{mark, name_before as spec_name_before};
+ghost use Rattle.asl_template.specs.Names.{mark, name_before};
 
 use asl_json::Txt;
 use std::alloc::{AllocError, Global};
 
 /// The name before `.$`, if the key ends so. Once the template is filled, the computed member has this name.
 pub fn name_before(key: &str) -> Option<&str>
-    ensures { option_map (λ n. n.now) result ≡ spec_name_before key.now }
+    ensures { option_map (λ n. n.now) result ≡ name_before key.now }
 {
     match key.strip_suffix('$') {
         Some(front) => front.strip_suffix('.'),

@@ -1,10 +1,11 @@
 // Reading a template.
 ghost use Rattle.std.specs.Prelude.{◌≡◌, ◌∷◌, ◌++◌, [], true, false, IfOk};
-ghost use Rattle.asl_json.specs.Data.{chain, pairs, text as spec_text};
+ghost use Rattle.asl_json.specs.Data.{chain, pairs};
+ghost use Rattle.asl_json.specs.Data as Data;
 ghost use Rattle.asl_json.specs.Distinct.{Members};
 ghost use Rattle.asl_json.specs.View.{data_of, items_of, member_of, members_of};
 ghost use Rattle.asl_json.specs.Keys.{Knows};
-ghost use Rattle.asl_template.specs.Names.{mark, name_before as spec_name_before, is_double as spec_is_double};
+ghost use Rattle.asl_template.specs.Names.{mark, name_before, is_double};
 ghost use Rattle.asl_template.specs.private.View.{part_data, field_data, fields_data, Fits};
 ghost use Rattle.asl_template.specs.Filling.{is_path as begins_path, chosen};
 ghost use Rattle.asl_template.specs.Faults.{text_claim, double_claims, claims, item_claims, member_claims};
@@ -29,7 +30,8 @@ pub fn is_path(text: &str) -> bool
 /// A computed member of this name whose text is to be a path.
 fn path_field(alloc: Global, name: &str, text: &str) -> Result<Result<Field, Fault>, AllocError>
     requires { begins_path text.now ≡ true }
-    ensures reads { IfOk result (Reads field_data (name.now ++ mark, spec_text text.now) ((text_claim (spec_text text.now), []) ∷ [])) }
+    ensures reads { IfOk result (Reads field_data (name.now ++ mark, Data.text text.now)
+        ((text_claim (Data.text text.now), []) ∷ [])) }
     ensures fits { IfOk result (λ r. IfOk r Fits) }
 {
     match RefPath::read(alloc, text) {
@@ -42,7 +44,8 @@ fn path_field(alloc: Global, name: &str, text: &str) -> Result<Result<Field, Fau
 /// A computed member of this name whose text is to be a call.
 fn call_field(alloc: Global, name: &str, text: &str) -> Result<Result<Field, Fault>, AllocError>
     requires { begins_path text.now ≡ false }
-    ensures reads { IfOk result (Reads field_data (name.now ++ mark, spec_text text.now) ((text_claim (spec_text text.now), []) ∷ [])) }
+    ensures reads { IfOk result (Reads field_data (name.now ++ mark, Data.text text.now)
+        ((text_claim (Data.text text.now), []) ∷ [])) }
     ensures fits { IfOk result (λ r. IfOk r Fits) }
 {
     match Expr::read(alloc, text) {
@@ -60,7 +63,8 @@ fn computed_field(
     name: &str,
     value: &Json,
 ) -> Result<Result<Field, Fault>, AllocError>
-    ensures reads { IfOk result (Reads field_data (name.now ++ mark, data_of value.now) ((text_claim (data_of value.now), []) ∷ [])) }
+    ensures reads { IfOk result (Reads field_data (name.now ++ mark, data_of value.now)
+        ((text_claim (data_of value.now), []) ∷ [])) }
     ensures fits { IfOk result (λ r. IfOk r Fits) }
 {
     match value {
@@ -121,7 +125,7 @@ pub fn is_double(
     key: &str,
 ) -> Result<bool, AllocError>
     requires { Knows keys.now (members_of members.now) }
-    ensures { IfOk result (λ double. double ≡ spec_is_double (members_of members.now) key.now) }
+    ensures { IfOk result (λ double. double ≡ is_double (members_of members.now) key.now) }
 {
     let computed = marked(alloc, key)?;
     if keys.has(members, computed.as_str()) {
@@ -158,7 +162,9 @@ fn fields(alloc: Global, members: &Members) -> Result<Result<Fields, Fault>, All
 /// A member, whatever stands beside it.
 #[cycle(read)]
 fn field(alloc: Global, member: &Member) -> Result<Result<Field, Fault>, AllocError>
-    ensures reads { IfOk result (Reads field_data (member_of member.now) (chosen (spec_name_before member.now.key) ((text_claim (data_of member.now.value), []) ∷ []) (claims (data_of member.now.value)))) }
+    ensures reads { IfOk result (Reads field_data (member_of member.now)
+        (chosen (name_before member.now.key) ((text_claim (data_of member.now.value), []) ∷ [])
+        (claims (data_of member.now.value)))) }
     ensures fits { IfOk result (λ r. IfOk r Fits) }
 {
     match name_before(member.key.as_str()) {

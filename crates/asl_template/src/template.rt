@@ -3,7 +3,7 @@ ghost use Rattle.std.specs.Prelude.{◌≡◌, IfOk, IfErr};
 ghost use Rattle.asl_json.specs.View.{data_of};
 ghost use Rattle.asl_template.specs.Faults.{IsTemplate};
 ghost use Rattle.asl_template.specs.Answer.{IsAnswer};
-ghost use Rattle.asl_template.specs.Filling.{fill as spec_fill};
+ghost use Rattle.asl_template.specs.Filling.{fill};
 ghost use Rattle.asl_template.specs.Gives.{Gives};
 ghost use Rattle.asl_template.specs.private.Broken.{Reads};
 ghost use Rattle.asl_template.specs.private.View.{part_data};
@@ -78,7 +78,8 @@ impl Template {
         // What is read is a template.
         ensures found { IfOk result (λ _. IsTemplate (data_of value.now)) }
         // Each template is read, unless memory runs out.
-        ensures only { IsTemplate (data_of value.now) → IfErr result (λ fault. fault ≡ TemplateFault.OutOfMemory) }
+        ensures only { IsTemplate (data_of value.now)
+            → IfErr result (λ fault. fault ≡ TemplateFault.OutOfMemory) }
         // The fault is the first of the lowest number.
         ensures fault { IfErr result (IsAnswer (data_of value.now)) }
     {
@@ -93,7 +94,7 @@ impl Template {
     /// same position, with the part that its path names or the value of its call. The error is the first in document
     /// order. Its cost is the size of the template and of the values that are put in.
     pub fn fill(&self, alloc: Global, input: &Json, context: &Json) -> Result<Json, FillFault>
-        ensures { Gives data_of (spec_fill self.now (data_of input.now) (data_of context.now)) result }
+        ensures { Gives data_of (fill self.now (data_of input.now) (data_of context.now)) result }
     {
         fill(alloc, &self.part, input, context)
     }

@@ -225,10 +225,10 @@ fn places_are_read_as_they_are_written(rt: HostRuntime) -> Result<(), Fail> {
 
 #[test]
 fn places_and_their_kin(rt: HostRuntime) -> Result<(), Fail> {
-    let root = Place::root(rt.alloc());
+    let root = Place::root();
     let child = root.child(rt.alloc(), 3)?;
     assert!(rt; root.is_parent_of(&child) && root.is_prefix_of(&child) && root.is_root());
-    assert!(rt; child.try_clone(rt.alloc())? == child && child != root);
+    assert!(rt; child.try_clone()? == child && child != root);
     assert!(rt; child.is_beside(&root.child(rt.alloc(), 4)?));
     Ok(())
 }

@@ -1,6 +1,8 @@
--- The moment of a timestamp as a function of its text, by the fields at their places: date-time of RFC 3339, section 5.6,
+-- The moment of a timestamp as a function of its text, by the fields at their places: date-time of
+-- RFC 3339, section 5.6,
 -- with seconds to 59, upper-case letters, and the moment rounded up to the millisecond.
--- A text has the moment that `IsTimestamp` says, and no other: the law `a_text_has_the_moment_of_its_fields`.
+-- A text has the moment that `IsTimestamp` says, and no other: the law
+-- `a_text_has_the_moment_of_its_fields`.
 use Rattle.std.specs.Prelude.{ℕ, ◌+◌, ◌-◌, ◌*◌, ◌^◌, Bool, ◌&&◌, nat_eq, nat_lt, nat_le, if◌then◌else◌, List, ◌++◌, length, take, drop, get_or, bytes_eq, codes, Option, Some, None, option_and_then, ℤ, pos, negsuc, neg_ℤ, ◌+ℤ◌, ◌-ℤ◌, ◌*ℤ◌}
 use Rattle.std.specs.Char.{is_digit}
 use Rattle.std.specs.Int.{div_ceil}
@@ -54,12 +56,15 @@ fields_in t = record {
 unfoldable pub text_of : Fields → List ℕ
 text_of f =
     digits 4 f.year ++ codes "-" ++ digits 2 f.month ++ codes "-" ++ digits 2 f.day ++ codes "T"
-    ++ digits 2 f.hour ++ codes ":" ++ digits 2 f.minute ++ codes ":" ++ digits 2 f.second ++ secfrac f.fraction ++ f.offset
+    ++ digits 2 f.hour ++ codes ":" ++ digits 2 f.minute ++ codes ":" ++ digits 2 f.second
+    ++ secfrac f.fraction ++ f.offset
 
 -- the calendar has the day, in a year from 0 to 9999
 abbrev pub is_day : ℕ → ℕ → ℕ → Bool
 is_day year month day =
-    nat_lt year 10_000 && (nat_le 1 month && (nat_le month 12 && (nat_le 1 day && nat_le day (days_in_month (pos year) month))))
+    nat_lt year 10_000
+    && (nat_le 1 month
+    && (nat_le month 12 && (nat_le 1 day && nat_le day (days_in_month (pos year) month))))
 
 -- a clock shows the time
 abbrev pub is_time : ℕ → ℕ → ℕ → Bool
@@ -67,7 +72,8 @@ is_time hour minute second = nat_lt hour 24 && (nat_lt minute 60 && nat_lt secon
 
 abbrev pub are_valid : Fields → Bool
 are_valid f =
-    is_day f.year f.month f.day && (is_time f.hour f.minute f.second && list_all (λ c. is_digit c 10) f.fraction)
+    is_day f.year f.month f.day
+    && (is_time f.hour f.minute f.second && list_all (λ c. is_digit c 10) f.fraction)
 
 -- ---- what they mean
 
@@ -79,8 +85,10 @@ signed sign hour minute = sign ++ digits 2 hour ++ codes ":" ++ digits 2 minute
 abbrev pub ahead_by : List ℕ → ℕ → ℕ → Option ℤ
 ahead_by offset hour minute =
     if bytes_eq offset (codes "Z") then Some (pos 0)
-    else (if is_time hour minute 0 && bytes_eq offset (signed (codes "+") hour minute) then Some (pos (hour * 60 + minute))
-    else (if is_time hour minute 0 && bytes_eq offset (signed (codes "-") hour minute) then Some (neg_ℤ (pos (hour * 60 + minute)))
+    else (if is_time hour minute 0 && bytes_eq offset (signed (codes "+") hour minute)
+    then Some (pos (hour * 60 + minute))
+    else (if is_time hour minute 0 && bytes_eq offset (signed (codes "-") hour minute)
+    then Some (neg_ℤ (pos (hour * 60 + minute)))
     else None))
 
 -- the same of the offset's text
@@ -94,7 +102,8 @@ thousandths_of fraction = div_ceil (1000 * digits_value 10 fraction) (10 ^ lengt
 -- the milliseconds since 1970-01-01T00:00:00Z, on a clock that stands so many minutes ahead of UTC
 unfoldable pub millis_of : Fields → ℤ → ℤ
 millis_of f ahead =
-    (days_from_civil (pos f.year) f.month f.day *ℤ pos 86_400 +ℤ pos (f.hour * 3600 + f.minute * 60 + f.second) -ℤ ahead *ℤ pos 60)
+    (days_from_civil (pos f.year) f.month f.day *ℤ pos 86_400 +ℤ pos
+    (f.hour * 3600 + f.minute * 60 + f.second) -ℤ ahead *ℤ pos 60)
     *ℤ pos 1_000 +ℤ pos (thousandths_of f.fraction)
 
 -- moments are from 1970 to 9999
@@ -105,9 +114,11 @@ as_moment (negsuc n) = None
 -- the moment of a text with these fields: of one that they spell
 abbrev pub moment_with : Fields → List ℕ → Option ℕ
 moment_with f t =
-    if are_valid f && bytes_eq t (text_of f) then option_and_then (λ ahead. as_moment (millis_of f ahead)) (ahead_of_utc f.offset)
+    if are_valid f && bytes_eq t (text_of f)
+    then option_and_then (λ ahead. as_moment (millis_of f ahead)) (ahead_of_utc f.offset)
     else None
 
--- the moment of a text, in milliseconds since 1970-01-01T00:00:00Z; a text that is no timestamp has none
+-- the moment of a text, in milliseconds since 1970-01-01T00:00:00Z; a text that is no timestamp has
+-- none
 unfoldable pub moment_in : List ℕ → Option ℕ
 moment_in t = moment_with (fields_in t) t

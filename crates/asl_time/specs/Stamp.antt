@@ -13,11 +13,13 @@ digits (suc k) n = digits k (n / 10) ++ (48 + n % 10) ∷ []
 -- YYYY-MM-DD (full-date)
 abbrev pub full_date : Date → List ℕ
 full_date date =
-    digits 4 (unsigned_abs date.year) ++ codes "-" ++ digits 2 date.month ++ codes "-" ++ digits 2 date.day
+    digits 4 (unsigned_abs date.year) ++ codes "-" ++ digits 2 date.month ++ codes "-"
+    ++ digits 2 date.day
 
 -- hh:mm:ss (partial-time without its fraction)
 abbrev pub whole_time : Time → List ℕ
-whole_time time = digits 2 time.hour ++ codes ":" ++ digits 2 time.minute ++ codes ":" ++ digits 2 time.second
+whole_time time =
+    digits 2 time.hour ++ codes ":" ++ digits 2 time.minute ++ codes ":" ++ digits 2 time.second
 
 -- YYYY-MM-DDThh:mm:ss
 abbrev pub to_the_second : DateTime → List ℕ
@@ -26,9 +28,11 @@ to_the_second shown = full_date shown.date ++ codes "T" ++ whole_time shown.time
 -- YYYY-MM-DDThh:mm:ss.mmmZ
 abbrev pub spelled : DateTime → List ℕ
 spelled shown =
-    to_the_second shown ++ codes "." ++ digits 3 (shown.time.subsec_nanosecond / 1_000_000) ++ codes "Z"
+    to_the_second shown ++ codes "." ++ digits 3 (shown.time.subsec_nanosecond / 1_000_000)
+    ++ codes "Z"
 
--- t has the form YYYY-MM-DDThh:mm:ss.mmmZ, with a decimal digit for each small letter and each of Y, M and D
+-- t has the form YYYY-MM-DDThh:mm:ss.mmmZ, with a decimal digit for each small letter and each of
+-- Y, M and D
 pub record HasForm (t : List ℕ) : Type 0 where
   pub year : ℕ
   pub month : ℕ
@@ -37,7 +41,10 @@ pub record HasForm (t : List ℕ) : Type 0 where
   pub minute : ℕ
   pub second : ℕ
   pub milli : ℕ
-  pub text : t ≡ digits 4 year ++ codes "-" ++ digits 2 month ++ codes "-" ++ digits 2 day ++ codes "T" ++ digits 2 hour ++ codes ":" ++ digits 2 minute ++ codes ":" ++ digits 2 second ++ codes "." ++ digits 3 milli ++ codes "Z"
+  pub text : t
+      ≡ digits 4 year ++ codes "-" ++ digits 2 month ++ codes "-" ++ digits 2 day ++ codes "T"
+      ++ digits 2 hour ++ codes ":" ++ digits 2 minute ++ codes ":" ++ digits 2 second ++ codes "."
+      ++ digits 3 milli ++ codes "Z"
 
 -- t is the text of what calendar and clock show in UTC at moment m
 pub record IsStampOf (m : ℕ) (t : List ℕ) : Type 0 where

@@ -12,7 +12,8 @@ pub record Day : Type 0 where
 -- the day after a day
 abbrev pub next_day : Day → Day
 next_day d =
-    if nat_lt d.day (days_in_month (pos d.year) d.month) then record { year = d.year; month = d.month; day = d.day + 1 }
+    if nat_lt d.day (days_in_month (pos d.year) d.month)
+    then record { year = d.year; month = d.month; day = d.day + 1 }
     else (if nat_lt d.month 12 then record { year = d.year; month = d.month + 1; day = 1 }
     else record { year = d.year + 1; month = 1; day = 1 })
 
@@ -24,8 +25,10 @@ day_on (suc n) = next_day (day_on n)
 -- the day, and what a clock shows so many milliseconds after midnight
 abbrev pub stamp_on : Day → ℕ → List ℕ
 stamp_on day millis =
-    digits 4 day.year ++ codes "-" ++ digits 2 day.month ++ codes "-" ++ digits 2 day.day ++ codes "T"
-    ++ digits 2 (millis / 3_600_000) ++ codes ":" ++ digits 2 (millis / 60_000 % 60) ++ codes ":" ++ digits 2 (millis / 1_000 % 60)
+    digits 4 day.year ++ codes "-" ++ digits 2 day.month ++ codes "-" ++ digits 2 day.day
+    ++ codes "T"
+    ++ digits 2 (millis / 3_600_000) ++ codes ":" ++ digits 2 (millis / 60_000 % 60) ++ codes ":"
+    ++ digits 2 (millis / 1_000 % 60)
     ++ codes "." ++ digits 3 (millis % 1_000) ++ codes "Z"
 
 -- the text of the moment so many milliseconds after 1 January 1970

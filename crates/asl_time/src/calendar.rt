@@ -36,7 +36,8 @@ fn time_of(hour: u32, minute: u32, second: u32) -> Option<Time>
 /// A date from year 0 on, as `2024-01-31`, and what follows it.
 pub(crate) fn read_date(bytes: &[u8]) -> Option<(Date, &[u8])>
     ensures found { IfSome result (λ x. BeginsWithDate bytes.now x.0 x.1.now) }
-    ensures none { IfNone result ((date : Date) (rest : List ℕ) → BeginsWithDate bytes.now date rest → ⊥) }
+    ensures none { IfNone result
+        ((date : Date) (rest : List ℕ) → BeginsWithDate bytes.now date rest → ⊥) }
 {
     let (year, rest) = read_digits(bytes, 4)?;
     let (month, rest) = read_two(rest, b'-')?;
@@ -48,7 +49,8 @@ pub(crate) fn read_date(bytes: &[u8]) -> Option<(Date, &[u8])>
 /// What a clock shows in whole seconds, as `T23:59:00`, and what follows it.
 pub(crate) fn read_time(bytes: &[u8]) -> Option<(Time, &[u8])>
     ensures found { IfSome result (λ x. BeginsWithTime bytes.now x.0 x.1.now) }
-    ensures none { IfNone result ((time : Time) (rest : List ℕ) → BeginsWithTime bytes.now time rest → ⊥) }
+    ensures none { IfNone result
+        ((time : Time) (rest : List ℕ) → BeginsWithTime bytes.now time rest → ⊥) }
 {
     let (hour, rest) = read_two(bytes, b'T')?;
     let (minute, rest) = read_two(rest, b':')?;

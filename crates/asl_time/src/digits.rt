@@ -17,7 +17,8 @@ pub(crate) fn after_byte(bytes: &[u8], byte: u8) -> Option<&[u8]>
 /// What a digit that stands first means, and what follows it.
 fn read_digit(bytes: &[u8]) -> Option<(u32, &[u8])>
     ensures found { IfSome result (λ x. (bytes.now ≡ (48 + x.0) ∷ x.1.now) × (x.0 < 10)) }
-    ensures none { IfNone result ((d : ℕ) (rest : List ℕ) → d < 10 → bytes.now ≡ (48 + d) ∷ rest → ⊥) }
+    ensures none { IfNone result
+        ((d : ℕ) (rest : List ℕ) → d < 10 → bytes.now ≡ (48 + d) ∷ rest → ⊥) }
 {
     let (first, rest) = bytes.split_first()?;
     if *first < b'0' || *first > b'9' {
@@ -33,7 +34,8 @@ pub(crate) fn read_digits(bytes: &[u8], count: u32) -> Option<(u32, &[u8])>
     ensures found { IfSome result (λ x. bytes.now ≡ digits count x.0 ++ x.1.now) }
     ensures small { IfSome result (λ x. x.0 < 10 ^ count) }
     // No number and no rest fit.
-    ensures none { IfNone result ((n : ℕ) (rest : List ℕ) → bytes.now ≡ digits count n ++ rest → ⊥) }
+    ensures none { IfNone result
+        ((n : ℕ) (rest : List ℕ) → bytes.now ≡ digits count n ++ rest → ⊥) }
 {
     if count == 0 {
         return Some((0, bytes));
@@ -47,7 +49,8 @@ pub(crate) fn read_digits(bytes: &[u8], count: u32) -> Option<(u32, &[u8])>
 pub(crate) fn read_two(bytes: &[u8], mark: u8) -> Option<(u32, &[u8])>
     ensures found { IfSome result (λ x. bytes.now ≡ mark ∷ digits 2 x.0 ++ x.1.now) }
     ensures small { IfSome result (λ x. x.0 < 100) }
-    ensures none { IfNone result ((n : ℕ) (rest : List ℕ) → bytes.now ≡ mark ∷ digits 2 n ++ rest → ⊥) }
+    ensures none { IfNone result
+        ((n : ℕ) (rest : List ℕ) → bytes.now ≡ mark ∷ digits 2 n ++ rest → ⊥) }
 {
     let behind = after_byte(bytes, mark)?;
     let (number, rest) = read_digits(behind, 2)?;

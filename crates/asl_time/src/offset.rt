@@ -9,7 +9,8 @@ use crate::digits::read_two;
 fn read_signed(bytes: &[u8], sign: u8) -> Option<u32>
     ensures found { IfSome result (λ minutes. IsNumericOffset (sign ∷ []) minutes bytes.now) }
     ensures bound { IfSome result (λ minutes. minutes < 1440) }
-    ensures none { IfNone result ((minutes : ℕ) → IsNumericOffset (sign ∷ []) minutes bytes.now → ⊥) }
+    ensures none { IfNone result
+        ((minutes : ℕ) → IsNumericOffset (sign ∷ []) minutes bytes.now → ⊥) }
 {
     let (hour, rest) = read_two(bytes, sign)?;
     let (minute, rest) = read_two(rest, b':')?;

@@ -25,7 +25,8 @@ impl Rate {
     /// The rate of so many units of 10^-9; `None` below 1 and above 1000.
     pub fn of(units: i128) -> Option<Rate>
         ensures value { IfSome result (λ rate. pos rate ≡ units) }
-        ensures found { IsSome result ↔ ((pos 1_000_000_000 ≤ℤ units) × (units ≤ℤ pos 1_000_000_000_000)) }
+        ensures found { IsSome result
+            ↔ ((pos 1_000_000_000 ≤ℤ units) × (units ≤ℤ pos 1_000_000_000_000)) }
     {
         if units < 1_000_000_000 || units > 1_000_000_000_000 {
             return None;

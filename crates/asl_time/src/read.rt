@@ -16,7 +16,8 @@ fn moment_at(local: i64, ahead: i64, thousandths: u32) -> Option<Moment>
     requires local_in { IsWithin 1_000_000_000_000 local }
     requires ahead_in { IsWithin 1440 ahead }
     requires thousandths_in { thousandths ≤ 1000 }
-    ensures found { IfSome result (λ m. pos m ≡ (local -ℤ ahead *ℤ pos 60) *ℤ pos 1000 +ℤ pos thousandths) }
+    ensures found { IfSome result
+        (λ m. pos m ≡ (local -ℤ ahead *ℤ pos 60) *ℤ pos 1000 +ℤ pos thousandths) }
     ensures bound { IfSome result (λ m. m ≤ Moment.LAST_MILLIS) }
     ensures only { (m : ℕ) → m ≤ Moment.LAST_MILLIS
         → pos m ≡ (local -ℤ ahead *ℤ pos 60) *ℤ pos 1000 +ℤ pos thousandths → result ≡ Some m }

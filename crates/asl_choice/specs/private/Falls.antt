@@ -9,7 +9,8 @@ use Rattle.asl_choice.specs.declared.rule.Condition.{Condition}
 use Rattle.asl_choice.specs.declared.rule.Condition.TheVariants.{And, Or, Not, Test}
 use Rattle.asl_choice.specs.declared.rule.Rule.TheDeep.{deep-Condition}
 
-deep_rules : (rs : List (List Named)) → most (λ r. members_size r + 1) rs ≤ items_depth (chain (map rule_object rs))
+deep_rules : (rs : List (List Named))
+    → most (λ r. members_size r + 1) rs ≤ items_depth (chain (map rule_object rs))
 deep_rules [] = omega arith
 deep_rules (r ∷ rs) = omega (arith, deep_rules rs)
 
@@ -19,6 +20,7 @@ deep_condition (Or rs) = omega (arith, deep_rules rs.items)
 deep_condition (Not r) = omega arith
 deep_condition (Test t) = omega arith
 
-pub rule_falls : (comment : Option (List ℕ)) (c : Condition) → max (deep-Condition c) 0 ≤ members_size (rule_named comment c)
+pub rule_falls : (comment : Option (List ℕ)) (c : Condition)
+    → max (deep-Condition c) 0 ≤ members_size (rule_named comment c)
 rule_falls None c = omega (arith, deep_condition c)
 rule_falls (Some t) c = omega (arith, deep_condition c)

@@ -48,7 +48,8 @@ pub record IsCompiled (t : List Named) (ms : Pairs) (b : Body) : Type 0 where
   pub within : IsWithin (length t) b
   pub comment : option_map text b.comment ≡ value_at (codes "Comment") ms
   pub start : Some (text b.start.name) ≡ value_at (codes "StartAt") ms
-  pub states : Some (dict (pairs (take b.count (drop b.first t)))) ≡ kept_at (codes "States") States ms
+  pub states : Some (dict (pairs (take b.count (drop b.first t))))
+      ≡ kept_at (codes "States") States ms
 
 pub record IsBody (t : List Named) (d : Data) (b : Body) : Type 0 where
   pub within : IsWithin (length t) b

@@ -6,7 +6,8 @@ use Rattle.asl_history.specs.Events.{previous_id, IsHistory}
 use Rattle.asl_frames.specs.Branches.{same_place}
 use Rattle.asl_frames.specs.Trees.{Held, Node}
 
--- what a branch knows of the latest event along p: above p the latest at itself, at p the latest at it or under it
+-- what a branch knows of the latest event along p: above p the latest at itself, at p the latest at
+-- it or under it
 abbrev pub known : List ℕ → List ℕ → Held → ℕ
 known [] [] h = h.under
 known [] (y ∷ ys) h = 0

@@ -1,4 +1,5 @@
--- Items linked by their marks, as code keeps them: all those of one mark are met from the latest one backwards.
+-- Items linked by their marks, as code keeps them: all those of one mark are met from the latest
+-- one backwards.
 use Rattle.std.specs.Prelude.{◌≡◌, ℕ, suc, ◌==◌, List, [], ◌∷◌, ◌++◌, Option, Some, None, if◌then◌else◌}
 use Rattle.asl_json.specs.Data.{Data, chain}
 use Rattle.asl_functions.specs.private.Marks.{mark, AreApart}
@@ -18,10 +19,11 @@ abbrev pub links_behind : List Data → List Data → List (Option ℕ)
 links_behind front [] = []
 links_behind front (d ∷ ds) = latest_of (mark d) front ∷ links_behind (front ++ d ∷ []) ds
 
-pub record AreLinked (latest : ℕ → Option ℕ) (links : List (Option ℕ)) (ds : List Data) : Type 0 where
-  -- from a mark to the latest item that has it
-  pub from_mark : (m : ℕ) → latest m ≡ latest_of m ds
-  -- from each item to the one before it
-  pub from_item : links ≡ links_behind [] ds
-  -- no object has a key twice
-  pub apart : AreApart (chain ds)
+pub record AreLinked (latest : ℕ → Option ℕ) (links : List (Option ℕ)) (ds : List Data) : Type 0
+  where
+    -- from a mark to the latest item that has it
+    pub from_mark : (m : ℕ) → latest m ≡ latest_of m ds
+    -- from each item to the one before it
+    pub from_item : links ≡ links_behind [] ds
+    -- no object has a key twice
+    pub apart : AreApart (chain ds)

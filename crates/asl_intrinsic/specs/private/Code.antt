@@ -33,27 +33,18 @@ abbrev mutual
 mutual
   pub inj : (x y : Argument) → code x ≡ code y → x ≡ y
   inj (constant a) (constant b) p = ap constant (coded_data.inj a b (ap tail p))
-  inj (constant a) (quoted b) p = absurd cc
-  inj (constant a) (path b) p = absurd cc
-  inj (constant a) (call n bs) p = absurd cc
-  inj (quoted a) (constant b) p = absurd cc
   inj (quoted a) (quoted b) p = ap quoted (bytes.inj a b (ap tail p))
-  inj (quoted a) (path b) p = absurd cc
-  inj (quoted a) (call n bs) p = absurd cc
-  inj (path a) (constant b) p = absurd cc
-  inj (path a) (quoted b) p = absurd cc
   inj (path a) (path b) p = ap path (bytes.inj a b (ap tail p))
-  inj (path a) (call n bs) p = absurd cc
-  inj (call n ts) (constant b) p = absurd cc
-  inj (call n ts) (quoted b) p = absurd cc
-  inj (call n ts) (path b) p = absurd cc
-  inj (call n ts) (call m bs) p = λ i. call (bytes.inj n m (ap head (ap tail p)) i) (inj_all ts bs (ap tail (ap tail p)) i)
+  inj (call n ts) (call m bs) p =
+      λ i. call (bytes.inj n m (ap head (ap tail p)) i) (inj_all ts bs (ap tail (ap tail p)) i)
+  inj x y p = absurd cc
 
   inj_all : (x y : Arguments) → code_all x ≡ code_all y → x ≡ y
   inj_all none none p = refl
   inj_all none (argument b bs) p = absurd cc
   inj_all (argument a ts) none p = absurd cc
-  inj_all (argument a ts) (argument b bs) p = λ i. argument (inj a b (ap head p) i) (inj_all ts bs (ap tail p) i)
+  inj_all (argument a ts) (argument b bs) p =
+      λ i. argument (inj a b (ap head p) i) (inj_all ts bs (ap tail p) i)
 
 abbrev pub coded_argument : Coded Argument
 coded_argument = record { code = code; inj = inj }

@@ -14,7 +14,8 @@ Fails Memory r = Unit {0}
 Fails (At left) r = r ≡ Err left
 
 -- the machine's run r is what further says of what was read
-abbrev pub Leads : {X : Type 0} {Y : Type 0} → (X → Result Y ℕ) → Result X Halt → Result Y ℕ → Type 0
+abbrev pub Leads : {X : Type 0} {Y : Type 0} → (X → Result Y ℕ) → Result X Halt → Result Y ℕ
+    → Type 0
 Leads further (Ok x) r = r ≡ further x
 Leads further (Err e) r = Fails e r
 

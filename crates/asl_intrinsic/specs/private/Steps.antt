@@ -1,36 +1,19 @@
--- Reading a call from left to right, byte by byte: its tree, or how many bytes are left from the first place that is wrong.
+-- Reading a call from left to right, byte by byte: its tree, or how many bytes are left from the
+-- first place that is wrong.
 -- (What it answers is what the grammar says: the law of one tree, and what `Expr::read` promises.)
 -- Numbers go on as far as asl_json's do, and paths as far as asl_path's.
-use Rattle.std.specs.Prelude.{ℕ, suc, ◌+◌, ◌==◌, ◌&&◌, Bool, true, false, List, [], ◌∷◌, ◌++◌, length, if◌then◌else◌, Option, Some, None, Result, Ok, Err}
+use Rattle.std.specs.Prelude.{ℕ, suc, ◌+◌, ◌==◌, ◌&&◌, Bool, true, false, List, [], ◌∷◌, ◌++◌, length, if◌then◌else◌, Result, Ok, Err}
 use Rattle.asl_json.specs.Data.{Data, null, boolean, number}
 use Rattle.asl_json.specs.Number.{is_over}
 use Rattle.asl_json.specs.Grammar.{null_word, true_word, false_word}
-use Rattle.asl_json.specs.private.Machine.{part_behind, may_end}
-use Rattle.asl_json.specs.declared.number.Part.{Part}
-use Rattle.asl_json.specs.declared.number.Part.TheVariants.{Start}
+use Rattle.asl_json.specs.private.Machine.{is_number_front, is_number}
 use Rattle.asl_path.specs.declared.step.Root.{Root}
 use Rattle.asl_path.specs.declared.step.Step.{Step}
 use Rattle.asl_path.specs.private.Steps.{steps}
 use Rattle.asl_intrinsic.specs.Tree.{Argument, Frame, constant, quoted, path, call, arguments}
 use Rattle.asl_intrinsic.specs.Grammar.{is_name_byte, is_escaped, states_word}
 
--- ---- numbers and paths
-
-abbrev pub is_part : Option Part → Bool
-is_part None = false
-is_part (Some p) = true
-
-abbrev pub ends_part : Option Part → Bool
-ends_part None = false
-ends_part (Some p) = may_end p
-
--- a number may begin with these bytes
-unfoldable pub is_number_front : List ℕ → Bool
-is_number_front s = is_part (part_behind (Some Start) s)
-
--- these bytes are a number, with limits or without
-unfoldable pub is_number : List ℕ → Bool
-is_number s = ends_part (part_behind (Some Start) s)
+-- ---- paths
 
 abbrev pub is_read : Result (Root × List Step) ℕ → Bool
 is_read (Ok x) = true
@@ -91,7 +74,8 @@ in_prefix [] st c = if is_name_byte c then go (naming (c ∷ [])) st else stop 0
 in_prefix (w ∷ ws) st c = if c == w then go (prefix ws) st else stop 0
 
 unfoldable pub in_named : List ℕ → List Frame → ℕ → Next
-in_named n st c = if c == 32 then go (named n) st else if c == 40 then go opening ((n, []) ∷ st) else stop 0
+in_named n st c =
+    if c == 32 then go (named n) st else if c == 40 then go opening ((n, []) ∷ st) else stop 0
 
 unfoldable pub in_naming : List ℕ → List Frame → ℕ → Next
 in_naming n st c = if is_name_byte c then go (naming (n ++ c ∷ [])) st else in_named n st c
@@ -102,7 +86,9 @@ in_word (w ∷ []) d st c = if c == w then go (ended (constant d)) st else stop 
 in_word (w ∷ x ∷ ws) d st c = if c == w then go (word (x ∷ ws) d) st else stop 0
 
 unfoldable pub in_chars : List ℕ → List Frame → ℕ → Next
-in_chars s st c = if c == 39 then go (ended (quoted s)) st else if c == 92 then go (escape s) st else go (chars (s ++ c ∷ [])) st
+in_chars s st c =
+    if c == 39 then go (ended (quoted s)) st else if c == 92 then go (escape s) st
+    else go (chars (s ++ c ∷ [])) st
 
 unfoldable pub in_escape : List ℕ → List Frame → ℕ → Next
 in_escape s st c = if is_escaped c then go (chars (s ++ 92 ∷ c ∷ [])) st else stop 0
@@ -119,7 +105,8 @@ in_ended a (f ∷ st) c =
 unfoldable pub in_figure : Bool → List ℕ → List Frame → ℕ → Next
 in_figure lim s st c =
     if is_number_front (s ++ c ∷ []) then go (figure (s ++ c ∷ [])) st
-    else if is_number s then (if lim && is_over s then stop (length s) else in_ended (constant (number s)) st c)
+    else if is_number s
+    then (if lim && is_over s then stop (length s) else in_ended (constant (number s)) st c)
     else stop 0
 
 unfoldable pub in_along : List ℕ → List Frame → ℕ → Next
@@ -177,7 +164,10 @@ finish_by lim wanting st = Err 0
 finish_by lim (word ws d) st = Err 0
 finish_by lim (chars s) st = Err 0
 finish_by lim (escape s) st = Err 0
-finish_by lim (figure s) st = if is_number s then (if lim && is_over s then Err (length s) else whole (constant (number s)) st) else Err 0
+finish_by lim (figure s) st =
+    if is_number s
+    then (if lim && is_over s then Err (length s) else whole (constant (number s)) st)
+    else Err 0
 finish_by lim (along s) st = if is_path s then whole (path s) st else Err 0
 finish_by lim (ended a) st = whole a st
 

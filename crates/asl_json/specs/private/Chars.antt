@@ -51,24 +51,40 @@ WantsHex (low_2 q a b) = Unit {0}
 WantsHex (low_3 q a b c) = Unit {0}
 
 unfoldable pub on_unit : List ℕ → Quad → Inside
-on_unit s q = cond (is_high_surrogate (unit_of q)) (goes (half q) s) (goes bare (s ++ encode_utf8 (unit_of q)))
+on_unit s q =
+    cond (is_high_surrogate (unit_of q)) (goes (half q) s)
+    (goes bare (s ++ encode_utf8 (unit_of q)))
 
 -- One byte, behind bytes that mean s.
 unfoldable pub in_text : Within → List ℕ → ℕ → Inside
-in_text bare s c = cond (c == quote) ends (cond (c == backslash) (goes slash s) (cond (is_plain c) (goes bare (s ++ c ∷ [])) breaks))
-in_text slash s c = cond (c == letter_u) (goes unit_0 s) (cond (is_letter c) (goes bare (s ++ letter_value c ∷ [])) breaks)
+in_text bare s c =
+    cond (c == quote) ends
+    (cond (c == backslash) (goes slash s) (cond (is_plain c) (goes bare (s ++ c ∷ [])) breaks))
+in_text slash s c =
+    cond (c == letter_u) (goes unit_0 s)
+    (cond (is_letter c) (goes bare (s ++ letter_value c ∷ [])) breaks)
 in_text unit_0 s a = cond (is_hex a) (goes (unit_1 a) s) breaks
-in_text (unit_1 a) s b = cond (is_hex b) (cond (begins_low a b) (lone 3) (goes (unit_2 a b) s)) breaks
+in_text (unit_1 a) s b =
+    cond (is_hex b) (cond (begins_low a b) (lone 3) (goes (unit_2 a b) s)) breaks
 in_text (unit_2 a b) s c = cond (is_hex c) (goes (unit_3 a b c) s) breaks
 in_text (unit_3 a b c) s d = cond (is_hex d) (on_unit s (quad a b c d)) breaks
-in_text (half q) s c = cond (c == backslash) (goes (half_slash q) s) (cond ((c == quote) || is_plain c) (lone 6) breaks)
-in_text (half_slash q) s c = cond (c == letter_u) (goes (low_0 q) s) (cond (is_letter c) (lone 7) breaks)
-in_text (low_0 q) s a = cond (is_hex a) (cond (digit_value a == 13) (goes (low_1 q a) s) (lone 8)) breaks
-in_text (low_1 q a) s b = cond (is_hex b) (cond (begins_low a b) (goes (low_2 q a b) s) (lone 9)) breaks
+in_text (half q) s c =
+    cond (c == backslash) (goes (half_slash q) s)
+    (cond ((c == quote) || is_plain c) (lone 6) breaks)
+in_text (half_slash q) s c =
+    cond (c == letter_u) (goes (low_0 q) s) (cond (is_letter c) (lone 7) breaks)
+in_text (low_0 q) s a =
+    cond (is_hex a) (cond (digit_value a == 13) (goes (low_1 q a) s) (lone 8)) breaks
+in_text (low_1 q a) s b =
+    cond (is_hex b) (cond (begins_low a b) (goes (low_2 q a b) s) (lone 9)) breaks
 in_text (low_2 q a b) s c = cond (is_hex c) (goes (low_3 q a b c) s) breaks
-in_text (low_3 q a b c) s d = cond (is_hex d) (goes bare (s ++ encode_utf8 (surrogate_pair_char (unit_of q) (unit_of (quad a b c d))))) breaks
+in_text (low_3 q a b c) s d =
+    cond (is_hex d)
+    (goes bare (s ++ encode_utf8 (surrogate_pair_char (unit_of q) (unit_of (quad a b c d)))))
+    breaks
 
--- What becomes of the bytes of a text: its closing quote with what it means and what follows, or a fault.
+-- What becomes of the bytes of a text: its closing quote with what it means and what follows, or a
+-- fault.
 pub data Textual : Type 0 where
   closed : List ℕ → List ℕ → Textual
   broken : Fault → Textual

@@ -18,7 +18,8 @@ Fails stops.Memory r = Unit {0}
 Fails (stops.Fault f) r = r ≡ Err f
 
 -- the machine's run r is that from go at what was read
-abbrev pub Leads : {X : Type 0} → (X → Result Data Fault) → Result X Stop → Result Data Fault → Type 0
+abbrev pub Leads : {X : Type 0} → (X → Result Data Fault) → Result X Stop → Result Data Fault
+    → Type 0
 Leads further (Ok x) r = r ≡ further x
 Leads further (Err e) r = Fails e r
 

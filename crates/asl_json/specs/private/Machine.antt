@@ -5,7 +5,8 @@ use Rattle.asl_json.specs.Limits.{max_depth}
 use Rattle.asl_json.specs.Open.{Frame, in_list, in_dict}
 use Rattle.asl_json.specs.Data.{Data, null, boolean, number, text, list, dict, chain, pairs}
 use Rattle.asl_json.specs.Number.{is_digit, is_point, is_mark, is_sign, is_over}
-use Rattle.asl_json.specs.Grammar.{comma, colon, open_bracket, close_bracket, open_brace, close_brace, is_space}
+use Rattle.asl_json.specs.Grammar.{colon, open_bracket, close_bracket, open_brace, close_brace, is_space}
+use Rattle.asl_json.specs.Parts.{comma}
 use Rattle.asl_json.specs.Text.{quote}
 use Rattle.asl_json.specs.private.Chars.{Within, bare, Inside, goes, ends, breaks, lone, in_text}
 use Rattle.asl_json.specs.declared.fault.Fault.{Fault}
@@ -66,6 +67,22 @@ may_end Fraction = true
 may_end Mark = false
 may_end Sign = false
 may_end Exponent = true
+
+abbrev pub is_part : Option Part → Bool
+is_part None = false
+is_part (Some p) = true
+
+abbrev pub ends_part : Option Part → Bool
+ends_part None = false
+ends_part (Some p) = may_end p
+
+-- a number may begin with these bytes
+unfoldable pub is_number_front : List ℕ → Bool
+is_number_front s = is_part (part_behind (Some Start) s)
+
+-- these bytes are a number, with limits or without
+unfoldable pub is_number : List ℕ → Bool
+is_number s = ends_part (part_behind (Some Start) s)
 
 pub data Mode : Type 0 where
   -- a value is wanted, or the end of a list without items
@@ -156,7 +173,8 @@ unfoldable pub in_judged : Bool → List ℕ → List Frame → ℕ → Next
 in_judged lim s st c = cond (lim && is_over s) (stop Number (length s)) (in_after (number s) st c)
 
 unfoldable pub in_figure : Bool → Part → List ℕ → List Frame → ℕ → Next
-in_figure lim p s st c = grown (next_part p c) (cond (may_end p) (in_judged lim s st c) (stop Syntax 0)) s st c
+in_figure lim p s st c =
+    grown (next_part p c) (cond (may_end p) (in_judged lim s st c) (stop Syntax 0)) s st c
 
 unfoldable pub in_first : List Frame → ℕ → Next
 in_first st c =
@@ -173,7 +191,8 @@ in_key ms st c =
 
 abbrev pub key_chars_next : Bool → Members → ℕ → List ℕ → List Frame → Inside → Next
 key_chars_next lim ms opened s st (goes q t) = go (key_chars ms (suc opened) q t) st
-key_chars_next lim ms opened s st ends = cond (lim && has_key s ms) (stop Duplicate opened) (go (behind_key ms s) st)
+key_chars_next lim ms opened s st ends =
+    cond (lim && has_key s ms) (stop Duplicate opened) (go (behind_key ms s) st)
 key_chars_next lim ms opened s st breaks = stop Syntax 0
 key_chars_next lim ms opened s st (lone back) = stop Lone back
 
@@ -209,7 +228,9 @@ abbrev pub finish : Bool → Mode → List Frame → Result Data Fault
 finish lim value st = failed Syntax 0
 finish lim (word ws d) st = failed Syntax 0
 finish lim (chars q s) st = failed Syntax 0
-finish lim (figure p s) st = cond (may_end p) (cond (lim && is_over s) (failed Number (length s)) (ended (number s) st)) (failed Syntax 0)
+finish lim (figure p s) st =
+    cond (may_end p) (cond (lim && is_over s) (failed Number (length s)) (ended (number s) st))
+    (failed Syntax 0)
 finish lim (after d) st = ended d st
 finish lim first st = failed Syntax 0
 finish lim (key ms) st = failed Syntax 0
@@ -228,7 +249,8 @@ onward w further left (stop kind back) = w.at_stop kind (back + left)
 -- The machine over these bytes.
 unfoldable pub walk : {X : Type 0} → Outcome X → Bool → Mode → List Frame → List ℕ → X
 walk w lim m st [] = w.at_end m st
-walk w lim m st (c ∷ cs) = onward w (λ m' st'. walk w lim m' st' cs) (suc (length cs)) (step lim m st c)
+walk w lim m st (c ∷ cs) =
+    onward w (λ m' st'. walk w lim m' st' cs) (suc (length cs)) (step lim m st c)
 
 abbrev pub judgement : Bool → Outcome (Result Data Fault)
 judgement lim = record { at_end = finish lim; at_stop = failed }

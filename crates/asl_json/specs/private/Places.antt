@@ -32,7 +32,8 @@ abbrev pub IsUnshiftable : ℕ → ℕ → ℕ → Type 0
 IsUnshiftable number up down = (0 < number) × (down ≤ up → amount_limit ≤ number * 10 ^ (up - down))
 
 abbrev pub dividend_of : List ℕ → List ℕ → List ℕ → ℕ
-dividend_of integer fraction exponent = digits_value 0 (integer ++ fraction) * 10 ^ (9 + raised exponent)
+dividend_of integer fraction exponent =
+    digits_value 0 (integer ++ fraction) * 10 ^ (9 + raised exponent)
 
 abbrev pub divisor_of : List ℕ → List ℕ → ℕ
 divisor_of fraction exponent = 10 ^ (length fraction + lowered exponent)
@@ -45,4 +46,6 @@ pub record IsAmount (integer fraction exponent : List ℕ) (n : ℕ) : Type 0 wh
 
 -- there is no such n
 abbrev pub IsBeyond : List ℕ → List ℕ → List ℕ → Type 0
-IsBeyond integer fraction exponent = dividend_of integer fraction exponent % divisor_of fraction exponent ≡ 0 → amount_limit ≤ dividend_of integer fraction exponent / divisor_of fraction exponent
+IsBeyond integer fraction exponent =
+    dividend_of integer fraction exponent % divisor_of fraction exponent ≡ 0
+    → amount_limit ≤ dividend_of integer fraction exponent / divisor_of fraction exponent

@@ -33,51 +33,26 @@ bytes_refl (x ∷ xs) = rw (nat_refl x) (bytes_refl xs)
 mutual
   pub equal_true : (x y : Data) → equal x y ≡ true → x ≡ y
   equal_true null null e = refl
-  equal_true null (boolean b) e = absurd cc
-  equal_true null (number b) e = absurd cc
-  equal_true null (text b) e = absurd cc
-  equal_true null (list b) e = absurd cc
-  equal_true null (dict b) e = absurd cc
-  equal_true (boolean a) null e = absurd cc
   equal_true (boolean a) (boolean b) e = ap boolean (bool_true a b e)
-  equal_true (boolean a) (number b) e = absurd cc
-  equal_true (boolean a) (text b) e = absurd cc
-  equal_true (boolean a) (list b) e = absurd cc
-  equal_true (boolean a) (dict b) e = absurd cc
-  equal_true (number a) null e = absurd cc
-  equal_true (number a) (boolean b) e = absurd cc
   equal_true (number a) (number b) e = ap number (same_text a b (sym e))
-  equal_true (number a) (text b) e = absurd cc
-  equal_true (number a) (list b) e = absurd cc
-  equal_true (number a) (dict b) e = absurd cc
-  equal_true (text a) null e = absurd cc
-  equal_true (text a) (boolean b) e = absurd cc
-  equal_true (text a) (number b) e = absurd cc
   equal_true (text a) (text b) e = ap text (same_text a b (sym e))
-  equal_true (text a) (list b) e = absurd cc
-  equal_true (text a) (dict b) e = absurd cc
-  equal_true (list a) null e = absurd cc
-  equal_true (list a) (boolean b) e = absurd cc
-  equal_true (list a) (number b) e = absurd cc
-  equal_true (list a) (text b) e = absurd cc
   equal_true (list a) (list b) e = ap list (items_true a b e)
-  equal_true (list a) (dict b) e = absurd cc
-  equal_true (dict a) null e = absurd cc
-  equal_true (dict a) (boolean b) e = absurd cc
-  equal_true (dict a) (number b) e = absurd cc
-  equal_true (dict a) (text b) e = absurd cc
-  equal_true (dict a) (list b) e = absurd cc
   equal_true (dict a) (dict b) e = ap dict (members_true a b e)
+  equal_true x y e = absurd cc
 
   items_true : (x y : Chain) → equal_items x y ≡ true → x ≡ y
   items_true no_items no_items e = refl
-  items_true (item d ds) (item f fs) e = let s = and_split _ _ e in λ i. item (equal_true d f s.0 i) (items_true ds fs s.1 i)
+  items_true (item d ds) (item f fs) e =
+      let s = and_split _ _ e in λ i. item (equal_true d f s.0 i) (items_true ds fs s.1 i)
   items_true no_items (item f fs) e = absurd cc
   items_true (item d ds) no_items e = absurd cc
 
   members_true : (x y : Pairs) → equal_members x y ≡ true → x ≡ y
   members_true no_members no_members e = refl
-  members_true (member k d ms) (member l f ns) e = let s = and_split _ _ e in let t = and_split _ _ s.1 in λ i. member (same_text k l (sym s.0) i) (equal_true d f t.0 i) (members_true ms ns t.1 i)
+  members_true (member k d ms) (member l f ns) e =
+      let s = and_split _ _ e in let t = and_split _ _ s.1
+      in λ i. member (same_text k l (sym s.0) i) (equal_true d f t.0 i)
+      (members_true ms ns t.1 i)
   members_true no_members (member l f ns) e = absurd cc
   members_true (member k d ms) no_members e = absurd cc
 
@@ -108,8 +83,12 @@ turned x y e = subst (λ (z : Data). equal z x ≡ true) (equal_true x y e) (equ
 
 pub json_laws : IsPartialEquivalence json_equal
 json_laws = record {
-  symm = λ x y. both (json_equal x y) (json_equal y x) (turned (data_of x) (data_of y)) (turned (data_of y) (data_of x));
-  trans = λ x y z e f. subst (λ (v : Data). equal (data_of x) v ≡ true) (equal_true (data_of y) (data_of z) f) e;
+  symm =
+      λ x y. both (json_equal x y) (json_equal y x) (turned (data_of x) (data_of y))
+      (turned (data_of y) (data_of x));
+  trans =
+      λ x y z e f. subst (λ (v : Data). equal (data_of x) v ≡ true)
+      (equal_true (data_of y) (data_of z) f) e;
 }
 
 pub json_equivalence : IsEquivalence json_equal

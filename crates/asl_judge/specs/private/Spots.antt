@@ -4,4 +4,11 @@ use Rattle.asl_schema.specs.Claims.{Spot}
 use Rattle.asl_judge.specs.declared.spot.Spot.{Spot as CodeSpot}
 
 abbrev pub spot_of : CodeSpot → Spot
-spot_of p = record { names = contains_text p.names.now; level = p.level; ends = p.ends; key = p.key.now; doubled = p.doubled }
+spot_of p =
+    record {
+      names = contains_text p.names.now;
+      level = p.level;
+      ends = p.ends;
+      key = p.key.now;
+      doubled = p.doubled;
+    }

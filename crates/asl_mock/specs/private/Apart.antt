@@ -14,7 +14,9 @@ EachRanged P (r ∷ rs) = P r × EachRanged P rs
 
 abbrev pub AreApart : List Ranged → Type 0
 AreApart [] = Unit {0}
-AreApart (r ∷ rs) = (r.span.low ≤ r.span.high) × (EachRanged (λ (x : Ranged). r.span.high < x.span.low) rs × AreApart rs)
+AreApart (r ∷ rs) =
+    (r.span.low ≤ r.span.high)
+    × (EachRanged (λ (x : Ranged). r.span.high < x.span.low) rs × AreApart rs)
 
 -- the answer with number i has a number of the span
 pub record Meets (s : Span) (rs : List Ranged) (i : ℕ) : Type 0 where
@@ -26,7 +28,8 @@ pub record Meets (s : Span) (rs : List Ranged) (i : ℕ) : Type 0 where
 pub record IsGap (s : Span) (rs : List Ranged) (i : ℕ) : Type 0 where
   pub within : i ≤ length rs
   pub below : (k : ℕ) (d : Ranged) → k < i → (slice_index_or rs k d).span.high < s.low
-  pub above : (k : ℕ) (d : Ranged) → i ≤ k → k < length rs → s.high < (slice_index_or rs k d).span.low
+  pub above : (k : ℕ) (d : Ranged) → i ≤ k → k < length rs
+      → s.high < (slice_index_or rs k d).span.low
 
 abbrev pub any_has : Option Span → List Ranged → Bool
 any_has None rs = false

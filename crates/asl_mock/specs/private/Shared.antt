@@ -6,6 +6,7 @@ use Rattle.indexmap.specs.IndexMap.{IndexMap}
 use Rattle.asl_mock.specs.Answers.{Response}
 use Rattle.asl_mock.specs.Tables.{Named, named}
 
-abbrev pub shared_states : {X Y Z : Type 0} → Option (Arc (IndexMap (String X) Response Y) Z) → List (Named Response)
+abbrev pub shared_states : {X Y Z : Type 0} → Option (Arc (IndexMap (String X) Response Y) Z)
+    → List (Named Response)
 shared_states None = []
 shared_states (Some a) = named (arc_value a).entries

@@ -1,4 +1,5 @@
--- A value that is taken apart along steps: from the outermost in, each list or object with null where the next part stood.
+-- A value that is taken apart along steps: from the outermost in, each list or object with null
+-- where the next part stood.
 use Rattle.std.specs.Prelude.{◌≡◌, ◌<◌, ℕ, List, [], ◌∷◌, length, slice_set, Option, None, Some, option_map, Result, Ok, Err}
 use Rattle.asl_json.specs.Data.{Data, list, dict, chain, pairs}
 use Rattle.asl_json.specs.View.{data_of}
@@ -55,17 +56,20 @@ IsMet v s (Lacking ms) = (dict (pairs ms) ≡ v) × Lacks s ms
 IsMet v s (Nothing w) = (data_of w ≡ v) × ((f : Data → Option Data) → put_child v s f ≡ None)
 
 -- to put at the steps ss in base is to put at the steps rest in here, which stands open in os
-pub record Reaches (base : Data) (ss : List Step) (os : List Opened) (here : Data) (rest : List Step) : Type 0 where
+pub record Reaches (base : Data) (ss : List Step) (os : List Opened) (here : Data)
+    (rest : List Step) : Type 0 where
   pub are_open : AreOpen os
   pub puts : (r : Data) → put base ss r ≡ option_map (rebuilt os) (put here rest r)
 
 -- and os with here innermost is base
-pub record Along (base : Data) (ss : List Step) (os : List Opened) (here : Data) (rest : List Step) : Type 0 where
+pub record Along (base : Data) (ss : List Step) (os : List Opened) (here : Data)
+    (rest : List Step) : Type 0 where
   pub reaches : Reaches base ss os here rest
   pub whole : rebuilt os here ≡ base
 
 -- the answer of putting a part into a value at these steps
 abbrev pub IsPut : Json → List Step → Json → Result Json PutFault → Type 0
 IsPut v ss part (Ok w) = put (data_of v) ss (data_of part) ≡ Some (data_of w)
-IsPut v ss part (Err (NoMatch b r)) = (b ≡ v) × (r ≡ part) × (put (data_of v) ss (data_of part) ≡ None)
+IsPut v ss part (Err (NoMatch b r)) =
+    (b ≡ v) × (r ≡ part) × (put (data_of v) ss (data_of part) ≡ None)
 IsPut v ss part (Err (OutOfMemory b r)) = (b ≡ v) × (r ≡ part)

@@ -1,4 +1,5 @@
--- Reading a path from left to right, byte by byte: its root and steps, or how many bytes are left from the first one that
+-- Reading a path from left to right, byte by byte: its root and steps, or how many bytes are left
+-- from the first one that
 -- can't go on. (What it answers is what the grammar says: the laws of one meaning and one fault.)
 use Rattle.std.specs.Prelude.{ℕ, suc, ◌+◌, ◌*◌, ◌-◌, ◌==◌, ◌||◌, ◌&&◌, nat_lt, List, [], ◌∷◌, ◌++◌, length, if◌then◌else◌, Result, Ok, Err}
 use Rattle.asl_path.specs.Grammar.{dollar, full_stop, open_bracket, close_bracket, single_quote, double_quote, is_digit, is_name_byte, is_between}
@@ -23,17 +24,25 @@ pub data Next : Type 0 where
   stop : Next
 
 abbrev pub begin_step : List Step → ℕ → Next
-begin_step done c = if c == full_stop then go dot done else if c == open_bracket then go bracket done else stop
+begin_step done c =
+    if c == full_stop then go dot done else if c == open_bracket then go bracket done else stop
 
 -- what the next byte does
 abbrev pub advance : Mode → List Step → ℕ → Next
 advance between done c = begin_step done c
 advance dot done c = if is_name_byte c then go (name (c ∷ [])) done else stop
-advance (name n) done c = if is_name_byte c then go (name (n ++ c ∷ [])) done else begin_step (done ++ Name n ∷ []) c
-advance bracket done c = if (c == single_quote) || (c == double_quote) then go (quoted c []) done else if is_digit c then go (digits 1 (c - 48)) done else stop
-advance (quoted q n) done c = if is_between q c then go (quoted q (n ++ c ∷ [])) done else if c == q then go (closing n) done else stop
+advance (name n) done c =
+    if is_name_byte c then go (name (n ++ c ∷ [])) done else begin_step (done ++ Name n ∷ []) c
+advance bracket done c =
+    if (c == single_quote) || (c == double_quote) then go (quoted c []) done else if is_digit c
+    then go (digits 1 (c - 48)) done else stop
+advance (quoted q n) done c =
+    if is_between q c then go (quoted q (n ++ c ∷ [])) done else if c == q then go (closing n) done
+    else stop
 advance (closing n) done c = if c == close_bracket then go between (done ++ Name n ∷ []) else stop
-advance (digits k v) done c = if nat_lt k 9 && is_digit c then go (digits (k + 1) (v * 10 + (c - 48))) done else if c == close_bracket then go between (done ++ Index v ∷ []) else stop
+advance (digits k v) done c =
+    if nat_lt k 9 && is_digit c then go (digits (k + 1) (v * 10 + (c - 48))) done
+    else if c == close_bracket then go between (done ++ Index v ∷ []) else stop
 
 -- what the end of the text does
 abbrev pub finish : Mode → List Step → Result (List Step) ℕ
@@ -55,7 +64,9 @@ with_root r (Err left) = Err left
 
 abbrev pub from_root : List ℕ → Result (Root × List Step) ℕ
 from_root [] = Ok (Input, [])
-from_root (c ∷ cs) = if c == dollar then with_root Context (run between [] cs) else with_root Input (run between [] (c ∷ cs))
+from_root (c ∷ cs) =
+    if c == dollar then with_root Context (run between [] cs)
+    else with_root Input (run between [] (c ∷ cs))
 
 abbrev pub steps : List ℕ → Result (Root × List Step) ℕ
 steps [] = Err 0

@@ -12,7 +12,8 @@ abbrev pub is_going : List Node → Bool
 is_going [] = false
 is_going (n ∷ ns) = not (is_finished n.held.current)
 
-pub record IsSound (nodes : List Node) (counts : List ℕ) (events : List Event) (outcome : Outcome) : Type 0 where
+pub record IsSound (nodes : List Node) (counts : List ℕ) (events : List Event)
+    (outcome : Outcome) : Type 0 where
   -- the branches know the latest events, and their places
   pub linked : IsLinked nodes events
   pub placed : ArePlaced nodes

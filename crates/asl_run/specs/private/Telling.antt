@@ -15,7 +15,8 @@ AllAt p ts = AllByRecursion (λ t. t.0 ≡ p) ts
 -- the drafts behind these events, each at its place
 abbrev pub told_after : ℕ → List (List ℕ × Draft) → List Event → List Event
 told_after now [] es = es
-told_after now (t ∷ ts) es = told_after now ts (es ++ event_after es now t.1.kind t.0 t.1.name t.1.body ∷ [])
+told_after now (t ∷ ts) es =
+    told_after now ts (es ++ event_after es now t.1.kind t.0 t.1.name t.1.body ∷ [])
 
 -- the id of the last of so many events, behind which there are so many in all
 abbrev pub last_id : ℕ → ℕ → Option ℕ

@@ -18,13 +18,15 @@ abbrev pub rows_of : List CodeRow → List Row
 rows_of rs = map row_of rs
 
 abbrev pub group_of : CodeGroup → Group
-group_of g = record { names = map (λ l. l.now) g.names.now ++ map (λ l. l.now) g.more.now; exact = g.exact }
+group_of g =
+    record { names = map (λ l. l.now) g.names.now ++ map (λ l. l.now) g.more.now; exact = g.exact }
 
 abbrev pub groups_of : List CodeGroup → List Group
 groups_of gs = map group_of gs
 
 abbrev pub shape_seen : CodeShape → Shape
-shape_seen s = record { rows = rows_of s.rows.now; others = s.others; groups = groups_of s.groups.now }
+shape_seen s =
+    record { rows = rows_of s.rows.now; others = s.others; groups = groups_of s.groups.now }
 
 abbrev pub seen : Inside → FaultKind × List Step
 seen a = (a.kind, reverse a.steps.items)

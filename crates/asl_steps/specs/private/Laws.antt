@@ -29,11 +29,13 @@ few-unforked Kept e = tt
 few-unforked Removed e = tt
 few-unforked (Forked rs) e = absurd (cc)
 
-iteration-short : (kind : EventKind) (forker : Option (List ℕ)) (p : List ℕ) → length (iteration_event kind forker p) ≤ 1
+iteration-short : (kind : EventKind) (forker : Option (List ℕ)) (p : List ℕ)
+    → length (iteration_event kind forker p) ≤ 1
 iteration-short kind None p = omega arith
 iteration-short kind (Some m) p = omega arith
 
-success-short : (next : Option (List ℕ)) (forker : Option (List ℕ)) (p : List ℕ) (x : Json) → length (told_success next forker p x) ≤ 1
+success-short : (next : Option (List ℕ)) (forker : Option (List ℕ)) (p : List ℕ) (x : Json)
+    → length (told_success next forker p x) ≤ 1
 success-short None forker [] x = omega arith
 success-short None forker (i ∷ p) x = iteration-short _ forker (i ∷ p)
 success-short (Some n) forker p x = omega arith
@@ -43,16 +45,19 @@ ended-root None [] x h = refl
 ended-root None (i ∷ p) x h = (cc)
 ended-root (Some n) p x h = (cc)
 
-ended-finished : (next : Option (List ℕ)) (p : List ℕ) (x : Json) → IsSome (ended next p x) → is_finished (moved next x) ≡ true
+ended-finished : (next : Option (List ℕ)) (p : List ℕ) (x : Json) → IsSome (ended next p x)
+    → is_finished (moved next x) ≡ true
 ended-finished None p x h = refl
 ended-finished (Some n) p x h = (cc)
 
-ended-ends : (next : Option (List ℕ)) (p : List ℕ) (x : Json) → p ≡ [] → is_finished (moved next x) ≡ true → IsSome (ended next p x)
+ended-ends : (next : Option (List ℕ)) (p : List ℕ) (x : Json) → p ≡ []
+    → is_finished (moved next x) ≡ true → IsSome (ended next p x)
 ended-ends None [] x root over = refl
 ended-ends None (i ∷ p) x root over = (cc)
 ended-ends (Some n) p x root over = (cc)
 
-failure-short : (forker : Option (List ℕ)) (p : List ℕ) (e : ErrorOut) → length (told_failure forker p e) ≤ 1
+failure-short : (forker : Option (List ℕ)) (p : List ℕ) (e : ErrorOut)
+    → length (told_failure forker p e) ≤ 1
 failure-short forker [] e = omega arith
 failure-short forker (i ∷ p) e = iteration-short _ forker (i ∷ p)
 
@@ -64,7 +69,9 @@ failed-ends : (p : List ℕ) (e : ErrorOut) → p ≡ [] → IsSome (failed p e)
 failed-ends [] e root = refl
 failed-ends (i ∷ p) e root = (cc)
 
-left-bounded : (v : Seen) (invoking : Bool) (done : Progress) (exited : EventKind) (next : Option (List ℕ)) (x : Json) → IsSoFar invoking done → IsBounded v invoking (left v done exited next x)
+left-bounded : (v : Seen) (invoking : Bool) (done : Progress) (exited : EventKind)
+    (next : Option (List ℕ)) (x : Json) → IsSoFar invoking done
+    → IsBounded v invoking (left v done exited next x)
 left-bounded v invoking done exited next x so = record {
   few = omega (arith, length-append {A = Draft}, success-short next v.forker v.place x, so.short);
   changes_tell = λ e. omega (arith, length-append {A = Draft}, so.changes_tell e);
@@ -75,7 +82,8 @@ left-bounded v invoking done exited next x so = record {
   ends = λ root _ over. ended-ends next v.place x root over;
 }
 
-pub failing-bounded : (v : Seen) (invoking : Bool) (done : Progress) (e : ErrorOut) → IsSoFar invoking done → IsBounded v invoking (failing v done e)
+pub failing-bounded : (v : Seen) (invoking : Bool) (done : Progress) (e : ErrorOut)
+    → IsSoFar invoking done → IsBounded v invoking (failing v done e)
 failing-bounded v invoking done e so = record {
   few = omega (arith, length-append {A = Draft}, failure-short v.forker v.place e, so.short);
   changes_tell = λ h. omega (arith, length-append {A = Draft}, so.changes_tell h);
@@ -86,13 +94,18 @@ failing-bounded v invoking done e so = record {
   ends = λ root _ over. failed-ends v.place e root;
 }
 
-pub chosen-bounded : (b : Bool) (v : Seen) (invoking : Bool) (e f : Effect) → IsBounded v invoking e → IsBounded v invoking f → IsBounded v invoking (if b then e else f)
+pub chosen-bounded : (b : Bool) (v : Seen) (invoking : Bool) (e f : Effect) → IsBounded v invoking e
+    → IsBounded v invoking f → IsBounded v invoking (if b then e else f)
 chosen-bounded true v invoking e f h g = h
 chosen-bounded false v invoking e f h g = g
 
-pub leaving-bounded : (v : Seen) (invoking : Bool) (done : Progress) (exited : EventKind) (next : Option (List ℕ)) (x : Json) → IsSoFar invoking done → IsBounded v invoking (leaving v done exited next x)
+pub leaving-bounded : (v : Seen) (invoking : Bool) (done : Progress) (exited : EventKind)
+    (next : Option (List ℕ)) (x : Json) → IsSoFar invoking done
+    → IsBounded v invoking (leaving v done exited next x)
 leaving-bounded v invoking done exited next x so =
-    chosen-bounded (is_within_limit x) v invoking _ _ (left-bounded v invoking done exited next x so) (failing-bounded v invoking done over_limit so)
+    chosen-bounded (is_within_limit x) v invoking _ _
+    (left-bounded v invoking done exited next x so)
+    (failing-bounded v invoking done over_limit so)
 
 pub unstarted-so-far : (invoking : Bool) → IsSoFar invoking unstarted
 unstarted-so-far invoking = record {
@@ -103,7 +116,8 @@ unstarted-so-far invoking = record {
   tells = λ e. (cc);
 }
 
-pub retrying-bounded : (v : Seen) (invoking : Bool) (done : Progress) (x : Json) (n i until : ℕ) → IsSoFar invoking done → IsBounded v invoking (retrying v done x n i until)
+pub retrying-bounded : (v : Seen) (invoking : Bool) (done : Progress) (x : Json) (n i until : ℕ)
+    → IsSoFar invoking done → IsBounded v invoking (retrying v done x n i until)
 retrying-bounded v invoking done x n i until so = record {
   few = omega (arith, so.short);
   changes_tell = so.changes_tell;
@@ -114,7 +128,8 @@ retrying-bounded v invoking done x n i until so = record {
   ends = λ root _ over. (cc);
 }
 
-pub pausing-bounded : (v : Seen) (invoking : Bool) (done : Progress) (x : Json) (until : ℕ) → IsSoFar invoking done → IsBounded v invoking (pausing v done x until)
+pub pausing-bounded : (v : Seen) (invoking : Bool) (done : Progress) (x : Json) (until : ℕ)
+    → IsSoFar invoking done → IsBounded v invoking (pausing v done x until)
 pausing-bounded v invoking done x until so = record {
   few = omega (arith, so.short);
   changes_tell = so.changes_tell;
@@ -125,7 +140,8 @@ pausing-bounded v invoking done x until so = record {
   ends = λ root _ over. (cc);
 }
 
-begin-short : (r : Record) (forker : Option (List ℕ)) (p : List ℕ) → length (told_begin r forker p) ≤ 1
+begin-short : (r : Record) (forker : Option (List ℕ)) (p : List ℕ)
+    → length (told_begin r forker p) ≤ 1
 begin-short (New n x) forker p = iteration-short _ forker p
 begin-short (Ready n x) forker p = omega arith
 begin-short (Pausing n x since until) forker p = omega arith
@@ -134,7 +150,8 @@ begin-short (Waits n x since uses items) forker p = omega arith
 begin-short (Done x) forker p = omega arith
 begin-short (Failed e) forker p = omega arith
 
-pub entering-so-far : (v : Seen) (invoking : Bool) (entered : EventKind) (x : Json) → IsSoFar invoking (entering v entered x)
+pub entering-so-far : (v : Seen) (invoking : Bool) (entered : EventKind) (x : Json)
+    → IsSoFar invoking (entering v entered x)
 entering-so-far v invoking entered x = record {
   short = omega (arith, length-append {A = Draft}, begin-short v.current v.forker v.place);
   unforked = refl;
@@ -144,16 +161,24 @@ entering-so-far v invoking entered x = record {
 }
 
 -- a state that is entered or retried has told of two events at most
-pub beginning-short : (v : Seen) (entered : EventKind) (x : Json) (r : Record) → length (beginning_by v entered x r).events ≤ 2
-beginning-short v entered x (New n y) = omega (arith, length-append {A = Draft}, begin-short v.current v.forker v.place)
-beginning-short v entered x (Ready n y) = omega (arith, length-append {A = Draft}, begin-short v.current v.forker v.place)
-beginning-short v entered x (Pausing n y since until) = omega (arith, length-append {A = Draft}, begin-short v.current v.forker v.place)
+pub beginning-short : (v : Seen) (entered : EventKind) (x : Json) (r : Record)
+    → length (beginning_by v entered x r).events ≤ 2
+beginning-short v entered x (New n y) =
+    omega (arith, length-append {A = Draft}, begin-short v.current v.forker v.place)
+beginning-short v entered x (Ready n y) =
+    omega (arith, length-append {A = Draft}, begin-short v.current v.forker v.place)
+beginning-short v entered x (Pausing n y since until) =
+    omega (arith, length-append {A = Draft}, begin-short v.current v.forker v.place)
 beginning-short v entered x (Again n y since uses until) = omega arith
-beginning-short v entered x (Waits n y since uses items) = omega (arith, length-append {A = Draft}, begin-short v.current v.forker v.place)
-beginning-short v entered x (Done y) = omega (arith, length-append {A = Draft}, begin-short v.current v.forker v.place)
-beginning-short v entered x (Failed e) = omega (arith, length-append {A = Draft}, begin-short v.current v.forker v.place)
+beginning-short v entered x (Waits n y since uses items) =
+    omega (arith, length-append {A = Draft}, begin-short v.current v.forker v.place)
+beginning-short v entered x (Done y) =
+    omega (arith, length-append {A = Draft}, begin-short v.current v.forker v.place)
+beginning-short v entered x (Failed e) =
+    omega (arith, length-append {A = Draft}, begin-short v.current v.forker v.place)
 
-pub beginning-kept : (v : Seen) (entered : EventKind) (x : Json) (r : Record) → (beginning_by v entered x r).children ≡ Kept
+pub beginning-kept : (v : Seen) (entered : EventKind) (x : Json) (r : Record)
+    → (beginning_by v entered x r).children ≡ Kept
 beginning-kept v entered x (New n y) = refl
 beginning-kept v entered x (Ready n y) = refl
 beginning-kept v entered x (Pausing n y since until) = refl
@@ -162,16 +187,20 @@ beginning-kept v entered x (Waits n y since uses items) = refl
 beginning-kept v entered x (Done y) = refl
 beginning-kept v entered x (Failed e) = refl
 
-pub beginning-so-far : (v : Seen) (invoking : Bool) (entered : EventKind) (x : Json) (r : Record) → IsSoFar invoking (beginning_by v entered x r)
+pub beginning-so-far : (v : Seen) (invoking : Bool) (entered : EventKind) (x : Json) (r : Record)
+    → IsSoFar invoking (beginning_by v entered x r)
 beginning-so-far v invoking entered x (New n y) = entering-so-far v invoking entered x
 beginning-so-far v invoking entered x (Ready n y) = entering-so-far v invoking entered x
-beginning-so-far v invoking entered x (Pausing n y since until) = entering-so-far v invoking entered x
+beginning-so-far v invoking entered x (Pausing n y since until) =
+    entering-so-far v invoking entered x
 beginning-so-far v invoking entered x (Again n y since uses until) = unstarted-so-far invoking
-beginning-so-far v invoking entered x (Waits n y since uses items) = entering-so-far v invoking entered x
+beginning-so-far v invoking entered x (Waits n y since uses items) =
+    entering-so-far v invoking entered x
 beginning-so-far v invoking entered x (Done y) = entering-so-far v invoking entered x
 beginning-so-far v invoking entered x (Failed e) = entering-so-far v invoking entered x
 
-pub idle-bounded : (v : Seen) (invoking : Bool) (r : Record) → v.current ≡ r → IsBounded v invoking (idle r)
+pub idle-bounded : (v : Seen) (invoking : Bool) (r : Record) → v.current ≡ r
+    → IsBounded v invoking (idle r)
 idle-bounded v invoking r e = record {
   few = omega arith;
   changes_tell = λ h. (cc);

@@ -6,4 +6,4 @@ use Rattle.asl_data.proofs.Giving.{given_some}
 use Rattle.asl_data.proofs.paths.part.Goals as goal
 
 pub returns-in_ok-copied-in-Some : goal.returns-in_ok-copied-in-Some
-returns-in_ok-copied-in-Some c = given_some (no_value c.args.field.now) _ c.in_ok-copied-in-Some.field-0 (sym c.in-Some.ensures ∙ ap (λ (v : Json). Some (data_of v)) (sym c.in_ok-copied-in-Some.ensures))
+returns-in_ok-copied-in-Some c = given_some (no_value c.args.field.now) _ c.in_ok-copied-in-Some.field-0 (sym c.in-Some.ensures.value ∙ ap (λ (v : Json). Some (data_of v)) (sym c.in_ok-copied-in-Some.ensures))

@@ -1,8 +1,5 @@
-use Rattle.std.specs.Prelude.{string_bytes, encode_utf8}
-use Rattle.asl_text.proofs.Buffers.{keeps_on, keeps_pushed}
+use Rattle.std.proofs.lemmas.Str.{IsUtf8-from_ascii}
 use Rattle.asl_time.proofs.print.put_shown.Goals as goal
 
-pub returns-clause-kept : goal.returns-clause-kept
-returns-clause-kept c =
-    let pushed = keeps_pushed (string_bytes c.args.out.now) (string_bytes c.put_to_the_second.new.out) (string_bytes c.push.new.self) (encode_utf8 46) c.put_to_the_second.ensures.kept c.in_ok-push.ensures.bytes in
-    keeps_on (string_bytes c.args.out.now) (string_bytes c.push.new.self) (string_bytes c.put_field.new.out) pushed c.put_field.ensures.kept
+pub unreachable-requires : goal.unreachable-requires
+unreachable-requires c = c.in_default.ensures.cases.0 (IsUtf8-from_ascii c.bytes_of-bytes.result c.bytes_of-bytes.ensures.ascii)

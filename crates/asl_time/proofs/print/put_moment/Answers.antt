@@ -1,9 +1,0 @@
-use Rattle.std.proofs.Common.{arith, refl}
-use Rattle.asl_time.specs.Stamp.{spelled}
-use Rattle.asl_time.specs.StampText.{stamp_of}
-use Rattle.asl_time.proofs.One.{one_stamp}
-use Rattle.asl_time.proofs.StampTexts.{IsStampOf-stamp_of}
-use Rattle.asl_time.proofs.print.put_moment.Goals as goal
-
-pub returns-clause-ok : goal.returns-clause-ok
-returns-clause-ok c = rw (one_stamp c.args.moment (stamp_of c.args.moment) (spelled c.shown.result) (IsStampOf-stamp_of c.args.moment (omega (arith, c.shown.ensures.bound))) (record { shown = c.shown.result; at_moment = c.shown.ensures.value; text = refl })) c.put_shown.ensures.ok
