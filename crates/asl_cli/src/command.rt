@@ -38,10 +38,14 @@ pub fn run_words<S: AsStr, F: Files, O: Sink, E: Sink>(
     err: &mut E,
 ) -> u8
     // What words of a run, of a check or of a print ask for was done; or other words were answered, and no file was read.
-    ensures { ((w : RunWords) × IsRan O.taken O.failures E.taken E.failures (F.gives files.old) (F.lacks files.old) w out.old out.new err.old err.new result)
-        ⊎ ((w : DefinitionWords) × IsChecked O.taken O.failures E.taken E.failures (F.gives files.old) (F.lacks files.old) w out.old out.new err.old err.new result)
-        ⊎ ((w : DefinitionWords) × IsFormPrinted O.taken O.failures E.taken E.failures (F.gives files.old) (F.lacks files.old) w out.old out.new err.old err.new result)
-        ⊎ ((files.new ≡ files.old) × IsAnswered O.taken O.failures E.taken E.failures out.old out.new err.old err.new result) }
+    ensures { ((w : RunWords) × IsRan O.taken O.failures E.taken E.failures
+        (F.gives files.old) (F.lacks files.old) w out.old out.new err.old err.new result)
+        ⊎ ((w : DefinitionWords) × IsChecked O.taken O.failures E.taken E.failures
+        (F.gives files.old) (F.lacks files.old) w out.old out.new err.old err.new result)
+        ⊎ ((w : DefinitionWords) × IsFormPrinted O.taken O.failures E.taken E.failures
+        (F.gives files.old) (F.lacks files.old) w out.old out.new err.old err.new result)
+        ⊎ ((files.new ≡ files.old) × IsAnswered O.taken O.failures E.taken E.failures
+        out.old out.new err.old err.new result) }
 {
     match read_words(alloc, words) {
         Ok(Words::Check(words)) => check(alloc, &words, files, out, err),

@@ -32,7 +32,8 @@ impl Execution {
     /// Takes steps in order, with a line for each. The error is that memory ran out.
     fn put_steps(&mut self, out: &mut String, steps: &[StepAt]) -> Result<(), AllocError>
         ensures text { OnOk result (string_bytes out.new
-            ≡ string_bytes out.old ++ step_lines (setup_of self.old) (world_of self.old) steps.now) }
+            ≡ string_bytes out.old
+            ++ step_lines (setup_of self.old) (world_of self.old) steps.now) }
         ensures world { OnOk result (world_of self.new
             ≡ world_after (setup_of self.old) (world_of self.old) steps.now) }
     {
@@ -59,7 +60,8 @@ impl Execution {
     /// error is that memory ran out.
     fn print(&mut self, steps: &[StepAt]) -> Result<(String, bool), AllocError>
         ensures text { IfOk result (λ r. string_bytes r.0
-            ≡ step_lines (setup_of self.old) (world_of self.old) steps.now ++ end_text (world_after (setup_of self.old) (world_of self.old) steps.now)) }
+            ≡ step_lines (setup_of self.old) (world_of self.old) steps.now
+            ++ end_text (world_after (setup_of self.old) (world_of self.old) steps.now)) }
         ensures good { IfOk result (λ r. r.1
             ≡ is_success (world_after (setup_of self.old) (world_of self.old) steps.now).outcome) }
         ensures world { OnOk result (world_of self.new

@@ -130,8 +130,10 @@ impl Execution {
         ensures accepted { OnOk result (refusal_in (setup_of self.old) (world_of self.old) place.now
             moment ≡ None) }
         ensures err { OnErr result (world_of self.new ≡ world_of self.old) }
-        ensures why { IfErr result (λ e. (refusal_in (setup_of self.old) (world_of self.old) place.now moment ≡ Some e)
-            ⊎ ((refusal_in (setup_of self.old) (world_of self.old) place.now moment ≡ None) × (e ≡ Refusal.OutOfMemory))) }
+        ensures why { IfErr result (λ e.
+            (refusal_in (setup_of self.old) (world_of self.old) place.now moment ≡ Some e)
+            ⊎ ((refusal_in (setup_of self.old) (world_of self.old) place.now moment ≡ None)
+            × (e ≡ Refusal.OutOfMemory))) }
         ensures setup { setup_of self.new ≡ setup_of self.old }
     {
         if let Some(refusal) = self.refusal(place, moment) {

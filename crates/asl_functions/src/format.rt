@@ -32,8 +32,10 @@ fn is_close(letter: Letter) -> bool
 /// What stands behind a hole that begins with this letter, where one does.
 fn behind_hole<'a>(letter: Letter, behind: &'a str, escapes: bool) -> Option<&'a str>
     ensures hole { MatchOption result
-        (tokens (letter ∷ letters escapes (chars behind.now)) ≡ token letter ∷ tokens (letters escapes (chars behind.now)))
-        (λ rest. tokens (letter ∷ letters escapes (chars behind.now)) ≡ hole ∷ tokens (letters escapes (chars rest.now))) }
+        (tokens (letter ∷ letters escapes (chars behind.now))
+        ≡ token letter ∷ tokens (letters escapes (chars behind.now)))
+        (λ rest. tokens (letter ∷ letters escapes (chars behind.now))
+        ≡ hole ∷ tokens (letters escapes (chars rest.now))) }
     ensures shorter { IfSome result (λ rest. length rest.now < length behind.now) }
 {
     if !is_open(letter) {

@@ -13,7 +13,8 @@ use asl_parts::Catcher;
 pub(crate) trait Handler: Compiled {
     /// `ErrorEquals`.
     fn named(&self) -> &ErrorNames
-        ensures { Some (names_shown result.now) ≡ value_in (codes "ErrorEquals") (Self.shown self.now) };
+        ensures { Some (names_shown result.now)
+            ≡ value_in (codes "ErrorEquals") (Self.shown self.now) };
 }
 
 impl Handler for Retrier {

@@ -23,7 +23,8 @@ fn more_digits(number: u32, bytes: &[u8]) -> Option<(u32, &[u8])>
     ensures found { IfSome result (λ x. decimal number ++ bytes.now ≡ decimal x.0 ++ x.1.now) }
     ensures small { IfSome result (λ x. x.0 < 10 ^ 9) }
     ensures only { (n : ℕ) (rest : List ℕ) → n < 10 ^ 9 → EndsNumber rest
-        → decimal number ++ bytes.now ≡ decimal n ++ rest → IsSomeAnd result (λ x. (x.0 ≡ n) × (x.1.now ≡ rest)) }
+        → decimal number ++ bytes.now ≡ decimal n ++ rest
+        → IsSomeAnd result (λ x. (x.0 ≡ n) × (x.1.now ≡ rest)) }
 {
     let Some((digit, rest)) = read_digit(bytes) else {
         return Some((number, bytes));

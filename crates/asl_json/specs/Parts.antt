@@ -1,4 +1,4 @@
--- Texts that are made of parts: one after another, with spaces round them, with commas between them.
+-- Texts that are made of parts: one after another, with spaces round them, with commas between.
 use Rattle.std.specs.Prelude.{◌≡◌, ℕ, List, [], ◌∷◌, ◌++◌}
 
 abbrev pub comma : ℕ

@@ -48,8 +48,12 @@ fn named(
     context: &mut Context,
 ) -> Result<ErrorOut, Fault>
     ensures given { Gives (error_and
-        (reason_by (codes "ErrorPath") (text_in (value_in (codes "Error") (fail_object fail.now))) (text_in (value_in (codes "ErrorPath") (fail_object fail.now))) (data_of input.now) (context_of context.old.facts (seen visit.now)))
-        (reason_by (codes "CausePath") (text_in (value_in (codes "Cause") (fail_object fail.now))) (text_in (value_in (codes "CausePath") (fail_object fail.now))) (data_of input.now) (context_of context.old.facts (seen visit.now)))) result }
+        (reason_by (codes "ErrorPath") (text_in (value_in (codes "Error") (fail_object fail.now)))
+        (text_in (value_in (codes "ErrorPath") (fail_object fail.now)))
+        (data_of input.now) (context_of context.old.facts (seen visit.now)))
+        (reason_by (codes "CausePath") (text_in (value_in (codes "Cause") (fail_object fail.now)))
+        (text_in (value_in (codes "CausePath") (fail_object fail.now)))
+        (data_of input.now) (context_of context.old.facts (seen visit.now)))) result }
     ensures facts { context.new.facts ≡ context.old.facts }
 {
     let error = reason(alloc, "ErrorPath", fail.error(), input, visit, context)?;

@@ -41,5 +41,6 @@ pub trait StateKind {
 
     /// At most eight events, children made or removed only with an event, a count only where the kind invokes, the outcome exactly
     /// where the branch at the root ends.
-    ghost bounded: { (k : Self) (f : Facts) (v : Seen) → IsBounded v (is_invoking k) (effect k f v) };
+    ghost bounded: { (k : Self) (f : Facts) (v : Seen)
+        → IsBounded v (is_invoking k) (effect k f v) };
 }

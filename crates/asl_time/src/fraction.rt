@@ -61,7 +61,8 @@ pub(crate) fn read_fraction(bytes: &[u8]) -> Option<(u32, &[u8])>
     ensures bound { IfSome result (λ x. x.0 ≤ 1000) }
     // Where an offset follows, there is one way to read it.
     ensures one { IfSome result (λ x. (n : ℕ) (zone : List ℕ) (ahead : ℤ)
-        → IsOffset ahead zone → BeginsWithFraction bytes.now n zone → (n ≡ x.0) × (zone ≡ x.1.now)) }
+        → IsOffset ahead zone → BeginsWithFraction bytes.now n zone
+        → (n ≡ x.0) × (zone ≡ x.1.now)) }
     ensures none { IfNone result ((n : ℕ) (zone : List ℕ) (ahead : ℤ)
         → IsOffset ahead zone → BeginsWithFraction bytes.now n zone → ⊥) }
 {
