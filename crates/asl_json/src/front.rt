@@ -149,6 +149,7 @@ fn plain_end(bytes: &[u8], from: usize, to: usize) -> usize
 }
 
 /// How many bytes at the front may stand in a text as they are. Most runs are short, so blocks begin behind the first bytes.
+#[inline(always)]
 fn plain_len(bytes: &[u8]) -> usize
     ensures plain { ArePlain (take result bytes.now) }
     ensures within { result ≤ length bytes.now }

@@ -1,8 +1,8 @@
 // Parallel: branches that run beside each other, how they are joined, and what becomes of a branch's error.
 use crate::branching::{steps_at, told};
-use crate::shown::{line_of, record_text};
+use crate::shown::record_text;
 use asl_exec::{Execution, Frame};
-use asl_history::{Event, Place};
+use asl_history::{Event, Place, line};
 use asl_setup::Emulation;
 use asl_time::Moment;
 use std::test::Fail;
@@ -552,7 +552,7 @@ fn push_event(
     event: &Event,
     numbered: bool,
 ) -> Result<(), Fail> {
-    let line = line_of(rt.alloc(), event)?;
+    let line = line(rt.alloc(), event)?;
     let mut rest = line.as_str();
     for _ in 0..2 {
         let (number, behind) = rest.split_once(' ').ok_or("no number")?;

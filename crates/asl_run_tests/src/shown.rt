@@ -1,5 +1,4 @@
-// Records and events as texts, so that tests can compare them.
-use asl_history::{Event, put_line};
+// Records as texts, so that tests can compare them.
 use asl_json::{Name, Shared, SharedItems, put};
 use asl_steps::{ErrorOut, Record, Uses, error_output};
 use asl_time::Moment;
@@ -118,11 +117,4 @@ pub(crate) fn record_text(alloc: Global, record: Option<&Record>) -> Result<Stri
         Some(record) => put_record(alloc, &mut text, record)?,
     }
     Ok(text)
-}
-
-/// The line of an event.
-pub(crate) fn line_of(alloc: Global, event: &Event) -> Result<String, Fail> {
-    let mut line = String::new(alloc);
-    put_line(&mut line, event)?;
-    Ok(line)
 }

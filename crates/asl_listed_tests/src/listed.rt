@@ -1,9 +1,8 @@
 // Executions over a plain list of branches. A step looks through the whole list, builds it anew, and finds the event before a new one
 // by a walk back. So little code does what the tree of frames does with less work: both have to tell the same, step by step.
-use crate::shown::line_of;
 use asl_def::Machine;
 use asl_exec::{Execution, Next, Outcome, Refusal};
-use asl_history::{EventKind, History, Place};
+use asl_history::{EventKind, History, Place, line};
 use asl_json::{Json, Name, Shared, SharedItems, read, write};
 use asl_kinds::StateKind;
 use asl_run::put_step;
@@ -610,8 +609,8 @@ fn are_same_events(
     known: usize,
 ) -> Result<bool, Fail> {
     for (one, other) in tree.events().iter().zip(list.events()).skip(known) {
-        let one = line_of(alloc, one)?;
-        let other = line_of(alloc, other)?;
+        let one = line(alloc, one)?;
+        let other = line(alloc, other)?;
         if one.as_str() != other.as_str() {
             return Ok(false);
         }
