@@ -1,29 +1,20 @@
-//! What no clause says of executions, tried from outside: worked examples, and that each call succeeds with ample memory.
+//! What no clause says of executions, tried from outside: what the program doesn't print, and that each call succeeds with ample memory.
 //!
-//! `runs` is files of steps, whole runs and single steps, `data` what states make of data, `flow` where runs go on and when, `tasks` what
-//! Tasks do, `parallel` branches that run beside each other, and `maps` iterations; `branching` is what these two share. `driven` is runs
-//! without a file of steps, and `time_limit` executions whose time is over. `shown` has records as texts. What waits for fewer crates is
-//! tried in crates of its own: values and histories in `asl_tests`, definitions in `asl_definition_tests`; and so is what waits for
-//! more, command lines in `asl_command_tests`. `asl_listed_tests` compares executions with those of a second form.
+//! `stepping` is a file of steps and single steps, `branches` what branches are doing, `driven` runs without a file of steps, and
+//! `time_limit` an execution whose history is full before its time is over. `opened` has executions to try, `shown` records as texts.
+//! What the program prints of whole runs is tried in `tests/` at the top; what waits for fewer crates, in crates of its own: values and
+//! histories in `asl_tests`, definitions in `asl_definition_tests`. `asl_listed_tests` compares executions with those of a second form.
 #![tactic(auto)]
 
 #[cfg(test)]
-mod branching;
-#[cfg(test)]
-mod data;
+mod branches;
 #[cfg(test)]
 mod driven;
 #[cfg(test)]
-mod flow;
-#[cfg(test)]
-mod maps;
-#[cfg(test)]
-mod parallel;
-#[cfg(test)]
-mod runs;
+mod opened;
 #[cfg(test)]
 mod shown;
 #[cfg(test)]
-mod tasks;
+mod stepping;
 #[cfg(test)]
 mod time_limit;

@@ -1,4 +1,6 @@
 // Records as texts, so that tests can compare them.
+use asl_exec::Execution;
+use asl_history::Place;
 use asl_json::{Name, Shared, SharedItems, put};
 use asl_steps::{ErrorOut, Record, Uses, error_output};
 use asl_time::Moment;
@@ -117,4 +119,15 @@ pub(crate) fn record_text(alloc: Global, record: Option<&Record>) -> Result<Stri
         Some(record) => put_record(alloc, &mut text, record)?,
     }
     Ok(text)
+}
+
+/// The place of a text.
+pub(crate) fn place_of(rt: &HostRuntime, text: &str) -> Result<Place, Fail> {
+    Ok(Place::read(rt.alloc(), text)?.ok_or("no place")?)
+}
+
+/// What the branch at a place is doing, as a text.
+pub(crate) fn view(rt: &HostRuntime, execution: &Execution, place: &str) -> Result<String, Fail> {
+    let place = place_of(rt, place)?;
+    record_text(rt.alloc(), execution.view(&place))
 }

@@ -1,0 +1,62 @@
+"""Runs of the built program, for the tests beside this file."""
+import os
+import subprocess
+import tempfile
+import unittest
+
+TOP = os.path.dirname(os.path.dirname(os.path.realpath(__file__)))
+PROGRAM = f"{TOP}/crates/asl/out/asl"
+
+MIDNIGHT = "2024-01-01T00:00:00Z"
+
+
+def steps(places, moment=MIDNIGHT):
+    """The lines of steps at these places, all at one moment."""
+    return "".join(f"{place} {moment}\n" for place in places)
+
+
+def answered(answers):
+    """A mock file of the machine M, in whose test case c the Task W has these answers."""
+    return '{"StateMachines":{"M":{"TestCases":{"c":{"W":"a"}}}},"MockedResponses":{"a":{%s}}}' % answers
+
+
+def run_program(*words):
+    """What the program does for a command line."""
+    return subprocess.run([PROGRAM, *words], stdin=subprocess.DEVNULL, capture_output=True, text=True, timeout=60)
+
+
+class ProgramTest(unittest.TestCase):
+    maxDiff = None
+
+    def run_texts(self, definition, mocks, chosen, given, steps):
+        """What the program does for the texts of a run; without a text of steps it drives the run itself."""
+        with tempfile.TemporaryDirectory(prefix="asl-test-") as room:
+
+            def file(name, text):
+                path = os.path.join(room, name)
+                with open(path, "wb") as out:
+                    out.write(text if isinstance(text, bytes) else text.encode())
+                return path
+
+            words = ["run", file("definition", definition), file("mocks", mocks), chosen, file("input", given)]
+            return run_program(*words, *(["--steps", file("steps", steps)] if steps is not None else []))
+
+    def told(self, definition, given="{}", steps=None, mocks="{}", chosen="M"):
+        """What a run prints. Its status is 0 just if the execution succeeds."""
+        ran = self.run_texts(definition, mocks, chosen, given, steps)
+        self.assertEqual(ran.stderr, "")
+        last = ran.stdout.splitlines()[-1]
+        self.assertEqual(ran.returncode, 0 if last.startswith("status SUCCEEDED ") else 1, last)
+        return ran.stdout
+
+    def refused(self, definition, mocks, chosen, given, steps):
+        """The line of the fault for which a run is refused. Nothing else is printed."""
+        ran = self.run_texts(definition, mocks, chosen, given, steps)
+        self.assertEqual((ran.returncode, ran.stdout), (2, ""))
+        self.assertRegex(ran.stderr, r"\Afault: [^\n]+\n\Z")
+        return ran.stderr[len("fault: ") : -1]
+
+    def assert_ends(self, text, lines, status):
+        """The text has so many lines, those of the steps, the events and the status, and ends with this one."""
+        told = text.splitlines()
+        self.assertEqual((len(told), told[-1]), (lines, status), text)

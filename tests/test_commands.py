@@ -1,0 +1,137 @@
+"""Command lines: what each command prints and tells, and its status."""
+import os
+import tempfile
+
+from program import ProgramTest, run_program
+
+DEFINITION = '{"StartAt":"P","States":{"P":{"Type":"Pass","Result":7,"ResultPath":"$.a.b","Next":"S"},"S":{"Type":"Succeed"}}}'
+
+TWO_STEPS = "/ 2024-01-01T00:00:00Z\n/ 2024-01-01T00:00:00Z\n"
+
+# What a run of the definition prints where no file names its steps.
+DRIVEN = """\
+1 0 1970-01-01T00:00:00.000Z / ExecutionStarted "" {}
+2 1 1970-01-01T00:00:00.000Z / PassStateEntered "P" {}
+3 2 1970-01-01T00:00:00.000Z / PassStateExited "P" {"a":{"b":7}}
+4 3 1970-01-01T00:00:00.000Z / SucceedStateEntered "S" {"a":{"b":7}}
+5 4 1970-01-01T00:00:00.000Z / SucceedStateExited "S" {"a":{"b":7}}
+6 5 1970-01-01T00:00:00.000Z / ExecutionSucceeded "" {"a":{"b":7}}
+status SUCCEEDED {"a":{"b":7}}
+"""
+
+STEPPED = "step / ok\nstep / ok\n" + DRIVEN.replace("1970", "2024")
+
+# A mock file with the case `c` of `M`.
+MOCKS = '{"StateMachines":{"M":{"TestCases":{"c":{"T":"r"}}}},"MockedResponses":{"r":{"0":{"Return":1}}}}'
+
+# Definitions, and what `check` and `print` print or tell of each.
+JUDGED = [
+    (DEFINITION, "ok\n", DEFINITION + "\n"),
+    (' {"States":{"A":{"End":true,"Type":"Pass"}},"StartAt":"A"}\n', "ok\n", '{"StartAt":"A","States":{"A":{"Type":"Pass","End":true}}}\n'),
+    ("[]", "fault: definition: F2 NotObject\n", None),
+    ("{", "fault: definition: F1 Json J1 Syntax 1\n", None),
+    ("", "fault: definition: F1 Json J1 Syntax 0\n", None),
+    ('{"StartAt":"A"}', "fault: definition: F3 Missing /States\n", None),
+    (
+        '{"StartAt":"A","States":{"A":{"Type":"Task","Resource":"r","Next":"X"}}}',
+        "fault: definition: F10 NoTarget /States/A/Next\n",
+        None,
+    ),
+]
+
+# Mock files, what is chosen, and the line that is told.
+NO_CASES = [
+    ("[", "M", "fault: mocks: M1 Json J1 Syntax 1\n"),
+    ("[]", "M", "fault: mocks: M2 Shape\n"),
+    ('{"MockedResponses":{"r":{"x":{"Return":1}}}}', "M#c", "fault: mocks: M3 Key /MockedResponses/r/x\n"),
+    ('{"MockedResponses":{"r":{"0":{"Return":1},"00":{"Return":1}}}}', "M#c", "fault: mocks: M4 Overlap /MockedResponses/r/00\n"),
+    ('{"StateMachines":{"M":{"TestCases":{"c":{"T":"r"}}}}}', "M", "fault: mocks: M5 NoResponse /StateMachines/M/TestCases/c/T\n"),
+    (MOCKS, "Other#None", "fault: case: M7 NoMachine\n"),
+    (MOCKS, "M#None", "fault: case: M8 NoCase\n"),
+    (MOCKS, "M#c#", "fault: case: M8 NoCase\n"),
+]
+
+# Words, and what the help for them says.
+HELPS = [
+    (["--help"], "Usage: asl <COMMAND>"),
+    (["check", "--help"], "Usage: asl check <DEF>"),
+    (["print", "--help"], "Usage: asl print <DEF>"),
+    (["help"], "Usage: asl <COMMAND>"),
+    (["run", "--help"], "Usage: asl run [OPTIONS] <DEF> <MOCKS> <CHOSEN> <INPUT>"),
+    (["--version"], "asl 0.1.0"),
+]
+
+# Wrong words, what is told of them, and whether the usage is (clap leaves it out where an option has no value).
+WRONG = [
+    ([], "requires a subcommand", True),
+    (["check"], "<DEF>", True),
+    (["print"], "<DEF>", True),
+    (["walk"], "unrecognized subcommand 'walk'", True),
+    (["run", "machine", "mocks", "M", "--steps", "steps"], "<INPUT>", True),
+    (["run", "machine", "mocks", "M", "input", "--steps"], "a value is required for '--steps <FILE>'", False),
+]
+
+
+class CommandTest(ProgramTest):
+    def assert_ran(self, words, status, out, err):
+        ran = run_program(*words)
+        self.assertEqual((ran.returncode, ran.stdout, ran.stderr), (status, out, err))
+
+    def setUp(self):
+        room = tempfile.TemporaryDirectory(prefix="asl-test-")
+        self.addCleanup(room.cleanup)
+        self.room = room.name
+        self.files = [self.file("machine", DEFINITION), self.file("mocks", MOCKS), "M", self.file("input", "{}")]
+        self.steps = ["--steps", self.file("steps", TWO_STEPS)]
+
+    def file(self, name, text):
+        path = os.path.join(self.room, name)
+        with open(path, "w", encoding="utf-8") as out:
+            out.write(text)
+        return path
+
+    def test_a_run_is_printed(self):
+        self.assert_ran(["run", *self.files], 0, DRIVEN, "")
+        self.assert_ran(["run", *self.files, *self.steps], 0, STEPPED, "")
+        self.assert_ran(["run", *self.files[:2], "M#c", self.files[3], *self.steps], 0, STEPPED, "")
+
+    def test_an_execution_that_goes_on_is_1(self):
+        self.file("steps", "")
+        out = '1 0 1970-01-01T00:00:00.000Z / ExecutionStarted "" {}\nstatus RUNNING\n'
+        self.assert_ran(["run", *self.files, *self.steps], 1, out, "")
+
+    def test_definitions_are_judged_and_printed(self):
+        for text, judged, printed in JUDGED:
+            with self.subTest(text):
+                self.file("machine", text)
+                for command, told in [("check", judged), ("print", printed or judged)]:
+                    self.assert_ran([command, self.files[0]], 0 if printed else 2, told if printed else "", "" if printed else told)
+
+    def test_a_file_that_cannot_be_read_is_refused(self):
+        none = os.path.join(self.room, "none")
+        for at in (0, 1, 3):
+            self.assert_ran(["run", *self.files[:at], none, *self.files[at + 1 :]], 2, "", f"fault: file {none}\n")
+        self.assert_ran(["run", *self.files, "--steps", none], 2, "", f"fault: file {none}\n")
+        self.assert_ran(["check", none], 2, "", f"fault: file {none}\n")
+
+    def test_mock_files_and_cases_are_refused(self):
+        for mocks, chosen, told in NO_CASES:
+            with self.subTest(told):
+                self.file("mocks", mocks)
+                self.assert_ran(["run", *self.files[:2], chosen, self.files[3], *self.steps], 2, "", told)
+
+    def test_help_goes_to_standard_output(self):
+        for words, told in HELPS:
+            with self.subTest(words):
+                ran = run_program(*words)
+                self.assertIn(told, ran.stdout)
+                self.assertEqual((ran.returncode, ran.stderr), (0, ""))
+
+    def test_wrong_command_lines_are_told_on_standard_error(self):
+        for words, told, has_usage in [*WRONG, (["check", b"\xff"], "invalid UTF-8", True)]:
+            with self.subTest(words):
+                ran = run_program(*words)
+                self.assertIn(told, ran.stderr)
+                self.assertEqual("Usage: " in ran.stderr, has_usage)
+                self.assertTrue(ran.stderr.endswith("For more information, try '--help'.\n"))
+                self.assertEqual((ran.returncode, ran.stdout), (2, ""))
