@@ -1,8 +1,11 @@
 """Command lines: what each command prints and tells, and its status."""
 import os
+import resource
+import signal
+import subprocess
 import tempfile
 
-from program import ProgramTest, run_program
+from program import PROGRAM, TOP, ProgramTest, run_program
 
 DEFINITION = '{"StartAt":"P","States":{"P":{"Type":"Pass","Result":7,"ResultPath":"$.a.b","Next":"S"},"S":{"Type":"Succeed"}}}'
 
@@ -113,6 +116,50 @@ class CommandTest(ProgramTest):
             self.assert_ran(["run", *self.files[:at], none, *self.files[at + 1 :]], 2, "", f"fault: file {none}\n")
         self.assert_ran(["run", *self.files, "--steps", none], 2, "", f"fault: file {none}\n")
         self.assert_ran(["check", none], 2, "", f"fault: file {none}\n")
+
+    def test_files_are_read_in_their_order(self):
+        # Of two that can't be read the first one is told.
+        names = [os.path.join(self.room, f"none{number}") for number in range(4)]
+        words = [*self.files[:2], "M", self.files[3], "--steps", self.steps[1]]
+        for first, at in enumerate([0, 1, 3, 5]):
+            for second, other in enumerate([0, 1, 3, 5]):
+                if first < second:
+                    lacking = [names[first] if it == at else names[second] if it == other else word for it, word in enumerate(words)]
+                    self.assert_ran(["run", *lacking], 2, "", f"fault: file {names[first]}\n")
+
+    def test_files_have_at_most_16777216_bytes(self):
+        longest = self.file("longest", 16_777_216 * " ")
+        self.assert_ran(["check", longest], 2, "", "fault: definition: F1 Json J5 Size\n")
+        longer = self.file("longer", 16_777_217 * " ")
+        self.assert_ran(["check", longer], 2, "", f"fault: file {longer}\n")
+
+    def test_reads_may_be_short_and_interrupted_but_not_fail(self):
+        library = os.path.join(self.room, "reads.so")
+        subprocess.run([os.environ.get("CC", "cc"), "-shared", "-fPIC", "-o", library, f"{TOP}/tests/reads.c"], check=True)
+        words = [PROGRAM, "run", *self.files, *self.steps]
+        for more, wanted in [({}, (0, STEPPED, "")), ({"READ_FAILS": "9"}, (2, "", f"fault: file {self.files[0]}\n"))]:
+            ran = subprocess.run(words, env={**os.environ, "LD_PRELOAD": library, **more}, capture_output=True, text=True, timeout=60)
+            self.assertEqual((ran.returncode, ran.stdout, ran.stderr), wanted)
+
+    def written(self, room, stream, words):
+        """The status of a command one of whose streams is a file that has room for so many bytes; and what the file has then."""
+
+        def limit():
+            signal.signal(signal.SIGXFSZ, signal.SIG_IGN)
+            resource.setrlimit(resource.RLIMIT_FSIZE, (room, room))
+
+        with tempfile.TemporaryFile() as file:
+            streams = {"stdout": subprocess.DEVNULL, "stderr": subprocess.DEVNULL, stream: file}
+            status = subprocess.run([PROGRAM, *words], stdin=subprocess.DEVNULL, **streams, preexec_fn=limit, timeout=60).returncode
+            file.seek(0)
+            return status, file.read().decode()
+
+    def test_failed_writes_are_2(self):
+        for room in (0, 5, len(STEPPED) - 1, len(STEPPED)):
+            told = self.written(room, "stdout", ["run", *self.files, *self.steps])
+            self.assertEqual(told, (0 if room == len(STEPPED) else 2, STEPPED[:room]))
+        self.file("machine", "{")
+        self.assertEqual(self.written(3, "stderr", ["check", self.files[0]]), (2, "fau"))
 
     def test_mock_files_and_cases_are_refused(self):
         for mocks, chosen, told in NO_CASES:
