@@ -22,7 +22,7 @@ def answered(answers):
 
 def run_program(*words):
     """What the program does for a command line."""
-    return subprocess.run([PROGRAM, *words], stdin=subprocess.DEVNULL, capture_output=True, text=True, timeout=60)
+    return subprocess.run([PROGRAM, *words], stdin=subprocess.DEVNULL, capture_output=True, encoding="utf-8", timeout=60)
 
 
 class ProgramTest(unittest.TestCase):

@@ -138,7 +138,7 @@ class CommandTest(ProgramTest):
         subprocess.run([os.environ.get("CC", "cc"), "-shared", "-fPIC", "-o", library, f"{TOP}/tests/reads.c"], check=True)
         words = [PROGRAM, "run", *self.files, *self.steps]
         for more, wanted in [({}, (0, STEPPED, "")), ({"READ_FAILS": "9"}, (2, "", f"fault: file {self.files[0]}\n"))]:
-            ran = subprocess.run(words, env={**os.environ, "LD_PRELOAD": library, **more}, capture_output=True, text=True, timeout=60)
+            ran = subprocess.run(words, env={**os.environ, "LD_PRELOAD": library, **more}, capture_output=True, encoding="utf-8", timeout=60)
             self.assertEqual((ran.returncode, ran.stdout, ran.stderr), wanted)
 
     def written(self, room, stream, words):
