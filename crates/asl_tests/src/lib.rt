@@ -3,7 +3,7 @@
 //!
 //! `json`, `cases`, `second_reader` and `deep` try values; `calls` and `functions` the calls of intrinsic functions, `templates` what
 //! stands on them; `paths`, `time` and `history` the crate of that subject. They stand here since the tests of a crate have it proved
-//! once more: here only they are. The tests of definitions, executions and command lines stand in crates of their own.
+//! once more: here only they are. What the program prints is tested on the built program, beside the crates.
 #![tactic(auto)]
 
 #[cfg(test)]
