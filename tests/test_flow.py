@@ -23,6 +23,7 @@ WAITS = [
     ('"Type":"Wait","Seconds":0,"End":true', "{}", 7, "status SUCCEEDED {}"),
     ('"Type":"Wait","Seconds":5,"End":true', "{}", 7, "status SUCCEEDED {}"),
     ('"Type":"Wait","Seconds":6,"End":true', "{}", 5, "status RUNNING"),
+    ('"Type":"Wait","InputPath":"$.a","Seconds":0,"End":true', "{}", 6, 'status FAILED {"Error":"States.Runtime","Cause":"InputPath: no value"}'),
     ('"Type":"Wait","SecondsPath":"$.s","End":true', '{"s":5.0}', 7, 'status SUCCEEDED {"s":5.0}'),
     ('"Type":"Wait","InputPath":"$.a","SecondsPath":"$.s","OutputPath":"$.s","End":true', '{"a":{"s":5}}', 7, "status SUCCEEDED 5"),
     ('"Type":"Wait","SecondsPath":"$$.State.RetryCount","End":true', "{}", 7, "status SUCCEEDED {}"),

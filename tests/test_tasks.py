@@ -12,6 +12,7 @@ ONE_TASK = [
     ('"Catch":[{"ErrorEquals":["States.ALL"],"Next":"H"}],"End":true', '"1":{"Return":9}', "{}", 9, 'status FAILED {"Error":"States.Runtime","Cause":"no mocked answer"}'),
     ('"Parameters":{"x.$":"$.q"},"Catch":[{"ErrorEquals":["States.TaskFailed"],"ResultPath":"$.e","Next":"H"}],"End":true', '"0":{"Return":9}', '{"a":1}', 9, 'status SUCCEEDED {"a":1,"e":{"Error":"States.ParameterPathFailure","Cause":"x.$: no value"}}'),
     ('"Catch":[{"ErrorEquals":["E"],"ResultPath":"$.a.b","Next":"H"}],"End":true', '"0":{"Throw":{"Error":"E"}}', '{"a":5}', 9, 'status FAILED {"Error":"States.ResultPathMatchFailure","Cause":"ResultPath: no place"}'),
+    ('"Catch":[{"ErrorEquals":["E"],"ResultPath":null,"Next":"H"}],"End":true', '"0":{"Throw":{"Error":"E"}}', '{"a":5}', 12, 'status SUCCEEDED {"a":5}'),
     ('"Catch":[{"ErrorEquals":["States.TaskFailed"],"Next":"H"}],"End":true', '"0":{"Throw":{"Error":"States.Timeout"}}', "{}", 9, 'status FAILED {"Error":"States.Timeout"}'),
     ('"Catch":[{"ErrorEquals":["States.Runtime"],"Next":"H"}],"End":true', '"0":{"Throw":{"Error":"States.Runtime"}}', "{}", 9, 'status FAILED {"Error":"States.Runtime"}'),
     ('"Retry":[{"ErrorEquals":["States.ALL"],"MaxAttempts":0}],"End":true', '"0":{"Throw":{"Error":"E"}}', "{}", 9, 'status FAILED {"Error":"E"}'),
