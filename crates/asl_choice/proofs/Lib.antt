@@ -8,3 +8,4 @@ pub mod Within
 pub mod Taken
 mod Fitted
 mod Stamped
+mod Alike

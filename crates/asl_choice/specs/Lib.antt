@@ -3,3 +3,4 @@ pub mod Patterns
 pub mod Truth
 pub mod Seen
 pub mod private
+pub mod Equal

@@ -8,7 +8,7 @@ ghost use Rattle.asl_choice.specs.Rules.{comparison_operator, operand, operand_s
 
 use crate::operator::{Operator, Order, Property};
 use asl_json::{Dec, Json, Txt};
-use asl_members::{Compile, Compiled, Stamp};
+use asl_members::{Compile, Compiled, Stamp, TryClone};
 use asl_path::RefPath;
 use std::alloc::{AllocError, Global};
 
@@ -45,6 +45,7 @@ impl Drop for Comparison {
 }
 
 /// A test of the part of the input or of the Context Object that a path names (Amazon States Language, "Data-test expression").
+#[derive(PartialEq, Eq)]
 pub struct Test {
     pub(crate) variable: RefPath,
     pub(crate) comparison: Comparison,
@@ -65,6 +66,39 @@ pub(crate) fn path(alloc: Global, value: &Json) -> Result<RefPath, AllocError>
     ensures { IfOk result (λ p. text p ≡ data_of value.now) }
 {
     <RefPath as Compile>::read(alloc, value)
+}
+
+impl PartialEq for Comparison {
+    ghost use Rattle.asl_choice.specs.Equal.{comparison_equal};
+    ghost use Rattle.asl_choice.specs.private.EqualLaws.{comparison_laws};
+
+    ghost eq = { comparison_equal };
+
+    ghost laws = { comparison_laws };
+
+    fn eq(&self, other: &Comparison) -> bool {
+        match (self, other) {
+            (Comparison::String(o, x), Comparison::String(p, y)) => *o == *p && *x == *y,
+            (Comparison::StringPath(o, x), Comparison::StringPath(p, y)) => *o == *p && *x == *y,
+            (Comparison::Numeric(o, x), Comparison::Numeric(p, y)) => *o == *p
+                && x.spelling() == y.spelling(),
+            (Comparison::NumericPath(o, x), Comparison::NumericPath(p, y)) => *o == *p && *x == *y,
+            (Comparison::Timestamp(o, x), Comparison::Timestamp(p, y)) => *o == *p && *x == *y,
+            (Comparison::TimestampPath(o, x), Comparison::TimestampPath(p, y)) => *o == *p
+                && *x == *y,
+            (Comparison::Boolean(x), Comparison::Boolean(y)) => *x == *y,
+            (Comparison::BooleanPath(x), Comparison::BooleanPath(y)) => *x == *y,
+            (Comparison::Matches(x), Comparison::Matches(y)) => *x == *y,
+            (Comparison::Is(o, x), Comparison::Is(p, y)) => *o == *p && *x == *y,
+            _ => false,
+        }
+    }
+}
+
+impl Eq for Comparison {
+    ghost use Rattle.asl_choice.specs.private.EqualLaws.{comparison_equivalence};
+
+    ghost laws = { comparison_equivalence };
 }
 
 impl Comparison {
@@ -130,5 +164,41 @@ impl Comparison {
             Comparison::Matches(pattern) => pattern.json(alloc),
             Comparison::Is(_, truth) => truth.json(alloc),
         }
+    }
+}
+
+impl TryClone for Comparison {
+    fn try_clone(&self, alloc: Global) -> Result<Comparison, AllocError> {
+        match self {
+            Comparison::String(order, text) => {
+                Ok(Comparison::String(*order, text.try_clone(alloc)?))
+            }
+            Comparison::StringPath(order, path) => {
+                Ok(Comparison::StringPath(*order, path.try_clone(alloc)?))
+            }
+            Comparison::Numeric(order, number) => Ok(Comparison::Numeric(*order, number.copy())),
+            Comparison::NumericPath(order, path) => {
+                Ok(Comparison::NumericPath(*order, path.try_clone(alloc)?))
+            }
+            Comparison::Timestamp(order, stamp) => {
+                Ok(Comparison::Timestamp(*order, stamp.try_clone(alloc)?))
+            }
+            Comparison::TimestampPath(order, path) => {
+                Ok(Comparison::TimestampPath(*order, path.try_clone(alloc)?))
+            }
+            Comparison::Boolean(truth) => Ok(Comparison::Boolean(*truth)),
+            Comparison::BooleanPath(path) => Ok(Comparison::BooleanPath(path.try_clone(alloc)?)),
+            Comparison::Matches(pattern) => Ok(Comparison::Matches(pattern.try_clone(alloc)?)),
+            Comparison::Is(property, truth) => Ok(Comparison::Is(*property, *truth)),
+        }
+    }
+}
+
+impl TryClone for Test {
+    fn try_clone(&self, alloc: Global) -> Result<Test, AllocError> {
+        Ok(Test {
+            variable: self.variable.try_clone(alloc)?,
+            comparison: self.comparison.try_clone(alloc)?,
+        })
     }
 }

@@ -1,12 +1,14 @@
 //! The rules of Choice states, compiled from a definition without faults.
 //!
-//! Modules in reading order: `operator` has the comparisons by name, `comparison` is one with its operand, and `rule` a rule.
+//! Modules in reading order: `operator` has the comparisons by name, `comparison` is one with its operand, `rule` a rule; `equal` compares rules, and `copies` copies them.
 //! `pattern` matches texts against the patterns of `StringMatches`; `lookup`, `judging` and `truth` say whether a rule holds.
 //! `specs/Rules.antt` says what each rule shows, `specs/Patterns.antt` what a pattern says, and `specs/Truth.antt` which rules
 //! hold.
 #![tactic(auto)]
 
 mod comparison;
+mod copies;
+mod equal;
 mod fault;
 mod judging;
 mod lookup;

@@ -23,7 +23,7 @@ use std::marker::Model;
 #[cycle(rule)]
 #[derive(Drop)]
 pub struct Rule {
-    comment: Option<Txt>,
+    pub(crate) comment: Option<Txt>,
     pub(crate) condition: Condition,
 }
 

@@ -7,3 +7,13 @@ pub mod Wholes
 pub mod Refusing
 pub mod Outermost
 pub mod NewNames
+pub mod Newer
+pub mod NewerStates
+pub mod NewerShown
+pub mod NewerHolds
+pub mod NewerNames
+pub mod NewerSpelled
+pub mod NewerCanon
+pub mod Upgrading
+pub mod Renewing
+pub mod Alike

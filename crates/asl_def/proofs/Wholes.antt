@@ -10,6 +10,9 @@ use Rattle.asl_schema.specs.States.{states_in}
 use Rattle.asl_schema.specs.Canon.{Named, opt, kept_at, canon, canonical}
 use Rattle.asl_schema.specs.Clean.{IsClean, IsThere}
 use Rattle.asl_schema.specs.Faults.{Accepted}
+use Rattle.asl_json.specs.Sound.{KeysDiffer}
+use Rattle.asl_judge.proofs.CanonicalAccepted.{accepted_canonical}
+use Rattle.asl_judge.proofs.CanonicalTwice.{canonical_twice}
 use Rattle.asl_schema.proofs.Canons.{plain_kept}
 use Rattle.asl_schema.proofs.Inside.{clean, object_inside}
 use Rattle.asl_schema.proofs.Required.{definition_start, definition_states as states_there}
@@ -80,8 +83,8 @@ pub definition_shows : (v : Data) (t ms own : List Named) (h : Heading) (b : Bod
     → machine_of t h b ≡ canonical v
 definition_shows v t ms own h b s is e1 e2 e3 e4 e5 e6 span first count = machine_shows t ms own h b s e1 e2 e3 e4 e5 e6 span first count ∙ ap (canon sort.Definition) (sym is)
 
-pub whole : (v : Data) (t ms own : List Named) (h : Heading) (b : Body) → v ≡ dict (pairs ms) → value_at (codes "States") (pairs ms) ≡ Some (dict (pairs own)) → machine_of t h b ≡ canonical v → Grows sort.States (dict (pairs own)) [] t → IsWithin (length t) b → IsWhole t h b
-whole v t ms own h b is at shows g within = record { within = within; all = g.is ∙ sym (definition_states (pairs ms) (pairs own) at) ∙ ap (λ (d : Data). all_states sort.Definition (canon sort.Definition d)) (sym is) ∙ ap (all_states sort.Definition) (sym shows) }
+pub whole : (v : Data) (t ms own : List Named) (h : Heading) (b : Body) → v ≡ dict (pairs ms) → value_at (codes "States") (pairs ms) ≡ Some (dict (pairs own)) → machine_of t h b ≡ canonical v → Grows sort.States (dict (pairs own)) [] t → IsWithin (length t) b → KeysDiffer v → Accepted v → IsWhole t h b
+whole v t ms own h b is at shows g within keys a = record { within = within; accepted = subst Accepted (sym shows) (accepted_canonical v keys a); stays = ap canonical shows ∙ canonical_twice v ∙ sym shows; all = g.is ∙ sym (definition_states (pairs ms) (pairs own) at) ∙ ap (λ (d : Data). all_states sort.Definition (canon sort.Definition d)) (sym is) ∙ ap (all_states sort.Definition) (sym shows) }
 
 -- ---- by names
 

@@ -1,3 +1,4 @@
 -- Words that only proofs need.
 pub mod Table
 pub mod Built
+pub mod EqualLaws

@@ -1,8 +1,10 @@
 // A definition, compiled.
-ghost use Rattle.std.specs.Prelude.{◌≡◌, ◌<◌, Some, codes, length, option_map, slice_get, string_bytes, IfOk, IfErr, IfSome};
+ghost use Rattle.std.specs.Prelude.{◌≡◌, ◌↔◌, ◌<◌, Some, codes, length, option_map, slice_get, string_bytes, IfOk, IfErr, IfSome, IsTrue, IsFalse};
+ghost use Rattle.std.specs.Arc.{arc_value};
 ghost use Rattle.asl_json.specs.View.{data_of};
 ghost use Rattle.asl_json.specs.Data.{text};
 ghost use Rattle.asl_json.specs.Compact.{compact};
+ghost use Rattle.asl_json.specs.Same.{equal};
 ghost use Rattle.asl_json.specs.Meaning.{value_in};
 ghost use Rattle.asl_schema.specs.Canon.{canonical};
 ghost use Rattle.asl_schema.specs.Faults.{Accepted};
@@ -12,12 +14,14 @@ ghost use Rattle.asl_def.specs.Machines.{states_of, state_object, state_number, 
 ghost use Rattle.asl_def.specs.Own.{own_states_in};
 ghost use Rattle.asl_def.specs.Answer.{IsAnswer};
 ghost use Rattle.asl_def.specs.Whole.{shown_by, IsWholeIn};
+ghost use Rattle.asl_def.specs.Upgraded.{upgraded};
 
 use crate::build::{object_in, states};
+use crate::equal::equals_states;
 use crate::fault::{DefFault, answer};
 use crate::json::states_json;
 use crate::table::Table;
-use asl_json::{Json, write};
+use asl_json::{Json, every_value_is_sound, write};
 use asl_judge::first_fault;
 use asl_members::{object, read_optional};
 use asl_parts::{and, with_optional};
@@ -41,6 +45,34 @@ impl Drop for Parts {
             heading: _heading,
             root: _root,
         } = self;
+    }
+}
+
+impl Parts {
+    /// The same definition in the newer spelling. Takes no memory.
+    fn upgrade(&mut self)
+        requires { IsWholeIn self.old }
+        ensures shown { shown_by self.new ≡ upgraded (shown_by self.old) }
+        ensures whole { IsWholeIn self.new }
+    {
+        self.table.upgrade();
+    }
+}
+
+/// The same of parts that have one owner. Whether they have: others are left alone.
+fn upgrade_alone(shared: &mut Arc<Parts>) -> bool
+    requires { IsWholeIn (arc_value shared.old) }
+    ensures alone { IsTrue result
+        → shown_by (arc_value shared.new) ≡ upgraded (shown_by (arc_value shared.old)) }
+    ensures others { IsFalse result → arc_value shared.new ≡ arc_value shared.old }
+    ensures whole { IsWholeIn (arc_value shared.new) }
+{
+    match Arc::get_mut(shared) {
+        Some(parts) => {
+            parts.upgrade();
+            true
+        }
+        None => false,
     }
 }
 
@@ -73,6 +105,52 @@ impl Model for Machine {
     ghost invariant = { λ a. IsWholeIn (arc_value a.shared) };
 }
 
+/// Whether two definitions show the same.
+#[tactic(auto, using(crate::proofs::Alike::machine_alike))]
+fn equals_parts(parts: &Parts, others: &Parts) -> bool
+    requires whole { IsWholeIn parts.now }
+    requires other_whole { IsWholeIn others.now }
+    ensures { result ≡ equal (shown_by parts.now) (shown_by others.now) }
+{
+    parts.root.comment == others.root.comment
+        && parts.heading.query_language == others.heading.query_language
+        && parts.heading.version == others.heading.version
+        && parts.root.start == others.root.start
+        && parts.heading.timeout == others.heading.timeout
+        && equals_states(
+            &parts.table,
+            parts.root.first,
+            parts.root.count,
+            &others.table,
+            others.root.first,
+            others.root.count,
+        )
+}
+
+/// Two machines are equal where their canonical definitions are, the spelling of numbers and the order of states included.
+/// Takes no memory.
+impl PartialEq for Machine {
+    ghost use Rattle.asl_json.specs.Same.{equal};
+    ghost use Rattle.asl_def.specs.private.EqualLaws.{equal_laws};
+
+    ghost eq = { equal };
+
+    ghost laws = { equal_laws };
+
+    fn eq(&self, other: &Machine) -> bool
+        ensures equal { result ≡ equal self.now other.now }
+        ensures same { IsTrue result ↔ (self.now ≡ other.now) }
+    {
+        equals_parts(self.parts(), other.parts())
+    }
+}
+
+impl Eq for Machine {
+    ghost use Rattle.asl_def.specs.private.EqualLaws.{equal_equivalence};
+
+    ghost laws = { equal_equivalence };
+}
+
 impl Machine {
     /// The machine of these parts. The error is that memory ran out.
     fn of_parts(alloc: Global, parts: Parts) -> Result<Machine, AllocError>
@@ -89,6 +167,15 @@ impl Machine {
         ensures whole { IsWholeIn result.now }
     {
         &self.shared
+    }
+
+    /// Its definition has no fault, and is canonical. It does nothing: it is there for what its contract says of every
+    /// machine.
+    pub fn is_accepted(&self)
+        ensures accepted { Accepted self.now }
+        ensures stays { canonical self.now ≡ self.now }
+    {
+        let _parts = self.parts();
     }
 
     /// The name of the state that a run begins at.
@@ -173,6 +260,22 @@ impl Machine {
         object(alloc, own)
     }
 
+    /// The machine in the newer spelling of Map states: `Iterator` is `ItemProcessor`, and their `Parameters` are
+    /// `ItemSelector`. It is changed in place, and takes no memory, where no copy shares its compiled definition; else that is
+    /// compiled once more. The error is that memory ran out.
+    pub fn upgrade(mut self, alloc: Global) -> Result<Machine, AllocError>
+        ensures { IfOk result (λ m. m ≡ upgraded self) }
+    {
+        if upgrade_alone(&mut self.shared) {
+            return Ok(self);
+        }
+        self.is_accepted();
+        let definition = self.json(alloc)?;
+        let mut parts = compiled(alloc, &definition)?;
+        parts.upgrade();
+        Machine::of_parts(alloc, parts)
+    }
+
     /// One more owner of the same machine. It copies no state. The error is that there are too many.
     pub fn try_clone(&self) -> Result<Machine, AllocError>
         ensures { IfOk result (λ m. m ≡ self.now) }
@@ -182,11 +285,13 @@ impl Machine {
     }
 }
 
-/// The machine of a definition without faults.
-fn build(alloc: Global, definition: &Json) -> Result<Machine, AllocError>
+/// What a definition without faults is compiled to.
+fn compiled(alloc: Global, definition: &Json) -> Result<Parts, AllocError>
     requires { Accepted (data_of definition.now) }
-    ensures { IfOk result (λ m. m ≡ canonical (data_of definition.now)) }
+    ensures shown { IfOk result (λ p. shown_by p ≡ canonical (data_of definition.now)) }
+    ensures whole { IfOk result (λ p. IsWholeIn p) }
 {
+    every_value_is_sound(definition);
     let members = object_in(definition);
     let heading = Heading::read(alloc, members)?;
     let comment = read_optional(alloc, members.find("Comment"))?;
@@ -202,11 +307,19 @@ fn build(alloc: Global, definition: &Json) -> Result<Machine, AllocError>
         first: span.first,
         count: span.count,
     };
-    let parts = Parts {
+    Ok(Parts {
         table,
         heading,
         root,
-    };
+    })
+}
+
+/// The machine of a definition without faults.
+fn build(alloc: Global, definition: &Json) -> Result<Machine, AllocError>
+    requires { Accepted (data_of definition.now) }
+    ensures { IfOk result (λ m. m ≡ canonical (data_of definition.now)) }
+{
+    let parts = compiled(alloc, definition)?;
     Machine::of_parts(alloc, parts)
 }
 

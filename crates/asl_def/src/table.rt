@@ -5,6 +5,8 @@ ghost use Rattle.asl_json.specs.Distinct.{AreDistinct, has_key};
 ghost use Rattle.asl_json.specs.Meaning.{value_at};
 ghost use Rattle.asl_def.specs.Machines.{number_at};
 ghost use Rattle.asl_states.specs.Show.{state_of, StateIsWithin};
+ghost use Rattle.asl_def.specs.Upgraded.{newer_rows};
+ghost use Rattle.asl_def.specs.private.Table.{newer_entries};
 
 use asl_states::State;
 use indexmap::IndexMap;
@@ -38,6 +40,19 @@ impl Model for Table {
     ghost view = { named };
 
     ghost invariant = { IsTable };
+}
+
+/// Each state in the newer spelling, in place.
+fn upgrade_all(states: &mut IndexMap<String, State>)
+    ensures { states.new.entries ≡ newer_entries states.old.entries }
+{
+    let count = states.len();
+    for number in 0..count {
+        let Some(state) = states.get_index_mut(number) else {
+            unreachable!();
+        };
+        state.upgrade();
+    }
 }
 
 impl Table {
@@ -101,5 +116,12 @@ impl Table {
     {
         drop(self.states.insert(name, state)?);
         Ok(())
+    }
+
+    /// Each state in the newer spelling. Takes no memory.
+    pub(crate) fn upgrade(&mut self)
+        ensures { self.new ≡ newer_rows self.old }
+    {
+        upgrade_all(&mut self.states);
     }
 }

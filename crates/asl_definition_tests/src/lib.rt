@@ -3,4 +3,8 @@
 #![tactic(auto)]
 
 #[cfg(test)]
+mod equality;
+#[cfg(test)]
 mod machines;
+#[cfg(test)]
+mod upgrades;

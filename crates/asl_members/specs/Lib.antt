@@ -2,3 +2,5 @@ pub mod Shown
 pub mod Readable
 pub mod Entries
 pub mod Retries
+pub mod Equal
+pub mod private

@@ -1,11 +1,12 @@
 //! What the members of states hold, compiled from a definition without faults.
 //!
-//! Modules in reading order: `compiled` is what all of it has in common, and `list` lists of it; `plain`, `path`, `number`,
+//! Modules in reading order: `compiled` is what all of it has in common, `list` lists of it, and `copies` makes copies; `plain`, `path`, `number`,
 //! `stamp`, `jitter`, `processor` and `retry` are the types; `entry` makes objects. `specs/Shown.antt` says what each shows, `specs/Readable.antt`
 //! which values each is compiled from.
 #![tactic(auto)]
 
 mod compiled;
+mod copies;
 mod entry;
 mod jitter;
 mod list;
@@ -17,6 +18,7 @@ mod retry;
 mod stamp;
 
 pub use compiled::{Compile, Compiled, json_optional, read_optional};
+pub use copies::{TryClone, clone_all};
 pub use entry::{Entry, object};
 pub use jitter::JitterStrategy;
 pub use list::{json_all, read_all};

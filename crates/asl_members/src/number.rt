@@ -4,6 +4,7 @@ ghost use Rattle.asl_json.specs.Number.{units_of};
 ghost use Rattle.asl_json.specs.Whole.{whole_of};
 
 use crate::compiled::{Compile, Compiled};
+use crate::copies::TryClone;
 use asl_json::{Dec, Json};
 use asl_time::Rate;
 use std::alloc::{AllocError, Global};
@@ -87,6 +88,69 @@ impl Model for DelayLimit {
     ghost invariant = { λ a. IsDelayLimit (number a.seconds) };
 }
 
+impl PartialEq for Count {
+    ghost use Rattle.std.specs.Prelude.{nat_eq};
+    ghost use Rattle.std.specs.Cmp.Lexicographic.{pointwise};
+    ghost use Rattle.std.specs.Cmp.{partial_equiv_from_equiv};
+    ghost use Rattle.std.proofs.lemmas.Cmp.{nat_list_eq_equiv};
+
+    ghost eq = { pointwise nat_eq };
+
+    ghost laws = { partial_equiv_from_equiv nat_list_eq_equiv };
+
+    fn eq(&self, other: &Count) -> bool {
+        self.spelled.spelling() == other.spelled.spelling()
+    }
+}
+
+impl Eq for Count {
+    ghost use Rattle.std.proofs.lemmas.Cmp.{nat_list_eq_equiv};
+
+    ghost laws = { nat_list_eq_equiv };
+}
+
+impl PartialEq for BackoffRate {
+    ghost use Rattle.std.specs.Prelude.{nat_eq};
+    ghost use Rattle.std.specs.Cmp.Lexicographic.{pointwise};
+    ghost use Rattle.std.specs.Cmp.{partial_equiv_from_equiv};
+    ghost use Rattle.std.proofs.lemmas.Cmp.{nat_list_eq_equiv};
+
+    ghost eq = { pointwise nat_eq };
+
+    ghost laws = { partial_equiv_from_equiv nat_list_eq_equiv };
+
+    fn eq(&self, other: &BackoffRate) -> bool {
+        self.spelled.spelling() == other.spelled.spelling()
+    }
+}
+
+impl Eq for BackoffRate {
+    ghost use Rattle.std.proofs.lemmas.Cmp.{nat_list_eq_equiv};
+
+    ghost laws = { nat_list_eq_equiv };
+}
+
+impl PartialEq for DelayLimit {
+    ghost use Rattle.std.specs.Prelude.{nat_eq};
+    ghost use Rattle.std.specs.Cmp.Lexicographic.{pointwise};
+    ghost use Rattle.std.specs.Cmp.{partial_equiv_from_equiv};
+    ghost use Rattle.std.proofs.lemmas.Cmp.{nat_list_eq_equiv};
+
+    ghost eq = { pointwise nat_eq };
+
+    ghost laws = { partial_equiv_from_equiv nat_list_eq_equiv };
+
+    fn eq(&self, other: &DelayLimit) -> bool {
+        self.seconds == other.seconds
+    }
+}
+
+impl Eq for DelayLimit {
+    ghost use Rattle.std.proofs.lemmas.Cmp.{nat_list_eq_equiv};
+
+    ghost laws = { nat_list_eq_equiv };
+}
+
 impl Count {
     /// The number.
     pub fn value(&self) -> u32
@@ -123,6 +187,15 @@ impl Compile for Count {
         Ok(Count {
             spelled: number.try_clone(alloc)?,
             value: whole as u32,
+        })
+    }
+}
+
+impl TryClone for Count {
+    fn try_clone(&self, _alloc: Global) -> Result<Count, AllocError> {
+        Ok(Count {
+            spelled: self.spelled.copy(),
+            value: self.value,
         })
     }
 }
@@ -166,6 +239,15 @@ impl Compile for BackoffRate {
     }
 }
 
+impl TryClone for BackoffRate {
+    fn try_clone(&self, _alloc: Global) -> Result<BackoffRate, AllocError> {
+        Ok(BackoffRate {
+            spelled: self.spelled.copy(),
+            rate: self.rate,
+        })
+    }
+}
+
 impl DelayLimit {
     /// The number of seconds.
     pub fn seconds(&self) -> u32
@@ -195,6 +277,14 @@ impl Compile for DelayLimit {
     fn read(alloc: Global, value: &Json) -> Result<DelayLimit, AllocError> {
         Ok(DelayLimit {
             seconds: Count::read(alloc, value)?,
+        })
+    }
+}
+
+impl TryClone for DelayLimit {
+    fn try_clone(&self, alloc: Global) -> Result<DelayLimit, AllocError> {
+        Ok(DelayLimit {
+            seconds: self.seconds.try_clone(alloc)?,
         })
     }
 }

@@ -1,11 +1,13 @@
 // Paths, and what may stand in the place of one. In each call the error is that memory ran out.
 ghost use Rattle.std.specs.Prelude.{◌≡◌, IfOk, IfSome, option_map};
 ghost use Rattle.asl_json.specs.View.{data_of};
+ghost use Rattle.asl_json.specs.Data.{text};
 ghost use Rattle.asl_intrinsic.specs.Faults.{IsCall};
-ghost use Rattle.asl_members.specs.Shown.{path_shown};
+ghost use Rattle.asl_members.specs.Shown.{path_shown, path_or_call_shown};
 ghost use Rattle.asl_members.specs.Readable.{IsPathOrNull};
 
 use crate::compiled::{Compile, Compiled};
+use crate::copies::TryClone;
 use crate::plain::path;
 use asl_intrinsic::{CallFault, Expr};
 use asl_json::{Json, Txt};
@@ -14,6 +16,7 @@ use asl_template::is_path;
 use std::alloc::{AllocError, Global};
 
 /// What `InputPath`, `ResultPath` or `OutputPath` names. (Amazon States Language, "Input and Output Processing".)
+#[derive(PartialEq, Eq)]
 pub enum PathField {
     /// The member is absent: the whole value.
     Whole,
@@ -51,6 +54,38 @@ impl Drop for PathOrCall {
     }
 }
 
+impl PathOrCall {
+    /// As it is written.
+    fn text(&self) -> &str
+        ensures { text result.now ≡ path_or_call_shown self.now }
+    {
+        match self {
+            PathOrCall::Path(path) => path.text(),
+            PathOrCall::Call(call) => call.text(),
+        }
+    }
+}
+
+/// Two are equal where their texts are: no call begins with `$`.
+impl PartialEq for PathOrCall {
+    ghost use Rattle.asl_members.specs.Equal.{path_or_call_equal};
+    ghost use Rattle.asl_members.specs.private.EqualLaws.{path_or_call_laws};
+
+    ghost eq = { path_or_call_equal };
+
+    ghost laws = { path_or_call_laws };
+
+    fn eq(&self, other: &PathOrCall) -> bool {
+        self.text() == other.text()
+    }
+}
+
+impl Eq for PathOrCall {
+    ghost use Rattle.asl_members.specs.private.EqualLaws.{path_or_call_equivalence};
+
+    ghost laws = { path_or_call_equivalence };
+}
+
 impl PathField {
     /// Compiles the value of a member.
     pub fn read(alloc: Global, value: Option<&Json>) -> Result<PathField, AllocError>
@@ -76,6 +111,16 @@ impl PathField {
     }
 }
 
+impl TryClone for PathField {
+    fn try_clone(&self, alloc: Global) -> Result<PathField, AllocError> {
+        match self {
+            PathField::Whole => Ok(PathField::Whole),
+            PathField::Nowhere => Ok(PathField::Nowhere),
+            PathField::At(path) => Ok(PathField::At(path.try_clone(alloc)?)),
+        }
+    }
+}
+
 /// The call of a text that is one.
 fn call(alloc: Global, text: &str) -> Result<Expr, AllocError>
     requires { IsCall text.now }
@@ -94,11 +139,7 @@ impl Compiled for PathOrCall {
     ghost shown = { path_or_call_shown };
 
     fn json(&self, alloc: Global) -> Result<Json, AllocError> {
-        let text = match self {
-            PathOrCall::Path(path) => path.text(),
-            PathOrCall::Call(call) => call.text(),
-        };
-        Ok(Json::Text(Txt::of(alloc, text)?))
+        Ok(Json::Text(Txt::of(alloc, self.text())?))
     }
 }
 
@@ -116,5 +157,14 @@ impl Compile for PathOrCall {
             return Ok(PathOrCall::Path(path(alloc, text)?));
         }
         Ok(PathOrCall::Call(call(alloc, text)?))
+    }
+}
+
+impl TryClone for PathOrCall {
+    fn try_clone(&self, alloc: Global) -> Result<PathOrCall, AllocError> {
+        match self {
+            PathOrCall::Path(path) => Ok(PathOrCall::Path(path.try_clone(alloc)?)),
+            PathOrCall::Call(call) => Ok(PathOrCall::Call(call.try_clone(alloc)?)),
+        }
     }
 }

@@ -10,6 +10,7 @@ ghost use Rattle.asl_members.specs.Shown.{names_shown, retrier_object, retrier_o
 ghost use Rattle.asl_members.specs.Retries.{whole_or, interval_of, attempts_of, rate_of, delay_limit_of};
 
 use crate::compiled::{Compile, Compiled, json_optional, read_optional};
+use crate::copies::{TryClone, clone_all};
 use crate::entry::{Entry, object};
 use crate::jitter::JitterStrategy;
 use crate::list::{json_all, read_all};
@@ -41,6 +42,7 @@ impl Model for ErrorNames {
 }
 
 /// A retrier. (Amazon States Language, "Retrying after error".) Contracts speak of its canonical object, `retrier_object`.
+#[derive(PartialEq, Eq)]
 pub struct Retrier {
     comment: Option<Txt>,
     errors: ErrorNames,
@@ -91,6 +93,44 @@ impl Model for Retriers {
     ghost view = { λ a. retrier_objects a.retriers.items };
 }
 
+impl PartialEq for ErrorNames {
+    ghost use Rattle.asl_members.specs.Equal.{names_equal};
+    ghost use Rattle.asl_members.specs.private.EqualLaws.{names_laws};
+
+    ghost eq = { names_equal };
+
+    ghost laws = { names_laws };
+
+    fn eq(&self, other: &ErrorNames) -> bool {
+        self.names.as_slice() == other.names.as_slice()
+    }
+}
+
+impl Eq for ErrorNames {
+    ghost use Rattle.asl_members.specs.private.EqualLaws.{names_equivalence};
+
+    ghost laws = { names_equivalence };
+}
+
+impl PartialEq for Retriers {
+    ghost use Rattle.asl_json.specs.Same.{items_equal};
+    ghost use Rattle.asl_json.specs.private.SameLaws.{items_laws};
+
+    ghost eq = { items_equal };
+
+    ghost laws = { items_laws };
+
+    fn eq(&self, other: &Retriers) -> bool {
+        self.retriers.as_slice() == other.retriers.as_slice()
+    }
+}
+
+impl Eq for Retriers {
+    ghost use Rattle.asl_json.specs.private.SameLaws.{items_equivalence};
+
+    ghost laws = { items_equivalence };
+}
+
 impl Compiled for ErrorNames {
     ghost use Rattle.asl_members.specs.Shown.{names_shown};
 
@@ -112,6 +152,14 @@ impl Compile for ErrorNames {
         };
         Ok(ErrorNames {
             names: read_all(alloc, names.values())?,
+        })
+    }
+}
+
+impl TryClone for ErrorNames {
+    fn try_clone(&self, alloc: Global) -> Result<ErrorNames, AllocError> {
+        Ok(ErrorNames {
+            names: clone_all(alloc, &self.names)?,
         })
     }
 }
@@ -259,6 +307,20 @@ impl Compiled for Retrier {
     }
 }
 
+impl TryClone for Retrier {
+    fn try_clone(&self, alloc: Global) -> Result<Retrier, AllocError> {
+        Ok(Retrier {
+            comment: self.comment.try_clone(alloc)?,
+            errors: self.errors.try_clone(alloc)?,
+            interval: self.interval.try_clone(alloc)?,
+            attempts: self.attempts.try_clone(alloc)?,
+            rate: self.rate.try_clone(alloc)?,
+            delay_limit: self.delay_limit.try_clone(alloc)?,
+            jitter: self.jitter,
+        })
+    }
+}
+
 impl Retriers {
     /// The retriers.
     pub fn as_slice(&self) -> &[Retrier]
@@ -305,5 +367,13 @@ impl Compiled for Retriers {
 
     fn json(&self, alloc: Global) -> Result<Json, AllocError> {
         Ok(Json::List(json_all(alloc, &self.retriers)?))
+    }
+}
+
+impl TryClone for Retriers {
+    fn try_clone(&self, alloc: Global) -> Result<Retriers, AllocError> {
+        Ok(Retriers {
+            retriers: clone_all(alloc, &self.retriers)?,
+        })
     }
 }

@@ -2,6 +2,7 @@
 ghost use Rattle.asl_time.specs.Timestamp.{IsTimestamp};
 
 use crate::compiled::{Compile, Compiled};
+use crate::copies::TryClone;
 use asl_json::{Json, Txt};
 use asl_time::{Moment, read_stamp};
 use std::alloc::{AllocError, Global};
@@ -32,6 +33,27 @@ impl Model for Stamp {
     ghost view = { λ a. a.text };
 
     ghost invariant = { λ a. IsTimestamp a.text a.moment };
+}
+
+impl PartialEq for Stamp {
+    ghost use Rattle.std.specs.Prelude.{nat_eq};
+    ghost use Rattle.std.specs.Cmp.Lexicographic.{pointwise};
+    ghost use Rattle.std.specs.Cmp.{partial_equiv_from_equiv};
+    ghost use Rattle.std.proofs.lemmas.Cmp.{nat_list_eq_equiv};
+
+    ghost eq = { pointwise nat_eq };
+
+    ghost laws = { partial_equiv_from_equiv nat_list_eq_equiv };
+
+    fn eq(&self, other: &Stamp) -> bool {
+        self.text == other.text
+    }
+}
+
+impl Eq for Stamp {
+    ghost use Rattle.std.proofs.lemmas.Cmp.{nat_list_eq_equiv};
+
+    ghost laws = { nat_list_eq_equiv };
 }
 
 impl Stamp {
@@ -69,6 +91,15 @@ impl Compile for Stamp {
         Ok(Stamp {
             text: text.try_clone(alloc)?,
             moment,
+        })
+    }
+}
+
+impl TryClone for Stamp {
+    fn try_clone(&self, alloc: Global) -> Result<Stamp, AllocError> {
+        Ok(Stamp {
+            text: self.text.try_clone(alloc)?,
+            moment: self.moment,
         })
     }
 }

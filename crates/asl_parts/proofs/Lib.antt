@@ -4,3 +4,4 @@ pub mod Catching
 pub mod Names
 pub mod Slots
 pub mod Owning
+pub mod Alike

@@ -3,3 +3,5 @@ pub mod Bodies
 pub mod Built
 pub mod Member
 pub mod Texts
+pub mod Equal
+pub mod private

@@ -3,9 +3,12 @@ ghost use Rattle.std.specs.Prelude.{◌≡◌, ◌≤◌, length};
 
 use crate::target::Target;
 use asl_json::Txt;
+use asl_members::{TryClone, clone_all};
+use std::alloc::{AllocError, Global};
 use std::marker::Model;
 
 /// A machine inside a definition: its states are those of the table with the numbers from `first` on.
+#[derive(PartialEq, Eq)]
 pub struct Body {
     /// Its `Comment`.
     pub comment: Option<Txt>,
@@ -51,6 +54,25 @@ impl Model for Bodies {
     ghost invariant = { λ a. length a.bodies.items ≤ 999_999_999 };
 }
 
+impl PartialEq for Bodies {
+    ghost use Rattle.asl_parts.specs.Equal.{bodies_equal};
+    ghost use Rattle.asl_parts.specs.private.EqualLaws.{bodies_laws};
+
+    ghost eq = { bodies_equal };
+
+    ghost laws = { bodies_laws };
+
+    fn eq(&self, other: &Bodies) -> bool {
+        self.bodies.as_slice() == other.bodies.as_slice()
+    }
+}
+
+impl Eq for Bodies {
+    ghost use Rattle.asl_parts.specs.private.EqualLaws.{bodies_equivalence};
+
+    ghost laws = { bodies_equivalence };
+}
+
 impl Bodies {
     /// The machines.
     pub fn as_slice(&self) -> &[Body]
@@ -58,5 +80,24 @@ impl Bodies {
         ensures few { length result.now ≤ 999_999_999 }
     {
         &self.bodies
+    }
+}
+
+impl TryClone for Body {
+    fn try_clone(&self, alloc: Global) -> Result<Body, AllocError> {
+        Ok(Body {
+            comment: self.comment.try_clone(alloc)?,
+            start: self.start.try_clone(alloc)?,
+            first: self.first,
+            count: self.count,
+        })
+    }
+}
+
+impl TryClone for Bodies {
+    fn try_clone(&self, alloc: Global) -> Result<Bodies, AllocError> {
+        Ok(Bodies {
+            bodies: clone_all(alloc, &self.bodies)?,
+        })
     }
 }

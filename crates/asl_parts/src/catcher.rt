@@ -12,11 +12,14 @@ ghost use Rattle.asl_members.specs.Shown.{path_shown, names_shown};
 use crate::entries::{and, with, with_optional, with_path};
 use crate::target::Target;
 use asl_json::{Json, Txt};
-use asl_members::{Compile, Compiled, ErrorNames, PathField, json_all, object, read_optional};
+use asl_members::{
+    Compile, Compiled, ErrorNames, PathField, TryClone, clone_all, json_all, object, read_optional,
+};
 use std::alloc::{AllocError, Global};
 use std::marker::Model;
 
 /// A catcher. (Amazon States Language, "Fallback States".) Contracts speak of its canonical object, `catcher_object`.
+#[derive(PartialEq, Eq)]
 pub struct Catcher {
     pub(crate) comment: Option<Txt>,
     pub(crate) errors: ErrorNames,
@@ -61,6 +64,25 @@ impl Model for Catchers {
     ghost use Rattle.asl_parts.specs.Parts.{catcher_objects};
 
     ghost view = { λ a. catcher_objects a.catchers.items };
+}
+
+impl PartialEq for Catchers {
+    ghost use Rattle.asl_json.specs.Same.{items_equal};
+    ghost use Rattle.asl_json.specs.private.SameLaws.{items_laws};
+
+    ghost eq = { items_equal };
+
+    ghost laws = { items_laws };
+
+    fn eq(&self, other: &Catchers) -> bool {
+        self.catchers.as_slice() == other.catchers.as_slice()
+    }
+}
+
+impl Eq for Catchers {
+    ghost use Rattle.asl_json.specs.private.SameLaws.{items_equivalence};
+
+    ghost laws = { items_equivalence };
 }
 
 impl Catcher {
@@ -117,6 +139,17 @@ impl Compiled for Catcher {
     }
 }
 
+impl TryClone for Catcher {
+    fn try_clone(&self, alloc: Global) -> Result<Catcher, AllocError> {
+        Ok(Catcher {
+            comment: self.comment.try_clone(alloc)?,
+            errors: self.errors.try_clone(alloc)?,
+            result_path: self.result_path.try_clone(alloc)?,
+            next: self.next.try_clone(alloc)?,
+        })
+    }
+}
+
 impl Catchers {
     /// The catchers.
     pub fn as_slice(&self) -> &[Catcher]
@@ -162,5 +195,13 @@ impl Compiled for Catchers {
 
     fn json(&self, alloc: Global) -> Result<Json, AllocError> {
         Ok(Json::List(json_all(alloc, &self.catchers)?))
+    }
+}
+
+impl TryClone for Catchers {
+    fn try_clone(&self, alloc: Global) -> Result<Catchers, AllocError> {
+        Ok(Catchers {
+            catchers: clone_all(alloc, &self.catchers)?,
+        })
     }
 }

@@ -10,10 +10,11 @@ ghost use Rattle.asl_parts.specs.Parts.{common_members};
 
 use crate::entries::{entry, joined};
 use asl_json::{Json, Members, Txt};
-use asl_members::{Entry, json_optional, object, read_optional};
+use asl_members::{Entry, TryClone, json_optional, object, read_optional};
 use std::alloc::{AllocError, Global};
 
 /// The members that a state of any type may have beside its type. (Amazon States Language, "Common State Fields".)
+#[derive(PartialEq, Eq)]
 pub struct Common {
     /// `Comment`.
     pub comment: Option<Txt>,
@@ -61,5 +62,14 @@ impl Common {
             entry("QueryLanguage", query_language),
         ]?;
         object(alloc, joined(common, own)?)
+    }
+}
+
+impl TryClone for Common {
+    fn try_clone(&self, alloc: Global) -> Result<Common, AllocError> {
+        Ok(Common {
+            comment: self.comment.try_clone(alloc)?,
+            query_language: self.query_language.try_clone(alloc)?,
+        })
     }
 }

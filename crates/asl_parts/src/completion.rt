@@ -13,12 +13,13 @@ use crate::catcher::Catchers;
 use crate::entries::{with_optional, with_path};
 use crate::target::Transition;
 use asl_json::Members;
-use asl_members::{Entry, PathField, Retriers, read_optional};
+use asl_members::{Entry, PathField, Retriers, TryClone, read_optional};
 use asl_template::Template;
 use std::alloc::{AllocError, Global};
 
 /// What becomes of the result or the error of a Task, Parallel or Map state. (Amazon States Language, "Input and Output
 /// Processing", "Errors".)
+#[derive(PartialEq, Eq)]
 pub struct Completion {
     /// `ResultSelector`.
     pub result_selector: Option<Template>,
@@ -124,5 +125,18 @@ impl Completion {
         let own = with_optional(alloc, own, "Retry", &self.retry)?;
         let own = with_optional(alloc, own, "Catch", &self.catch)?;
         self.next.entries(alloc, own)
+    }
+}
+
+impl TryClone for Completion {
+    fn try_clone(&self, alloc: Global) -> Result<Completion, AllocError> {
+        Ok(Completion {
+            result_selector: self.result_selector.try_clone(alloc)?,
+            result_path: self.result_path.try_clone(alloc)?,
+            output_path: self.output_path.try_clone(alloc)?,
+            retry: self.retry.try_clone(alloc)?,
+            catch: self.catch.try_clone(alloc)?,
+            next: self.next.try_clone(alloc)?,
+        })
     }
 }

@@ -6,10 +6,11 @@ ghost use Rattle.asl_schema.specs.declared.sort.Sort.TheVariants.{Definition};
 ghost use Rattle.asl_schema.specs.Clean.{IsClean};
 
 use asl_json::{Members, Txt};
-use asl_members::{Count, read_optional};
+use asl_members::{Count, TryClone, read_optional};
 use std::alloc::{AllocError, Global};
 
 /// The members that only the outermost machine may have. (Amazon States Language, "Top-level fields".)
+#[derive(PartialEq, Eq)]
 pub struct Heading {
     /// `QueryLanguage`: `JSONPath`, where it is there.
     pub query_language: Option<Txt>,
@@ -45,6 +46,16 @@ impl Heading {
             query_language: read_optional(alloc, members.find("QueryLanguage"))?,
             version: read_optional(alloc, members.find("Version"))?,
             timeout: read_optional(alloc, members.find("TimeoutSeconds"))?,
+        })
+    }
+}
+
+impl TryClone for Heading {
+    fn try_clone(&self, alloc: Global) -> Result<Heading, AllocError> {
+        Ok(Heading {
+            query_language: self.query_language.try_clone(alloc)?,
+            version: self.version.try_clone(alloc)?,
+            timeout: self.timeout.try_clone(alloc)?,
         })
     }
 }

@@ -9,11 +9,12 @@ ghost use Rattle.asl_parts.specs.Parts.{limits_members};
 
 use crate::entries::with_optional;
 use asl_json::Members;
-use asl_members::{Count, Entry, read_optional};
+use asl_members::{Count, Entry, TryClone, read_optional};
 use asl_path::RefPath;
 use std::alloc::{AllocError, Global};
 
 /// How long a Task state may take, and between two heartbeats, each in seconds or by a path. (Amazon States Language, "Task State".)
+#[derive(PartialEq, Eq)]
 pub struct TimeLimits {
     /// `TimeoutSeconds`.
     pub timeout: Option<Count>,
@@ -67,5 +68,16 @@ impl TimeLimits {
         let own = with_optional(alloc, own, "TimeoutSecondsPath", &self.timeout_path)?;
         let own = with_optional(alloc, own, "HeartbeatSeconds", &self.heartbeat)?;
         with_optional(alloc, own, "HeartbeatSecondsPath", &self.heartbeat_path)
+    }
+}
+
+impl TryClone for TimeLimits {
+    fn try_clone(&self, alloc: Global) -> Result<TimeLimits, AllocError> {
+        Ok(TimeLimits {
+            timeout: self.timeout.try_clone(alloc)?,
+            timeout_path: self.timeout_path.try_clone(alloc)?,
+            heartbeat: self.heartbeat.try_clone(alloc)?,
+            heartbeat_path: self.heartbeat_path.try_clone(alloc)?,
+        })
     }
 }

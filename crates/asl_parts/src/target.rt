@@ -12,10 +12,11 @@ ghost use Rattle.asl_members.specs.Entries.{entries_of};
 
 use crate::entries::{entry, joined};
 use asl_json::{Json, Members, Txt};
-use asl_members::Entry;
+use asl_members::{Entry, TryClone};
 use std::alloc::{AllocError, Global};
 
 /// The name of the state that comes next.
+#[derive(PartialEq, Eq)]
 pub struct Target {
     /// A name of a state of the same machine.
     pub name: Txt,
@@ -29,6 +30,7 @@ impl Drop for Target {
 }
 
 /// How a state goes on. (Amazon States Language, "Transitions".)
+#[derive(PartialEq, Eq)]
 pub enum Transition {
     /// `"End": true`.
     End,
@@ -93,6 +95,14 @@ impl Target {
     }
 }
 
+impl TryClone for Target {
+    fn try_clone(&self, alloc: Global) -> Result<Target, AllocError> {
+        Ok(Target {
+            name: self.name.try_clone(alloc)?,
+        })
+    }
+}
+
 impl Transition {
     /// Compiles `Next` and `End` of a state without faults. The error is that memory ran out.
     pub fn read(alloc: Global, members: &Members) -> Result<Transition, AllocError>
@@ -124,5 +134,14 @@ impl Transition {
             }
         };
         joined(before, own)
+    }
+}
+
+impl TryClone for Transition {
+    fn try_clone(&self, alloc: Global) -> Result<Transition, AllocError> {
+        match self {
+            Transition::End => Ok(Transition::End),
+            Transition::To(target) => Ok(Transition::To(target.try_clone(alloc)?)),
+        }
     }
 }

@@ -1,5 +1,5 @@
 -- Paths begin with `$`, and calls don't.
-use Rattle.std.proofs.Common.{◌≡◌, ℕ, true, false, List, ◌∷◌, ◌++◌, refl, ap, ◌∙◌}
+use Rattle.std.proofs.Common.{◌≡◌, ℕ, true, false, List, ◌++◌, ap, ◌∙◌}
 use Rattle.asl_path.specs.Grammar.{IsPath, SpellsRoot}
 use Rattle.asl_path.specs.declared.step.Root.{Root}
 use Rattle.asl_path.specs.declared.step.Root.TheVariants.{Input, Context}

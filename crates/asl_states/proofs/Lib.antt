@@ -3,3 +3,4 @@ pub mod Ruling
 pub mod Begins
 pub mod Items
 mod Nexts
+pub mod Alike

@@ -1,3 +1,5 @@
 pub mod Items
 pub mod Show
 pub mod Choosing
+pub mod Newer
+pub mod Equal

@@ -17,13 +17,14 @@ ghost use Rattle.asl_states.specs.Choosing.{chosen_next};
 
 use asl_choice::{Rule, RuleFault};
 use asl_json::{Json, Members, Txt};
-use asl_members::{Compiled, PathField, json_all};
+use asl_members::{Compiled, PathField, TryClone, clone_all, json_all};
 use asl_parts::{Common, Target, and, with, with_path};
 use std::alloc::{AllocError, Global};
 use std::marker::Model;
 
 /// A rule of a Choice state, with the state that comes next where it holds. Contracts speak of its canonical object,
 /// `choice_rule_object`.
+#[derive(PartialEq, Eq)]
 pub struct ChoiceRule {
     /// The rule.
     pub rule: Rule,
@@ -67,6 +68,7 @@ impl Model for ChoiceRules {
 }
 
 /// A Choice state. (Amazon States Language, "Choice State".) Contracts speak of its canonical object, `choice_object`.
+#[derive(PartialEq, Eq)]
 pub struct Choice {
     pub(crate) common: Common,
     pub(crate) input_path: PathField,
@@ -85,6 +87,25 @@ impl Drop for Choice {
             output_path: _output_path,
         } = self;
     }
+}
+
+impl PartialEq for ChoiceRules {
+    ghost use Rattle.asl_json.specs.Same.{items_equal};
+    ghost use Rattle.asl_json.specs.private.SameLaws.{items_laws};
+
+    ghost eq = { items_equal };
+
+    ghost laws = { items_laws };
+
+    fn eq(&self, other: &ChoiceRules) -> bool {
+        self.rules.as_slice() == other.rules.as_slice()
+    }
+}
+
+impl Eq for ChoiceRules {
+    ghost use Rattle.asl_json.specs.private.SameLaws.{items_equivalence};
+
+    ghost laws = { items_equivalence };
 }
 
 impl ChoiceRule {
@@ -233,5 +254,34 @@ impl Choice {
         let own = and(own, "Default", default)?;
         let own = with_path(alloc, own, "OutputPath", &self.output_path)?;
         self.common.object(alloc, "Choice", own)
+    }
+}
+
+impl TryClone for ChoiceRule {
+    fn try_clone(&self, alloc: Global) -> Result<ChoiceRule, AllocError> {
+        Ok(ChoiceRule {
+            rule: self.rule.try_clone(alloc)?,
+            next: self.next.try_clone(alloc)?,
+        })
+    }
+}
+
+impl TryClone for ChoiceRules {
+    fn try_clone(&self, alloc: Global) -> Result<ChoiceRules, AllocError> {
+        Ok(ChoiceRules {
+            rules: clone_all(alloc, &self.rules)?,
+        })
+    }
+}
+
+impl TryClone for Choice {
+    fn try_clone(&self, alloc: Global) -> Result<Choice, AllocError> {
+        Ok(Choice {
+            common: self.common.try_clone(alloc)?,
+            input_path: self.input_path.try_clone(alloc)?,
+            choices: self.choices.try_clone(alloc)?,
+            default: self.default.try_clone(alloc)?,
+            output_path: self.output_path.try_clone(alloc)?,
+        })
     }
 }

@@ -13,11 +13,12 @@ ghost use Rattle.asl_states.specs.Show as Show;
 ghost use Rattle.asl_json.specs.Meaning.{value_in};
 
 use asl_json::{Json, Members, Txt};
-use asl_members::{Compile, Compiled, PathOrCall};
+use asl_members::{Compile, Compiled, PathOrCall, TryClone};
 use asl_parts::{Common, and};
 use std::alloc::{AllocError, Global};
 
 /// What a Fail state tells as its error or its cause.
+#[derive(PartialEq, Eq)]
 pub enum FailText {
     /// `Error` or `Cause`.
     Told(Txt),
@@ -36,6 +37,7 @@ impl Drop for FailText {
 }
 
 /// A Fail state. (Amazon States Language, "Fail State".) Contracts speak of its canonical object, `fail_object`.
+#[derive(PartialEq, Eq)]
 pub struct Fail {
     pub(crate) common: Common,
     pub(crate) error: Option<FailText>,
@@ -141,5 +143,24 @@ impl Fail {
         let cause_path = path_json(alloc, &self.cause)?;
         let own = and(own, "CausePath", cause_path)?;
         self.common.object(alloc, "Fail", own)
+    }
+}
+
+impl TryClone for FailText {
+    fn try_clone(&self, alloc: Global) -> Result<FailText, AllocError> {
+        match self {
+            FailText::Told(text) => Ok(FailText::Told(text.try_clone(alloc)?)),
+            FailText::At(path) => Ok(FailText::At(path.try_clone(alloc)?)),
+        }
+    }
+}
+
+impl TryClone for Fail {
+    fn try_clone(&self, alloc: Global) -> Result<Fail, AllocError> {
+        Ok(Fail {
+            common: self.common.try_clone(alloc)?,
+            error: self.error.try_clone(alloc)?,
+            cause: self.cause.try_clone(alloc)?,
+        })
     }
 }

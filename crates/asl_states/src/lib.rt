@@ -1,10 +1,11 @@
 //! States of all eight types, compiled from a definition without faults.
 //!
-//! Modules in reading order: each of the eight types has a module, and `processor` is what a Map runs; `state` is a state of any type, and `member` what a state's own
+//! Modules in reading order: each of the eight types has a module, and `processor` is what a Map runs; `state` is a state of any type, `equal` compares states, and `member` is what a state's own
 //! members name. What several types have is in `asl_parts`.
 #![tactic(auto)]
 
 mod choice;
+mod equal;
 mod fail;
 mod map;
 mod member;
@@ -17,7 +18,7 @@ mod task;
 mod wait;
 
 pub use asl_choice::Rule;
-pub use asl_members::{Mode, ProcessorConfig};
+pub use asl_members::{Mode, ProcessorConfig, TryClone};
 pub use asl_parts::{
     Bodies, Body, Catcher, Catchers, Common, Completion, Heading, Target, TimeLimits, Transition,
     entry,

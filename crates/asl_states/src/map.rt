@@ -8,6 +8,7 @@ ghost use Rattle.asl_schema.specs.Canon.{Named, canon, kept_at};
 ghost use Rattle.asl_parts.specs.Built.{IsOfKind};
 ghost use Rattle.asl_states.specs.Items.{processor_in, selector_in, machine_names, member_in};
 ghost use Rattle.asl_states.specs.Show.{map_object, selector_shown, machine_shown, as_iterator, as_item_processor};
+ghost use Rattle.asl_states.specs.Newer.{newer_selector, newer_map};
 ghost use Rattle.asl_parts.specs.Bodies.{body_of};
 ghost use Rattle.asl_json.specs.Meaning.{value_in};
 ghost use Rattle.asl_members.specs.Shown.{path_shown};
@@ -16,7 +17,7 @@ ghost use Rattle.asl_parts.specs.Member.{completion_names, completion_object};
 
 use crate::processor::{Processor, Selector, as_item_selector, as_parameters, template_json};
 use asl_json::{Json, Members};
-use asl_members::{Count, PathField, read_optional};
+use asl_members::{Count, PathField, TryClone, read_optional};
 use asl_parts::{Body, Common, Completion, and, with_optional, with_path};
 use asl_path::RefPath;
 use asl_template::Template;
@@ -24,6 +25,7 @@ use std::alloc::{AllocError, Global};
 
 /// A Map state. (Amazon States Language, "Map State".) Contracts speak of its canonical object over the table of states,
 /// `map_object`.
+#[derive(PartialEq, Eq)]
 pub struct Map {
     pub(crate) common: Common,
     pub(crate) input_path: PathField,
@@ -61,7 +63,41 @@ fn template_of(selector: &Option<Selector>) -> Option<&Template>
     }
 }
 
+/// The template as `ItemSelector`, where it is there.
+fn newer_template(selector: Option<Selector>) -> Option<Selector>
+    ensures { result ≡ option_map newer_selector selector }
+{
+    match selector {
+        Some(selector) => Some(selector.newer()),
+        None => None,
+    }
+}
+
 impl Map {
+    /// The same state in the newer spelling: its machine is `ItemProcessor`, its template `ItemSelector`.
+    pub fn newer(self) -> Map
+        ensures { result ≡ newer_map self }
+    {
+        let Map {
+            common,
+            input_path,
+            items_path,
+            max_concurrency,
+            selector,
+            processor,
+            completion,
+        } = self;
+        Map {
+            common,
+            input_path,
+            items_path,
+            max_concurrency,
+            selector: newer_template(selector),
+            processor: processor.newer(),
+            completion,
+        }
+    }
+
     /// `InputPath`.
     pub fn input_path(&self) -> &PathField
         ensures { (t : List Named)
@@ -157,5 +193,19 @@ impl Map {
         let own = and(own, "ItemProcessor", item_processor)?;
         let own = self.completion.entries(alloc, own)?;
         self.common.object(alloc, "Map", own)
+    }
+}
+
+impl TryClone for Map {
+    fn try_clone(&self, alloc: Global) -> Result<Map, AllocError> {
+        Ok(Map {
+            common: self.common.try_clone(alloc)?,
+            input_path: self.input_path.try_clone(alloc)?,
+            items_path: self.items_path.try_clone(alloc)?,
+            max_concurrency: self.max_concurrency.try_clone(alloc)?,
+            selector: self.selector.try_clone(alloc)?,
+            processor: self.processor.try_clone(alloc)?,
+            completion: self.completion.try_clone(alloc)?,
+        })
     }
 }

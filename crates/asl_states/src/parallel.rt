@@ -14,13 +14,14 @@ ghost use Rattle.asl_schema.specs.Members.{is_among};
 ghost use Rattle.asl_parts.specs.Member.{completion_names, completion_object};
 
 use asl_json::{Items, Json, Members};
-use asl_members::{PathField, read_optional};
+use asl_members::{PathField, TryClone, read_optional};
 use asl_parts::{Bodies, Common, Completion, and, with_optional, with_path};
 use asl_template::Template;
 use std::alloc::{AllocError, Global};
 
 /// A Parallel state. (Amazon States Language, "Parallel State".) Contracts speak of its canonical object over the table of
 /// states, `parallel_object`.
+#[derive(PartialEq, Eq)]
 pub struct Parallel {
     pub(crate) common: Common,
     pub(crate) input_path: PathField,
@@ -106,5 +107,17 @@ impl Parallel {
         let own = and(own, "Branches", Some(Json::List(branches)))?;
         let own = self.completion.entries(alloc, own)?;
         self.common.object(alloc, "Parallel", own)
+    }
+}
+
+impl TryClone for Parallel {
+    fn try_clone(&self, alloc: Global) -> Result<Parallel, AllocError> {
+        Ok(Parallel {
+            common: self.common.try_clone(alloc)?,
+            input_path: self.input_path.try_clone(alloc)?,
+            parameters: self.parameters.try_clone(alloc)?,
+            branches: self.branches.try_clone(alloc)?,
+            completion: self.completion.try_clone(alloc)?,
+        })
     }
 }

@@ -12,12 +12,13 @@ ghost use Rattle.asl_json.specs.View.{data_of};
 ghost use Rattle.asl_parts.specs.Parts.{next_shown, end_shown};
 
 use asl_json::{Json, Members, Txt};
-use asl_members::{PathField, read_optional};
+use asl_members::{PathField, TryClone, read_optional};
 use asl_parts::{Common, Transition, with_optional, with_path};
 use asl_template::Template;
 use std::alloc::{AllocError, Global};
 
 /// A Pass state. (Amazon States Language, "Pass State".) Contracts speak of its canonical object, `pass_object`.
+#[derive(PartialEq, Eq)]
 pub struct Pass {
     pub(crate) common: Common,
     pub(crate) input_path: PathField,
@@ -124,5 +125,19 @@ impl Pass {
         let own = with_path(alloc, own, "OutputPath", &self.output_path)?;
         let own = self.next.entries(alloc, own)?;
         self.common.object(alloc, "Pass", own)
+    }
+}
+
+impl TryClone for Pass {
+    fn try_clone(&self, alloc: Global) -> Result<Pass, AllocError> {
+        Ok(Pass {
+            common: self.common.try_clone(alloc)?,
+            input_path: self.input_path.try_clone(alloc)?,
+            parameters: self.parameters.try_clone(alloc)?,
+            result: self.result.try_clone(alloc)?,
+            result_path: self.result_path.try_clone(alloc)?,
+            output_path: self.output_path.try_clone(alloc)?,
+            next: self.next.try_clone(alloc)?,
+        })
     }
 }

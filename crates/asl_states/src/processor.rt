@@ -4,14 +4,16 @@ ghost use Rattle.asl_json.specs.View.{data_of};
 ghost use Rattle.asl_schema.specs.declared.sort.Sort.TheVariants.{Template as template_sort};
 ghost use Rattle.asl_schema.specs.Clean.{Fits};
 ghost use Rattle.asl_states.specs.Show.{body_in, config_in, parameters_shown, item_selector_shown, as_iterator, as_item_processor};
+ghost use Rattle.asl_states.specs.Newer.{newer_processor, newer_selector};
 
 use asl_json::Json;
-use asl_members::{Compile, Compiled, ProcessorConfig};
+use asl_members::{Compile, Compiled, ProcessorConfig, TryClone};
 use asl_parts::Body;
 use asl_template::Template;
 use std::alloc::{AllocError, Global};
 
 /// The machine that a Map state runs for each item. (Amazon States Language, "Map State".)
+#[derive(PartialEq, Eq)]
 pub enum Processor {
     /// `Iterator`, as it was spelled first.
     Iterator(Body),
@@ -50,6 +52,16 @@ impl Processor {
         }
     }
 
+    /// The same machine as `ItemProcessor`.
+    pub(crate) fn newer(self) -> Processor
+        ensures { result ≡ newer_processor self }
+    {
+        match self {
+            Processor::Iterator(body) => Processor::ItemProcessor(None, body),
+            Processor::ItemProcessor(config, body) => Processor::ItemProcessor(config, body),
+        }
+    }
+
     /// The machine as JSON, under the one name or the other: as `Iterator` and as `ItemProcessor`.
     pub(crate) fn named(&self, machine: Json) -> (Option<Json>, Option<Json>)
         ensures iterator { option_map data_of result.0 ≡ as_iterator self.now (data_of machine) }
@@ -63,7 +75,19 @@ impl Processor {
     }
 }
 
+impl TryClone for Processor {
+    fn try_clone(&self, alloc: Global) -> Result<Processor, AllocError> {
+        match self {
+            Processor::Iterator(body) => Ok(Processor::Iterator(body.try_clone(alloc)?)),
+            Processor::ItemProcessor(config, body) => {
+                Ok(Processor::ItemProcessor(*config, body.try_clone(alloc)?))
+            }
+        }
+    }
+}
+
 /// The template for the inputs of a Map's iterations. (Amazon States Language, "Map State".)
+#[derive(PartialEq, Eq)]
 pub enum Selector {
     /// `Parameters`, as it was spelled first.
     Parameters(Template),
@@ -81,6 +105,16 @@ impl Drop for Selector {
 }
 
 impl Selector {
+    /// The same template as `ItemSelector`.
+    pub(crate) fn newer(self) -> Selector
+        ensures { result ≡ newer_selector self }
+    {
+        match self {
+            Selector::Parameters(template) => Selector::ItemSelector(template),
+            Selector::ItemSelector(template) => Selector::ItemSelector(template),
+        }
+    }
+
     /// Compiles the value of `Parameters` or of `ItemSelector`, of which one is there at most.
     pub(crate) fn read(
         alloc: Global,
@@ -102,6 +136,17 @@ impl Selector {
         match item_selector {
             Some(template) => Ok(Some(Selector::ItemSelector(Compile::read(alloc, template)?))),
             None => Ok(None),
+        }
+    }
+}
+
+impl TryClone for Selector {
+    fn try_clone(&self, alloc: Global) -> Result<Selector, AllocError> {
+        match self {
+            Selector::Parameters(template) => Ok(Selector::Parameters(template.try_clone(alloc)?)),
+            Selector::ItemSelector(template) => Ok(Selector::ItemSelector(template.try_clone(
+                alloc,
+            )?)),
         }
     }
 }

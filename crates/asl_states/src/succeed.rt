@@ -11,11 +11,12 @@ ghost use Rattle.asl_json.specs.Meaning.{value_in};
 ghost use Rattle.asl_members.specs.Shown.{path_shown};
 
 use asl_json::{Json, Members, Txt};
-use asl_members::PathField;
+use asl_members::{PathField, TryClone};
 use asl_parts::{Common, with_path};
 use std::alloc::{AllocError, Global};
 
 /// A Succeed state. (Amazon States Language, "Succeed State".) Contracts speak of its canonical object, `succeed_object`.
+#[derive(PartialEq, Eq)]
 pub struct Succeed {
     pub(crate) common: Common,
     pub(crate) input_path: PathField,
@@ -34,6 +35,18 @@ impl Drop for Succeed {
 }
 
 impl Succeed {
+    /// One with no members but its type.
+    pub(crate) fn bare() -> Succeed {
+        Succeed {
+            common: Common {
+                comment: None,
+                query_language: None,
+            },
+            input_path: PathField::Whole,
+            output_path: PathField::Whole,
+        }
+    }
+
     /// `Comment`.
     pub fn comment(&self) -> Option<&Txt>
         ensures { option_map (λ t. text t.now) result
@@ -76,5 +89,15 @@ impl Succeed {
         let own = with_path(alloc, Vec::new(alloc), "InputPath", &self.input_path)?;
         let own = with_path(alloc, own, "OutputPath", &self.output_path)?;
         self.common.object(alloc, "Succeed", own)
+    }
+}
+
+impl TryClone for Succeed {
+    fn try_clone(&self, alloc: Global) -> Result<Succeed, AllocError> {
+        Ok(Succeed {
+            common: self.common.try_clone(alloc)?,
+            input_path: self.input_path.try_clone(alloc)?,
+            output_path: self.output_path.try_clone(alloc)?,
+        })
     }
 }

@@ -13,13 +13,14 @@ ghost use Rattle.asl_schema.specs.Members.{is_among};
 ghost use Rattle.asl_parts.specs.Member.{completion_names, completion_object};
 
 use asl_json::{Json, Members, Txt};
-use asl_members::{Compile, Compiled, Count, PathField, read_optional};
+use asl_members::{Compile, Compiled, Count, PathField, TryClone, read_optional};
 use asl_parts::{Common, Completion, TimeLimits, with, with_optional, with_path};
 use asl_path::RefPath;
 use asl_template::Template;
 use std::alloc::{AllocError, Global};
 
 /// A Task state. (Amazon States Language, "Task State".) Contracts speak of its canonical object, `task_object`.
+#[derive(PartialEq, Eq)]
 pub struct Task {
     pub(crate) common: Common,
     pub(crate) resource: Txt,
@@ -138,5 +139,19 @@ impl Task {
         let own = self.limits.entries(alloc, own)?;
         let own = self.completion.entries(alloc, own)?;
         self.common.object(alloc, "Task", own)
+    }
+}
+
+impl TryClone for Task {
+    fn try_clone(&self, alloc: Global) -> Result<Task, AllocError> {
+        Ok(Task {
+            common: self.common.try_clone(alloc)?,
+            resource: self.resource.try_clone(alloc)?,
+            input_path: self.input_path.try_clone(alloc)?,
+            parameters: self.parameters.try_clone(alloc)?,
+            credentials: self.credentials.try_clone(alloc)?,
+            limits: self.limits.try_clone(alloc)?,
+            completion: self.completion.try_clone(alloc)?,
+        })
     }
 }

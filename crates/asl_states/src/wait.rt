@@ -12,12 +12,13 @@ ghost use Rattle.asl_members.specs.Shown.{path_shown};
 ghost use Rattle.asl_parts.specs.Parts.{next_shown, end_shown};
 
 use asl_json::{Json, Members};
-use asl_members::{Compile, Compiled, Count, PathField, Stamp};
+use asl_members::{Compile, Compiled, Count, PathField, Stamp, TryClone};
 use asl_parts::{Common, Transition, and, with_path};
 use asl_path::RefPath;
 use std::alloc::{AllocError, Global};
 
 /// How long a Wait state waits.
+#[derive(PartialEq, Eq)]
 pub enum Delay {
     /// `Seconds`.
     Seconds(Count),
@@ -42,6 +43,7 @@ impl Drop for Delay {
 }
 
 /// A Wait state. (Amazon States Language, "Wait State".) Contracts speak of its canonical object, `wait_object`.
+#[derive(PartialEq, Eq)]
 pub struct Wait {
     pub(crate) common: Common,
     pub(crate) input_path: PathField,
@@ -197,5 +199,28 @@ impl Wait {
         let own = with_path(alloc, own, "OutputPath", &self.output_path)?;
         let own = self.next.entries(alloc, own)?;
         self.common.object(alloc, "Wait", own)
+    }
+}
+
+impl TryClone for Delay {
+    fn try_clone(&self, alloc: Global) -> Result<Delay, AllocError> {
+        match self {
+            Delay::Seconds(seconds) => Ok(Delay::Seconds(seconds.try_clone(alloc)?)),
+            Delay::SecondsPath(path) => Ok(Delay::SecondsPath(path.try_clone(alloc)?)),
+            Delay::Timestamp(stamp) => Ok(Delay::Timestamp(stamp.try_clone(alloc)?)),
+            Delay::TimestampPath(path) => Ok(Delay::TimestampPath(path.try_clone(alloc)?)),
+        }
+    }
+}
+
+impl TryClone for Wait {
+    fn try_clone(&self, alloc: Global) -> Result<Wait, AllocError> {
+        Ok(Wait {
+            common: self.common.try_clone(alloc)?,
+            input_path: self.input_path.try_clone(alloc)?,
+            delay: self.delay.try_clone(alloc)?,
+            output_path: self.output_path.try_clone(alloc)?,
+            next: self.next.try_clone(alloc)?,
+        })
     }
 }

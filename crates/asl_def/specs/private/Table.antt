@@ -1,6 +1,8 @@
 -- A table of states as a clause sees it: names and canonical objects.
-use Rattle.std.specs.Prelude.{List, []}
+use Rattle.std.specs.Prelude.{List, [], map, String}
 use Rattle.asl_schema.specs.Canon.{Named}
+use Rattle.asl_states.specs.declared.state.State.{State}
+use Rattle.asl_states.specs.Newer.{newer_state}
 use Rattle.asl_states.specs.Show.{shown, AreInOrder}
 use Rattle.asl_def.specs.declared.table.Table.TheInside.{Inside}
 
@@ -9,3 +11,10 @@ named a = shown [] a.states.entries
 
 abbrev pub IsTable : Inside → Type 0
 IsTable a = AreInOrder 0 a.states.entries
+
+-- its states in the newer spelling
+abbrev pub newer_entry : {Z : Type 0} → String Z × State → String Z × State
+newer_entry e = (e.0, newer_state e.1)
+
+abbrev pub newer_entries : {Z : Type 0} → List (String Z × State) → List (String Z × State)
+newer_entries es = map newer_entry es

@@ -15,7 +15,7 @@ use Rattle.asl_members.specs.Readable.{IsText, IsProcessorConfig}
 use Rattle.asl_members.proofs.Fitting.{fit, text_fits}
 use Rattle.asl_members.proofs.Retrying.{not_none, value_there}
 use Rattle.asl_def.specs.private.Built.{HasRoom, Grows, IsBody}
-use Rattle.asl_parts.proofs.Fits.{none_there, some_there, clean_in, of_kind, of_none}
+use Rattle.asl_parts.proofs.Fits.{none_there, some_there, of_kind, of_none}
 use Rattle.asl_def.proofs.Builds.{on_ok, machine_clean, processor_clean, config_fits, machine_room, grows_inside, machine_grows, compiled, body_shows, value_depth, branches_room, iterator_room, item_processor_room, parallel_grows, iterator_grows, item_processor_grows, parallel_is, iterator_clean, item_processor_clean, iterator_stands, item_processor_stands, leaf_grows, room_as, grows_as, state_as, own_room, own_step, own_all, own_fit, states_grow, states_stand, body_room, bodies_few, bodies_step, bodies_all, bodies_grow}
 use Rattle.asl_def.proofs.build.+build.Goals as goal
 

@@ -1,4 +1,3 @@
-use Rattle.std.proofs.Common.{◌∙◌}
 use Rattle.std.specs.Vec.Iter.{into_iter_items}
 use Rattle.asl_members.specs.Entries.{entries_of}
 use Rattle.asl_members.proofs.Making.{pushed}

@@ -1,5 +1,5 @@
 use Rattle.std.proofs.Common.{◌≡◌, ◌+◌, ℕ, List, refl, sym, ap, ◌∙◌}
-use Rattle.std.specs.Prelude.{Option, Some, slice_get}
+use Rattle.std.specs.Prelude.{Some, slice_get}
 use Rattle.asl_json.specs.Data.{Data}
 use Rattle.asl_schema.specs.Canon.{Named}
 use Rattle.asl_states.specs.Show.{state_of}

@@ -1,5 +1,5 @@
-use Rattle.std.proofs.Common.{◌∙◌, ◌≡◌, ap, sym, List, ℕ}
-use Rattle.std.specs.Prelude.{Option, Some, None, codes, option_map, pos}
+use Rattle.std.proofs.Common.{◌∙◌, ◌≡◌, ap, sym}
+use Rattle.std.specs.Prelude.{Some, codes, option_map}
 use Rattle.asl_json.specs.Data.{Data, number}
 use Rattle.asl_json.specs.Meaning.{value_in}
 use Rattle.asl_members.specs.Retries.{whole_in, whole}

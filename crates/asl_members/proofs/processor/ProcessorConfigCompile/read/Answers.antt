@@ -1,4 +1,4 @@
-use Rattle.std.proofs.Common.{◌≡◌, [], ◌++◌, sym, subst, ap, ◌∙◌}
+use Rattle.std.proofs.Common.{[], ◌++◌, sym, subst, ap, ◌∙◌}
 use Rattle.std.specs.Prelude.{Option, IfSome, codes}
 use Rattle.asl_json.specs.Data.{Data, dict, pairs}
 use Rattle.asl_json.specs.View.{data_of}

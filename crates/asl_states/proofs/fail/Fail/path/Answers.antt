@@ -1,4 +1,4 @@
-use Rattle.std.proofs.Common.{◌≡◌, refl, [], ◌∷◌}
+use Rattle.std.proofs.Common.{refl, [], ◌∷◌}
 use Rattle.std.specs.Prelude.{codes}
 use Rattle.asl_states.specs.Show.{told_at, fail_members}
 use Rattle.asl_parts.specs.Member.{path_names, path_of}

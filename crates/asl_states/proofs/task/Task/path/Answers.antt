@@ -1,4 +1,4 @@
-use Rattle.std.proofs.Common.{◌≡◌, refl, [], ◌∷◌}
+use Rattle.std.proofs.Common.{refl, [], ◌∷◌}
 use Rattle.std.specs.Prelude.{codes, option_map}
 use Rattle.asl_json.specs.Data.{text}
 use Rattle.asl_members.specs.Shown.{path_shown}

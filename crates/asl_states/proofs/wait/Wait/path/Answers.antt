@@ -1,4 +1,4 @@
-use Rattle.std.proofs.Common.{◌≡◌, refl, [], ◌∷◌}
+use Rattle.std.proofs.Common.{refl, [], ◌∷◌}
 use Rattle.std.specs.Prelude.{codes}
 use Rattle.asl_members.specs.Shown.{path_shown}
 use Rattle.asl_states.specs.Show.{seconds_path_shown, timestamp_path_shown, wait_members}

@@ -1,0 +1,5 @@
+pub mod Clean
+pub mod Effects
+pub mod Runs
+pub mod Sound
+pub mod Reading
