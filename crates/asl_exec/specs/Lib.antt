@@ -3,4 +3,6 @@ pub mod Views
 pub mod RunText
 pub mod Emulations
 pub mod Driving
+pub mod Exchanges
+pub mod ObstacleText
 pub mod Laws

@@ -56,7 +56,7 @@ impl Execution {
     }
 
     /// The step that comes next, with a place of its own. The error is that memory ran out.
-    fn chosen(&self) -> Result<Option<StepAt>, AllocError>
+    pub fn chosen(&self) -> Result<Option<StepAt>, AllocError>
         ensures { IfOk result (λ o. option_map (λ a. (a.place, a.moment)) o
             ≡ chosen (setup_of self.now) (world_of self.now)) }
     {

@@ -34,7 +34,7 @@ fn start_of(alloc: Global, machine: &Machine) -> Result<Name, AllocError>
 }
 
 /// What stays the same as an execution goes on.
-fn facts_of(alloc: Global, setup: &Setup) -> Result<Facts, AllocError>
+pub(crate) fn facts_of(alloc: Global, setup: &Setup) -> Result<Facts, AllocError>
     ensures { IfOk result (λ f. f ≡ facts_of setup.now) }
 {
     Ok(Facts {
@@ -174,7 +174,7 @@ impl Execution {
     }
 
     /// Its world.
-    pub(crate) fn world(&self) -> &World
+    pub fn world(&self) -> &World
         ensures { result.now ≡ world_of self.now }
     {
         &self.world
@@ -187,7 +187,7 @@ impl Execution {
 }
 
 /// The number of the state that the branch at a place is in, and what a step of it does.
-fn planned(
+pub(crate) fn planned(
     alloc: Global,
     machine: &Machine,
     case: &Case,
@@ -224,7 +224,7 @@ fn planned(
 }
 
 /// Whether a state invokes a service, where there is one.
-fn invokes_in(state: Option<&State>) -> bool
+pub(crate) fn invokes_in(state: Option<&State>) -> bool
     ensures { (t : List Named)
         → result ≡ invokes_by (option_map (λ s. state_shown t s.now) state.entry) }
 {
@@ -255,7 +255,10 @@ fn effect_of(
 }
 
 /// The state that a branch is in, and its number; neither where the branch has ended.
-fn state_of<'a>(machine: &'a Machine, current: &Record) -> (Option<usize>, Option<&'a State>)
+pub(crate) fn state_of<'a>(
+    machine: &'a Machine,
+    current: &Record,
+) -> (Option<usize>, Option<&'a State>)
     ensures number { result.0 ≡ number_in machine.now current.now }
     ensures object { option_map (λ s. state_shown (states_of machine.now) s.now) result.1
         ≡ object_in machine.now current.now }

@@ -102,12 +102,44 @@ impl Frame {
         records_of(alloc, self.children())
     }
 
+    /// An equal frame, with equal frames under it. It recurses as deep as machines stand in machines. The error is that memory ran out.
+    #[cycle(copy)]
+    pub fn try_clone(&self, alloc: Global) -> Result<Frame, AllocError>
+        ensures { IfOk result (λ f. f ≡ self.now) }
+    {
+        let place = self.place.try_clone()?;
+        let held = self.held.try_clone(alloc)?;
+        let children = copies(alloc, &self.children)?;
+        Ok(Frame {
+            place,
+            held,
+            at: self.at,
+            under: self.under,
+            children,
+            undone: self.undone,
+            failed: self.failed,
+            resting: self.resting,
+        })
+    }
+
     /// Whether it waits: no child has failed, and some child isn't done.
     pub fn is_busy(&self) -> bool
         ensures { result ≡ is_busy (children_at [] (branches_of self.now)) }
     {
         is_waiting(self.failed, self.undone)
     }
+}
+
+/// Equal frames.
+#[cycle(copy)]
+fn copies(alloc: Global, frames: &[Frame]) -> Result<Vec<Frame>, AllocError>
+    ensures { IfOk result (λ v. v.items ≡ frames.now) }
+{
+    let mut copies = Vec::with_capacity(alloc, frames.len())?;
+    for frame in frames {
+        copies.push(frame.try_clone(alloc)?)?;
+    }
+    Ok(copies)
 }
 
 /// What these frames' branches are doing.

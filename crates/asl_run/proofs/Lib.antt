@@ -3,3 +3,5 @@ pub mod Sound
 pub mod Accepting
 pub mod Picks
 pub mod Doing
+pub mod Earlier
+pub mod Copying

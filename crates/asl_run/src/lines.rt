@@ -71,7 +71,7 @@ fn put_refusal(out: &mut String, refusal: Refusal) -> Result<(), AllocError>
 }
 
 /// Appends `ok`, or why a step was refused. Where memory runs out, a part of it may be there.
-fn put_reply(out: &mut String, reply: Option<Refusal>) -> Result<(), AllocError>
+pub fn put_reply(out: &mut String, reply: Option<Refusal>) -> Result<(), AllocError>
     ensures ok { OnOk result (string_bytes out.new ≡ string_bytes out.old ++ reply_text reply) }
     ensures kept { Keeps (string_bytes out.old) (string_bytes out.new) }
 {

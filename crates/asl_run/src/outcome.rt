@@ -1,7 +1,10 @@
 // Outcomes of executions.
 
+ghost use Rattle.std.specs.Prelude.{◌≡◌, IfOk};
+
 use asl_json::Shared;
 use asl_steps::ErrorOut;
+use std::alloc::{AllocError, Global};
 
 /// How far an execution is. (Step Functions Developer Guide, DescribeExecution, `status`.)
 pub enum Outcome {
@@ -23,6 +26,20 @@ impl Drop for Outcome {
             Outcome::Succeeded(_part) => {}
             Outcome::Failed(_part) => {}
             Outcome::TimedOut => {}
+        }
+    }
+}
+
+impl Outcome {
+    /// An equal outcome, which shares the output. The error is that memory ran out.
+    pub fn try_clone(&self, alloc: Global) -> Result<Outcome, AllocError>
+        ensures { IfOk result (λ o. o ≡ self.now) }
+    {
+        match self {
+            Outcome::Running => Ok(Outcome::Running),
+            Outcome::Succeeded(output) => Ok(Outcome::Succeeded(output.try_clone()?)),
+            Outcome::Failed(error) => Ok(Outcome::Failed(error.try_clone(alloc)?)),
+            Outcome::TimedOut => Ok(Outcome::TimedOut),
         }
     }
 }

@@ -3,7 +3,7 @@
 use asl_time::Moment;
 
 /// Why a step is refused. Of several reasons the first in this order is answered. A refused step changes nothing.
-#[derive(Clone, Copy)]
+#[derive(Clone, Copy, PartialEq, Eq)]
 pub enum Refusal {
     /// S1: the execution has ended.
     Over,

@@ -29,11 +29,11 @@ const FULL: usize = 24_992;
 /// What changes as an execution goes on. Contracts see its world.
 pub struct World {
     pub(crate) root: Frame,
-    counts: Vec<u32>,
-    history: History,
-    last: Moment,
-    deadline: Option<Moment>,
-    outcome: Outcome,
+    pub(crate) counts: Vec<u32>,
+    pub(crate) history: History,
+    pub(crate) last: Moment,
+    pub(crate) deadline: Option<Moment>,
+    pub(crate) outcome: Outcome,
 }
 
 // Written out, so that a caller's proof sees one call and not the drop of each part.

@@ -2,7 +2,7 @@
 use Rattle.std.proofs.Common.{ℕ, zero, suc, ◌≡◌, ◌<◌, ◌+◌, ◌-◌, List, [], ◌∷◌, length, take, drop, get_or, sym, ◌∙◌, ap, arith}
 use Rattle.std.proofs.lemmas.Bool.{eq-eqb, ne_eqb}
 use Rattle.std.proofs.lemmas.List.{take_all, length-drop}
-use Rattle.asl_setup.specs.StepsFile.{lines_in, before_lines}
+use Rattle.asl_setup.specs.FileLines.{lines_in, before_lines}
 
 at_feed : (c : ℕ) (cs : List ℕ) → c ≡ 10 → lines_in (c ∷ cs) ≡ [] ∷ lines_in cs
 at_feed c cs e = rw (eq-eqb c 10 e)

@@ -1,6 +1,7 @@
 mod FileLines
-mod StepLines
-mod StepsRead
+pub mod StepLines
+pub mod LinesRead
 pub mod OneReading
 pub mod Refusing
 pub mod OneRun
+mod Alike

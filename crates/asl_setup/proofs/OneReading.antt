@@ -11,7 +11,9 @@ use Rattle.asl_history.specs.Places.{IsPlace, EndsNumber, steps_text, place_text
 use Rattle.asl_history.proofs.Numerals.{ends_here}
 use Rattle.asl_history.proofs.Steps.{root_only}
 use Rattle.asl_setup.specs.declared.step_at.StepAt.{StepAt}
-use Rattle.asl_setup.specs.StepsFile.{lines_in, IsStepLine, AreSteps, IsStepsFile}
+use Rattle.asl_setup.specs.FileLines.{lines_in}
+use Rattle.asl_setup.specs.StepsFile.{IsStepLine, IsStepsFile}
+use Rattle.asl_setup.proofs.LinesRead.{one_list}
 use Rattle.asl_setup.proofs.StepLines.{first_small, others_small, AreAbove, AreAbove-place}
 
 -- ---- a text is a timestamp of one moment
@@ -70,7 +72,7 @@ one_steps (n ∷ ns) (m ∷ ms) h k e =
     let others : ns ≡ ms = one_steps ns ms (others_small n ns h) (others_small m ms k) one.1 in
     cc
 
-one_place : (p q : List ℕ) → IsPlace p → IsPlace q → place_text p ≡ place_text q → p ≡ q
+pub one_place : (p q : List ℕ) → IsPlace p → IsPlace q → place_text p ≡ place_text q → p ≡ q
 one_place [] q h k e = root_only (47 ∷ []) q refl k e
 one_place (n ∷ ns) [] h k e = sym (root_only (47 ∷ []) (n ∷ ns) refl h (sym e))
 one_place (n ∷ ns) (m ∷ ms) h k e = one_steps (n ∷ ns) (m ∷ ms) h k e
@@ -88,23 +90,12 @@ one_cut (c ∷ a) (d ∷ b) x y h k e =
     let front : a ≡ b = one.0 in
     (cc, one.1)
 
-one_step : (line : List ℕ) (s u : StepAt) → IsStepLine line s → IsStepLine line u → s ≡ u
+pub one_step : (line : List ℕ) (s u : StepAt) → IsStepLine line s → IsStepLine line u → s ≡ u
 one_step line s u h k =
     let cut = one_cut (place_text s.place) (place_text u.place) h.stamp k.stamp (AreAbove-place s.place h.place_in) (AreAbove-place u.place k.place_in) (sym h.text ∙ k.text) in
     let place = one_place s.place u.place h.place_in k.place_in cut.0 in
     let moment = one_moment k.stamp s.moment u.moment (rw cut.1 at h.stamp_is) k.stamp_is in
     λ i. record { place = place i; moment = moment i }
 
-one_list : (lines : List (List ℕ)) (ss us : List StepAt) → AreSteps lines ss → AreSteps lines us → ss ≡ us
-one_list [] [] [] h k = refl
-one_list [] [] (u ∷ us) h k = absurd k
-one_list [] (s ∷ ss) us h k = absurd h
-one_list (line ∷ lines) [] us h k = absurd h
-one_list (line ∷ lines) (s ∷ ss) [] h k = absurd k
-one_list (line ∷ lines) (s ∷ ss) (u ∷ us) h k =
-    let first = one_step line s u h.0 k.0 in
-    let others = one_list lines ss us h.1 k.1 in
-    λ i. first i ∷ others i
-
 pub one_reading : (bytes : List ℕ) (ss us : List StepAt) → IsStepsFile bytes ss → IsStepsFile bytes us → ss ≡ us
-one_reading bytes ss us h k = one_list (lines_in bytes) ss us h k
+one_reading bytes ss us h k = one_list IsStepLine one_step (lines_in bytes) ss us h k

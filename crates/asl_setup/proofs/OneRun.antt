@@ -30,13 +30,14 @@ use Rattle.asl_setup.specs.declared.fault.EmulateFault.{EmulateFault}
 use Rattle.asl_setup.specs.declared.fault.EmulateFault.TheVariants.{Definition, Mocks, Case, Input, StepLine, OutOfMemory}
 use Rattle.asl_setup.specs.declared.step_at.StepAt.{StepAt}
 use Rattle.asl_setup.specs.Chosen.{case_chosen, IsCaseOf, IsLost}
-use Rattle.asl_setup.specs.StepsFile.{AreSteps, IsStepLine, IsFirstBadLine, lines_in}
+use Rattle.asl_setup.specs.StepsFile.{IsStepLine, IsStepsFile}
 use Rattle.asl_setup.specs.Texts.{IsDefinitionFault, IsBadDefinition, IsMockFault, AreBadMocks, IsBadCase, IsBadInput, AreBadSteps}
+use Rattle.asl_setup.proofs.LinesRead.{no_bad_line}
 use Rattle.asl_setup.specs.Emulations.{AreSetupTextsOf, AreTextsOf, IsSetupRefused, by_definition, by_mocks, by_case, by_input, IsRefused, by_setup, by_steps}
 
 -- ---- a JSON text
 
-one_value : (b : List ℕ) (v w : Data) → ReadsAs b v → ReadsAs b w → v ≡ w
+pub one_value : (b : List ℕ) (v w : Data) → ReadsAs b v → ReadsAs b w → v ≡ w
 one_value b v w h g = same_value b v w (text_read true v b h.reads.0 h.reads.1) g.reads
 
 no_fault : (b : List ℕ) (v : Data) (f : JsonFault) → ReadsAs b v → IsTextFault b f → ⊥
@@ -134,17 +135,8 @@ input_is_good b v (Case e) h bad = bad
 input_is_good b v (StepLine n) h bad = bad
 input_is_good b v OutOfMemory h bad = bad
 
-spelled_too : (before : List (List ℕ)) (bad : List ℕ) (after : List (List ℕ)) (ss : List StepAt) → AreSteps (before ++ bad ∷ after) ss → ((s : StepAt) → IsStepLine bad s → ⊥) → ⊥
-spelled_too [] bad after [] h none = h
-spelled_too [] bad after (s ∷ ss) h none = none s h.0
-spelled_too (b ∷ before) bad after [] h none = h
-spelled_too (b ∷ before) bad after (s ∷ ss) h none = spelled_too before bad after ss h.1 none
-
-no_bad_line : (b : List ℕ) (ss : List StepAt) (n : ℕ) → AreSteps (lines_in b) ss → IsFirstBadLine b n → ⊥
-no_bad_line b ss n h bad = spelled_too bad.before bad.bad bad.after ss (subst (λ (ls : List (List ℕ)). AreSteps ls ss) bad.split h) bad.none
-
-steps_are_good : (b : List ℕ) (ss : List StepAt) (f : EmulateFault) → AreSteps (lines_in b) ss → AreBadSteps b f → ⊥
-steps_are_good b ss (StepLine n) h bad = no_bad_line b ss n h bad
+steps_are_good : (b : List ℕ) (ss : List StepAt) (f : EmulateFault) → IsStepsFile b ss → AreBadSteps b f → ⊥
+steps_are_good b ss (StepLine n) h bad = no_bad_line IsStepLine b ss n h bad
 steps_are_good b ss (Definition e) h bad = bad
 steps_are_good b ss (Mocks e) h bad = bad
 steps_are_good b ss (Case e) h bad = bad

@@ -45,7 +45,7 @@ offset_ascii ahead t (utc e z) = rw e (IsAscii-cons 90 [] (omega arith) IsAscii-
 offset_ascii ahead t (plus minutes h z) = numeric_ascii 43 minutes t (omega arith) h
 offset_ascii ahead t (minus minutes h z) = numeric_ascii 45 minutes t (omega arith) h
 
-stamp_ascii : (t : List ℕ) (m : ℕ) → IsTimestamp t m → IsAscii t
+pub stamp_ascii : (t : List ℕ) (m : ℕ) → IsTimestamp t m → IsAscii t
 stamp_ascii t m h =
     let front = IsAscii-append (to_the_second h.shown) (secfrac h.fraction) (second_ascii t m h) (secfrac_ascii h.fraction h.fraction_digits) in
     rw h.text (IsAscii-append _ h.zone front (offset_ascii h.ahead h.zone h.zone_offset))
@@ -64,7 +64,7 @@ steps_ascii (n ∷ ns) h =
     let small = first_small n ns h in
     IsAscii-cons 47 _ (omega arith) (IsAscii-append (decimal n) (steps_text ns) (IsAscii-decimal n (omega arith)) (steps_ascii ns (others_small n ns h)))
 
-place_ascii : (p : List ℕ) → IsPlace p → IsAscii (place_text p)
+pub place_ascii : (p : List ℕ) → IsPlace p → IsAscii (place_text p)
 place_ascii [] h = IsAscii-cons 47 [] (omega arith) IsAscii-nil
 place_ascii (n ∷ ns) h = steps_ascii (n ∷ ns) h
 

@@ -20,7 +20,8 @@ use Rattle.asl_setup.specs.declared.fault.EmulateFault.TheVariants.{Definition, 
 use Rattle.asl_setup.specs.declared.setup.Setup.{Setup}
 use Rattle.asl_setup.specs.declared.step_at.StepAt.{StepAt}
 use Rattle.asl_setup.specs.Chosen.{machine_name, execution_name, case_chosen, IsLost}
-use Rattle.asl_setup.specs.StepsFile.{IsFirstBadLine}
+use Rattle.asl_setup.specs.FileLines.{IsFirstBadLine}
+use Rattle.asl_setup.specs.StepsFile.{IsStepLine}
 
 -- ---- what they spell
 
@@ -87,7 +88,7 @@ IsBadInput b (Input f) = IsTextFault b f
 IsBadInput b _ = ⊥
 
 abbrev pub AreBadSteps : List ℕ → EmulateFault → Type 0
-AreBadSteps b (StepLine n) = IsFirstBadLine b n
+AreBadSteps b (StepLine n) = IsFirstBadLine IsStepLine b n
 AreBadSteps b _ = ⊥
 
 -- this is why, unless memory ran out

@@ -18,4 +18,6 @@ pub use fault::EmulateFault;
 pub use laws::texts_spell_one_run;
 pub use setup::Setup;
 pub use step_at::StepAt;
-pub use steps_file::{StepsFault, files_spell_one_list_of_steps, read_steps};
+pub use steps_file::{
+    StepsFault, files_spell_one_list_of_steps, read_step, read_steps, split_line,
+};

@@ -2,7 +2,8 @@
 ghost use Rattle.std.specs.Prelude.{◌≡◌, ◌<◌, ◌∷◌, List, ℕ, length, IfOk, IfErr, IfSome, MatchResult};
 ghost use Rattle.asl_setup.specs.declared.step_at.StepAt.{StepAt};
 ghost use Rattle.asl_setup.specs.declared.steps_file.StepsFault.TheVariants.{OutOfMemory};
-ghost use Rattle.asl_setup.specs.StepsFile.{IsStepLine, IsStepsFile, IsStepsFault, lines_in};
+ghost use Rattle.asl_setup.specs.FileLines.{lines_in};
+ghost use Rattle.asl_setup.specs.StepsFile.{IsStepLine, IsStepsFile, IsStepsFault};
 
 use crate::step_at::StepAt;
 use asl_history::Place;
@@ -42,7 +43,7 @@ impl From<AllocFailed<StepAt>> for StepsFault {
 }
 
 /// The first line, without its line feed, and what follows it.
-fn split_line(bytes: &[u8]) -> (&[u8], &[u8])
+pub fn split_line(bytes: &[u8]) -> (&[u8], &[u8])
     requires { 0 < length bytes.now }
     ensures lines { lines_in bytes.now ≡ result.0.now ∷ lines_in result.1.now }
     ensures shorter { length result.1.now < length bytes.now }
@@ -54,7 +55,7 @@ fn split_line(bytes: &[u8]) -> (&[u8], &[u8])
 }
 
 /// The step that a line spells, and `None` for every other line. The error is that memory ran out.
-fn read_step(alloc: Global, line: &[u8]) -> Result<Option<StepAt>, AllocError>
+pub fn read_step(alloc: Global, line: &[u8]) -> Result<Option<StepAt>, AllocError>
     ensures found { IfOk result (λ o. IfSome o (IsStepLine line.now)) }
     ensures only { IfOk result (λ o. (s : StepAt) → IsStepLine line.now s → o ≡ Some s) }
 {
