@@ -13,7 +13,9 @@ answer_help() { # the words; fails where no help is stored for them
     '1 --help' | '1 -h' | '1 help') cat "$help/asl.txt" ;;
     '2 check --help' | '2 check -h' | '2 help check') cat "$help/check.txt" ;;
     '2 print --help' | '2 print -h' | '2 help print') cat "$help/print.txt" ;;
+    '2 upgrade --help' | '2 upgrade -h' | '2 help upgrade') cat "$help/upgrade.txt" ;;
     '2 run --help' | '2 run -h' | '2 help run') cat "$help/run.txt" ;;
+    '2 debug --help' | '2 debug -h' | '2 help debug') cat "$help/debug.txt" ;;
     '1 --version' | '1 -V') cat "$help/version.txt" ;;
     *) return 1 ;;
   esac
@@ -43,7 +45,7 @@ run_sources() { # the words
   trap 'rm -rf "$room"' EXIT
   words=() files=()
   for word in "$@"; do hand_in "$word"; done
-  (cd "$crate" && rt try "${files[@]}" -- "${words[@]}") > "$room/out" 2> "$room/err" < /dev/null || true
+  (cd "$crate" && rt try "${files[@]}" -- "${words[@]}") > "$room/out" 2> "$room/err" || true
   last=$(tail -n 1 "$room/err")
   if ! [[ $last =~ ^run=ended\ status=([0-9]+)\  ]]; then
     cat "$room/err" >&2
@@ -66,6 +68,10 @@ fi
 if answer_help "$@"; then exit; fi
 if [ $# = 0 ]; then
   cat "$top/tools/help/none.txt" >&2
+  exit 2
+fi
+if [ "$1 $#" = 'debug 5' ] && [ -t 0 ]; then
+  echo "asl: $why: a session needs the built program; tools/build proves and builds it" >&2
   exit 2
 fi
 if ! command -v rt > /dev/null; then

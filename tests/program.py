@@ -28,8 +28,8 @@ def run_program(*words):
 class ProgramTest(unittest.TestCase):
     maxDiff = None
 
-    def run_texts(self, definition, mocks, chosen, given, steps):
-        """What the program does for the texts of a run; without a text of steps it drives the run itself."""
+    def on_texts(self, command, definition, mocks, chosen, given, last=None, before=()):
+        """What a command does for the texts of an execution and a last text, if it has one. Before the file of that one stand these words."""
         with tempfile.TemporaryDirectory(prefix="asl-test-") as room:
 
             def file(name, text):
@@ -38,8 +38,12 @@ class ProgramTest(unittest.TestCase):
                     out.write(text if isinstance(text, bytes) else text.encode())
                 return path
 
-            words = ["run", file("definition", definition), file("mocks", mocks), chosen, file("input", given)]
-            return run_program(*words, *(["--steps", file("steps", steps)] if steps is not None else []))
+            words = [command, file("definition", definition), file("mocks", mocks), chosen, file("input", given)]
+            return run_program(*words, *([*before, file("last", last)] if last is not None else []))
+
+    def run_texts(self, definition, mocks, chosen, given, steps):
+        """What the program does for the texts of a run; without a text of steps it drives the run itself."""
+        return self.on_texts("run", definition, mocks, chosen, given, steps, ["--steps"])
 
     def told(self, definition, given="{}", steps=None, mocks="{}", chosen="M"):
         """What a run prints. Its status is 0 just if the execution succeeds."""

@@ -27,6 +27,74 @@ STEPPED = "step / ok\nstep / ok\n" + DRIVEN.replace("1970", "2024")
 # A mock file with the case `c` of `M`.
 MOCKS = '{"StateMachines":{"M":{"TestCases":{"c":{"T":"r"}}}},"MockedResponses":{"r":{"0":{"Return":1}}}}'
 
+# A script with a command of each kind, and what `debug` prints for it.
+SCRIPT = """\
+break "S"
+break "T"
+step / 2024-01-01T00:00:00Z
+step / 2023-01-01T00:00:00Z
+show /
+resume /
+resume /
+step /0 2024-01-01T00:00:00Z
+step / 2024-01-01T00:00:00Z
+back 3
+back 001
+clear "S"
+clear "S"
+show /1
+"""
+
+DEBUGGED = """\
+set
+NoSuchState
+ok
+paused "S"
+shown ["Ready","S",{"a":{"b":7}}]
+resumed
+NotPaused
+S2 NoSuchPlace
+ok
+TooFar
+back 1
+cleared
+NoSuchState
+NoSuchPlace
+1 0 2024-01-01T00:00:00.000Z / ExecutionStarted "" {}
+2 1 2024-01-01T00:00:00.000Z / PassStateEntered "P" {}
+3 2 2024-01-01T00:00:00.000Z / PassStateExited "P" {"a":{"b":7}}
+status RUNNING
+"""
+
+# Scripts, and the number of the first line that is no command.
+BAD_SCRIPTS = [
+    ("jump\n", 1),
+    ("step / 2024-01-01T00:00:00Z\njump", 2),
+    ("\n", 1),
+    ("show /\n\n", 2),
+    ("show /\r\n", 1),
+    ("show  /", 1),
+    ("show / ", 1),
+    ("show", 1),
+    ("Show /", 1),
+    ("show 1", 1),
+    ("resume /01", 1),
+    ("step /", 1),
+    ("step / 2024-01-01", 1),
+    ("break S", 1),
+    ('break  "S"', 1),
+    ('break "S" ', 1),
+    ('break "S', 1),
+    ("break 5", 1),
+    ("clear []", 1),
+    ("back", 1),
+    ("back ", 1),
+    ("back -1", 1),
+    ("back +1", 1),
+    ("back 1.0", 1),
+    ("back 1000000000", 1),
+]
+
 # Definitions, and what `check` and `print` print or tell of each.
 JUDGED = [
     (DEFINITION, "ok\n", DEFINITION + "\n"),
@@ -59,8 +127,10 @@ HELPS = [
     (["--help"], "Usage: asl <COMMAND>"),
     (["check", "--help"], "Usage: asl check <DEF>"),
     (["print", "--help"], "Usage: asl print <DEF>"),
+    (["upgrade", "--help"], "Usage: asl upgrade <DEF>"),
     (["help"], "Usage: asl <COMMAND>"),
     (["run", "--help"], "Usage: asl run [OPTIONS] <DEF> <MOCKS> <CHOSEN> <INPUT>"),
+    (["debug", "--help"], "Usage: asl debug <DEF> <MOCKS> <CHOSEN> <INPUT> [SCRIPT]"),
     (["--version"], "asl 0.1.0"),
 ]
 
@@ -69,9 +139,15 @@ WRONG = [
     ([], "requires a subcommand", True),
     (["check"], "<DEF>", True),
     (["print"], "<DEF>", True),
+    (["upgrade"], "<DEF>", True),
+    (["upgrade", "machine", "other"], "unexpected argument 'other'", True),
     (["walk"], "unrecognized subcommand 'walk'", True),
     (["run", "machine", "mocks", "M", "--steps", "steps"], "<INPUT>", True),
     (["run", "machine", "mocks", "M", "input", "--steps"], "a value is required for '--steps <FILE>'", False),
+    (["debug"], "<DEF>", True),
+    (["debug", "machine", "mocks", "M"], "<INPUT>", True),
+    (["debug", "machine", "mocks", "M", "input", "script", "other"], "unexpected argument 'other'", True),
+    (["debug", "machine", "mocks", "M", "input", "script", "--steps", "steps"], "unexpected argument '--steps'", True),
 ]
 
 
@@ -86,6 +162,7 @@ class CommandTest(ProgramTest):
         self.room = room.name
         self.files = [self.file("machine", DEFINITION), self.file("mocks", MOCKS), "M", self.file("input", "{}")]
         self.steps = ["--steps", self.file("steps", TWO_STEPS)]
+        self.script = self.file("script", SCRIPT)
 
     def file(self, name, text):
         path = os.path.join(self.room, name)
@@ -107,25 +184,79 @@ class CommandTest(ProgramTest):
         for text, judged, printed in JUDGED:
             with self.subTest(text):
                 self.file("machine", text)
-                for command, told in [("check", judged), ("print", printed or judged)]:
+                for command, told in [("check", judged), ("print", printed or judged), ("upgrade", printed or judged)]:
                     self.assert_ran([command, self.files[0]], 0 if printed else 2, told if printed else "", "" if printed else told)
+
+    def test_a_script_is_carried_out(self):
+        self.assert_ran(["debug", *self.files, self.script], 0, DEBUGGED, "")
+        self.assert_ran(["debug", *self.files[:2], "M#c", self.files[3], self.script], 0, DEBUGGED, "")
+
+    def test_a_script_of_no_commands(self):
+        # Nothing is run, and the execution starts at the epoch.
+        out = '1 0 1970-01-01T00:00:00.000Z / ExecutionStarted "" {}\nstatus RUNNING\n'
+        self.assert_ran(["debug", *self.files, self.file("empty", "")], 0, out, "")
+
+    def test_debugging_is_0_whatever_the_execution_did(self):
+        step = "step / 2024-01-01T00:00:00Z\n"
+        self.file("script", step + step)
+        self.assert_ran(["debug", *self.files, self.script], 0, "ok\nok\n" + DRIVEN.replace("1970", "2024"), "")
+        self.file("machine", '{"StartAt":"F","States":{"F":{"Type":"Fail","Error":"E"}}}')
+        ran = run_program("debug", *self.files, self.script)
+        self.assertEqual((ran.returncode, ran.stdout.splitlines()[:2], ran.stdout.splitlines()[-1]), (0, ["ok", "S1 Over"], 'status FAILED {"Error":"E"}'))
+
+    def test_a_line_that_is_no_command_is_refused(self):
+        for script, line in BAD_SCRIPTS:
+            with self.subTest(script):
+                self.file("script", script)
+                self.assert_ran(["debug", *self.files, self.script], 2, "", f"fault: script: E2 ScriptLine {line}\n")
+
+    def test_debugging_is_refused_for_the_first_text(self):
+        # One text after another is mended, in the order in which they are judged.
+        self.file("script", "jump")
+        self.file("input", "")
+        self.file("mocks", "[")
+        self.file("machine", "{")
+        chosen = "M#none"
+        for told, name, text in [
+            ("definition: F1 Json J1 Syntax 1", "machine", DEFINITION),
+            ("mocks: M1 Json J1 Syntax 1", "mocks", MOCKS),
+            ("case: M8 NoCase", None, "M"),
+            ("input: J1 Syntax 0", "input", "{}"),
+            ("script: E2 ScriptLine 1", "script", SCRIPT),
+        ]:
+            self.assert_ran(["debug", *self.files[:2], chosen, self.files[3], self.script], 2, "", f"fault: {told}\n")
+            if name:
+                self.file(name, text)
+            else:
+                chosen = text
+        self.assert_ran(["debug", *self.files, self.script], 0, DEBUGGED, "")
 
     def test_a_file_that_cannot_be_read_is_refused(self):
         none = os.path.join(self.room, "none")
         for at in (0, 1, 3):
             self.assert_ran(["run", *self.files[:at], none, *self.files[at + 1 :]], 2, "", f"fault: file {none}\n")
         self.assert_ran(["run", *self.files, "--steps", none], 2, "", f"fault: file {none}\n")
+        for at in (0, 1, 3, 4):
+            words = [*self.files, self.script]
+            self.assert_ran(["debug", *words[:at], none, *words[at + 1 :]], 2, "", f"fault: file {none}\n")
         self.assert_ran(["check", none], 2, "", f"fault: file {none}\n")
+        self.assert_ran(["upgrade", none], 2, "", f"fault: file {none}\n")
+
+    def test_a_file_that_cannot_be_read_comes_before_a_text_that_is_refused(self):
+        none = os.path.join(self.room, "none")
+        self.file("machine", "{")
+        self.assert_ran(["run", *self.files, "--steps", none], 2, "", f"fault: file {none}\n")
+        self.assert_ran(["debug", *self.files, none], 2, "", f"fault: file {none}\n")
 
     def test_files_are_read_in_their_order(self):
         # Of two that can't be read the first one is told.
         names = [os.path.join(self.room, f"none{number}") for number in range(4)]
-        words = [*self.files[:2], "M", self.files[3], "--steps", self.steps[1]]
-        for first, at in enumerate([0, 1, 3, 5]):
-            for second, other in enumerate([0, 1, 3, 5]):
-                if first < second:
-                    lacking = [names[first] if it == at else names[second] if it == other else word for it, word in enumerate(words)]
-                    self.assert_ran(["run", *lacking], 2, "", f"fault: file {names[first]}\n")
+        for words, places in [(["run", *self.files, *self.steps], [1, 2, 4, 6]), (["debug", *self.files, self.script], [1, 2, 4, 5])]:
+            for first, at in enumerate(places):
+                for second, other in enumerate(places):
+                    if first < second:
+                        lacking = [names[first] if it == at else names[second] if it == other else word for it, word in enumerate(words)]
+                        self.assert_ran(lacking, 2, "", f"fault: file {names[first]}\n")
 
     def test_files_have_at_most_16777216_bytes(self):
         longest = self.file("longest", 16_777_216 * " ")
@@ -158,6 +289,10 @@ class CommandTest(ProgramTest):
         for room in (0, 5, len(STEPPED) - 1, len(STEPPED)):
             told = self.written(room, "stdout", ["run", *self.files, *self.steps])
             self.assertEqual(told, (0 if room == len(STEPPED) else 2, STEPPED[:room]))
+        for room in (0, len(DEBUGGED) - 1, len(DEBUGGED)):
+            told = self.written(room, "stdout", ["debug", *self.files, self.script])
+            self.assertEqual(told, (0 if room == len(DEBUGGED) else 2, DEBUGGED[:room]))
+        self.assertEqual(self.written(9, "stdout", ["upgrade", self.files[0]]), (2, DEFINITION[:9]))
         self.file("machine", "{")
         self.assertEqual(self.written(3, "stderr", ["check", self.files[0]]), (2, "fau"))
 

@@ -3,7 +3,8 @@
 #![tactic(auto)]
 
 use asl_cli::{refuse_words, run_words};
-use asl_host::{HostFiles, Stream, given};
+use asl_host::{HostFiles, Stream, Typed, given, tell_fault};
+use std::io::{BufReader, IsTerminal};
 use std::process::ExitCode;
 use std::thread::Builder;
 
@@ -17,8 +18,25 @@ fn program(rt: HostRuntime) -> u8 {
     let mut out = Stream::new(rt.stdout());
     let mut err = Stream::new(rt.stderr());
     let mut files = HostFiles::new(&rt);
+    let Ok(reader) = BufReader::new(alloc, rt.stdin()) else {
+        tell_fault(&mut err, "OutOfMemory");
+        return 2;
+    };
+    let prompt = if rt.stdin().is_terminal() {
+        Some(rt.stderr())
+    } else {
+        None
+    };
+    let mut input = Typed::new(reader, prompt);
     match given(&rt) {
-        Ok(words) => run_words(alloc, words.as_slice(), &mut files, &mut out, &mut err),
+        Ok(words) => run_words(
+            alloc,
+            words.as_slice(),
+            &mut files,
+            &mut input,
+            &mut out,
+            &mut err,
+        ),
         Err(fault) => refuse_words(alloc, fault, &mut err),
     }
 }

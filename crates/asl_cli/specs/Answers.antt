@@ -1,51 +1,100 @@
 -- What the program does: what it writes to its two sinks, and the status that it ends with. A sink
--- is seen by what it has taken and
--- how often it has failed, before and after.
-use Rattle.std.specs.Prelude.{ℕ, Bool, List, [], ◌∷◌, ◌++◌, ◌≡◌, ◌⊎◌, codes}
+-- is seen by what it has taken and how often it has failed, before and after.
+use Rattle.std.specs.Prelude.{ℕ, Bool, List, [], ◌∷◌, ◌++◌, ◌≡◌, ◌⊎◌, Option, Some, None, codes}
+use Rattle.asl_setup.specs.declared.setup.Setup.{Setup}
+use Rattle.asl_console.specs.Answers.{first_console}
 use Rattle.asl_cli.specs.declared.fault.CommandFault.{CommandFault}
 use Rattle.asl_host.specs.declared.words.DefinitionWords.{DefinitionWords}
+use Rattle.asl_host.specs.declared.words.SetupWords.{SetupWords}
 use Rattle.asl_host.specs.declared.words.RunWords.{RunWords}
+use Rattle.asl_host.specs.declared.words.DebugWords.{DebugWords}
 use Rattle.asl_host.specs.Outcomes.{status_of, fault_line, IsPrinted, IsTold}
-use Rattle.asl_cli.specs.Faults.{IsEmulated, IsReason, IsJudged, IsForm, IsDefinitionReason, Tells}
+use Rattle.asl_cli.specs.Faults.{IsEmulated, IsReason, script_name, IsBegun, IsOpeningReason, IsDebugText, IsDebugReason, IsJudged, IsForm, IsNewerForm, IsDefinitionReason, Tells}
+use Rattle.asl_cli.specs.Talking.{IsConversed}
 
--- the run of these words: what was emulated was printed and gave its status, or a fault was told
--- and the status is 2
+-- a command was done: a text that it may print was printed and gave its status, or a fault was told
+-- for which it may be refused, and the status is 2
+abbrev pub IsDone : {O E : Type 0} → (O → List ℕ) → (O → ℕ) → (E → List ℕ) → (E → ℕ)
+    → (List ℕ → ℕ → Type 0) → (CommandFault → Type 0) → O → O → E → E → ℕ → Type 0
+IsDone out_taken out_failures err_taken err_failures prints refuses out out_after err err_after
+    status =
+    ((text : List ℕ) × (wanted : ℕ) × prints text wanted × (err_after ≡ err)
+    × IsPrinted out_taken out_failures out out_after text wanted status)
+    ⊎ ((r : CommandFault) × (t : List ℕ) × refuses r × Tells r t
+    × (out_after ≡ out) × (status ≡ 2) × IsTold err_taken err_failures err err_after (fault_line t))
+
+-- the run of these words: what was emulated was printed, and the status is that of its success
 abbrev pub IsRan : {O E : Type 0} → (O → List ℕ) → (O → ℕ) → (E → List ℕ) → (E → ℕ)
     → (List ℕ → List ℕ → Type 0) → (List ℕ → Type 0)
     → RunWords → O → O → E → E → ℕ → Type 0
-IsRan out_taken out_failures err_taken err_failures gives lacks w out out_after err err_after
-    status =
-    ((text : List ℕ) × (good : Bool) × IsEmulated gives w text good
-    × (err_after ≡ err)
-    × IsPrinted out_taken out_failures out out_after text (status_of good) status)
-    ⊎ ((r : CommandFault) × (t : List ℕ) × IsReason gives lacks w r × Tells r t
+IsRan out_taken out_failures err_taken err_failures gives lacks w =
+    IsDone out_taken out_failures err_taken err_failures
+    (λ text status. (good : Bool) × IsEmulated gives w text good × (status ≡ status_of good))
+    (IsReason gives lacks w)
+
+-- a session was opened for these words, and its lines were answered; or it wasn't, which was told
+abbrev pub IsTyped : {I O E : Type 0} → (I → List ℕ) → (O → List ℕ) → (O → ℕ) → (E → List ℕ)
+    → (E → ℕ) → (List ℕ → List ℕ → Type 0) → (List ℕ → Type 0)
+    → SetupWords → I → I → O → O → E → E → ℕ → Type 0
+IsTyped given out_taken out_failures err_taken err_failures gives lacks w input input_after out
+    out_after err err_after status =
+    ((s : Setup) × IsBegun gives w s
+    × IsConversed given out_taken out_failures err_taken err_failures (first_console s) input
+    input_after out out_after err err_after status)
+    ⊎ ((r : CommandFault) × (t : List ℕ) × IsOpeningReason gives lacks w r × Tells r t
     × (out_after ≡ out) × (status ≡ 2) × IsTold err_taken err_failures err err_after (fault_line t))
 
--- the check of these words: a definition was passed and `ok` was printed, or a fault was told and
--- the status is 2
+abbrev pub IsDebuggedBy : {I O E : Type 0} → (I → List ℕ) → (O → List ℕ) → (O → ℕ) → (E → List ℕ)
+    → (E → ℕ) → (List ℕ → List ℕ → Type 0) → (List ℕ → Type 0)
+    → SetupWords → Option (List ℕ) → I → I → O → O → E → E → ℕ → Type 0
+IsDebuggedBy given out_taken out_failures err_taken err_failures gives lacks w None input
+    input_after out out_after err err_after status =
+    IsTyped given out_taken out_failures err_taken err_failures gives lacks w input input_after out
+    out_after err err_after status
+IsDebuggedBy given out_taken out_failures err_taken err_failures gives lacks w (Some name) input
+    input_after out out_after err err_after status =
+    IsDone out_taken out_failures err_taken err_failures
+    (λ text wanted. IsDebugText gives w name text × (wanted ≡ 0))
+    (IsDebugReason gives lacks w name) out out_after err err_after status
+
+-- the debugging of these words: the text of the run by the script was printed; without a script,
+-- lines were answered
+abbrev pub IsDebugged : {I O E : Type 0} → (I → List ℕ) → (O → List ℕ) → (O → ℕ) → (E → List ℕ)
+    → (E → ℕ) → (List ℕ → List ℕ → Type 0) → (List ℕ → Type 0)
+    → DebugWords → I → I → O → O → E → E → ℕ → Type 0
+IsDebugged given out_taken out_failures err_taken err_failures gives lacks w =
+    IsDebuggedBy given out_taken out_failures err_taken err_failures gives lacks w.setup
+    (script_name w)
+
+-- the check of these words: a definition was passed and `ok` was printed
 abbrev pub IsChecked : {O E : Type 0} → (O → List ℕ) → (O → ℕ) → (E → List ℕ) → (E → ℕ)
     → (List ℕ → List ℕ → Type 0) → (List ℕ → Type 0)
     → DefinitionWords → O → O → E → E → ℕ → Type 0
-IsChecked out_taken out_failures err_taken err_failures gives lacks w out out_after err err_after
-    status =
-    (IsJudged gives w × (err_after ≡ err)
-    × IsPrinted out_taken out_failures out out_after (codes "ok" ++ 10 ∷ []) 0 status)
-    ⊎ ((r : CommandFault) × (t : List ℕ) × IsDefinitionReason gives lacks w r × Tells r t
-    × (out_after ≡ out) × (status ≡ 2) × IsTold err_taken err_failures err err_after (fault_line t))
+IsChecked out_taken out_failures err_taken err_failures gives lacks w =
+    IsDone out_taken out_failures err_taken err_failures
+    (λ text status. IsJudged gives w × (text ≡ codes "ok" ++ 10 ∷ []) × (status ≡ 0))
+    (IsDefinitionReason gives lacks w)
 
--- the print of these words: a canonical form was printed, or a fault was told and the status is 2
+-- the print of these words: a canonical form was printed
 abbrev pub IsFormPrinted : {O E : Type 0} → (O → List ℕ) → (O → ℕ) → (E → List ℕ) → (E → ℕ)
     → (List ℕ → List ℕ → Type 0) → (List ℕ → Type 0)
     → DefinitionWords → O → O → E → E → ℕ → Type 0
-IsFormPrinted out_taken out_failures err_taken err_failures gives lacks w out out_after err
-    err_after status =
-    ((text : List ℕ) × IsForm gives w text × (err_after ≡ err)
-    × IsPrinted out_taken out_failures out out_after text 0 status)
-    ⊎ ((r : CommandFault) × (t : List ℕ) × IsDefinitionReason gives lacks w r × Tells r t
-    × (out_after ≡ out) × (status ≡ 2) × IsTold err_taken err_failures err err_after (fault_line t))
+IsFormPrinted out_taken out_failures err_taken err_failures gives lacks w =
+    IsDone out_taken out_failures err_taken err_failures
+    (λ text status. IsForm gives w text × (status ≡ 0))
+    (IsDefinitionReason gives lacks w)
 
--- an answer to words that ask for no run, no check and no print: help was printed, or something was
--- told and the status is 2
+-- the upgrade of these words: a canonical form in the newer spelling was printed
+abbrev pub IsUpgraded : {O E : Type 0} → (O → List ℕ) → (O → ℕ) → (E → List ℕ) → (E → ℕ)
+    → (List ℕ → List ℕ → Type 0) → (List ℕ → Type 0)
+    → DefinitionWords → O → O → E → E → ℕ → Type 0
+IsUpgraded out_taken out_failures err_taken err_failures gives lacks w =
+    IsDone out_taken out_failures err_taken err_failures
+    (λ text status. IsNewerForm gives w text × (status ≡ 0))
+    (IsDefinitionReason gives lacks w)
+
+-- an answer to words that ask for no command: help was printed, or something was told and the status
+-- is 2
 abbrev pub IsAnswered : {O E : Type 0} → (O → List ℕ) → (O → ℕ) → (E → List ℕ) → (E → ℕ) → O → O → E
     → E → ℕ → Type 0
 IsAnswered out_taken out_failures err_taken err_failures out out_after err err_after status =

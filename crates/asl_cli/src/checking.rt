@@ -3,8 +3,9 @@ ghost use Rattle.std.specs.Prelude.{IfOk, IfErr};
 ghost use Rattle.asl_cli.specs.Answers.{IsChecked};
 ghost use Rattle.asl_cli.specs.Faults.{IsAccepted, IsDefinitionReason};
 
-use crate::command::{REFUSED, print_good, read_file};
+use crate::command::{REFUSED, print_good};
 use crate::fault::CommandFault;
+use crate::reading::read_file;
 use asl_check::{Fault, accept};
 use asl_def::Machine;
 use asl_history::Sink;

@@ -1,17 +1,20 @@
 // The program behind its words, files and streams.
 ghost use Rattle.std.specs.Prelude.{◌≡◌, ◌⊎◌, List, ℕ, Some, None, string_bytes, IfOk, IfErr};
-ghost use Rattle.asl_cli.specs.Answers.{IsRan, IsChecked, IsFormPrinted, IsAnswered};
+ghost use Rattle.asl_cli.specs.Answers.{IsRan, IsDebugged, IsChecked, IsFormPrinted, IsUpgraded, IsAnswered};
 ghost use Rattle.asl_host.specs.Outcomes.{status_of, IsPrinted, IsTold};
-ghost use Rattle.asl_cli.specs.Faults.{steps_name, IsStepped, IsDriven, IsEmulated, IsReason, IsUnread};
+ghost use Rattle.asl_cli.specs.Faults.{steps_name, IsStepped, IsDriven, IsEmulated, IsReason};
 
 use crate::checking::check;
+use crate::debugging::debug;
 use crate::fault::CommandFault;
 use crate::printing::print;
+use crate::reading::{read_file, read_texts};
+use crate::upgrading::upgrade;
 use asl_exec::{Emulated, emulate, emulate_driven};
 use asl_history::Sink;
 use asl_host::{
-    DefinitionWords, Files, GivenFault, ReadFault, RunWords, Words, malformed_word, read_words,
-    tell_fault, write_piece,
+    DebugWords, DefinitionWords, Files, GivenFault, Input, RunWords, Words, malformed_word,
+    read_words, tell_fault, write_piece,
 };
 use asl_setup::EmulateFault;
 use clap::Error;
@@ -30,19 +33,25 @@ const MOST_STEPS: u32 = 10_000;
 pub(crate) const REFUSED: u8 = 2;
 
 /// The whole program: does what the words ask for, of which the first is the program's name, and tells its status.
-pub fn run_words<S: AsStr, F: Files, O: Sink, E: Sink>(
+pub fn run_words<S: AsStr, F: Files, I: Input, O: Sink, E: Sink>(
     alloc: Global,
     words: &[S],
     files: &mut F,
+    input: &mut I,
     out: &mut O,
     err: &mut E,
 ) -> u8
-    // What words of a run, of a check or of a print ask for was done; or other words were answered, and no file was read.
+    // What the words of a command ask for was done; or other words were answered, and no file was read.
     ensures { ((w : RunWords) × IsRan O.taken O.failures E.taken E.failures
         (F.gives files.old) (F.lacks files.old) w out.old out.new err.old err.new result)
+        ⊎ ((w : DebugWords) × IsDebugged I.given O.taken O.failures E.taken E.failures
+        (F.gives files.old) (F.lacks files.old) w input.old input.new out.old out.new err.old
+        err.new result)
         ⊎ ((w : DefinitionWords) × IsChecked O.taken O.failures E.taken E.failures
         (F.gives files.old) (F.lacks files.old) w out.old out.new err.old err.new result)
         ⊎ ((w : DefinitionWords) × IsFormPrinted O.taken O.failures E.taken E.failures
+        (F.gives files.old) (F.lacks files.old) w out.old out.new err.old err.new result)
+        ⊎ ((w : DefinitionWords) × IsUpgraded O.taken O.failures E.taken E.failures
         (F.gives files.old) (F.lacks files.old) w out.old out.new err.old err.new result)
         ⊎ ((files.new ≡ files.old) × IsAnswered O.taken O.failures E.taken E.failures
         out.old out.new err.old err.new result) }
@@ -50,7 +59,9 @@ pub fn run_words<S: AsStr, F: Files, O: Sink, E: Sink>(
     match read_words(alloc, words) {
         Ok(Words::Check(words)) => check(alloc, &words, files, out, err),
         Ok(Words::Print(words)) => print(alloc, &words, files, out, err),
+        Ok(Words::Upgrade(words)) => upgrade(alloc, &words, files, out, err),
         Ok(Words::Run(words)) => run(alloc, &words, files, out, err),
+        Ok(Words::Debug(words)) => debug(alloc, &words, files, input, out, err),
         Err(error) => answer_words(alloc, &error, out, err),
     }
 }
@@ -115,16 +126,14 @@ fn emulate_steps<'a, F: Files>(
         (string_bytes e.text) e.good) }
     ensures refused { IfErr result (IsReason (F.gives files.old) (F.lacks files.old) words.now) }
 {
-    let definition = read_file(alloc, files, words.definition)?;
-    let mocks = read_file(alloc, files, words.mocks)?;
-    let input = read_file(alloc, files, words.input)?;
+    let texts = read_texts(alloc, files, &words.setup)?;
     let steps = read_file(alloc, files, name)?;
     let answer = emulate(
         alloc,
-        definition.as_slice(),
-        mocks.as_slice(),
-        words.chosen,
-        input.as_slice(),
+        texts.definition.as_slice(),
+        texts.mocks.as_slice(),
+        words.setup.chosen,
+        texts.input.as_slice(),
         steps.as_slice(),
     );
     match answer {
@@ -145,39 +154,19 @@ fn emulate_next<'a, F: Files>(
         (string_bytes e.text) e.good) }
     ensures refused { IfErr result (IsReason (F.gives files.old) (F.lacks files.old) words.now) }
 {
-    let definition = read_file(alloc, files, words.definition)?;
-    let mocks = read_file(alloc, files, words.mocks)?;
-    let input = read_file(alloc, files, words.input)?;
+    let texts = read_texts(alloc, files, &words.setup)?;
     let answer = emulate_driven(
         alloc,
-        definition.as_slice(),
-        mocks.as_slice(),
-        words.chosen,
-        input.as_slice(),
+        texts.definition.as_slice(),
+        texts.mocks.as_slice(),
+        words.setup.chosen,
+        texts.input.as_slice(),
         MOST_STEPS,
     );
     match answer {
         Ok(emulated) => Ok(emulated),
         Err(EmulateFault::OutOfMemory) => Err(CommandFault::OutOfMemory),
         Err(fault) => Err(CommandFault::Emulation(fault)),
-    }
-}
-
-/// Reads a file that a word names.
-pub(crate) fn read_file<'a, F: Files>(
-    alloc: Global,
-    files: &mut F,
-    name: &'a str,
-) -> Result<Vec<u8>, CommandFault<'a>>
-    ensures given { IfOk result (λ r. F.gives files.old name.now r.items) }
-    ensures kept { (n b : List ℕ) → F.gives files.new n b → F.gives files.old n b }
-    ensures lacking { (n : List ℕ) → F.lacks files.new n → F.lacks files.old n }
-    ensures unread { IfErr result (λ r. IsUnread (F.lacks files.old) name.now r) }
-{
-    match files.read(alloc, name) {
-        Ok(bytes) => Ok(bytes),
-        Err(ReadFault::Unreadable) => Err(CommandFault::File(name)),
-        Err(ReadFault::OutOfMemory) => Err(CommandFault::OutOfMemory),
     }
 }
 

@@ -7,6 +7,7 @@ ghost use Rattle.asl_cli.specs.Faults.{reason_text, Tells};
 use asl_check::Fault;
 use asl_history::Sink;
 use asl_host::tell_fault;
+use asl_session::ScriptFault;
 use asl_setup::EmulateFault;
 use std::alloc::{AllocError, Global};
 
@@ -17,8 +18,10 @@ pub enum CommandFault<'a> {
     File(&'a str),
     /// What was read is no definition.
     Definition(Fault),
-    /// What was read for a run is refused.
+    /// What an execution was to begin with, or its file of steps, is refused.
     Emulation(EmulateFault),
+    /// What was read is no script.
+    Script(ScriptFault),
     OutOfMemory,
 }
 
@@ -42,6 +45,7 @@ impl<'a> CommandFault<'a> {
             CommandFault::File(name) => file_text(alloc, name),
             CommandFault::Definition(fault) => definition_text(alloc, fault),
             CommandFault::Emulation(fault) => fault.text(alloc),
+            CommandFault::Script(fault) => fault.text(alloc),
             CommandFault::OutOfMemory => String::from_str(alloc, "OutOfMemory"),
         }
     }

@@ -1,15 +1,22 @@
 //! The commands of the emulator: one function over words, files and two sinks, which the program `asl` calls.
 //!
-//! Modules in reading order: `fault` is why a command isn't done, and its line; `checking` the command `check`; `printing` the
-//! command `print`; `command` the command `run`, and all that a command line may ask for.
+//! Modules in reading order: `fault` is why a command isn't done, and its line; `reading` reads the files that words name; `checking` is
+//! the command `check`, `printing` the command `print`, `upgrading` the command `upgrade`, `debugging` the command `debug`,
+//! for which `talking` answers lines; `command` has the command `run`, and all that a command line may ask for.
 #![tactic(auto)]
 
 mod checking;
 mod command;
+mod debugging;
 mod fault;
 mod printing;
+mod reading;
+mod talking;
+mod upgrading;
 
 pub use checking::check;
 pub use command::{refuse_words, run, run_words};
+pub use debugging::debug;
 pub use fault::CommandFault;
 pub use printing::print;
+pub use upgrading::upgrade;

@@ -51,7 +51,7 @@ fn form_in<'a, F: Files>(
 }
 
 /// A machine's canonical definition on a line.
-fn form_of(alloc: Global, machine: &Machine) -> Result<String, AllocError>
+pub(crate) fn form_of(alloc: Global, machine: &Machine) -> Result<String, AllocError>
     ensures { IfOk result (λ t. string_bytes t ≡ compact machine.now ++ 10 ∷ []) }
 {
     let mut text = asl_def::print(alloc, machine)?;

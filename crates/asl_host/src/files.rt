@@ -84,7 +84,7 @@ pub fn read_whole<R: Read>(alloc: Global, reader: &mut R) -> Result<Vec<u8>, Rea
 }
 
 /// Adds a piece to what was read. The fault is that it grows too long, or that memory ran out.
-fn add(bytes: &mut Vec<u8>, piece: &[u8]) -> Result<(), ReadFault>
+pub(crate) fn add(bytes: &mut Vec<u8>, piece: &[u8]) -> Result<(), ReadFault>
     requires { length bytes.old.items ≤ most_bytes }
     ensures items { OnOk result (bytes.new.items ≡ bytes.old.items ++ piece.now) }
     ensures bound { OnOk result (length bytes.new.items ≤ most_bytes) }
@@ -98,7 +98,7 @@ fn add(bytes: &mut Vec<u8>, piece: &[u8]) -> Result<(), ReadFault>
     }
 }
 
-fn fault_of(error: &io::Error) -> ReadFault {
+pub(crate) fn fault_of(error: &io::Error) -> ReadFault {
     match error.kind() {
         ErrorKind::OutOfMemory => ReadFault::OutOfMemory,
         _ => ReadFault::Unreadable,

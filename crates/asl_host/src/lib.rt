@@ -1,17 +1,23 @@
 //! What a command-line program has of its host: its words, the files that these name, and the streams that it writes.
 //!
-//! Modules in reading order: `words` reads the command line; `files` what files give; `streams` the streams that are written,
+//! Modules in reading order: `words` reads the command line; `files` what files give, `input` what is typed; `streams` the streams that
+//! are written,
 //! of which `taken` says what they took;
 //! `telling` writes texts to them, and the line that tells a fault.
 #![tactic(auto)]
 
 mod files;
+mod input;
 mod streams;
 mod taken;
 mod telling;
 mod words;
 
 pub use files::{Files, HostFiles, MOST_BYTES, ReadFault, read_whole};
+pub use input::{Input, Typed};
 pub use streams::Stream;
 pub use telling::{tell_fault, write_piece};
-pub use words::{DefinitionWords, GivenFault, RunWords, Words, given, malformed_word, read_words};
+pub use words::{
+    DebugWords, DefinitionWords, GivenFault, RunWords, SetupWords, Words, given, malformed_word,
+    read_words,
+};

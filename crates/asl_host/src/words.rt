@@ -13,25 +13,43 @@ pub enum Words<'a> {
     Check(DefinitionWords<'a>),
     /// A definition is to be printed in its canonical form.
     Print(DefinitionWords<'a>),
+    /// A definition is to be printed in the newer spelling of Map states.
+    Upgrade(DefinitionWords<'a>),
     /// An execution is to be emulated.
     Run(RunWords<'a>),
+    /// An execution is to be debugged.
+    Debug(DebugWords<'a>),
 }
 
-/// The word of `check` and of `print`: the name of a file.
+/// The word of `check`, of `print` and of `upgrade`: the name of a file.
 #[derive(Clone, Copy)]
 pub struct DefinitionWords<'a> {
     pub definition: &'a str,
 }
 
-/// The words of `run`: names of files, and the machine and the case that are chosen.
+/// What an execution begins with: names of files, and the machine and the case that are chosen.
 #[derive(Clone, Copy)]
-pub struct RunWords<'a> {
+pub struct SetupWords<'a> {
     pub definition: &'a str,
     pub mocks: &'a str,
     pub chosen: &'a str,
     pub input: &'a str,
-    /// Where no file of steps is named, the execution takes the steps that come next.
+}
+
+/// The words of `run`.
+#[derive(Clone, Copy)]
+pub struct RunWords<'a> {
+    pub setup: SetupWords<'a>,
+    /// The name of a file. Where no file of steps is named, the execution takes the steps that come next.
     pub steps: Option<&'a str>,
+}
+
+/// The words of `debug`.
+#[derive(Clone, Copy)]
+pub struct DebugWords<'a> {
+    pub setup: SetupWords<'a>,
+    /// The name of a file. Where no script is named, lines are read that are typed.
+    pub script: Option<&'a str>,
 }
 
 /// Why the program's words can't be had.
@@ -81,8 +99,20 @@ fn words_of<'a>(matches: &ArgMatches<'a>) -> Option<Words<'a>> {
     if let Some(matches) = matches.subcommand_matches("print") {
         return Some(Words::Print(definition_words_of(matches)?));
     }
+    if let Some(matches) = matches.subcommand_matches("upgrade") {
+        return Some(Words::Upgrade(definition_words_of(matches)?));
+    }
+    if let Some(matches) = matches.subcommand_matches("debug") {
+        return Some(Words::Debug(DebugWords {
+            setup: setup_words_of(matches)?,
+            script: matches.get_str("SCRIPT"),
+        }));
+    }
     let matches = matches.subcommand_matches("run")?;
-    Some(Words::Run(run_words_of(matches)?))
+    Some(Words::Run(RunWords {
+        setup: setup_words_of(matches)?,
+        steps: matches.get_str("steps"),
+    }))
 }
 
 fn definition_words_of<'a>(matches: &ArgMatches<'a>) -> Option<DefinitionWords<'a>> {
@@ -91,13 +121,12 @@ fn definition_words_of<'a>(matches: &ArgMatches<'a>) -> Option<DefinitionWords<'
     })
 }
 
-fn run_words_of<'a>(matches: &ArgMatches<'a>) -> Option<RunWords<'a>> {
-    Some(RunWords {
+fn setup_words_of<'a>(matches: &ArgMatches<'a>) -> Option<SetupWords<'a>> {
+    Some(SetupWords {
         definition: matches.get_str("DEF")?,
         mocks: matches.get_str("MOCKS")?,
         chosen: matches.get_str("CHOSEN")?,
         input: matches.get_str("INPUT")?,
-        steps: matches.get_str("steps"),
     })
 }
 
@@ -110,7 +139,9 @@ fn asl_command<'a>(alloc: Global) -> Result<Command<'a>, AllocError> {
         .subcommand_required(true);
     asl.subcommand(check_command(alloc)?)?
         .subcommand(print_command(alloc)?)?
-        .subcommand(run_command(alloc)?)
+        .subcommand(upgrade_command(alloc)?)?
+        .subcommand(run_command(alloc)?)?
+        .subcommand(debug_command(alloc)?)
 }
 
 fn check_command<'a>(alloc: Global) -> Result<Command<'a>, AllocError> {
@@ -125,13 +156,36 @@ fn print_command<'a>(alloc: Global) -> Result<Command<'a>, AllocError> {
         .arg(definition_word(alloc))
 }
 
+fn upgrade_command<'a>(alloc: Global) -> Result<Command<'a>, AllocError> {
+    Command::new(alloc, "upgrade")
+        .about("Prints a definition as print does, in the newer spelling of Map states")
+        .arg(definition_word(alloc))
+}
+
 fn run_command<'a>(alloc: Global) -> Result<Command<'a>, AllocError> {
     let steps = Arg::new(alloc, "steps")
         .long("steps")
         .value_name("FILE")
         .help("The file of the steps to take; without it, each step is the one that comes next");
-    Command::new(alloc, "run")
-        .about("Runs an execution and prints its replies, its history and its status")
+    let run = Command::new(alloc, "run").about(
+        "Runs an execution and prints its replies, its history and its status",
+    );
+    with_setup_words(alloc, run)?.arg(steps)
+}
+
+fn debug_command<'a>(alloc: Global) -> Result<Command<'a>, AllocError> {
+    let script = Arg::new(alloc, "SCRIPT").help(
+        "The file of the commands to carry out; without it, lines are read from standard input and answered at once",
+    );
+    let debug = Command::new(alloc, "debug").about(
+        "Debugs an execution and prints its replies, its history and its status",
+    );
+    with_setup_words(alloc, debug)?.arg(script)
+}
+
+/// The words for what an execution begins with.
+fn with_setup_words<'a>(alloc: Global, command: Command<'a>) -> Result<Command<'a>, AllocError> {
+    command
         .arg(definition_word(alloc))?
         .arg(word(alloc, "MOCKS", "The file of the mocked tasks"))?
         .arg(word(
@@ -139,8 +193,7 @@ fn run_command<'a>(alloc: Global) -> Result<Command<'a>, AllocError> {
             "CHOSEN",
             "The machine's name, or the machine's and a case's as Machine#Case",
         ))?
-        .arg(word(alloc, "INPUT", "The file of the execution's input"))?
-        .arg(steps)
+        .arg(word(alloc, "INPUT", "The file of the execution's input"))
 }
 
 /// The name of a definition's file.

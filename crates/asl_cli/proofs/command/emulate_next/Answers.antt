@@ -6,13 +6,9 @@ returns-in-Ok-clause-emulated g c =
     let two = rw c.as_slice-2.ensures.value at one in
     let three = rw c.as_slice-3.ensures.value at two in
     record {
-      definition = c.in_ok-definition.definition.items;
-      mocks = c.in_ok-mocks.mocks.items;
-      input = c.in_ok-input.input.items;
-      given = (
-        c.in_ok-definition.ensures.given,
-        c.in_ok-definition.ensures.kept _ _ c.in_ok-mocks.ensures.given,
-        c.in_ok-definition.ensures.kept _ _ (c.in_ok-mocks.ensures.kept _ _ c.in_ok-input.ensures.given),
-      );
+      definition = c.in_ok-texts.texts.definition.items;
+      mocks = c.in_ok-texts.texts.mocks.items;
+      input = c.in_ok-texts.texts.input.items;
+      given = c.in_ok-texts.ensures.given;
       is_run = three;
     }

@@ -7,15 +7,11 @@ returns-in-Ok-clause-emulated g c =
     let three = rw c.as_slice-3.ensures.value at two in
     let four = rw c.as_slice-4.ensures.value at three in
     record {
-      definition = c.in_ok-definition.definition.items;
-      mocks = c.in_ok-mocks.mocks.items;
-      input = c.in_ok-input.input.items;
+      definition = c.in_ok-texts.texts.definition.items;
+      mocks = c.in_ok-texts.texts.mocks.items;
+      input = c.in_ok-texts.texts.input.items;
       steps = c.in_ok-steps.steps.items;
-      given = (
-        c.in_ok-definition.ensures.given,
-        c.in_ok-definition.ensures.kept _ _ c.in_ok-mocks.ensures.given,
-        c.in_ok-definition.ensures.kept _ _ (c.in_ok-mocks.ensures.kept _ _ c.in_ok-input.ensures.given),
-      );
-      given_steps = c.in_ok-definition.ensures.kept _ _ (c.in_ok-mocks.ensures.kept _ _ (c.in_ok-input.ensures.kept _ _ c.in_ok-steps.ensures.given));
+      given = c.in_ok-texts.ensures.given;
+      given_steps = c.in_ok-texts.ensures.kept _ _ c.in_ok-steps.ensures.given;
       is_run = four;
     }

@@ -1,0 +1,162 @@
+// The command `debug`.
+ghost use Rattle.std.specs.Prelude.{◌≡◌, IfOk, IfErr, string_bytes};
+ghost use Rattle.asl_setup.specs.Emulations.{AreSetupTextsOf};
+ghost use Rattle.asl_setup.specs.Texts.{setup_for};
+ghost use Rattle.asl_setup.specs.declared.setup.Setup.{Setup};
+ghost use Rattle.asl_console.specs.Answers.{first_console};
+ghost use Rattle.asl_cli.specs.Answers.{IsDone, IsTyped, IsDebugged};
+ghost use Rattle.asl_session.specs.Scripts.{IsScriptRun};
+ghost use Rattle.asl_cli.specs.Faults.{IsBegun, IsOpeningReason, IsSetupReason, IsScriptReason, IsDebugText, IsDebugReason};
+
+use crate::command::{REFUSED, print_good};
+use crate::fault::CommandFault;
+use crate::reading::{SetupTexts, read_file, read_texts};
+use crate::talking::converse;
+use asl_console::Console;
+use asl_history::Sink;
+use asl_host::{DebugWords, Files, Input, SetupWords};
+use asl_session::{ScriptFault, run_script};
+use asl_setup::{EmulateFault, Setup};
+use std::alloc::{AllocError, Global};
+
+/// The command `debug`: runs an execution by the commands of a script and prints what it replied and did. Without a script, it answers
+/// lines one after another, and then prints what the execution did.
+pub fn debug<F: Files, I: Input, O: Sink, E: Sink>(
+    alloc: Global,
+    words: &DebugWords<'_>,
+    files: &mut F,
+    input: &mut I,
+    out: &mut O,
+    err: &mut E,
+) -> u8
+    ensures { IsDebugged I.given O.taken O.failures E.taken E.failures (F.gives files.old)
+        (F.lacks files.old) words.now input.old input.new out.old out.new err.old err.new result }
+{
+    match words.script {
+        Some(script) => debug_by(alloc, &words.setup, script, files, out, err),
+        None => debug_typed(alloc, &words.setup, files, input, out, err),
+    }
+}
+
+/// The same by a script.
+fn debug_by<F: Files, O: Sink, E: Sink>(
+    alloc: Global,
+    words: &SetupWords<'_>,
+    script: &str,
+    files: &mut F,
+    out: &mut O,
+    err: &mut E,
+) -> u8
+    ensures { IsDone O.taken O.failures E.taken E.failures
+        (λ text wanted. IsDebugText (F.gives files.old) words.now script.now text × (wanted ≡ 0))
+        (IsDebugReason (F.gives files.old) (F.lacks files.old) words.now script.now)
+        out.old out.new err.old err.new result }
+{
+    match debug_files(alloc, words, script, files) {
+        Ok(text) => print_good(text.as_str(), out),
+        Err(refusal) => {
+            refusal.write(alloc, err);
+            REFUSED
+        }
+    }
+}
+
+/// Reads the files, in the order of the words, and runs the execution.
+fn debug_files<'a, F: Files>(
+    alloc: Global,
+    words: &SetupWords<'a>,
+    script: &'a str,
+    files: &mut F,
+) -> Result<String, CommandFault<'a>>
+    ensures text { IfOk result
+        (λ t. IsDebugText (F.gives files.old) words.now script.now (string_bytes t)) }
+    ensures refused { IfErr result
+        (IsDebugReason (F.gives files.old) (F.lacks files.old) words.now script.now) }
+{
+    let texts = read_texts(alloc, files, words)?;
+    let script = read_file(alloc, files, script)?;
+    let setup = setup_of(alloc, words, &texts)?;
+    match run_by(alloc, setup, script.as_slice()) {
+        Ok(text) => Ok(text),
+        Err(refusal) => Err(refusal),
+    }
+}
+
+/// Runs the execution by a script.
+fn run_by<'a>(alloc: Global, setup: Setup, script: &[u8]) -> Result<String, CommandFault<'a>>
+    ensures run { IfOk result (λ t. IsScriptRun setup script.now (string_bytes t)) }
+    ensures refused { IfErr result (IsScriptReason script.now) }
+{
+    match run_script(alloc, setup, script) {
+        Ok(text) => Ok(text),
+        Err(ScriptFault::OutOfMemory) => Err(CommandFault::OutOfMemory),
+        Err(fault) => Err(CommandFault::Script(fault)),
+    }
+}
+
+/// The same by lines that are typed.
+fn debug_typed<F: Files, I: Input, O: Sink, E: Sink>(
+    alloc: Global,
+    words: &SetupWords<'_>,
+    files: &mut F,
+    input: &mut I,
+    out: &mut O,
+    err: &mut E,
+) -> u8
+    ensures { IsTyped I.given O.taken O.failures E.taken E.failures (F.gives files.old)
+        (F.lacks files.old) words.now input.old input.new out.old out.new err.old err.new result }
+{
+    match open_session(alloc, words, files) {
+        Ok(console) => converse(alloc, console, input, out, err),
+        Err(fault) => {
+            fault.write(alloc, err);
+            REFUSED
+        }
+    }
+}
+
+/// Reads the files, in the order of the words, and opens a session.
+fn open_session<'a, F: Files>(
+    alloc: Global,
+    words: &SetupWords<'a>,
+    files: &mut F,
+) -> Result<Console, CommandFault<'a>>
+    ensures opened { IfOk result (λ c. (s : Setup)
+        × IsBegun (F.gives files.old) words.now s × (c ≡ first_console s)) }
+    ensures refused { IfErr result
+        (IsOpeningReason (F.gives files.old) (F.lacks files.old) words.now) }
+{
+    let texts = read_texts(alloc, files, words)?;
+    let setup = setup_of(alloc, words, &texts)?;
+    match Console::open(alloc, setup) {
+        Ok(console) => Ok(console),
+        Err(AllocError) => Err(CommandFault::OutOfMemory),
+    }
+}
+
+/// What an execution begins with, from its texts.
+fn setup_of<'a>(
+    alloc: Global,
+    words: &SetupWords<'a>,
+    texts: &SetupTexts,
+) -> Result<Setup, CommandFault<'a>>
+    ensures found { IfOk result (λ s. AreSetupTextsOf texts.now.definition.items
+        texts.now.mocks.items words.now.chosen.now texts.now.input.items s.machine s.case s.input) }
+    ensures setup { IfOk result (λ s. s
+        ≡ setup_for s.machine words.now.chosen.now s.case s.input 0) }
+    ensures refused { IfErr result (IsSetupReason texts.now.definition.items texts.now.mocks.items
+        words.now.chosen.now texts.now.input.items) }
+{
+    let answer = Setup::read(
+        alloc,
+        texts.definition.as_slice(),
+        texts.mocks.as_slice(),
+        words.chosen,
+        texts.input.as_slice(),
+    );
+    match answer {
+        Ok(setup) => Ok(setup),
+        Err(EmulateFault::OutOfMemory) => Err(CommandFault::OutOfMemory),
+        Err(fault) => Err(CommandFault::Emulation(fault)),
+    }
+}

@@ -1,0 +1,60 @@
+// The command `upgrade`.
+ghost use Rattle.std.specs.Prelude.{◌≡◌, ◌++◌, ◌∷◌, [], IfOk, IfErr, string_bytes};
+ghost use Rattle.asl_json.specs.Compact.{compact};
+ghost use Rattle.asl_def.specs.Upgraded.{upgraded};
+ghost use Rattle.asl_cli.specs.Answers.{IsUpgraded};
+ghost use Rattle.asl_cli.specs.Faults.{IsNewerForm, IsDefinitionReason};
+
+use crate::checking::machine_in;
+use crate::command::{REFUSED, print_good};
+use crate::fault::CommandFault;
+use crate::printing::form_of;
+use asl_def::Machine;
+use asl_history::Sink;
+use asl_host::{DefinitionWords, Files};
+use std::alloc::{AllocError, Global};
+
+/// The command `upgrade`: prints a definition without faults as `print` does, in the newer spelling of Map states, else tells the first
+/// fault.
+pub fn upgrade<F: Files, O: Sink, E: Sink>(
+    alloc: Global,
+    words: &DefinitionWords<'_>,
+    files: &mut F,
+    out: &mut O,
+    err: &mut E,
+) -> u8
+    ensures { IsUpgraded O.taken O.failures E.taken E.failures (F.gives files.old)
+        (F.lacks files.old) words.now out.old out.new err.old err.new result }
+{
+    match newer_form_in(alloc, words, files) {
+        Ok(text) => print_good(text.as_str(), out),
+        Err(refusal) => {
+            refusal.write(alloc, err);
+            REFUSED
+        }
+    }
+}
+
+/// Reads the file, and writes the canonical form, in the newer spelling, of the definition that it holds.
+fn newer_form_in<'a, F: Files>(
+    alloc: Global,
+    words: &DefinitionWords<'a>,
+    files: &mut F,
+) -> Result<String, CommandFault<'a>>
+    ensures form { IfOk result (λ t. IsNewerForm (F.gives files.old) words.now (string_bytes t)) }
+    ensures refused { IfErr result
+        (IsDefinitionReason (F.gives files.old) (F.lacks files.old) words.now) }
+{
+    let machine = machine_in(alloc, words, files)?;
+    match newer_form_of(alloc, machine) {
+        Ok(text) => Ok(text),
+        Err(_) => Err(CommandFault::OutOfMemory),
+    }
+}
+
+/// A machine's canonical definition in the newer spelling, on a line.
+fn newer_form_of(alloc: Global, machine: Machine) -> Result<String, AllocError>
+    ensures { IfOk result (λ t. string_bytes t ≡ compact (upgraded machine) ++ 10 ∷ []) }
+{
+    form_of(alloc, &machine.upgrade(alloc)?)
+}

@@ -1,0 +1,4 @@
+mod Trees
+mod Moves
+mod Asking
+mod Answering

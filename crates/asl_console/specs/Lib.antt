@@ -1,0 +1,6 @@
+pub mod Words
+pub mod Requests
+pub mod Onward
+pub mod Views
+pub mod Answers
+pub mod Talks

@@ -1,0 +1,7 @@
+-- What an input gives.
+use Rattle.std.specs.Prelude.{ℕ, List, [], ◌∷◌, ◌++◌, Option, Some, None}
+
+-- a line with the line feed behind it; nothing at the end
+abbrev pub line_given : Option (List ℕ) → List ℕ
+line_given None = []
+line_given (Some line) = line ++ 10 ∷ []

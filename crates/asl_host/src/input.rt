@@ -1,0 +1,131 @@
+// What is typed.
+ghost use Rattle.std.specs.Prelude.{◌≡◌, ◌≤◌, ◌++◌, [], length, option_map, IfOk, IfSome, OnErr};
+ghost use Rattle.asl_host.specs.Limits.{most_bytes};
+ghost use Rattle.asl_host.specs.Typing.{line_given};
+
+use crate::files::{MOST_BYTES, ReadFault, add, fault_of};
+use crate::taken::Taken;
+use std::alloc::Global;
+use std::io::{BufRead, ErrorKind, Write};
+
+/// Lines that come one after another, as those that are typed at a terminal.
+pub trait Input {
+    ghost use Rattle.std.specs.Prelude.{List, ℕ};
+
+    // What it has given so far: lines, each with a line feed behind it.
+    ghost given: { Self → List ℕ };
+
+    /// The next line without its line feed, which has at most 16,777,216 bytes; none at the end.
+    fn line(&mut self, alloc: Global) -> Result<Option<Vec<u8>>, ReadFault>
+        ensures line { IfOk result (λ o. given self.new
+            ≡ given self.old ++ line_given (option_map (λ l. l.items) o)) }
+        ensures err { OnErr result (given self.new ≡ given self.old) };
+}
+
+/// The lines of a reader, as standard input. Before each a prompt is written, where there is somebody to see it.
+#[derive(Drop)]
+pub struct Typed<R, W> {
+    reader: R,
+    prompt: Option<W>,
+    given: Taken,
+}
+
+/// What stands before the line that is to be typed.
+const PROMPT: &str = "asl> ";
+
+impl<R: BufRead, W: Write> Typed<R, W> {
+    /// The lines of a reader; where the prompt is written, if it is.
+    pub fn new(reader: R, prompt: Option<W>) -> Typed<R, W>
+        ensures given { result.given.bytes ≡ [] }
+    {
+        Typed {
+            reader,
+            prompt,
+            given: Taken::new(),
+        }
+    }
+
+    /// Writes the prompt. That it fails keeps no line from being read.
+    fn prompt(&mut self)
+        ensures given { self.new.given ≡ self.old.given }
+    {
+        if let Some(prompt) = &mut self.prompt {
+            let _ = prompt.write(PROMPT.as_bytes());
+        }
+    }
+}
+
+impl<R: BufRead, W: Write> Input for Typed<R, W> {
+    ghost given = { λ t. t.given.bytes };
+
+    fn line(&mut self, alloc: Global) -> Result<Option<Vec<u8>>, ReadFault> {
+        self.prompt();
+        let line = read_line(alloc, &mut self.reader)?;
+        if let Some(line) = &line {
+            self.given = self.given.with(line.as_slice()).with(b"\n");
+        }
+        Ok(line)
+    }
+}
+
+/// Reads up to a line feed, or to the end. The fault is that a read failed, that the line has more than 16,777,216 bytes, or that so
+/// many reads didn't reach its end.
+fn read_line<R: BufRead>(alloc: Global, reader: &mut R) -> Result<Option<Vec<u8>>, ReadFault>
+    ensures bound { IfOk result (λ o. IfSome o (λ l. length l.items ≤ most_bytes)) }
+{
+    let mut line = Vec::new(alloc);
+    for _ in 0..MOST_BYTES {
+        match read_piece(reader, &mut line)? {
+            Piece::More => {}
+            Piece::Line => return Ok(Some(line)),
+            Piece::End if line.is_empty() => return Ok(None),
+            Piece::End => return Ok(Some(line)),
+        }
+    }
+    Err(ReadFault::Unreadable)
+}
+
+/// What a read came to.
+#[derive(Clone, Copy)]
+enum Piece {
+    /// The line goes on.
+    More,
+    /// Its line feed came.
+    Line,
+    /// The input ended.
+    End,
+}
+
+/// Adds what the next read gives of a line.
+fn read_piece<R: BufRead>(reader: &mut R, line: &mut Vec<u8>) -> Result<Piece, ReadFault>
+    requires { length line.old.items ≤ most_bytes }
+    ensures bound { IfOk result (λ _. length line.new.items ≤ most_bytes) }
+{
+    let (count, piece) = match reader.fill_buf() {
+        Ok(bytes) => add_piece(line, bytes)?,
+        Err(error) if error.kind() == ErrorKind::Interrupted => (0, Piece::More),
+        Err(error) => return Err(fault_of(&error)),
+    };
+    reader.consume(count);
+    Ok(piece)
+}
+
+/// Adds bytes up to the first line feed among them: how many are used up, and what they came to.
+fn add_piece(line: &mut Vec<u8>, bytes: &[u8]) -> Result<(usize, Piece), ReadFault>
+    requires { length line.old.items ≤ most_bytes }
+    ensures bound { IfOk result (λ _. length line.new.items ≤ most_bytes) }
+{
+    if bytes.is_empty() {
+        return Ok((0, Piece::End));
+    }
+    match bytes.iter().position(|byte| *byte == b'\n') {
+        Some(end) => {
+            add(line, &bytes[..end])?;
+            Ok((end + 1, Piece::Line))
+        }
+        None => {
+            add(line, bytes)?;
+            Ok((bytes.len(), Piece::More))
+        }
+    }
+}
