@@ -9,3 +9,4 @@ pub mod Taken
 mod Fitted
 mod Stamped
 mod Alike
+pub mod Exact

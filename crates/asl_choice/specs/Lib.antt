@@ -4,3 +4,4 @@ pub mod Truth
 pub mod Seen
 pub mod private
 pub mod Equal
+pub mod Laws

@@ -183,6 +183,41 @@ fn machines_are_told_apart(rt: HostRuntime) -> Result<(), Fail> {
     Ok(())
 }
 
+fn first_state(machine: &Machine) -> Option<&State> {
+    let (_, state) = machine.own_state(0)?;
+    Some(state)
+}
+
+/// How many of these begin with a state that is equal to this one.
+fn begin_with(state: &State, machines: &[Machine]) -> usize {
+    machines
+        .iter()
+        .filter(|other| match first_state(other) {
+            Some(its) => *its == *state,
+            None => false,
+        })
+        .count()
+}
+
+/// Whether its first state is equal to that of one of these alone. (A state is compared with the machines inside it by their
+/// numbers in the table alone: those aren't asked here.)
+fn begins_alone(machine: &Machine, anew: &[Machine]) -> bool {
+    match first_state(machine) {
+        Some(State::Parallel(_) | State::Map(_)) => true,
+        Some(state) => begin_with(state, anew) == 1,
+        None => false,
+    }
+}
+
+#[test]
+fn states_are_told_apart(rt: HostRuntime) -> Result<(), Fail> {
+    let machines = machines_of_states(rt.alloc()).ok_or("refused")?;
+    let anew = machines_of_states(rt.alloc()).ok_or("refused")?;
+    assert!(rt; machines.len() == STATES.len());
+    assert!(rt; machines.iter().all(|machine| begins_alone(machine, &anew)));
+    Ok(())
+}
+
 /// What a state shows, but for the machines inside it.
 fn shown(alloc: Global, state: &State) -> Option<String> {
     let value = match state {

@@ -5,4 +5,5 @@ pub mod Retrying
 pub mod Names
 pub mod Alike
 pub mod AlikeRetriers
+pub mod Exact
 pub mod Lists

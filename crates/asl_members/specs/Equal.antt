@@ -1,6 +1,6 @@
--- Lists of names of errors are equal where their texts are, and so are paths and calls: no call begins
--- as a path.
-use Rattle.std.specs.Prelude.{ℕ, List, Bool}
+-- Lists of names of errors are equal where their texts are; a path or a call is written as another where
+-- it shows the same.
+use Rattle.std.specs.Prelude.{◌≡◌, ◌↔◌, ℕ, List, Bool, IsTrue}
 use Rattle.std.specs.Cmp.Lexicographic.{pointwise}
 use Rattle.asl_json.specs.Same.{bytes_eq, equal}
 use Rattle.asl_members.specs.declared.path.PathOrCall.{PathOrCall}
@@ -9,5 +9,9 @@ use Rattle.asl_members.specs.Shown.{path_or_call_shown}
 abbrev pub names_equal : List (List ℕ) → List (List ℕ) → Bool
 names_equal = pointwise bytes_eq
 
-abbrev pub path_or_call_equal : PathOrCall → PathOrCall → Bool
-path_or_call_equal a b = equal (path_or_call_shown a) (path_or_call_shown b)
+abbrev pub written_alike : PathOrCall → PathOrCall → Bool
+written_alike a b = equal (path_or_call_shown a) (path_or_call_shown b)
+
+-- it is true exactly where the two are one
+abbrev pub IsExact : {A : Type 0} → (A → A → Bool) → Type 0
+IsExact {A} E = (a b : A) → IsTrue (E a b) ↔ (a ≡ b)

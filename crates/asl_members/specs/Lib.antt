@@ -3,4 +3,5 @@ pub mod Readable
 pub mod Entries
 pub mod Retries
 pub mod Equal
+pub mod Laws
 pub mod private

@@ -5,6 +5,7 @@ ghost use Rattle.asl_json.specs.Data.{text};
 ghost use Rattle.asl_intrinsic.specs.Faults.{IsCall};
 ghost use Rattle.asl_members.specs.Shown.{path_shown, path_or_call_shown};
 ghost use Rattle.asl_members.specs.Readable.{IsPathOrNull};
+ghost use Rattle.asl_members.specs.Equal.{written_alike};
 
 use crate::compiled::{Compile, Compiled};
 use crate::copies::TryClone;
@@ -38,6 +39,7 @@ impl Drop for PathField {
 }
 
 /// What `ErrorPath` or `CausePath` names. (Amazon States Language, "Fail State".)
+#[derive(PartialEq, Eq)]
 pub enum PathOrCall {
     /// A path, which begins with `$`.
     Path(RefPath),
@@ -64,26 +66,14 @@ impl PathOrCall {
             PathOrCall::Call(call) => call.text(),
         }
     }
-}
 
-/// Two are equal where their texts are: no call begins with `$`.
-impl PartialEq for PathOrCall {
-    ghost use Rattle.asl_members.specs.Equal.{path_or_call_equal};
-    ghost use Rattle.asl_members.specs.private.EqualLaws.{path_or_call_laws};
-
-    ghost eq = { path_or_call_equal };
-
-    ghost laws = { path_or_call_laws };
-
-    fn eq(&self, other: &PathOrCall) -> bool {
+    /// Whether two are written alike. (`==` tells a path from a call of the same text too; but no call begins with `$`.) Takes no
+    /// memory.
+    pub fn is_written_as(&self, other: &PathOrCall) -> bool
+        ensures { result ≡ written_alike self.now other.now }
+    {
         self.text() == other.text()
     }
-}
-
-impl Eq for PathOrCall {
-    ghost use Rattle.asl_members.specs.private.EqualLaws.{path_or_call_equivalence};
-
-    ghost laws = { path_or_call_equivalence };
 }
 
 impl PathField {

@@ -5,3 +5,4 @@ pub mod Names
 pub mod Slots
 pub mod Owning
 pub mod Alike
+pub mod Exact

@@ -4,4 +4,5 @@ pub mod Built
 pub mod Member
 pub mod Texts
 pub mod Equal
+pub mod Laws
 pub mod private

@@ -39,16 +39,14 @@ use Rattle.asl_states.specs.declared.state.State.{State}
 use Rattle.asl_states.specs.declared.state.State.TheVariants.{Task, Pass, Choice, Wait, Parallel, Map, Succeed, Fail}
 use Rattle.asl_states.specs.contracts.choice.ChoiceRulePartialEq.TheImpl as rules
 use Rattle.asl_states.specs.contracts.wait.DelayPartialEq.TheImpl as delays
-use Rattle.asl_states.specs.contracts.fail.FailTextPartialEq.TheImpl as told_texts
 use Rattle.asl_states.specs.contracts.processor.SelectorPartialEq.TheImpl as selectors
 use Rattle.asl_states.specs.contracts.task.TaskPartialEq.TheImpl as tasks
 use Rattle.asl_states.specs.contracts.pass.PassPartialEq.TheImpl as passes
 use Rattle.asl_states.specs.contracts.choice.ChoicePartialEq.TheImpl as choices
 use Rattle.asl_states.specs.contracts.wait.WaitPartialEq.TheImpl as waits
 use Rattle.asl_states.specs.contracts.succeed.SucceedPartialEq.TheImpl as succeeds
-use Rattle.asl_states.specs.contracts.fail.FailPartialEq.TheImpl as fails
 use Rattle.asl_states.specs.Show.{choice_rule_object, task_members, task_object, pass_members, pass_object, choice_members, choice_object, wait_members, wait_object, succeed_members, succeed_object, fail_members, fail_object, parallel_members, parallel_object, map_members, map_object, state_of, seconds_shown, seconds_path_shown, timestamp_shown, timestamp_path_shown, told, told_at, parameters_shown, item_selector_shown, as_iterator, as_item_processor, machine_shown}
-use Rattle.asl_states.specs.Equal.{spelled_equal, branches_equal, machine_equal, machines_equal, parallel_same, map_same, state_same}
+use Rattle.asl_states.specs.Equal.{spelled_equal, branches_equal, machine_equal, machines_equal, parallel_same, map_same, reason_same, fail_same, state_same}
 
 -- ---- rules
 
@@ -145,7 +143,7 @@ succeed_alike x y =
     alike (succeed_members x) (succeed_members y) refl refl
     ∙ common_alike x.common y.common _ _ (λ i. path_alike x.input_path y.input_path i && last (path_alike x.output_path y.output_path) i)
 
-told_alike : (x y : Option FailText) (r : Bool) → (option_eq equal (told x) (told y) && (option_eq equal (told_at x) (told_at y) && r)) ≡ (option_eq (told_texts.ghosts).eq x y && r)
+told_alike : (x y : Option FailText) (r : Bool) → (option_eq equal (told x) (told y) && (option_eq equal (told_at x) (told_at y) && r)) ≡ (reason_same x y && r)
 told_alike None None r = refl
 told_alike None (Some (Told t)) r = refl
 told_alike None (Some (At p)) r = refl
@@ -156,11 +154,11 @@ told_alike (Some (At p)) None r = refl
 told_alike (Some (At p)) (Some (Told u)) r = refl
 told_alike (Some (At p)) (Some (At q)) r = refl
 
-fail_alike : (x y : FailState) → equal (fail_object x) (fail_object y) ≡ (fails.ghosts).eq x y
+fail_alike : (x y : FailState) → equal (fail_object x) (fail_object y) ≡ fail_same x y
 fail_alike x y =
     alike (fail_members x) (fail_members y) refl refl
     ∙ common_alike x.common y.common _ _
-    (told_alike x.error y.error _ ∙ ap (λ r. option_eq (told_texts.ghosts).eq x.error y.error && r) (told_alike x.cause y.cause true ∙ and_true _))
+    (told_alike x.error y.error _ ∙ ap (λ r. reason_same x.error y.error && r) (told_alike x.cause y.cause true ∙ and_true _))
 
 -- ---- states with machines
 

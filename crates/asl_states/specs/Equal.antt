@@ -1,6 +1,6 @@
 -- States of two tables are equal: they are the same but for the machines inside them, and those show the same, each over its
 -- own table.
-use Rattle.std.specs.Prelude.{List, Bool, true, false, ◌&&◌}
+use Rattle.std.specs.Prelude.{List, Bool, true, false, ◌&&◌, Option, Some, None}
 use Rattle.std.specs.Option.{option_eq}
 use Rattle.asl_json.specs.Data.{list, chain}
 use Rattle.asl_json.specs.Same.{equal, bytes_eq}
@@ -10,9 +10,13 @@ use Rattle.asl_states.specs.declared.parallel.Parallel.{Parallel as ParallelStat
 use Rattle.asl_states.specs.declared.map.Map.{Map as MapState}
 use Rattle.asl_states.specs.declared.processor.Processor.{Processor}
 use Rattle.asl_states.specs.declared.processor.Processor.TheVariants.{Iterator, ItemProcessor}
+use Rattle.asl_states.specs.declared.fail.Fail.{Fail as FailState}
+use Rattle.asl_states.specs.declared.fail.FailText.{FailText}
+use Rattle.asl_states.specs.declared.fail.FailText.TheVariants.{Told, At}
 use Rattle.asl_states.specs.declared.state.State.{State}
 use Rattle.asl_states.specs.declared.state.State.TheVariants.{Task, Pass, Choice, Wait, Parallel, Map, Succeed, Fail}
 use Rattle.asl_states.specs.Show.{machine_shown}
+use Rattle.asl_members.specs.Equal.{written_alike}
 use Rattle.asl_members.specs.contracts.path.PathFieldPartialEq.TheImpl as paths
 use Rattle.asl_parts.specs.contracts.common.CommonPartialEq.TheImpl as commons
 use Rattle.asl_parts.specs.contracts.completion.CompletionPartialEq.TheImpl as completions
@@ -22,7 +26,6 @@ use Rattle.asl_states.specs.contracts.pass.PassPartialEq.TheImpl as passes
 use Rattle.asl_states.specs.contracts.choice.ChoicePartialEq.TheImpl as choices
 use Rattle.asl_states.specs.contracts.wait.WaitPartialEq.TheImpl as waits
 use Rattle.asl_states.specs.contracts.succeed.SucceedPartialEq.TheImpl as succeeds
-use Rattle.asl_states.specs.contracts.fail.FailPartialEq.TheImpl as fails
 
 -- both are an Iterator, or both an ItemProcessor
 abbrev pub spelled_equal : Processor → Processor → Bool
@@ -63,6 +66,18 @@ map_same x y =
     && (spelled_equal x.processor y.processor
     && (completions.ghosts).eq x.completion y.completion)))))
 
+-- they show the same: a path is shown as a call of the same text would be, though no text is both
+abbrev pub reason_same : Option FailText → Option FailText → Bool
+reason_same None None = true
+reason_same (Some (Told t)) (Some (Told u)) = bytes_eq t u
+reason_same (Some (At p)) (Some (At q)) = written_alike p q
+reason_same a b = false
+
+abbrev pub fail_same : FailState → FailState → Bool
+fail_same x y =
+    (commons.ghosts).eq x.common y.common
+    && (reason_same x.error y.error && reason_same x.cause y.cause)
+
 abbrev pub state_same : State → State → Bool
 state_same (Parallel x) (Parallel y) = parallel_same x y
 state_same (Map x) (Map y) = map_same x y
@@ -71,5 +86,5 @@ state_same (Pass x) (Pass y) = (passes.ghosts).eq x y
 state_same (Choice x) (Choice y) = (choices.ghosts).eq x y
 state_same (Wait x) (Wait y) = (waits.ghosts).eq x y
 state_same (Succeed x) (Succeed y) = (succeeds.ghosts).eq x y
-state_same (Fail x) (Fail y) = (fails.ghosts).eq x y
+state_same (Fail x) (Fail y) = fail_same x y
 state_same x y = false

@@ -3,3 +3,5 @@ pub mod Show
 pub mod Choosing
 pub mod Newer
 pub mod Equal
+pub mod Laws
+pub mod private

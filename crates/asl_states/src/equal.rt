@@ -1,7 +1,8 @@
 // Whether two states show the same: states of two tables, in which the machines inside them stand under other numbers.
 ghost use Rattle.std.specs.Prelude.{◌≡◌};
-ghost use Rattle.asl_states.specs.Equal.{spelled_equal, parallel_same, map_same, state_same};
+ghost use Rattle.asl_states.specs.Equal.{spelled_equal, reason_same, parallel_same, map_same, fail_same, state_same};
 
+use crate::fail::{Fail, FailText};
 use crate::map::Map;
 use crate::parallel::Parallel;
 use crate::processor::Processor;
@@ -45,6 +46,29 @@ impl Map {
     }
 }
 
+/// Whether two reasons show the same.
+fn tell_the_same(a: &Option<FailText>, b: &Option<FailText>) -> bool
+    ensures { result ≡ reason_same a.now b.now }
+{
+    match (a, b) {
+        (None, None) => true,
+        (Some(FailText::Told(x)), Some(FailText::Told(y))) => *x == *y,
+        (Some(FailText::At(x)), Some(FailText::At(y))) => x.is_written_as(y),
+        _ => false,
+    }
+}
+
+impl Fail {
+    /// Whether two Fail states show the same. Takes no memory.
+    fn shows_as(&self, other: &Fail) -> bool
+        ensures { result ≡ fail_same self.now other.now }
+    {
+        self.common == other.common
+            && tell_the_same(&self.error, &other.error)
+            && tell_the_same(&self.cause, &other.cause)
+    }
+}
+
 impl State {
     /// Whether two states are the same but for the machines inside them. Takes no memory.
     pub fn is_same_but_machines(&self, other: &State) -> bool
@@ -58,7 +82,7 @@ impl State {
             (State::Parallel(a), State::Parallel(b)) => a.is_same_but_machines(b),
             (State::Map(a), State::Map(b)) => a.is_same_but_machines(b),
             (State::Succeed(a), State::Succeed(b)) => *a == *b,
-            (State::Fail(a), State::Fail(b)) => *a == *b,
+            (State::Fail(a), State::Fail(b)) => a.shows_as(b),
             _ => false,
         }
     }

@@ -1,5 +1,6 @@
 // States.
-ghost use Rattle.std.specs.Prelude.{◌≡◌, IfOk};
+ghost use Rattle.std.specs.Prelude.{◌≡◌, ◌↔◌, IfOk, IsTrue};
+ghost use Rattle.asl_states.specs.Laws.{state_eq};
 ghost use Rattle.asl_states.specs.Newer.{newer_state};
 
 use crate::choice::Choice;
@@ -15,7 +16,6 @@ use std::alloc::{AllocError, Global};
 use std::mem;
 
 /// A state. (Amazon States Language, "State Types".)
-#[derive(PartialEq, Eq)]
 pub enum State {
     /// `"Type": "Task"`.
     Task(Task),
@@ -49,6 +49,48 @@ impl Drop for State {
             State::Fail(_part) => {}
         }
     }
+}
+
+/// Whether two states are equal, type by type.
+fn are_equal(a: &State, b: &State) -> bool
+    ensures { result ≡ state_eq a.now b.now }
+{
+    match (a, b) {
+        (State::Task(x), State::Task(y)) => *x == *y,
+        (State::Pass(x), State::Pass(y)) => *x == *y,
+        (State::Choice(x), State::Choice(y)) => *x == *y,
+        (State::Wait(x), State::Wait(y)) => *x == *y,
+        (State::Parallel(x), State::Parallel(y)) => *x == *y,
+        (State::Map(x), State::Map(y)) => *x == *y,
+        (State::Succeed(x), State::Succeed(y)) => *x == *y,
+        (State::Fail(x), State::Fail(y)) => *x == *y,
+        _ => false,
+    }
+}
+
+/// Two states are equal where they are one as contracts see them: each member is, spelling included, and so are the numbers of the
+/// machines inside them in the table. It is for states of one table; for those of two there is `is_same_but_machines`. Takes no
+/// memory.
+impl PartialEq for State {
+    ghost use Rattle.asl_states.specs.Laws.{state_eq};
+    ghost use Rattle.asl_states.specs.private.Exact.{state_laws};
+
+    ghost eq = { state_eq };
+
+    ghost laws = { state_laws };
+
+    fn eq(&self, other: &State) -> bool
+        ensures equal { result ≡ state_eq self.now other.now }
+        ensures same { IsTrue result ↔ (self.now ≡ other.now) }
+    {
+        are_equal(self, other)
+    }
+}
+
+impl Eq for State {
+    ghost use Rattle.asl_states.specs.private.Exact.{state_equivalence};
+
+    ghost laws = { state_equivalence };
 }
 
 impl State {

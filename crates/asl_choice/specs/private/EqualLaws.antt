@@ -39,7 +39,7 @@ bool_true false false e = refl
 bool_true true false e = absurd cc
 bool_true false true e = absurd cc
 
-order_true : (o p : Order) → order_eq o p ≡ true → o ≡ p
+pub order_true : (o p : Order) → order_eq o p ≡ true → o ≡ p
 order_true order.Equals order.Equals e = refl
 order_true order.LessThan order.LessThan e = refl
 order_true order.GreaterThan order.GreaterThan e = refl
@@ -47,7 +47,7 @@ order_true order.LessThanEquals order.LessThanEquals e = refl
 order_true order.GreaterThanEquals order.GreaterThanEquals e = refl
 order_true o p e = absurd cc
 
-property_true : (o p : Property) → property_eq o p ≡ true → o ≡ p
+pub property_true : (o p : Property) → property_eq o p ≡ true → o ≡ p
 property_true property.Null property.Null e = refl
 property_true property.Present property.Present e = refl
 property_true property.Numeric property.Numeric e = refl
