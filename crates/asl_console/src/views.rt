@@ -6,7 +6,7 @@ ghost use Rattle.asl_json.specs.Compact.{compact};
 ghost use Rattle.asl_history.specs.Lines.{history_text};
 ghost use Rattle.asl_console.specs.Views.{kind_word, state_text, branch_line, helds_of, held_lines, places_text, data_in, data_text, events_text, step_text, steps_text};
 
-use asl_exec::Frame;
+use asl_exec::{Frame, SharedFrame};
 use asl_history::{Event, Place, put_line};
 use asl_json::{Json, Name, put, put_quoted};
 use asl_session::{Session, put_answer};
@@ -92,13 +92,13 @@ fn put_frames(
     alloc: Global,
     out: &mut String,
     session: &Session,
-    frames: &[Frame],
+    frames: &[SharedFrame],
 ) -> Result<(), AllocError>
     ensures { OnOk result (string_bytes out.new
         ≡ string_bytes out.old ++ held_lines session.now (flat_map helds_of frames.now)) }
 {
     for frame in frames {
-        put_frame(alloc, out, session, frame)?;
+        put_frame(alloc, out, session, frame.get())?;
     }
     Ok(())
 }

@@ -16,7 +16,7 @@ mod rewinding;
 mod stepping;
 mod swapping;
 
-pub use asl_run::{Checkpoint, Frame, Next, Outcome, Refusal};
+pub use asl_run::{Checkpoint, Frame, Next, Outcome, Refusal, SharedFrame};
 pub use asl_setup::{EmulateFault, Setup, StepAt};
 pub use driving::Ended;
 pub use emulation::{Emulated, emulate, emulate_driven};

@@ -21,8 +21,8 @@ impl Execution {
         self.world.is_late(moment)
     }
 
-    /// What is needed to come back to the world as it is now. It copies the running branches, and no event. The error is that memory
-    /// ran out.
+    /// What is needed to come back to the world as it is now. It shares the running branches, and copies no event. The error is that
+    /// memory ran out.
     pub fn checkpoint(&self) -> Result<Checkpoint, AllocError>
         ensures { IfOk result (λ c. IsCheckpointOf c (world_of self.now)) }
     {

@@ -1,5 +1,5 @@
 -- Trees of branches, as lists.
-use Rattle.std.specs.Prelude.{ℕ, ◌≡◌, ◌+◌, ◌≤◌, not, if◌then◌else◌, Bool, true, List, [], ◌∷◌, ◌++◌, length, map}
+use Rattle.std.specs.Prelude.{ℕ, ◌≡◌, ◌+◌, ◌*◌, ◌≤◌, not, if◌then◌else◌, Bool, true, List, [], ◌∷◌, ◌++◌, length, map}
 use Rattle.std.proofs.Common.{arith, length-append}
 use Rattle.std.proofs.lemmas.List.{length-map}
 use denote.Param.Weighed.{most}
@@ -61,7 +61,7 @@ abbrev pub plain : Node → Branch
 plain n = record { place = n.place; current = n.held.current }
 
 pub most-below : (i : ℕ) (kids : List Family)
-    → most (λ k. length k.below + 1) kids ≤ length (below_of i kids)
+    → most (λ k. 2 * length k.below + 1 + 1) kids ≤ 2 * length (below_of i kids)
 most-below i [] = omega arith
 most-below i (k ∷ ks) =
     omega (

@@ -4,13 +4,15 @@ ghost use Rattle.asl_frames.specs.Branches.{children_at, is_busy};
 ghost use Rattle.asl_frames.specs.Trees.{branches_of, nodes_of, below_of};
 
 use crate::resting::{Resting, none_resting};
+use crate::shared::{SharedFrame, shared_by};
 use asl_history::Place;
 use asl_steps::Record;
 use std::alloc::{AllocError, Global};
 use std::marker::Model;
 
-/// A running branch, with the frames of the branches right under it. Contracts see what it holds and the branches under it, in the
-/// order of their places.
+/// A running branch, with the frames of the branches right under it, which other trees may share. Contracts see what it holds and the
+/// branches under it, in the order of their places.
+#[cycle(tree)]
 #[derive(Drop)]
 pub struct Frame {
     pub(crate) place: Place,
@@ -19,7 +21,7 @@ pub struct Frame {
     pub(crate) at: u64,
     /// The id of the latest event at this place or under it.
     pub(crate) under: u64,
-    pub(crate) children: Vec<Frame>,
+    pub(crate) children: Vec<SharedFrame>,
     /// So many children aren't done.
     pub(crate) undone: usize,
     /// So many children have failed.
@@ -29,7 +31,7 @@ pub struct Frame {
 }
 
 impl Model for Frame {
-    ghost use Rattle.std.specs.Prelude.{List, length, ◌∷◌, ◌+◌};
+    ghost use Rattle.std.specs.Prelude.{List, length, ◌∷◌, ◌+◌, ◌*◌};
     ghost use Rattle.std.proofs.Common.{arith};
     ghost use Rattle.asl_frames.specs.Trees.{Held, Family, below_of, most-below};
     ghost use Rattle.asl_frames.specs.private.Resting.{AreKept};
@@ -46,7 +48,7 @@ impl Model for Frame {
 
     ghost invariant = { λ f. AreKept f.undone f.failed f.resting f.children.items };
 
-    ghost size = { λ v. length v.below };
+    ghost size = { λ v. 2 * length v.below };
 
     ghost size_decreases = { λ a h. omega (arith, most-below 0 a.children.items) };
 }
@@ -88,7 +90,7 @@ impl Frame {
     }
 
     /// The frames of the branches right under it, in order.
-    pub fn children(&self) -> &[Frame]
+    pub fn children(&self) -> &[SharedFrame]
         ensures { self.now.below ≡ below_of 0 result.now }
     {
         &self.children
@@ -102,14 +104,13 @@ impl Frame {
         records_of(alloc, self.children())
     }
 
-    /// An equal frame, with equal frames under it. It recurses as deep as machines stand in machines. The error is that memory ran out.
-    #[cycle(copy)]
+    /// An equal frame, which shares the frames under it: each gets one more owner. The error is that memory ran out.
     pub fn try_clone(&self, alloc: Global) -> Result<Frame, AllocError>
         ensures { IfOk result (λ f. f ≡ self.now) }
     {
         let place = self.place.try_clone()?;
         let held = self.held.try_clone(alloc)?;
-        let children = copies(alloc, &self.children)?;
+        let children = shared_by(alloc, &self.children)?;
         Ok(Frame {
             place,
             held,
@@ -130,25 +131,13 @@ impl Frame {
     }
 }
 
-/// Equal frames.
-#[cycle(copy)]
-fn copies(alloc: Global, frames: &[Frame]) -> Result<Vec<Frame>, AllocError>
-    ensures { IfOk result (λ v. v.items ≡ frames.now) }
-{
-    let mut copies = Vec::with_capacity(alloc, frames.len())?;
-    for frame in frames {
-        copies.push(frame.try_clone(alloc)?)?;
-    }
-    Ok(copies)
-}
-
 /// What these frames' branches are doing.
-fn records_of(alloc: Global, frames: &[Frame]) -> Result<Vec<&Record>, AllocError>
+fn records_of(alloc: Global, frames: &[SharedFrame]) -> Result<Vec<&Record>, AllocError>
     ensures { IfOk result (λ v. map (λ r. r.now) v.items ≡ map (λ f. f.head.current) frames.now) }
 {
     let mut records = Vec::with_capacity(alloc, frames.len())?;
     for frame in frames {
-        records.push(frame.held())?;
+        records.push(frame.get().held())?;
     }
     Ok(records)
 }

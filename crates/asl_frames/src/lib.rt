@@ -1,18 +1,20 @@
 //! The running branches of an execution, as one tree of frames: a frame is a branch, and has the frames of the branches right under it.
 //!
-//! Modules in reading order: `frame` is the tree, `offspring` the new children of a branch, `resting` which children a walk may skip, `walks`
-//! finds what is read at a place, `turns` who may step first, and `changes` is what a step does to the tree. Contracts see the list of the
-//! branches in the order of their places.
+//! Modules in reading order: `frame` is the tree, `shared` a frame that several trees have, `offspring` the new children of a branch,
+//! `resting` which children a walk may skip, `walks` finds what is read at a place, `turns` who may step first, and `changes` is what a
+//! step does to the tree. Contracts see the list of the branches in the order of their places.
 #![tactic(auto)]
 
 mod changes;
 mod frame;
 mod offspring;
 mod resting;
+mod shared;
 mod turns;
 mod walks;
 
 pub use frame::Frame;
 pub use offspring::{Offspring, make_offspring};
+pub use shared::SharedFrame;
 pub use turns::{Limits, Turn};
 pub use walks::Standing;

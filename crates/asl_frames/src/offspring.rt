@@ -6,6 +6,7 @@ ghost use Rattle.asl_frames.specs.Trees.{count_undone, count_failed};
 
 use crate::frame::Frame;
 use crate::resting::none_resting;
+use crate::shared::SharedFrame;
 use asl_history::Place;
 use asl_steps::{Children, Record, Records};
 use std::alloc::{AllocError, Global};
@@ -15,7 +16,7 @@ use std::marker::Model;
 #[derive(Drop)]
 pub struct Offspring {
     pub(crate) keeps: bool,
-    pub(crate) frames: Vec<Frame>,
+    pub(crate) frames: Vec<SharedFrame>,
     pub(crate) undone: usize,
     pub(crate) failed: usize,
 }
@@ -38,11 +39,16 @@ impl Model for Offspring {
 }
 
 /// One more child, numbered behind the others.
-fn newborn(alloc: Global, place: &Place, number: u32, current: Record) -> Result<Frame, AllocError>
+fn newborn(
+    alloc: Global,
+    place: &Place,
+    number: u32,
+    current: Record,
+) -> Result<SharedFrame, AllocError>
     requires { number < 10 ^ 9 }
     ensures { IfOk result (λ f. f ∷ [] ≡ newborns place.now number (current ∷ [])) }
 {
-    Ok(Frame {
+    let frame = Frame {
         place: place.child(alloc, number)?,
         held: current,
         at: 0,
@@ -51,11 +57,12 @@ fn newborn(alloc: Global, place: &Place, number: u32, current: Record) -> Result
         undone: 0,
         failed: 0,
         resting: none_resting(),
-    })
+    };
+    SharedFrame::new(alloc, frame)
 }
 
 /// New children under a place, numbered in order.
-fn newborns(alloc: Global, place: &Place, records: Records) -> Result<Vec<Frame>, AllocError>
+fn newborns(alloc: Global, place: &Place, records: Records) -> Result<Vec<SharedFrame>, AllocError>
     requires { length records ≤ 10 ^ 9 }
     ensures { IfOk result (λ fs. fs.items ≡ newborns place.now 0 records) }
 {
@@ -69,12 +76,12 @@ fn newborns(alloc: Global, place: &Place, records: Records) -> Result<Vec<Frame>
 }
 
 /// How many of these aren't done.
-pub(crate) fn undone_of(frames: &[Frame]) -> usize
+pub(crate) fn undone_of(frames: &[SharedFrame]) -> usize
     ensures { result ≡ count_undone frames.now }
 {
     let mut undone = 0;
     for frame in frames {
-        if !frame.held().is_done() {
+        if !frame.get().held().is_done() {
             undone += 1;
         }
     }
@@ -82,12 +89,12 @@ pub(crate) fn undone_of(frames: &[Frame]) -> usize
 }
 
 /// How many of these have failed.
-fn failed_of(frames: &[Frame]) -> usize
+fn failed_of(frames: &[SharedFrame]) -> usize
     ensures { result ≡ count_failed frames.now }
 {
     let mut failed = 0;
     for frame in frames {
-        if frame.held().is_failed() {
+        if frame.get().held().is_failed() {
             failed += 1;
         }
     }
@@ -108,7 +115,7 @@ fn kept(alloc: Global) -> Offspring
 }
 
 /// These take the place of the branches under it.
-fn replaced(frames: Vec<Frame>) -> Offspring
+fn replaced(frames: Vec<SharedFrame>) -> Offspring
     ensures keeps { result.keeps ≡ false }
     ensures kids { result.kids ≡ frames.items }
 {

@@ -4,6 +4,7 @@ ghost use Rattle.asl_frames.specs.private.Resting.{waits, IsIdle, IsResting};
 ghost use Rattle.asl_frames.specs.Trees.{Family, one_if};
 
 use crate::frame::Frame;
+use crate::shared::SharedFrame;
 use asl_steps::Record;
 use asl_time::Moment;
 
@@ -111,13 +112,13 @@ impl Resting {
     }
 
     /// As many more children as are at rest now.
-    pub(crate) fn extended(self, children: &[Frame], now: Moment) -> Resting
+    pub(crate) fn extended(self, children: &[SharedFrame], now: Moment) -> Resting
         requires { IsResting self children.now }
         ensures { IsResting result children.now }
     {
         let mut resting = self;
         while resting.idle < children.len() {
-            let child = &children[resting.idle];
+            let child = children[resting.idle].get();
             let Some(until) = rests_until(child, now) else {
                 return resting;
             };

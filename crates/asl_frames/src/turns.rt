@@ -7,6 +7,7 @@ ghost use Rattle.asl_frames.specs.Turns.{limit_of, is_full, due_by, dues_of, soo
 ghost use Rattle.asl_frames.specs.Walking.{turn_of, dues_in, dues_below, soonest_of};
 
 use crate::frame::Frame;
+use crate::shared::SharedFrame;
 use crate::walks::map_in;
 use asl_history::Place;
 use asl_json::Name;
@@ -210,7 +211,7 @@ impl Frame {
 /// The turn that comes first among children, of whose elders so many aren't done, and of all of whom so many have failed.
 #[cycle(seek)]
 fn walk<'a, L: Limits>(
-    children: &'a [Frame],
+    children: &'a [SharedFrame],
     limits: &L,
     limit: u32,
     failed: usize,
@@ -229,6 +230,7 @@ fn walk<'a, L: Limits>(
         if is_now(&first, now) {
             return first;
         }
+        let child = child.get();
         let stopped = others_failed(failed, child.held().is_failed());
         let turn = child.seek(limits, stopped, is_full(limit, elders), now);
         if comes_first(&turn, &first) {

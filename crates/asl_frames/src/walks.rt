@@ -11,6 +11,7 @@ ghost use Rattle.asl_frames.specs.private.Links.{latest};
 use crate::frame::Frame;
 use crate::offspring::undone_of;
 use crate::resting::Resting;
+use crate::shared::SharedFrame;
 use asl_history::Place;
 use asl_json::{Json, Name};
 use asl_steps::Record;
@@ -43,10 +44,11 @@ impl Standing {
 }
 
 /// The child of that number.
-fn child_of(children: &[Frame], number: u32) -> Option<&Frame>
+fn child_of(children: &[SharedFrame], number: u32) -> Option<&Frame>
     ensures { option_copied result ≡ slice_get children.now number }
 {
-    children.get(number as usize)
+    let child = children.get(number as usize)?;
+    Some(child.get())
 }
 
 /// The first number of a place, and the others.
@@ -72,7 +74,7 @@ fn item_of(current: &Record, number: u32) -> Option<(u32, &Json)>
 }
 
 /// How many of the first children aren't done, where this is known of those at rest.
-fn undone_before(children: &[Frame], resting: Resting, number: usize) -> usize
+fn undone_before(children: &[SharedFrame], resting: Resting, number: usize) -> usize
     requires { IsResting resting children.now }
     ensures { result ≡ count_undone (take number children.now) }
 {

@@ -14,7 +14,7 @@ mod rewinding;
 mod time_limit;
 mod world;
 
-pub use asl_frames::{Frame, Limits};
+pub use asl_frames::{Frame, Limits, SharedFrame};
 pub use checkpoint::Checkpoint;
 pub use lines::{is_success, put_end, put_reply, put_step};
 pub use next::Next;

@@ -24,7 +24,8 @@ fn beginning(alloc: Global, history: &History, count: usize) -> Result<History, 
 }
 
 impl World {
-    /// What is needed to come back to this world. It copies the running branches, and no event. The error is that memory ran out.
+    /// What is needed to come back to this world. It shares the frames under that of the root, and copies no event. The error is that
+    /// memory ran out.
     pub fn checkpoint(&self, alloc: Global) -> Result<Checkpoint, AllocError>
         ensures { IfOk result (λ c. IsCheckpointOf c self.now) }
     {

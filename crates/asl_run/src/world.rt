@@ -112,14 +112,15 @@ fn latest_along(root: &Frame, place: &Place) -> u64
     standing.previous
 }
 
-/// The id of the last event, where the last so many were told just now.
+/// The id of the last event, once so many more are told.
 fn last_id(count: usize, history: &History) -> Option<u64>
-    ensures { result ≡ last_id count (length history.now.events) }
+    requires { length history.now.events + count < 2 ^ 31 }
+    ensures { result ≡ last_id count (length history.now.events + count) }
 {
     if count == 0 {
         None
     } else {
-        Some(history.len() as u64)
+        Some((history.len() + count) as u64)
     }
 }
 
@@ -410,9 +411,10 @@ impl World {
         let told = placed(alloc, place, events)?;
         let offspring = make_offspring(alloc, place, children)?;
         let previous = latest_along(&self.root, place);
-        tell(&mut self.history, moment, place, told, previous);
         let latest = last_id(count, &self.history);
-        self.root.apply(place, after, latest, offspring, moment);
+        self.root
+            .apply(alloc, place, after, latest, offspring, moment)?;
+        tell(&mut self.history, moment, place, told, previous);
         raise(&mut self.counts, state, raises);
         self.last = moment;
         let before = mem::replace(&mut self.outcome, Outcome::Running);

@@ -87,7 +87,7 @@ fn frames(rt: &HostRuntime, execution: &Execution) -> Result<String, Fail> {
     let mut text = String::new(rt.alloc());
     put_frame(rt, &mut text, execution.root())?;
     for child in execution.root().children() {
-        put_frame(rt, &mut text, child)?;
+        put_frame(rt, &mut text, child.get())?;
     }
     Ok(text)
 }

@@ -104,8 +104,8 @@ turns::walk-returns-then-is_now-clause-turn g t c =
 
 pub turns::walk-seek-turn-requires : goal.turns::walk-seek-turn-requires
 turns::walk-seek-turn-requires g t c =
-    let k = c.child-item.result in
-    let less = below-child c.args.children.now c.loop-child.child-index k (get-at c.args.children.now c.loop-child.child-index k c.child-item.is c.loop-child-test.true) in
+    let k = c.get-child.result.now in
+    let less = below-child c.args.children.now c.loop-child.child-index k (get-at c.args.children.now c.loop-child.child-index c.child-item.result c.child-item.is c.loop-child-test.true ∙ ap Some (sym c.get-child.ensures)) in
     λ κs w. (omega (arith, less), w)
 
 pub turns::walk-loop-child-preserved : goal.turns::walk-loop-child-preserved
@@ -113,9 +113,9 @@ turns::walk-loop-child-preserved g t c =
     let limits = g.L.Limits.limits c.args.limits.now in
     let i = c.loop-child.child-index in
     let items = c.args.children.now in
-    let k = c.child-item.result in
-    let at : slice_get items i ≡ Some k = get-at items i k c.child-item.is c.loop-child-test.true in
-    let next : drop i items ≡ k ∷ drop (i + 1) items = drop_more items i k c.loop-child-test.true ∙ ap (λ (f : Family). f ∷ drop (i + 1) items) (sym c.child-item.is) in
+    let k = c.get-child.result.now in
+    let at : slice_get items i ≡ Some k = get-at items i c.child-item.result c.child-item.is c.loop-child-test.true ∙ ap Some (sym c.get-child.ensures) in
+    let next : drop i items ≡ k ∷ drop (i + 1) items = drop_more items i c.child-item.result c.loop-child-test.true ∙ ap (λ (f : Family). f ∷ drop (i + 1) items) (sym c.child-item.is ∙ sym c.get-child.ensures) in
     let stopped : c.others_failed-stopped.result ≡ nat_lt (one_if (is_failed k.head.current)) c.args.failed = c.others_failed-stopped.ensures ∙ ap (λ (b : Bool). nat_lt (one_if b) c.args.failed) (c.is_failed.ensures ∙ ap is_failed c.held.ensures) in
     let more : c.counted-elders.result ≡ c.loop-child.elders + one_if (not (is_done k.head.current)) = c.counted-elders.ensures ∙ ap (λ (b : Bool). c.loop-child.elders + one_if (not b)) (c.is_done.ensures ∙ ap is_done c.held-in-loop-child.ensures) in
     let first : c.if-comes_first.first ≡ cond (comes_first (option_map turn_of c.seek-turn.result) (option_map turn_of c.loop-child.first)) c.seek-turn.result c.loop-child.first = elim c.if-comes_first.branch [

@@ -1,4 +1,4 @@
-use Rattle.std.proofs.Common.{arith}
+use Rattle.std.proofs.Common.{Some, ◌∙◌, ap, sym, arith}
 use Rattle.asl_frames.proofs.Counts.{get-at}
 use Rattle.asl_frames.proofs.Skipping.{below-child}
 use Rattle.asl_console.proofs.Trees.{frame-told}
@@ -9,5 +9,5 @@ put_frame-returns t c = frame-told c.put_frames.result _ _ _ _ _ c.args.session.
 
 pub put_frames-put_frame-requires : goal.put_frames-put_frame-requires
 put_frames-put_frame-requires t c =
-    let less = below-child c.args.frames.now c.loop-frame.frame-index c.frame-item.result (get-at c.args.frames.now c.loop-frame.frame-index c.frame-item.result c.frame-item.is c.loop-frame-test.true) in
+    let less = below-child c.args.frames.now c.loop-frame.frame-index c.get.result.now (get-at c.args.frames.now c.loop-frame.frame-index c.frame-item.result c.frame-item.is c.loop-frame-test.true ∙ ap Some (sym c.get.ensures)) in
     (omega (arith, less), tt)

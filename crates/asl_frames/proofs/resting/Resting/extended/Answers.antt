@@ -1,4 +1,4 @@
-use Rattle.std.proofs.Common.{◌<◌, ◌∙◌, ap, length, arith}
+use Rattle.std.proofs.Common.{◌<◌, ◌∙◌, Some, ap, sym, length, arith}
 use Rattle.asl_steps.specs.Records.{is_done}
 use Rattle.asl_frames.proofs.Counts.{get-at}
 use Rattle.asl_frames.proofs.Keeping.{undone-most, known-more}
@@ -10,7 +10,7 @@ with-resting-requires-clause-ordered c = undone-most c.loop-resting.resting c.ar
 pub loop-resting-preserved : goal.loop-resting-preserved
 loop-resting-preserved c =
     let l : c.loop-resting.resting.idle < length c.args.children.now = omega arith in
-    let k = c.index-children-resting.result in
-    let g = get-at c.args.children.now c.loop-resting.resting.idle k c.index-children-resting.is l in
+    let k = c.get-child.result.now in
+    let g = get-at c.args.children.now c.loop-resting.resting.idle c.index-children-resting.result c.index-children-resting.is l ∙ ap Some (sym c.get-child.ensures) in
     let e = c.with-resting.ensures in
     known-more c.loop-resting.resting c.with-resting.result c.args.children.now k c.in-Some.until c.is_done.result c.loop-resting.invariant g c.in-Some.ensures l (c.is_done.ensures ∙ ap is_done c.held.ensures) e.over e.idle e.undone e.until
