@@ -1,0 +1,131 @@
+-- Why a test isn't passed.
+use Rattle.std.specs.Prelude.{ℕ, ◌+◌, ◌-◌, ◌^◌, Bool, true, false, not, ◌&&◌, nat_lt, if◌then◌else◌, List, [], ◌∷◌, take, Option, Some, None, is_some, Result, Ok, Err, count_by, slice_get}
+use Rattle.asl_json.specs.Same.{bytes_eq}
+use Rattle.asl_json.specs.View.{data_of}
+use Rattle.asl_json.specs.declared.value.Json.{Json}
+use Rattle.asl_history.specs.declared.event.Event.{Event}
+use Rattle.asl_history.specs.declared.kind.EventKind.{EventKind}
+use Rattle.asl_history.specs.declared.kind.EventKind.TheVariants.{TaskScheduled, TaskFailed}
+use Rattle.asl_mock.specs.Answers.{Case, answer_to}
+use Rattle.asl_mock.specs.declared.fault.CaseFault.{CaseFault}
+use Rattle.asl_run.specs.World.{World, is_over}
+use Rattle.asl_run.specs.declared.outcome.Outcome.{Outcome}
+use Rattle.asl_run.specs.declared.outcome.Outcome.TheVariants.{Running, Succeeded, Failed, TimedOut}
+use Rattle.asl_setup.specs.Chosen.{case_or_empty}
+use Rattle.asl_expect.specs.Differences.{first_difference}
+use Rattle.asl_expect.specs.declared.difference.Difference.{Difference}
+use Rattle.asl_expect.specs.declared.expectation.Expectation.{Expectation}
+use Rattle.asl_expect.specs.declared.expectation.Visit.{Visit}
+use Rattle.asl_suite.specs.Cases.{is_wanted, entries, is_visited, test_setup, driven_within, step_limit}
+use Rattle.asl_suite.specs.declared.suite.Suite.{Suite}
+use Rattle.asl_suite.specs.declared.case_report.Verdict.{Verdict}
+use Rattle.asl_suite.specs.declared.case_report.Verdict.TheVariants as verdict
+use Rattle.asl_suite.specs.declared.reason.Invocation.{Invocation}
+use Rattle.asl_suite.specs.declared.reason.Reason.{Reason}
+use Rattle.asl_suite.specs.declared.reason.Reason.TheVariants as reason
+
+-- ---- an invocation without an answer
+
+abbrev pub is_failure : EventKind → Bool
+is_failure TaskFailed = true
+is_failure k = false
+
+abbrev pub is_scheduled : EventKind → Bool
+is_scheduled TaskScheduled = true
+is_scheduled k = false
+
+-- the number of the last event of a task that failed, of those from this number on; else the one found before
+abbrev pub last_failure : ℕ → Option ℕ → List Event → Option ℕ
+last_failure i found [] = found
+last_failure i found (e ∷ es) = last_failure (i + 1) (if is_failure e.kind then Some i else found) es
+
+abbrev pub invokes : List ℕ → Event → Bool
+invokes n e = is_scheduled e.kind && bytes_eq e.name n
+
+-- the last invocation of this state among these events
+abbrev pub last_invocation : List ℕ → List Event → Invocation
+last_invocation n es = record { state = n; number = count_by (invokes n) es - 1 }
+
+abbrev pub invocation_in : List Event → ℕ → Option Event → Option Invocation
+invocation_in es i None = None
+invocation_in es i (Some e) = Some (last_invocation e.name (take i es))
+
+abbrev pub invocation_at : List Event → Option ℕ → Option Invocation
+invocation_at es None = None
+invocation_at es (Some i) = invocation_in es i (slice_get es i)
+
+abbrev pub failed_invocation : List Event → Option Invocation
+failed_invocation es = invocation_at es (last_failure 0 None es)
+
+abbrev pub is_unanswered : Case → Invocation → Bool
+is_unanswered c v = nat_lt v.number (2 ^ 32) && not (is_some (answer_to c v.state v.number))
+
+abbrev pub if_unanswered : Case → Option Invocation → Option Invocation
+if_unanswered c None = None
+if_unanswered c (Some v) = if is_unanswered c v then Some v else None
+
+-- the last invocation that failed, if the execution failed and the case has no answer for it
+abbrev pub unanswered : Case → List Event → Outcome → Option Invocation
+unanswered c es (Failed e) = if_unanswered c (failed_invocation es)
+unanswered c es Running = None
+unanswered c es (Succeeded x) = None
+unanswered c es TimedOut = None
+
+-- ---- the output, and how often states were entered
+
+-- this one is wanted, and there is none
+abbrev pub no_output : Json → Difference
+no_output y = record { place = []; wanted = Some y; came = None }
+
+abbrev pub output_difference : Option Json → Outcome → Option Difference
+output_difference None o = None
+output_difference (Some y) (Succeeded x) = first_difference (data_of y) (data_of x)
+output_difference (Some y) Running = Some (no_output y)
+output_difference (Some y) (Failed e) = Some (no_output y)
+output_difference (Some y) TimedOut = Some (no_output y)
+
+abbrev pub first_unmet : List Event → List Visit → Option Visit
+first_unmet es [] = None
+first_unmet es (v ∷ vs) = if is_visited es v then first_unmet es vs else Some v
+
+-- ---- the reason
+
+abbrev pub by_visits : List Event → Option Visit → Reason
+by_visits es None = reason.Passed
+by_visits es (Some v) = reason.Visits v (entries v.state es)
+
+abbrev pub by_output : Option Difference → Reason → Reason
+by_output None r = r
+by_output (Some d) r = reason.Output d
+
+-- how it ended isn't wanted
+abbrev pub by_status : Expectation → Case → World → Reason
+by_status x c w = reason.Status x.status w.outcome (unanswered c w.events w.outcome)
+
+-- in a world in which it ended, with this case
+abbrev pub reason_in : Expectation → Case → World → Reason
+reason_in x c w =
+    if not (is_over w.outcome) then reason.Limit
+    else if not (is_wanted x.status w.outcome)
+    then by_status x c w
+    else by_output (output_difference x.output w.outcome)
+    (by_visits w.events (first_unmet w.events x.visits))
+
+abbrev pub reason_by : ℕ → Suite → Expectation → Result Case CaseFault → Reason
+reason_by limit s x (Err e) = reason.NoCase e
+reason_by limit s x (Ok c) = reason_in x c (driven_within limit (test_setup s x c))
+
+abbrev pub reason_within : ℕ → Suite → Expectation → Reason
+reason_within limit s x = reason_by limit s x (case_or_empty s.mocks x.machine x.case)
+
+abbrev pub reason_for : Suite → Expectation → Reason
+reason_for s x = reason_within step_limit s x
+
+-- the verdict that goes with it
+abbrev pub verdict_by : Reason → Verdict
+verdict_by (reason.NoCase e) = verdict.NoCase
+verdict_by reason.Limit = verdict.Limit
+verdict_by (reason.Status w o u) = verdict.Status
+verdict_by (reason.Output d) = verdict.Output
+verdict_by (reason.Visits v n) = verdict.Visits
+verdict_by reason.Passed = verdict.Passed

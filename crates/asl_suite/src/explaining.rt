@@ -1,0 +1,278 @@
+// Finding why a test isn't passed.
+ghost use Rattle.std.specs.Prelude.{◌≡◌, ◌<◌, length, Ok, Some, None, IfOk, slice_get, count_by, take};
+ghost use Rattle.std.specs.Option.{option_map};
+ghost use Rattle.asl_exec.specs.Views.{world_of};
+ghost use Rattle.asl_suite.specs.Cases.{report_on};
+ghost use Rattle.asl_suite.specs.Reasons.{is_failure, is_scheduled, last_failure, invokes, last_invocation, failed_invocation, is_unanswered, unanswered, no_output, output_difference, first_unmet, by_visits, by_status, reason_in, reason_by, reason_within, reason_for, verdict_by};
+
+use crate::judging::{entries, is_visited, is_wanted};
+use crate::reason::{Invocation, Reason};
+use crate::running::{case_of, driven, setup_of, step_limit};
+use crate::suite::Suite;
+use asl_exec::{Execution, Outcome};
+use asl_expect::{Difference, Expectation, Visit, first_difference};
+use asl_history::{Event, EventKind};
+use asl_json::{Json, Pointer, Txt};
+use asl_mock::{Case, answer};
+use std::alloc::{AllocError, Global};
+
+fn is_failure(kind: EventKind) -> bool
+    ensures { result ≡ is_failure kind }
+{
+    match kind {
+        EventKind::TaskFailed => true,
+        _ => false,
+    }
+}
+
+fn is_scheduled(kind: EventKind) -> bool
+    ensures { result ≡ is_scheduled kind }
+{
+    match kind {
+        EventKind::TaskScheduled => true,
+        _ => false,
+    }
+}
+
+/// The number of the last event of a task that failed.
+fn last_failure(events: &[Event]) -> Option<usize>
+    ensures { result ≡ last_failure 0 None events.now }
+{
+    let mut found = None;
+    for (i, event) in events.iter().enumerate() {
+        if is_failure(event.kind) {
+            found = Some(i);
+        }
+    }
+    found
+}
+
+fn invokes(name: &str, event: &Event) -> bool
+    ensures { result ≡ invokes name.now event.now }
+{
+    is_scheduled(event.kind) && event.name.as_str() == name
+}
+
+/// How often a state was invoked among the first of these events.
+fn invocations(name: &str, events: &[Event], first: usize) -> usize
+    ensures { result ≡ count_by (invokes name.now) (take first events.now) }
+{
+    events
+        .iter()
+        .take(first)
+        .filter(|event| invokes(name, event))
+        .count()
+}
+
+/// The last invocation of this state among the first of these events. The error is that memory ran out.
+fn last_invocation(
+    alloc: Global,
+    name: &str,
+    events: &[Event],
+    first: usize,
+) -> Result<Invocation, AllocError>
+    ensures { IfOk result (λ v. v ≡ last_invocation name.now (take first events.now)) }
+{
+    let count = invocations(name, events, first);
+    Ok(Invocation {
+        state: Txt::of(alloc, name)?,
+        number: count.saturating_sub(1) as u64,
+    })
+}
+
+fn event_at(events: &[Event], at: usize) -> Option<&Event>
+    ensures { option_map (λ e. e.now) result ≡ slice_get events.now at }
+{
+    events.get(at)
+}
+
+/// The last invocation that failed. The error is that memory ran out.
+fn failed_invocation(alloc: Global, events: &[Event]) -> Result<Option<Invocation>, AllocError>
+    ensures { IfOk result (λ o. o ≡ failed_invocation events.now) }
+{
+    let Some(at) = last_failure(events) else {
+        return Ok(None);
+    };
+    let Some(event) = event_at(events, at) else {
+        return Ok(None);
+    };
+    let invocation = last_invocation(alloc, event.name.as_str(), events, at)?;
+    Ok(Some(invocation))
+}
+
+fn is_unanswered(case: &Case, invocation: &Invocation) -> bool
+    ensures { result ≡ is_unanswered case.now invocation.now }
+{
+    match u32::try_from(invocation.number) {
+        Ok(number) => answer(case, invocation.state.as_str(), number).is_none(),
+        Err(_) => false,
+    }
+}
+
+/// The last invocation that failed, if the execution failed and the case has no answer for it. The error is that memory ran out.
+fn unanswered(
+    alloc: Global,
+    case: &Case,
+    events: &[Event],
+    outcome: &Outcome,
+) -> Result<Option<Invocation>, AllocError>
+    ensures { IfOk result (λ o. o ≡ unanswered case.now events.now outcome.now) }
+{
+    let Outcome::Failed(_) = outcome else {
+        return Ok(None);
+    };
+    match failed_invocation(alloc, events)? {
+        Some(invocation) if is_unanswered(case, &invocation) => Ok(Some(invocation)),
+        _ => Ok(None),
+    }
+}
+
+/// The difference where an output is wanted, and there is none. The error is that memory ran out.
+fn no_output(alloc: Global, wanted: &Json) -> Result<Difference, AllocError>
+    ensures { IfOk result (λ d. d ≡ no_output wanted.now) }
+{
+    Ok(Difference {
+        place: Pointer::whole(alloc),
+        wanted: Some(wanted.try_clone(alloc)?),
+        came: None,
+    })
+}
+
+fn output_difference(
+    alloc: Global,
+    wanted: &Option<Json>,
+    outcome: &Outcome,
+) -> Result<Option<Difference>, AllocError>
+    ensures { IfOk result (λ o. o ≡ output_difference wanted.now outcome.now) }
+{
+    let Some(wanted) = wanted else {
+        return Ok(None);
+    };
+    match outcome {
+        Outcome::Succeeded(output) => first_difference(alloc, wanted, output.get()),
+        _ => Ok(Some(no_output(alloc, wanted)?)),
+    }
+}
+
+/// The first state that was entered more or less often than it was to be. The error is that memory ran out.
+fn first_unmet(
+    alloc: Global,
+    events: &[Event],
+    visits: &[Visit],
+) -> Result<Option<Visit>, AllocError>
+    ensures { IfOk result (λ o. o ≡ first_unmet events.now visits.now) }
+{
+    for visit in visits {
+        if !is_visited(events, visit) {
+            let state = visit.state.try_clone(alloc)?;
+            return Ok(Some(Visit {
+                state,
+                count: visit.count,
+            }));
+        }
+    }
+    Ok(None)
+}
+
+fn by_visits(alloc: Global, events: &[Event], visits: &[Visit]) -> Result<Reason, AllocError>
+    ensures { IfOk result (λ r. r ≡ by_visits events.now (first_unmet events.now visits.now)) }
+{
+    match first_unmet(alloc, events, visits)? {
+        Some(wanted) => {
+            let entered = entries(wanted.state.as_str(), events) as u64;
+            Ok(Reason::Visits { wanted, entered })
+        }
+        None => Ok(Reason::Passed),
+    }
+}
+
+/// Why a test isn't passed whose execution ended otherwise than expected. The error is that memory ran out.
+fn by_status(
+    alloc: Global,
+    test: &Expectation,
+    case: &Case,
+    execution: &Execution,
+) -> Result<Reason, AllocError>
+    ensures { IfOk result (λ r. r ≡ by_status test.now case.now (world_of execution.now)) }
+{
+    let outcome = execution.outcome();
+    let unanswered = unanswered(alloc, case, execution.history().events(), outcome)?;
+    Ok(Reason::Status {
+        wanted: test.status,
+        outcome: outcome.try_clone(alloc)?,
+        unanswered,
+    })
+}
+
+/// Why a test isn't passed whose execution ended so. The error is that memory ran out.
+fn reason_in(
+    alloc: Global,
+    test: &Expectation,
+    case: &Case,
+    execution: &Execution,
+) -> Result<Reason, AllocError>
+    ensures { IfOk result (λ r. r ≡ reason_in test.now case.now (world_of execution.now)) }
+{
+    let outcome = execution.outcome();
+    if let Outcome::Running = outcome {
+        return Ok(Reason::Limit);
+    }
+    if !is_wanted(test.status, outcome) {
+        return by_status(alloc, test, case, execution);
+    }
+    if let Some(difference) = output_difference(alloc, &test.output, outcome)? {
+        return Ok(Reason::Output(difference));
+    }
+    by_visits(alloc, execution.history().events(), test.visits.visits())
+}
+
+/// Why a test of this case isn't passed, driven by at most so many steps.
+fn reason_with(
+    alloc: Global,
+    suite: &Suite,
+    test: &Expectation,
+    case: Case,
+    limit: u32,
+) -> Result<Reason, AllocError>
+    ensures { IfOk result (λ r. r ≡ reason_by limit suite.now test.now (Ok case)) }
+{
+    let own = case.try_clone()?;
+    let setup = setup_of(alloc, suite, test, own)?;
+    let execution = driven(alloc, setup, limit)?;
+    reason_in(alloc, test, &case, &execution)
+}
+
+/// Why a test isn't passed, driven by at most so many steps.
+fn reason_within(
+    alloc: Global,
+    suite: &Suite,
+    test: &Expectation,
+    limit: u32,
+) -> Result<Reason, AllocError>
+    ensures { IfOk result (λ r. r ≡ reason_within limit suite.now test.now) }
+{
+    match case_of(&suite.mocks, test)? {
+        Err(fault) => Ok(Reason::NoCase(fault)),
+        Ok(case) => reason_with(alloc, suite, test, case, limit),
+    }
+}
+
+/// Why the test of a number isn't passed. It runs the test again. The error is that memory ran out.
+pub fn explain(alloc: Global, suite: &Suite, number: usize) -> Result<Reason, AllocError>
+    requires { number < length suite.now.tests.list.items }
+    ensures reason { IfOk result (λ r. option_map (reason_for suite.now)
+        (slice_get suite.now.tests.list.items number) ≡ Some r) }
+    // It goes with the verdict that is reported.
+    ensures verdict { IfOk result (λ r. option_map (λ x. (report_on suite.now x).verdict)
+        (slice_get suite.now.tests.list.items number) ≡ Some (verdict_by r)) }
+{
+    reason_numbered(alloc, suite, number)
+}
+
+fn reason_numbered(alloc: Global, suite: &Suite, number: usize) -> Result<Reason, AllocError>
+    requires { number < length suite.now.tests.list.items }
+    ensures { IfOk result (λ r. option_map (reason_for suite.now)
+        (slice_get suite.now.tests.list.items number) ≡ Some r) }
+{
+    reason_within(alloc, suite, &suite.tests.list[number], step_limit())
+}

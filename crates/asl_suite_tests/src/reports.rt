@@ -1,0 +1,118 @@
+// What is reported of tests.
+use asl_check::accept;
+use asl_def::Machine;
+use asl_expect::Expectations;
+use asl_mock::Mocks;
+use asl_suite::{CaseReport, Suite, report, run_case};
+use std::alloc::Global;
+use std::test::Fail;
+
+/// One task.
+const TASK: &str = r#"{"StartAt":"T","States":{"T":{"Type":"Task","Resource":"r","End":true}}}"#;
+
+/// What the task answers in three cases.
+const MOCKS: &str =
+    r#"{"StateMachines":{"M":{"TestCases":{"A":{"T":"One"},"B":{"T":"Bad"},"C":{}}}},
+ "MockedResponses":{"One":{"0":{"Return":1}},"Bad":{"0":{"Throw":{"Error":"E"}}}}}"#;
+
+/// A state that is entered again and again.
+const ROUND: &str = r#"{"StartAt":"P","States":{"P":{"Type":"Pass","Next":"P"}}}"#;
+
+fn machine_of(alloc: Global, text: &str) -> Option<Machine> {
+    accept(alloc, text.as_bytes()).ok()
+}
+
+fn mocks_of(alloc: Global, text: &str) -> Option<Mocks> {
+    Mocks::read(alloc, text.as_bytes()).ok()
+}
+
+fn tests_of(alloc: Global, text: &str) -> Option<Expectations> {
+    Expectations::read(alloc, text.as_bytes()).ok()
+}
+
+fn suite_of(alloc: Global, definition: &str, tests: &str) -> Option<Suite> {
+    Some(Suite {
+        machine: machine_of(alloc, definition)?,
+        mocks: mocks_of(alloc, MOCKS)?,
+        tests: tests_of(alloc, tests)?,
+    })
+}
+
+fn reports_of(alloc: Global, suite: &Suite) -> Option<Vec<CaseReport>> {
+    let mut reports = Vec::new(alloc);
+    for number in 0..suite.tests.list.len() {
+        reports.push(run_case(alloc, suite, number).ok()?).ok()?;
+    }
+    Some(reports)
+}
+
+/// The text of the reports on these tests.
+fn told(alloc: Global, definition: &str, tests: &str) -> Option<String> {
+    let suite = suite_of(alloc, definition, tests)?;
+    let reports = reports_of(alloc, &suite)?;
+    report(alloc, &reports).ok()
+}
+
+fn is_told(alloc: Global, definition: &str, tests: &str, wanted: &str) -> bool {
+    match told(alloc, definition, tests) {
+        Some(text) => text.as_str() == wanted,
+        None => false,
+    }
+}
+
+#[test]
+fn a_line_for_each_test(rt: HostRuntime) -> Result<(), Fail> {
+    let tests = r#"[{"machine":"M","case":"A","input":{},"status":"SUCCEEDED","output":1},
+     {"machine":"M","case":"B","input":{},"status":"FAILED"},
+     {"machine":"M","case":"C","input":{},"status":"FAILED"},
+     {"machine":"M","case":"A","input":{},"status":"SUCCEEDED","output":2},
+     {"machine":"M","case":"X","input":{},"status":"SUCCEEDED"}]"#;
+    let wanted = "ok M#A SUCCEEDED 7
+ok M#B FAILED 6
+ok M#C FAILED 6
+output M#A SUCCEEDED 7
+nocase M#X NONE 0
+3 passed, 2 failed
+";
+    assert!(rt; is_told(rt.alloc(), TASK, tests, wanted));
+    Ok(())
+}
+
+#[test]
+fn the_first_verdict_that_applies(rt: HostRuntime) -> Result<(), Fail> {
+    let tests =
+        r#"[{"machine":"M","case":"A","input":{},"status":"SUCCEEDED","visits":{"T":1,"U":0}},
+     {"machine":"M","case":"A","input":{},"status":"SUCCEEDED","visits":{"T":2}},
+     {"machine":"M","case":"A","input":{},"status":"SUCCEEDED","visits":{"T":1,"U":1}},
+     {"machine":"M","case":"A","input":{},"status":"SUCCEEDED","output":1.0,"visits":{"T":0}},
+     {"machine":"M","case":"A","input":{},"status":"SUCCEEDED","output":2,"visits":{"T":0}},
+     {"machine":"M","case":"A","input":{},"status":"FAILED","output":2,"visits":{"T":0}},
+     {"machine":"M","case":"A","input":{},"status":"TIMED_OUT"},
+     {"machine":"M","case":"B","input":{},"status":"FAILED","output":{"Error":"E"}},
+     {"machine":"N","case":"A","input":{},"status":"FAILED","output":2},
+     {"machine":"N","case":"","input":{},"status":"FAILED"}]"#;
+    let wanted = "ok M#A SUCCEEDED 7
+visits M#A SUCCEEDED 7
+visits M#A SUCCEEDED 7
+visits M#A SUCCEEDED 7
+output M#A SUCCEEDED 7
+status M#A SUCCEEDED 7
+status M#A SUCCEEDED 7
+output M#B FAILED 6
+nocase N#A NONE 0
+ok N# FAILED 6
+2 passed, 8 failed
+";
+    assert!(rt; is_told(rt.alloc(), TASK, tests, wanted));
+    Ok(())
+}
+
+#[test]
+fn a_round_without_end(rt: HostRuntime) -> Result<(), Fail> {
+    let tests = r#"[{"machine":"M","case":"","input":{},"status":"SUCCEEDED"}]"#;
+    let wanted = "limit M# UNFINISHED 20001
+0 passed, 1 failed
+";
+    assert!(rt; is_told(rt.alloc(), ROUND, tests, wanted));
+    Ok(())
+}
