@@ -45,6 +45,16 @@ class ProgramTest(unittest.TestCase):
         """What the program does for the texts of a run; without a text of steps it drives the run itself."""
         return self.on_texts("run", definition, mocks, chosen, given, steps, ["--steps"])
 
+    def suite_texts(self, definition, mocks, expectations, *words):
+        """What the command test does for the texts of a suite."""
+        with tempfile.TemporaryDirectory(prefix="asl-test-") as room:
+            names = []
+            for name, text in [("definition.json", definition), ("mocks.json", mocks), ("tests.json", expectations)]:
+                names.append(os.path.join(room, name))
+                with open(names[-1], "w", encoding="utf-8") as out:
+                    out.write(text)
+            return run_program("test", *names, *words)
+
     def told(self, definition, given="{}", steps=None, mocks="{}", chosen="M"):
         """What a run prints. Its status is 0 just if the execution succeeds."""
         ran = self.run_texts(definition, mocks, chosen, given, steps)

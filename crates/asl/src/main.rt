@@ -2,18 +2,19 @@
 //! words, files and streams from the system, and a stack.
 #![tactic(auto)]
 
-use asl_cli::{refuse_words, run_words};
+use asl_cli::{Progress, refuse_words, run_words};
 use asl_host::{HostFiles, Stream, Typed, given, tell_fault};
 use std::io::{BufReader, IsTerminal};
 use std::process::ExitCode;
-use std::thread::Builder;
+use std::sync::Wait;
+use std::thread::{Builder, Threads};
 
 /// The stack that the program runs with, in bytes; the system gives it page by page, as it is used. A run may put a value into itself again
 /// and again, and writing, cloning, comparing and dropping one take up to 336 bytes for each of its levels.
 const STACK: usize = 1 << 30;
 
-/// Does what the words of the command line ask for, and tells the status.
-fn program(rt: HostRuntime) -> u8 {
+/// Does what the words of the command line ask for, and tells the status. The handle is for threads.
+fn program<R: Threads + Wait + Sync>(handle: &R, rt: HostRuntime) -> u8 {
     let alloc = rt.alloc();
     let mut out = Stream::new(rt.stdout());
     let mut err = Stream::new(rt.stderr());
@@ -28,8 +29,11 @@ fn program(rt: HostRuntime) -> u8 {
         None
     };
     let mut input = Typed::new(reader, prompt);
+    let progress = Progress::new(&rt, rt.stderr().is_terminal());
     match given(&rt) {
         Ok(words) => run_words(
+            handle,
+            &progress,
             alloc,
             words.as_slice(),
             &mut files,
@@ -43,10 +47,10 @@ fn program(rt: HostRuntime) -> u8 {
 
 fn main(rt: HostRuntime) -> ExitCode {
     let roomy = Builder::new().stack_size(STACK);
-    let status = match roomy.spawn(&rt, move || program(rt)) {
+    let status = match roomy.spawn(&rt, move || program(&rt, rt)) {
         Ok(thread) => thread.join(&rt),
         // Where the system gives no such thread, the usual stack has to do.
-        Err(_) => program(rt),
+        Err(_) => program(&rt, rt),
     };
     ExitCode::from(status)
 }

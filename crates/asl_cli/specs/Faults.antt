@@ -10,6 +10,7 @@ use Rattle.asl_check.specs.Judged.{IsDefinition, IsMachineOf, IsFaultOf}
 use Rattle.asl_check.specs.Lines.{fault_line as definition_fault_line}
 use Rattle.asl_check.specs.declared.fault.Fault.{Fault}
 use Rattle.asl_check.specs.declared.fault.Fault.TheVariants as fault
+use Rattle.asl_expect.specs.Lines.{expect_line}
 use Rattle.asl_setup.specs.declared.fault.EmulateFault.{EmulateFault}
 use Rattle.asl_setup.specs.declared.setup.Setup.{Setup}
 use Rattle.asl_setup.specs.Emulations.{AreSetupTextsOf, IsRefused, IsSetupRefused}
@@ -19,7 +20,7 @@ use Rattle.asl_session.specs.declared.script_file.ScriptFault.{ScriptFault}
 use Rattle.asl_session.specs.declared.script_file.ScriptFault.TheVariants as script
 use Rattle.asl_session.specs.Scripts.{IsScriptRun, IsScriptFault, script_refusal}
 use Rattle.asl_cli.specs.declared.fault.CommandFault.{CommandFault}
-use Rattle.asl_cli.specs.declared.fault.CommandFault.TheVariants.{File, Definition, Emulation, Script, OutOfMemory}
+use Rattle.asl_cli.specs.declared.fault.CommandFault.TheVariants.{File, Definition, Emulation, Script, Expectations, OutOfMemory}
 use Rattle.asl_host.specs.declared.words.DefinitionWords.{DefinitionWords}
 use Rattle.asl_host.specs.declared.words.SetupWords.{SetupWords}
 use Rattle.asl_host.specs.declared.words.RunWords.{RunWords}
@@ -131,6 +132,7 @@ IsReason gives lacks w (File name) =
 IsReason gives lacks w (Definition fault) = ⊥
 IsReason gives lacks w (Emulation fault) = IsRefusedBy gives w (steps_name w) fault
 IsReason gives lacks w (Script fault) = ⊥
+IsReason gives lacks w (Expectations fault) = ⊥
 IsReason gives lacks w OutOfMemory = ⊤
 
 -- ---- a session
@@ -156,6 +158,7 @@ IsOpeningReason gives lacks w (File name) = IsNamed w name.now × lacks name.now
 IsOpeningReason gives lacks w (Definition fault) = ⊥
 IsOpeningReason gives lacks w (Emulation fault) = IsRefusedSetup gives w fault
 IsOpeningReason gives lacks w (Script fault) = ⊥
+IsOpeningReason gives lacks w (Expectations fault) = ⊥
 IsOpeningReason gives lacks w OutOfMemory = ⊤
 
 -- the text is that of a run by this script of the setup that the files may give
@@ -196,6 +199,7 @@ IsDebugReason gives lacks w script (File name) =
 IsDebugReason gives lacks w script (Definition fault) = ⊥
 IsDebugReason gives lacks w script (Emulation fault) = IsRefusedSetup gives w fault
 IsDebugReason gives lacks w script (Script fault) = IsBadScript gives w script fault
+IsDebugReason gives lacks w script (Expectations fault) = ⊥
 IsDebugReason gives lacks w script OutOfMemory = ⊤
 
 -- ---- a definition
@@ -247,6 +251,7 @@ IsDefinitionReason gives lacks w (File name) = (name.now ≡ w.definition.now) �
 IsDefinitionReason gives lacks w (Definition f) = IsFaulty gives w f
 IsDefinitionReason gives lacks w (Emulation f) = ⊥
 IsDefinitionReason gives lacks w (Script f) = ⊥
+IsDefinitionReason gives lacks w (Expectations f) = ⊥
 IsDefinitionReason gives lacks w OutOfMemory = ⊤
 
 -- ---- what is told
@@ -257,6 +262,7 @@ reason_text (File name) = codes "file " ++ name.now
 reason_text (Definition fault) = codes "definition: " ++ definition_fault_line fault
 reason_text (Emulation fault) = refusal_line fault
 reason_text (Script fault) = script_refusal fault
+reason_text (Expectations fault) = codes "expectations: " ++ expect_line fault
 reason_text OutOfMemory = codes "OutOfMemory"
 
 -- the text that is told, where memory may run out before it is made

@@ -1,3 +1,4 @@
-pub mod Faults
-pub mod Talking
 pub mod Answers
+pub mod Faults
+pub mod Suites
+pub mod Talking

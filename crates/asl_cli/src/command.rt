@@ -2,6 +2,7 @@
 ghost use Rattle.std.specs.Prelude.{◌≡◌, ◌⊎◌, List, ℕ, Some, None, string_bytes, IfOk, IfErr};
 ghost use Rattle.asl_cli.specs.Answers.{IsRan, IsDebugged, IsChecked, IsFormPrinted, IsUpgraded, IsAnswered};
 ghost use Rattle.asl_host.specs.Outcomes.{status_of, IsPrinted, IsTold};
+ghost use Rattle.asl_cli.specs.Suites.{IsTested};
 ghost use Rattle.asl_cli.specs.Faults.{steps_name, IsStepped, IsDriven, IsEmulated, IsReason};
 
 use crate::checking::check;
@@ -9,23 +10,27 @@ use crate::debugging::debug;
 use crate::fault::CommandFault;
 use crate::printing::print;
 use crate::reading::{read_file, read_texts};
+use crate::testing::test;
 use crate::upgrading::upgrade;
 use asl_exec::{Emulated, emulate, emulate_driven};
 use asl_history::Sink;
 use asl_host::{
-    DebugWords, DefinitionWords, Files, GivenFault, Input, RunWords, Words, malformed_word,
-    read_words, tell_fault, write_piece,
+    DebugWords, DefinitionWords, Files, GivenFault, Input, RunWords, TestWords, Words,
+    malformed_word, read_words, tell_fault, write_piece,
 };
 use asl_setup::EmulateFault;
+use asl_workers::Gate;
 use clap::Error;
 use clap::error::ErrorKind;
 use std::alloc::Global;
 use std::convert::AsStr;
+use std::sync::Wait;
+use std::thread::Threads;
 
 /// The status where all is good, or help was asked for.
-const GOOD: u8 = 0;
-/// The status where an execution didn't end in success.
-const FAILED: u8 = 1;
+pub(crate) const GOOD: u8 = 0;
+/// The status where an execution didn't end in success, or a test isn't `ok`.
+pub(crate) const FAILED: u8 = 1;
 /// So many steps are taken at most where no file names them.
 const MOST_STEPS: u32 = 10_000;
 
@@ -33,7 +38,17 @@ const MOST_STEPS: u32 = 10_000;
 pub(crate) const REFUSED: u8 = 2;
 
 /// The whole program: does what the words ask for, of which the first is the program's name, and tells its status.
-pub fn run_words<S: AsStr, F: Files, I: Input, O: Sink, E: Sink>(
+pub fn run_words<
+    R: Threads + Wait + Sync,
+    G: Gate + Sync,
+    S: AsStr,
+    F: Files,
+    I: Input,
+    O: Sink,
+    E: Sink,
+>(
+    rt: &R,
+    gate: &G,
     alloc: Global,
     words: &[S],
     files: &mut F,
@@ -53,6 +68,8 @@ pub fn run_words<S: AsStr, F: Files, I: Input, O: Sink, E: Sink>(
         (F.gives files.old) (F.lacks files.old) w out.old out.new err.old err.new result)
         ⊎ ((w : DefinitionWords) × IsUpgraded O.taken O.failures E.taken E.failures
         (F.gives files.old) (F.lacks files.old) w out.old out.new err.old err.new result)
+        ⊎ ((w : TestWords) × IsTested O.taken O.failures E.taken E.failures
+        (F.gives files.old) (F.lacks files.old) w out.old out.new err.old err.new result)
         ⊎ ((files.new ≡ files.old) × IsAnswered O.taken O.failures E.taken E.failures
         out.old out.new err.old err.new result) }
 {
@@ -62,6 +79,7 @@ pub fn run_words<S: AsStr, F: Files, I: Input, O: Sink, E: Sink>(
         Ok(Words::Upgrade(words)) => upgrade(alloc, &words, files, out, err),
         Ok(Words::Run(words)) => run(alloc, &words, files, out, err),
         Ok(Words::Debug(words)) => debug(alloc, &words, files, input, out, err),
+        Ok(Words::Test(words)) => test(rt, gate, alloc, &words, files, out, err),
         Err(error) => answer_words(alloc, &error, out, err),
     }
 }

@@ -2,16 +2,20 @@
 //!
 //! Modules in reading order: `fault` is why a command isn't done, and its line; `reading` reads the files that words name; `checking` is
 //! the command `check`, `printing` the command `print`, `upgrading` the command `upgrade`, `debugging` the command `debug`,
-//! for which `talking` answers lines; `command` has the command `run`, and all that a command line may ask for.
+//! for which `talking` answers lines, `testing` the command `test`, for which `progress` tells how far it is and `covering` what is covered; `command` has the command `run`, and all that a command line may
+//! ask for.
 #![tactic(auto)]
 
 mod checking;
 mod command;
+mod covering;
 mod debugging;
 mod fault;
 mod printing;
+mod progress;
 mod reading;
 mod talking;
+mod testing;
 mod upgrading;
 
 pub use checking::check;
@@ -19,4 +23,6 @@ pub use command::{refuse_words, run, run_words};
 pub use debugging::debug;
 pub use fault::CommandFault;
 pub use printing::print;
+pub use progress::Progress;
+pub use testing::test;
 pub use upgrading::upgrade;

@@ -1,10 +1,14 @@
 // The command line.
+use clap::builder::ValueParser;
 use clap::error::ErrorKind;
-use clap::{Arg, ArgMatches, Command, Error};
+use clap::{Arg, ArgAction, ArgMatches, Command, Error};
 use std::alloc::{AllocError, Global};
 use std::convert::AsStr;
 use std::rt::Env;
 use std::{env, io};
+
+/// The words for the formats of reports.
+const FORMATS: [&str; 3] = ["text", "junit", "json"];
 
 /// What a command line asks for.
 #[derive(Clone, Copy)]
@@ -19,6 +23,8 @@ pub enum Words<'a> {
     Run(RunWords<'a>),
     /// An execution is to be debugged.
     Debug(DebugWords<'a>),
+    /// The tests of a suite are to be run.
+    Test(TestWords<'a>),
 }
 
 /// The word of `check`, of `print` and of `upgrade`: the name of a file.
@@ -52,6 +58,38 @@ pub struct DebugWords<'a> {
     pub script: Option<&'a str>,
 }
 
+/// How the reports of a suite are printed.
+#[derive(Clone, Copy, Debug, PartialEq, Eq)]
+pub enum ReportFormat {
+    /// A line a test, and how many passed and failed.
+    Text,
+    /// JUnit XML, as systems of continuous integration read it.
+    JUnit,
+    /// A JSON object a test, each on a line.
+    Json,
+}
+
+/// A part of a suite: the tests of these numbers, from 1: `first`, and each that stands `apart` behind one of them.
+#[derive(Clone, Copy)]
+pub struct Shard {
+    pub first: usize,
+    pub apart: usize,
+}
+
+/// The words of `test`.
+#[derive(Clone, Copy)]
+pub struct TestWords<'a> {
+    pub definition: &'a str,
+    pub mocks: &'a str,
+    pub expectations: &'a str,
+    /// So many workers, from 1 to 64, run the tests.
+    pub workers: usize,
+    pub format: ReportFormat,
+    pub shard: Shard,
+    /// The least percent that the tests are to cover; none where nothing is told of what they cover.
+    pub coverage: Option<u32>,
+}
+
 /// Why the program's words can't be had.
 #[derive(Clone, Copy)]
 pub enum GivenFault {
@@ -79,6 +117,15 @@ pub fn given<R: Env + AllocGlobal>(rt: &R) -> Result<Vec<String>, GivenFault> {
 pub fn read_words<'a, S: AsStr>(alloc: Global, words: &'a [S]) -> Result<Words<'a>, Error> {
     let mut command = asl_command(alloc)?;
     let matches = command.try_get_matches_from_mut(words)?;
+    if let Some(matches) = matches.subcommand_matches("test") {
+        return match test_words_of(matches) {
+            Some(words) => Ok(Words::Test(words)),
+            None => Err(command.error(
+                ErrorKind::ValueValidation,
+                "a shard is I/N: two numbers from 1, the first at most the second",
+            )?),
+        };
+    }
     match words_of(&matches) {
         Some(words) => Ok(words),
         None => Err(command.error(ErrorKind::MissingSubcommand, "no command was given")?),
@@ -130,6 +177,60 @@ fn setup_words_of<'a>(matches: &ArgMatches<'a>) -> Option<SetupWords<'a>> {
     })
 }
 
+/// The words of `test`; none where the shard isn't `I/N`.
+fn test_words_of<'a>(matches: &ArgMatches<'a>) -> Option<TestWords<'a>> {
+    Some(TestWords {
+        definition: matches.get_str("DEF")?,
+        mocks: matches.get_str("MOCKS")?,
+        expectations: matches.get_str("EXPECT")?,
+        workers: matches.get_one::<usize>("workers").unwrap_or(1),
+        format: format_of(matches.get_str("format")),
+        shard: shard_of(matches.get_str("shard"))?,
+        coverage: coverage_of(matches),
+    })
+}
+
+/// The least percent that is to be covered; 0 where only the flag is there.
+fn coverage_of(matches: &ArgMatches<'_>) -> Option<u32> {
+    match matches.get_one::<u32>("min") {
+        Some(least) => Some(least),
+        None if matches.get_flag("coverage") => Some(0),
+        None => None,
+    }
+}
+
+fn format_of(word: Option<&str>) -> ReportFormat {
+    match word {
+        Some("junit") => ReportFormat::JUnit,
+        Some("json") => ReportFormat::Json,
+        _ => ReportFormat::Text,
+    }
+}
+
+/// The part of a suite that `I/N` names; the whole where no word does.
+fn shard_of(word: Option<&str>) -> Option<Shard> {
+    let Some(word) = word else {
+        return Some(Shard { first: 1, apart: 1 });
+    };
+    let (first, apart) = word.split_once('/')?;
+    let first = number_of(first)?;
+    let apart = number_of(apart)?;
+    if 1 <= first && first <= apart {
+        Some(Shard { first, apart })
+    } else {
+        None
+    }
+}
+
+/// The number that decimal digits spell.
+fn number_of(digits: &str) -> Option<usize> {
+    if digits.bytes().all(|byte| byte.is_ascii_digit()) {
+        digits.parse::<usize>().ok()
+    } else {
+        None
+    }
+}
+
 /// The program's command line.
 fn asl_command<'a>(alloc: Global) -> Result<Command<'a>, AllocError> {
     let asl = Command::new(alloc, "asl")
@@ -141,7 +242,8 @@ fn asl_command<'a>(alloc: Global) -> Result<Command<'a>, AllocError> {
         .subcommand(print_command(alloc)?)?
         .subcommand(upgrade_command(alloc)?)?
         .subcommand(run_command(alloc)?)?
-        .subcommand(debug_command(alloc)?)
+        .subcommand(debug_command(alloc)?)?
+        .subcommand(test_command(alloc)?)
 }
 
 fn check_command<'a>(alloc: Global) -> Result<Command<'a>, AllocError> {
@@ -181,6 +283,48 @@ fn debug_command<'a>(alloc: Global) -> Result<Command<'a>, AllocError> {
         "Debugs an execution and prints its replies, its history and its status",
     );
     with_setup_words(alloc, debug)?.arg(script)
+}
+
+fn test_command<'a>(alloc: Global) -> Result<Command<'a>, AllocError> {
+    let workers = Arg::new(alloc, "workers")
+        .long("workers")
+        .value_name("N")
+        .value_parser(ValueParser::unsigned(1, 64))
+        .default_value("1")
+        .help("How many workers run the tests side by side, from 1 to 64");
+    let format = Arg::new(alloc, "format")
+        .long("format")
+        .value_name("FORMAT")
+        .value_parser(FORMATS.as_slice())
+        .default_value("text")
+        .help("How the reports are printed");
+    let shard = Arg::new(alloc, "shard")
+        .long("shard")
+        .value_name("I/N")
+        .help("Only the tests I, I+N, .. of the file, counted from 1");
+    let coverage = Arg::new(alloc, "coverage")
+        .long("coverage")
+        .action(ArgAction::SetTrue)
+        .help("Tells on standard error how much the tests cover");
+    let min = Arg::new(alloc, "min")
+        .long("min")
+        .value_name("PERCENT")
+        .value_parser(ValueParser::unsigned(0, 100))
+        .help("The least that the tests are to cover, from 0 to 100; it implies --coverage");
+    Command::new(alloc, "test")
+        .about("Runs the tests of a suite and prints a report of each")
+        .arg(definition_word(alloc))?
+        .arg(word(alloc, "MOCKS", "The file of the mocked tasks"))?
+        .arg(word(
+            alloc,
+            "EXPECT",
+            "The file of the tests: what each runs, and how it is to end",
+        ))?
+        .arg(workers)?
+        .arg(format)?
+        .arg(shard)?
+        .arg(coverage)?
+        .arg(min)
 }
 
 /// The words for what an execution begins with.
