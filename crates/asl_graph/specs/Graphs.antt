@@ -1,0 +1,168 @@
+-- The graph of a definition in canonical form: its states with their transitions, and the machines
+-- inside states as boxes.
+use Rattle.std.specs.Prelude.{ℕ, suc, List, [], ◌∷◌, ◌++◌, Option, Some, None, if◌then◌else◌, codes}
+use Rattle.std.specs.Fmt.{decimal}
+use Rattle.asl_json.specs.Data.{Data, null, boolean, number, text, list, dict, Chain, no_items, item, Pairs, no_members, member}
+use Rattle.asl_json.specs.Same.{bytes_eq}
+use Rattle.asl_json.specs.Meaning.{value_in}
+use Rattle.asl_graph.specs.declared.language.Language.{Language}
+use Rattle.asl_graph.specs.Names.{shown}
+use Rattle.asl_graph.specs.Lines.{heading, ending, state_line, plain_line, labelled_line, begin_lines, inner_mark, box_heading, box_ending}
+
+-- ---- members
+
+abbrev pub text_in : Option Data → List ℕ
+text_in (Some (text t)) = t
+text_in _ = []
+
+abbrev pub text_at : List ℕ → Data → List ℕ
+text_at k d = text_in (value_in k d)
+
+abbrev pub items_in : Option Data → Chain
+items_in (Some (list ds)) = ds
+items_in _ = no_items
+
+abbrev pub items_at : List ℕ → Data → Chain
+items_at k d = items_in (value_in k d)
+
+abbrev pub members_in : Data → Pairs
+members_in (dict ms) = ms
+members_in _ = no_members
+
+-- ---- the lines of one state
+
+-- a state that has retriers is marked
+abbrev pub retry_mark : Option Data → List ℕ
+retry_mark (Some d) = codes " - Retry"
+retry_mark None = []
+
+abbrev pub own_line : Language → List ℕ → Data → List ℕ
+own_line l name d = state_line l name (text_at (codes "Type") d) (retry_mark (value_in (codes "Retry") d))
+
+abbrev pub next_line : Language → List ℕ → Option Data → List ℕ
+next_line l name (Some (text t)) = plain_line l name t
+next_line l name _ = []
+
+abbrev pub default_line : Language → List ℕ → Option Data → List ℕ
+default_line l name (Some (text t)) = labelled_line l name (codes "Default") t
+default_line l name _ = []
+
+-- a line for each rule of a Choice, by its number
+abbrev pub rule_lines : Language → List ℕ → ℕ → Chain → List ℕ
+rule_lines l name i no_items = []
+rule_lines l name i (item d ds) =
+    labelled_line l name (codes "rule " ++ decimal i) (text_at (codes "Next") d)
+    ++ rule_lines l name (suc i) ds
+
+-- the errors of a catcher
+abbrev pub errors_shown : Language → Chain → List ℕ
+errors_shown l no_items = []
+errors_shown l (item d ds) = (32 ∷ shown l (text_in (Some d))) ++ errors_shown l ds
+
+-- a line for each catcher, by its errors
+abbrev pub catcher_lines : Language → List ℕ → Chain → List ℕ
+catcher_lines l name no_items = []
+catcher_lines l name (item d ds) =
+    labelled_line l name (codes "catch" ++ errors_shown l (items_at (codes "ErrorEquals") d))
+    (text_at (codes "Next") d)
+    ++ catcher_lines l name ds
+
+-- the state, and its transitions
+abbrev pub state_lines : Language → List ℕ → Data → List ℕ
+state_lines l name d =
+    own_line l name d
+    ++ (next_line l name (value_in (codes "Next") d)
+    ++ (rule_lines l name 0 (items_at (codes "Choices") d)
+    ++ (default_line l name (value_in (codes "Default") d)
+    ++ catcher_lines l name (items_at (codes "Catch") d))))
+
+-- ---- all states
+
+-- a machine inside a state: its number there and what tells of it, and the lines of its states
+abbrev pub boxed : Language → List ℕ → ℕ → List ℕ → Data → List ℕ → List ℕ
+boxed l name i told machine states =
+    box_heading l name i told
+    ++ (begin_lines l (inner_mark name i) (text_at (codes "StartAt") machine)
+    ++ (states ++ box_ending l name i))
+
+abbrev pub branch_told : ℕ → List ℕ
+branch_told i = codes " - branch " ++ decimal i
+
+abbrev pub items_told : List ℕ
+items_told = codes " - each item"
+
+-- of the member with this key of a machine, given the lines of its states
+abbrev pub machine_part : List ℕ → List ℕ → List ℕ
+machine_part k states = if bytes_eq k (codes "States") then states else []
+
+-- of the member with this key of a state, given the lines of its branches or of its machine
+abbrev pub state_part : Language → List ℕ → List ℕ → Data → List ℕ → List ℕ → List ℕ
+state_part l name k d branches states =
+    if bytes_eq k (codes "Branches") then branches
+    else if bytes_eq k (codes "Iterator") then boxed l name 0 items_told d states
+    else if bytes_eq k (codes "ItemProcessor") then boxed l name 0 items_told d states
+    else []
+
+abbrev mutual
+  -- of the states of a machine
+  pub machine_lines : Language → Data → List ℕ
+  machine_lines l null = []
+  machine_lines l (boolean b) = []
+  machine_lines l (number s) = []
+  machine_lines l (text s) = []
+  machine_lines l (list ds) = []
+  machine_lines l (dict ms) = in_machine l ms
+
+  pub in_machine : Language → Pairs → List ℕ
+  in_machine l no_members = []
+  in_machine l (member k d ms) = machine_part k (states_lines l d) ++ in_machine l ms
+
+  pub states_lines : Language → Data → List ℕ
+  states_lines l null = []
+  states_lines l (boolean b) = []
+  states_lines l (number s) = []
+  states_lines l (text s) = []
+  states_lines l (list ds) = []
+  states_lines l (dict ms) = in_states l ms
+
+  -- the state's own, and those of the machines inside it
+  pub in_states : Language → Pairs → List ℕ
+  in_states l no_members = []
+  in_states l (member k d ms) = state_lines l k d ++ (inner_lines l k d ++ in_states l ms)
+
+  pub inner_lines : Language → List ℕ → Data → List ℕ
+  inner_lines l name null = []
+  inner_lines l name (boolean b) = []
+  inner_lines l name (number s) = []
+  inner_lines l name (text s) = []
+  inner_lines l name (list ds) = []
+  inner_lines l name (dict ms) = in_state l name ms
+
+  pub in_state : Language → List ℕ → Pairs → List ℕ
+  in_state l name no_members = []
+  in_state l name (member k d ms) =
+      state_part l name k d (branches_lines l name d) (machine_lines l d) ++ in_state l name ms
+
+  pub branches_lines : Language → List ℕ → Data → List ℕ
+  branches_lines l name null = []
+  branches_lines l name (boolean b) = []
+  branches_lines l name (number s) = []
+  branches_lines l name (text s) = []
+  branches_lines l name (list ds) = in_branches l name 0 ds
+  branches_lines l name (dict ms) = []
+
+  pub in_branches : Language → List ℕ → ℕ → Chain → List ℕ
+  in_branches l name i no_items = []
+  in_branches l name i (item d ds) =
+      boxed l name i (branch_told i) d (machine_lines l d) ++ in_branches l name (suc i) ds
+
+-- ---- the whole
+
+-- the mark where the outermost machine begins
+abbrev pub outer_mark : List ℕ
+outer_mark = 105 ∷ []
+
+abbrev pub graph_text : Language → Data → List ℕ
+graph_text l d =
+    heading l
+    ++ (begin_lines l outer_mark (text_at (codes "StartAt") d) ++ (machine_lines l d ++ ending l))

@@ -1,0 +1,112 @@
+-- The lines of a graph, in both languages.
+use Rattle.std.specs.Prelude.{ℕ, List, [], ◌∷◌, ◌++◌, codes}
+use Rattle.asl_graph.specs.declared.language.Language.{Language}
+use Rattle.asl_graph.specs.declared.language.Language.TheVariants.{Mermaid, Dot}
+use Rattle.asl_graph.specs.Names.{shown, state_id, box_key}
+
+-- ---- the beginning and the end
+
+unfoldable pub heading : Language → List ℕ
+heading Mermaid = codes "flowchart TD" ++ 10 ∷ []
+heading Dot = codes "digraph {" ++ 10 ∷ (codes "node [shape=box];" ++ 10 ∷ [])
+
+unfoldable pub ending : Language → List ℕ
+ending Mermaid = []
+ending Dot = codes "}" ++ 10 ∷ []
+
+-- ---- pieces
+
+unfoldable pub arrow : Language → List ℕ
+arrow Mermaid = codes " --> "
+arrow Dot = codes " -> "
+
+unfoldable pub line_end : Language → List ℕ
+line_end Mermaid = 10 ∷ []
+line_end Dot = codes ";" ++ 10 ∷ []
+
+-- ---- states
+
+unfoldable pub label_open : Language → List ℕ
+label_open Mermaid = codes "[\""
+label_open Dot = codes " [label=\""
+
+unfoldable pub label_close : List ℕ
+label_close = codes "\"]"
+
+unfoldable pub label_break : Language → List ℕ
+label_break Mermaid = codes "<br/>"
+label_break Dot = codes "\\n"
+
+-- the label of a state of this name, type and mark
+abbrev pub state_label : Language → List ℕ → List ℕ → List ℕ → List ℕ
+state_label l name kind mark = shown l name ++ (label_break l ++ (shown l kind ++ mark))
+
+-- its line
+abbrev pub state_line : Language → List ℕ → List ℕ → List ℕ → List ℕ
+state_line l name kind mark =
+    state_id name
+    ++ (label_open l ++ (state_label l name kind mark ++ (label_close ++ line_end l)))
+
+-- ---- transitions
+
+abbrev pub plain_line : Language → List ℕ → List ℕ → List ℕ
+plain_line l from to = state_id from ++ (arrow l ++ (state_id to ++ line_end l))
+
+-- a transition with a label, which is shown already
+abbrev pub labelled_line : Language → List ℕ → List ℕ → List ℕ → List ℕ
+labelled_line Mermaid from label to =
+    state_id from ++ (codes " -->|\"" ++ (label ++ (codes "\"| " ++ (state_id to ++ 10 ∷ []))))
+labelled_line Dot from label to =
+    state_id from ++ (codes " -> " ++ (state_id to ++ (codes " [label=\"" ++ (label ++ (codes "\"];" ++ 10 ∷ [])))))
+
+-- ---- where a machine begins
+
+unfoldable pub mark_label : Language → List ℕ
+mark_label Mermaid = codes "((\" \"))"
+mark_label Dot = codes " [shape=point]"
+
+-- the mark with this identifier, and from it to the first state
+abbrev pub begin_lines : Language → List ℕ → List ℕ → List ℕ
+begin_lines l mark first =
+    (mark ++ (mark_label l ++ line_end l)) ++ (mark ++ (arrow l ++ (state_id first ++ line_end l)))
+
+-- the mark of the machine with this number inside a state
+abbrev pub inner_mark : List ℕ → ℕ → List ℕ
+inner_mark name i = 105 ∷ box_key name i
+
+-- ---- boxes
+
+unfoldable pub box_open : Language → List ℕ
+box_open Mermaid = codes "subgraph b"
+box_open Dot = codes "subgraph cluster_b"
+
+unfoldable pub box_label : Language → List ℕ
+box_label Mermaid = codes " [\""
+box_label Dot = codes " {" ++ 10 ∷ codes "label=\""
+
+unfoldable pub box_label_end : Language → List ℕ
+box_label_end Mermaid = codes "\"]" ++ 10 ∷ []
+box_label_end Dot = codes "\";" ++ 10 ∷ []
+
+unfoldable pub box_close : Language → List ℕ
+box_close Mermaid = codes "end" ++ 10 ∷ []
+box_close Dot = codes "}" ++ 10 ∷ []
+
+unfoldable pub dotted : Language → List ℕ
+dotted Mermaid = codes " -.-> "
+dotted Dot = codes " -> "
+
+unfoldable pub dotted_end : Language → List ℕ
+dotted_end Mermaid = 10 ∷ []
+dotted_end Dot = codes " [style=dotted];" ++ 10 ∷ []
+
+-- the beginning of the box of the machine with this number inside a state; what tells of it is
+-- shown already
+abbrev pub box_heading : Language → List ℕ → ℕ → List ℕ → List ℕ
+box_heading l name i told =
+    box_open l ++ (box_key name i ++ (box_label l ++ (shown l name ++ (told ++ box_label_end l))))
+
+-- its end, and from the state into it
+abbrev pub box_ending : Language → List ℕ → ℕ → List ℕ
+box_ending l name i =
+    box_close l ++ (state_id name ++ (dotted l ++ (inner_mark name i ++ dotted_end l)))

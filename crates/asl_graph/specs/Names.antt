@@ -1,0 +1,53 @@
+-- Names in graphs: as labels, and as identifiers.
+use Rattle.std.specs.Prelude.{ℕ, Bool, List, [], ◌∷◌, ◌++◌, ◌||◌, ◌==◌, nat_le, nat_lt, if◌then◌else◌, codes}
+use Rattle.std.specs.List.{flat_map}
+use Rattle.std.specs.Str.{chars}
+use Rattle.std.specs.Char.{encode_utf8, is_ascii_alphanumeric}
+use Rattle.std.specs.Fmt.{decimal}
+use Rattle.asl_graph.specs.declared.language.Language.{Language}
+use Rattle.asl_graph.specs.declared.language.Language.TheVariants.{Mermaid, Dot}
+
+-- ---- labels
+
+-- ASCII letters and digits, what is beyond ASCII, the space, the full stop, the hyphen and the
+-- underscore
+abbrev pub is_kept : ℕ → Bool
+is_kept c =
+    is_ascii_alphanumeric c
+    || (nat_le 128 c || ((c == 32) || ((c == 46) || ((c == 45) || (c == 95)))))
+
+abbrev pub is_control : ℕ → Bool
+is_control c = nat_lt c 32 || (c == 127)
+
+abbrev pub entity_lead : Language → List ℕ
+entity_lead Mermaid = codes "#"
+entity_lead Dot = codes "&#"
+
+-- a character by its number, as both languages take it in a label
+abbrev pub entity : Language → ℕ → List ℕ
+entity l c = entity_lead l ++ (decimal c ++ 59 ∷ [])
+
+-- a control is shown as U+FFFD, the replacement character
+abbrev pub shown_char : Language → ℕ → List ℕ
+shown_char l c =
+    if is_kept c then encode_utf8 c else if is_control c then encode_utf8 65533 else entity l c
+
+abbrev pub shown : Language → List ℕ → List ℕ
+shown l t = flat_map (shown_char l) (chars t)
+
+-- ---- identifiers
+
+-- ASCII letters and digits stay; any other character is its number between underscores. So two
+-- names have two words
+abbrev pub word_char : ℕ → List ℕ
+word_char c = if is_ascii_alphanumeric c then encode_utf8 c else 95 ∷ (decimal c ++ 95 ∷ [])
+
+abbrev pub word : List ℕ → List ℕ
+word t = flat_map word_char (chars t)
+
+abbrev pub state_id : List ℕ → List ℕ
+state_id n = codes "s_" ++ word n
+
+-- of the machine with this number inside the state of this name
+abbrev pub box_key : List ℕ → ℕ → List ℕ
+box_key n i = decimal i ++ 95 ∷ word n

@@ -1,0 +1,198 @@
+// A state, and where it leads.
+ghost use Rattle.std.specs.Prelude.{◌≡◌, ◌++◌, ◌∷◌, Some, IfOk, OnOk, option_map, string_bytes, codes};
+ghost use Rattle.std.specs.Fmt.{decimal};
+ghost use Rattle.asl_json.specs.Data.{chain};
+ghost use Rattle.asl_json.specs.View.{data_of, items_of};
+ghost use Rattle.asl_graph.specs.Names.{shown};
+ghost use Rattle.asl_graph.specs.Graphs.{text_in, text_at, items_in, items_at, retry_mark, own_line, next_line, default_line, rule_lines, errors_shown, catcher_lines, state_lines};
+
+use crate::language::Language;
+use crate::lines::{put_labelled_line, put_plain_line, put_state_line};
+use crate::naming::{put_number, put_shown};
+use asl_json::Json;
+use std::alloc::{AllocError, Global};
+
+/// The text that a value is; empty for any other.
+fn text_in<'a>(value: Option<&'a Json>) -> &'a str
+    ensures { result.now ≡ text_in (option_map (λ v. data_of v.now) value.entry) }
+{
+    match value {
+        Some(Json::Text(text)) => text.as_str(),
+        _ => "",
+    }
+}
+
+/// The text of the member with this key; empty where it is none.
+pub(crate) fn text_at<'a>(value: &'a Json, key: &str) -> &'a str
+    ensures { result.now ≡ text_at key.now (data_of value.now) }
+{
+    text_in(value.get(key))
+}
+
+/// The items that a value is; none for any other.
+fn items_in<'a>(value: Option<&'a Json>) -> &'a [Json]
+    ensures { chain (items_of result.now)
+        ≡ items_in (option_map (λ v. data_of v.now) value.entry) }
+{
+    match value {
+        Some(Json::List(items)) => items.values(),
+        _ => &[],
+    }
+}
+
+/// The items of the member with this key; none where it is no list.
+fn items_at<'a>(value: &'a Json, key: &str) -> &'a [Json]
+    ensures { chain (items_of result.now) ≡ items_at key.now (data_of value.now) }
+{
+    items_in(value.get(key))
+}
+
+/// What marks a state that has retriers.
+fn retry_mark(retriers: Option<&Json>) -> &'static str
+    ensures { result.now ≡ retry_mark (option_map (λ v. data_of v.now) retriers.entry) }
+{
+    match retriers {
+        Some(_) => " - Retry",
+        None => "",
+    }
+}
+
+fn put_own_line(
+    out: &mut String,
+    language: Language,
+    name: &str,
+    state: &Json,
+) -> Result<(), AllocError>
+    ensures { OnOk result (string_bytes out.new
+        ≡ string_bytes out.old ++ own_line language name.now (data_of state.now)) }
+{
+    let mark = retry_mark(state.get("Retry"));
+    put_state_line(out, language, name, text_at(state, "Type"), mark)
+}
+
+fn put_next_line(
+    out: &mut String,
+    language: Language,
+    name: &str,
+    next: Option<&Json>,
+) -> Result<(), AllocError>
+    ensures { OnOk result (string_bytes out.new ≡ string_bytes out.old
+        ++ next_line language name.now (option_map (λ v. data_of v.now) next.entry)) }
+{
+    match next {
+        Some(Json::Text(next)) => put_plain_line(out, language, name, next.as_str()),
+        _ => Ok(()),
+    }
+}
+
+fn put_default_line(
+    out: &mut String,
+    language: Language,
+    name: &str,
+    next: Option<&Json>,
+) -> Result<(), AllocError>
+    ensures { OnOk result (string_bytes out.new ≡ string_bytes out.old
+        ++ default_line language name.now (option_map (λ v. data_of v.now) next.entry)) }
+{
+    match next {
+        Some(Json::Text(next)) => put_labelled_line(out, language, name, "Default", next.as_str()),
+        _ => Ok(()),
+    }
+}
+
+/// The label of the rule with this number.
+fn rule_label(alloc: Global, number: usize) -> Result<String, AllocError>
+    ensures { IfOk result (λ t. string_bytes t ≡ codes "rule " ++ decimal number) }
+{
+    let mut label = String::new(alloc);
+    label.push_str("rule ")?;
+    put_number(&mut label, number as u64)?;
+    Ok(label)
+}
+
+fn put_rule_lines(
+    alloc: Global,
+    out: &mut String,
+    language: Language,
+    name: &str,
+    rules: &[Json],
+) -> Result<(), AllocError>
+    ensures { OnOk result (string_bytes out.new ≡ string_bytes out.old
+        ++ rule_lines language name.now 0 (chain (items_of rules.now))) }
+{
+    for (number, rule) in rules.iter().enumerate() {
+        let label = rule_label(alloc, number)?;
+        put_labelled_line(out, language, name, label.as_str(), text_at(rule, "Next"))?;
+    }
+    Ok(())
+}
+
+fn put_error(out: &mut String, language: Language, error: &Json) -> Result<(), AllocError>
+    ensures { OnOk result (string_bytes out.new ≡ string_bytes out.old
+        ++ 32 ∷ shown language (text_in (Some (data_of error.now)))) }
+{
+    out.push(' ')?;
+    put_shown(out, language, text_in(Some(error)))
+}
+
+fn put_errors(out: &mut String, language: Language, errors: &[Json]) -> Result<(), AllocError>
+    ensures { OnOk result (string_bytes out.new ≡ string_bytes out.old
+        ++ errors_shown language (chain (items_of errors.now))) }
+{
+    for error in errors {
+        put_error(out, language, error)?;
+    }
+    Ok(())
+}
+
+/// The label of a catcher of these errors.
+fn catcher_label(alloc: Global, language: Language, errors: &[Json]) -> Result<String, AllocError>
+    ensures { IfOk result (λ t. string_bytes t
+        ≡ codes "catch" ++ errors_shown language (chain (items_of errors.now))) }
+{
+    let mut label = String::new(alloc);
+    label.push_str("catch")?;
+    put_errors(&mut label, language, errors)?;
+    Ok(label)
+}
+
+fn put_catcher_lines(
+    alloc: Global,
+    out: &mut String,
+    language: Language,
+    name: &str,
+    catchers: &[Json],
+) -> Result<(), AllocError>
+    ensures { OnOk result (string_bytes out.new ≡ string_bytes out.old
+        ++ catcher_lines language name.now (chain (items_of catchers.now))) }
+{
+    for catcher in catchers {
+        let label = catcher_label(alloc, language, items_at(catcher, "ErrorEquals"))?;
+        put_labelled_line(
+            out,
+            language,
+            name,
+            label.as_str(),
+            text_at(catcher, "Next"),
+        )?;
+    }
+    Ok(())
+}
+
+/// Appends the lines of a state: its own, and one for each transition. The error is that memory ran out.
+pub(crate) fn put_state_lines(
+    alloc: Global,
+    out: &mut String,
+    language: Language,
+    name: &str,
+    state: &Json,
+) -> Result<(), AllocError>
+    ensures { OnOk result (string_bytes out.new
+        ≡ string_bytes out.old ++ state_lines language name.now (data_of state.now)) }
+{
+    put_own_line(out, language, name, state)?;
+    put_next_line(out, language, name, state.get("Next"))?;
+    put_rule_lines(alloc, out, language, name, items_at(state, "Choices"))?;
+    put_default_line(out, language, name, state.get("Default"))?;
+    put_catcher_lines(alloc, out, language, name, items_at(state, "Catch"))
+}

@@ -1,0 +1,300 @@
+// The lines of a graph.
+ghost use Rattle.std.specs.Prelude.{◌≡◌, ◌++◌, OnOk, string_bytes};
+ghost use Rattle.asl_graph.specs.Lines.{heading, ending, arrow, line_end, label_open, label_close, label_break, state_label, state_line, plain_line, labelled_line, mark_label, begin_lines, inner_mark, box_open, box_label, box_label_end, box_close, box_heading, box_ending, dotted, dotted_end};
+
+use crate::language::Language;
+use crate::naming::{put_box_key, put_shown, put_state_id};
+use std::alloc::AllocError;
+
+#[tactic(auto, unfolding(crate::specs::Lines::heading))]
+pub(crate) fn heading(language: Language) -> &'static str
+    ensures { result.now ≡ heading language }
+{
+    match language {
+        Language::Mermaid => "flowchart TD\n",
+        Language::Dot => "digraph {\nnode [shape=box];\n",
+    }
+}
+
+#[tactic(auto, unfolding(crate::specs::Lines::ending))]
+pub(crate) fn ending(language: Language) -> &'static str
+    ensures { result.now ≡ ending language }
+{
+    match language {
+        Language::Mermaid => "",
+        Language::Dot => "}\n",
+    }
+}
+
+#[tactic(auto, unfolding(crate::specs::Lines::arrow))]
+fn arrow(language: Language) -> &'static str
+    ensures { result.now ≡ arrow language }
+{
+    match language {
+        Language::Mermaid => " --> ",
+        Language::Dot => " -> ",
+    }
+}
+
+#[tactic(auto, unfolding(crate::specs::Lines::line_end))]
+fn line_end(language: Language) -> &'static str
+    ensures { result.now ≡ line_end language }
+{
+    match language {
+        Language::Mermaid => "\n",
+        Language::Dot => ";\n",
+    }
+}
+
+#[tactic(auto, unfolding(crate::specs::Lines::label_open))]
+fn label_open(language: Language) -> &'static str
+    ensures { result.now ≡ label_open language }
+{
+    match language {
+        Language::Mermaid => "[\"",
+        Language::Dot => " [label=\"",
+    }
+}
+
+#[tactic(auto, unfolding(crate::specs::Lines::label_break))]
+fn label_break(language: Language) -> &'static str
+    ensures { result.now ≡ label_break language }
+{
+    match language {
+        Language::Mermaid => "<br/>",
+        Language::Dot => "\\n",
+    }
+}
+
+#[tactic(auto, unfolding(crate::specs::Lines::label_close))]
+fn put_label_close(out: &mut String) -> Result<(), AllocError>
+    ensures { OnOk result (string_bytes out.new ≡ string_bytes out.old ++ label_close) }
+{
+    out.push_str("\"]")
+}
+
+/// Appends the label of a state of this name, type and mark.
+fn put_state_label(
+    out: &mut String,
+    language: Language,
+    name: &str,
+    kind: &str,
+    mark: &str,
+) -> Result<(), AllocError>
+    ensures { OnOk result (string_bytes out.new
+        ≡ string_bytes out.old ++ state_label language name.now kind.now mark.now) }
+{
+    put_shown(out, language, name)?;
+    out.push_str(label_break(language))?;
+    put_shown(out, language, kind)?;
+    out.push_str(mark)
+}
+
+/// Appends the line of a state of this name, type and mark.
+pub(crate) fn put_state_line(
+    out: &mut String,
+    language: Language,
+    name: &str,
+    kind: &str,
+    mark: &str,
+) -> Result<(), AllocError>
+    ensures { OnOk result (string_bytes out.new
+        ≡ string_bytes out.old ++ state_line language name.now kind.now mark.now) }
+{
+    put_state_id(out, name)?;
+    out.push_str(label_open(language))?;
+    put_state_label(out, language, name, kind, mark)?;
+    put_label_close(out)?;
+    out.push_str(line_end(language))
+}
+
+/// Appends the line of a transition that needs no label.
+pub(crate) fn put_plain_line(
+    out: &mut String,
+    language: Language,
+    from: &str,
+    to: &str,
+) -> Result<(), AllocError>
+    ensures { OnOk result (string_bytes out.new
+        ≡ string_bytes out.old ++ plain_line language from.now to.now) }
+{
+    put_state_id(out, from)?;
+    out.push_str(arrow(language))?;
+    put_state_id(out, to)?;
+    out.push_str(line_end(language))
+}
+
+fn put_in_mermaid(out: &mut String, from: &str, label: &str, to: &str) -> Result<(), AllocError>
+    ensures { OnOk result (string_bytes out.new
+        ≡ string_bytes out.old ++ labelled_line Language.Mermaid from.now label.now to.now) }
+{
+    put_state_id(out, from)?;
+    out.push_str(" -->|\"")?;
+    out.push_str(label)?;
+    out.push_str("\"| ")?;
+    put_state_id(out, to)?;
+    out.push('\n')
+}
+
+fn put_in_dot(out: &mut String, from: &str, label: &str, to: &str) -> Result<(), AllocError>
+    ensures { OnOk result (string_bytes out.new
+        ≡ string_bytes out.old ++ labelled_line Language.Dot from.now label.now to.now) }
+{
+    put_state_id(out, from)?;
+    out.push_str(" -> ")?;
+    put_state_id(out, to)?;
+    out.push_str(" [label=\"")?;
+    out.push_str(label)?;
+    out.push_str("\"];\n")
+}
+
+/// Appends the line of a transition with a label, which is shown already.
+pub(crate) fn put_labelled_line(
+    out: &mut String,
+    language: Language,
+    from: &str,
+    label: &str,
+    to: &str,
+) -> Result<(), AllocError>
+    ensures { OnOk result (string_bytes out.new
+        ≡ string_bytes out.old ++ labelled_line language from.now label.now to.now) }
+{
+    match language {
+        Language::Mermaid => put_in_mermaid(out, from, label, to),
+        Language::Dot => put_in_dot(out, from, label, to),
+    }
+}
+
+#[tactic(auto, unfolding(crate::specs::Lines::mark_label))]
+fn mark_label(language: Language) -> &'static str
+    ensures { result.now ≡ mark_label language }
+{
+    match language {
+        Language::Mermaid => "((\" \"))",
+        Language::Dot => " [shape=point]",
+    }
+}
+
+/// Appends the mark where a machine begins, with this identifier, and the line from it to the first state.
+pub(crate) fn put_begin_lines(
+    out: &mut String,
+    language: Language,
+    mark: &str,
+    first: &str,
+) -> Result<(), AllocError>
+    ensures { OnOk result (string_bytes out.new
+        ≡ string_bytes out.old ++ begin_lines language mark.now first.now) }
+{
+    out.push_str(mark)?;
+    out.push_str(mark_label(language))?;
+    out.push_str(line_end(language))?;
+    out.push_str(mark)?;
+    out.push_str(arrow(language))?;
+    put_state_id(out, first)?;
+    out.push_str(line_end(language))
+}
+
+/// Appends the identifier of the mark where the machine with this number inside a state begins.
+pub(crate) fn put_inner_mark(out: &mut String, name: &str, number: usize) -> Result<(), AllocError>
+    ensures { OnOk result (string_bytes out.new
+        ≡ string_bytes out.old ++ inner_mark name.now number) }
+{
+    out.push('i')?;
+    put_box_key(out, name, number)
+}
+
+#[tactic(auto, unfolding(crate::specs::Lines::box_open))]
+fn box_open(language: Language) -> &'static str
+    ensures { result.now ≡ box_open language }
+{
+    match language {
+        Language::Mermaid => "subgraph b",
+        Language::Dot => "subgraph cluster_b",
+    }
+}
+
+#[tactic(auto, unfolding(crate::specs::Lines::box_label))]
+fn box_label(language: Language) -> &'static str
+    ensures { result.now ≡ box_label language }
+{
+    match language {
+        Language::Mermaid => " [\"",
+        Language::Dot => " {\nlabel=\"",
+    }
+}
+
+#[tactic(auto, unfolding(crate::specs::Lines::box_label_end))]
+fn box_label_end(language: Language) -> &'static str
+    ensures { result.now ≡ box_label_end language }
+{
+    match language {
+        Language::Mermaid => "\"]\n",
+        Language::Dot => "\";\n",
+    }
+}
+
+/// Appends the beginning of the box of the machine with this number inside a state; what tells of it is shown already.
+pub(crate) fn put_box_heading(
+    out: &mut String,
+    language: Language,
+    name: &str,
+    number: usize,
+    told: &str,
+) -> Result<(), AllocError>
+    ensures { OnOk result (string_bytes out.new
+        ≡ string_bytes out.old ++ box_heading language name.now number told.now) }
+{
+    out.push_str(box_open(language))?;
+    put_box_key(out, name, number)?;
+    out.push_str(box_label(language))?;
+    put_shown(out, language, name)?;
+    out.push_str(told)?;
+    out.push_str(box_label_end(language))
+}
+
+#[tactic(auto, unfolding(crate::specs::Lines::box_close))]
+fn box_close(language: Language) -> &'static str
+    ensures { result.now ≡ box_close language }
+{
+    match language {
+        Language::Mermaid => "end\n",
+        Language::Dot => "}\n",
+    }
+}
+
+#[tactic(auto, unfolding(crate::specs::Lines::dotted))]
+fn dotted(language: Language) -> &'static str
+    ensures { result.now ≡ dotted language }
+{
+    match language {
+        Language::Mermaid => " -.-> ",
+        Language::Dot => " -> ",
+    }
+}
+
+#[tactic(auto, unfolding(crate::specs::Lines::dotted_end))]
+fn dotted_end(language: Language) -> &'static str
+    ensures { result.now ≡ dotted_end language }
+{
+    match language {
+        Language::Mermaid => "\n",
+        Language::Dot => " [style=dotted];\n",
+    }
+}
+
+/// Appends the end of that box, and the line from the state into it.
+pub(crate) fn put_box_ending(
+    out: &mut String,
+    language: Language,
+    name: &str,
+    number: usize,
+) -> Result<(), AllocError>
+    ensures { OnOk result (string_bytes out.new
+        ≡ string_bytes out.old ++ box_ending language name.now number) }
+{
+    out.push_str(box_close(language))?;
+    put_state_id(out, name)?;
+    out.push_str(dotted(language))?;
+    put_inner_mark(out, name, number)?;
+    out.push_str(dotted_end(language))
+}

@@ -1,0 +1,117 @@
+// Names in graphs.
+ghost use Rattle.std.specs.Prelude.{◌≡◌, ◌++◌, OnOk, string_bytes};
+ghost use Rattle.std.specs.Fmt.{decimal};
+ghost use Rattle.asl_graph.specs.Names.{is_kept, is_control, entity_lead, entity, shown_char, shown, word_char, word, state_id, box_key};
+
+use crate::language::Language;
+use itoa::Buffer;
+use std::alloc::AllocError;
+
+/// Appends a number in plain decimal.
+pub(crate) fn put_number(out: &mut String, number: u64) -> Result<(), AllocError>
+    ensures { OnOk result (string_bytes out.new ≡ string_bytes out.old ++ decimal number) }
+{
+    let mut buffer = Buffer::new();
+    out.push_str(buffer.format(number))
+}
+
+/// Whether a character stands in a label as it is, in both languages.
+fn is_kept(character: char) -> bool
+    ensures { result ≡ is_kept character }
+{
+    character.is_ascii_alphanumeric()
+        || u32::from(character) >= 128
+        || character == ' '
+        || character == '.'
+        || character == '-'
+        || character == '_'
+}
+
+fn is_control(character: char) -> bool
+    ensures { result ≡ is_control character }
+{
+    u32::from(character) < 32 || u32::from(character) == 127
+}
+
+/// What stands before the number of a character in a label.
+fn entity_lead(language: Language) -> &'static str
+    ensures { result.now ≡ entity_lead language }
+{
+    match language {
+        Language::Mermaid => "#",
+        Language::Dot => "&#",
+    }
+}
+
+/// Appends a character by its number.
+fn put_entity(out: &mut String, language: Language, character: char) -> Result<(), AllocError>
+    ensures { OnOk result (string_bytes out.new
+        ≡ string_bytes out.old ++ entity language character) }
+{
+    out.push_str(entity_lead(language))?;
+    put_number(out, u64::from(u32::from(character)))?;
+    out.push(';')
+}
+
+fn put_shown_char(out: &mut String, language: Language, character: char) -> Result<(), AllocError>
+    ensures { OnOk result (string_bytes out.new
+        ≡ string_bytes out.old ++ shown_char language character) }
+{
+    if is_kept(character) {
+        return out.push(character);
+    }
+    if is_control(character) {
+        return out.push('\u{fffd}');
+    }
+    put_entity(out, language, character)
+}
+
+/// Appends a name as it stands in a label.
+pub(crate) fn put_shown(out: &mut String, language: Language, name: &str) -> Result<(), AllocError>
+    ensures { OnOk result (string_bytes out.new
+        ≡ string_bytes out.old ++ shown language name.now) }
+{
+    for character in name.chars() {
+        put_shown_char(out, language, character)?;
+    }
+    Ok(())
+}
+
+fn put_word_char(out: &mut String, character: char) -> Result<(), AllocError>
+    ensures { OnOk result (string_bytes out.new ≡ string_bytes out.old ++ word_char character) }
+{
+    if character.is_ascii_alphanumeric() {
+        return out.push(character);
+    }
+    out.push('_')?;
+    put_number(out, u64::from(u32::from(character)))?;
+    out.push('_')
+}
+
+/// Appends a name as a part of an identifier.
+fn put_word(out: &mut String, name: &str) -> Result<(), AllocError>
+    ensures { OnOk result (string_bytes out.new ≡ string_bytes out.old ++ word name.now) }
+{
+    for character in name.chars() {
+        put_word_char(out, character)?;
+    }
+    Ok(())
+}
+
+/// Appends the identifier of a state.
+pub(crate) fn put_state_id(out: &mut String, name: &str) -> Result<(), AllocError>
+    ensures { OnOk result (string_bytes out.new ≡ string_bytes out.old ++ state_id name.now) }
+{
+    out.push_str("s_")?;
+    put_word(out, name)
+}
+
+/// Appends what tells the machines inside states apart: the number of one in its state, and the state's name.
+pub(crate) fn put_box_key(out: &mut String, name: &str, number: usize) -> Result<(), AllocError>
+    ensures { OnOk result (string_bytes out.new
+        ≡ string_bytes out.old ++ box_key name.now number) }
+{
+    put_number(out, number as u64)?;
+    out.push('_')?;
+    put_word(out, name)
+}

@@ -1,0 +1,193 @@
+// The states of a machine, and of the machines inside it.
+ghost use Rattle.std.specs.Prelude.{◌≡◌, ◌++◌, Some, IfOk, OnOk, string_bytes};
+ghost use Rattle.asl_json.specs.Data.{chain, pairs};
+ghost use Rattle.asl_json.specs.View.{data_of, items_of, members_of};
+ghost use Rattle.asl_graph.specs.Lines.{inner_mark};
+ghost use Rattle.asl_graph.specs.Graphs.{members_in, items_in, boxed, branch_told, machine_lines, machine_part, states_lines, inner_lines, state_part, branches_lines};
+
+use crate::language::Language;
+use crate::leading::{put_state_lines, text_at};
+use crate::lines::{put_begin_lines, put_box_ending, put_box_heading, put_inner_mark};
+use crate::naming::put_number;
+use asl_json::{Json, Member};
+use std::alloc::{AllocError, Global};
+
+/// What tells of the branch with this number.
+fn branch_told(alloc: Global, number: usize) -> Result<String, AllocError>
+    ensures { IfOk result (λ t. string_bytes t ≡ branch_told number) }
+{
+    let mut told = String::new(alloc);
+    told.push_str(" - branch ")?;
+    put_number(&mut told, number as u64)?;
+    Ok(told)
+}
+
+/// The identifier of the mark where the machine with this number inside a state begins.
+fn mark_of(alloc: Global, name: &str, number: usize) -> Result<String, AllocError>
+    ensures { IfOk result (λ t. string_bytes t ≡ inner_mark name.now number) }
+{
+    let mut mark = String::new(alloc);
+    put_inner_mark(&mut mark, name, number)?;
+    Ok(mark)
+}
+
+/// The members of an object; any other value has none.
+fn members_in(value: &Json) -> &[Member]
+    ensures { pairs (members_of result.now) ≡ members_in (data_of value.now) }
+{
+    match value {
+        Json::Dict(members) => members.members(),
+        _ => &[],
+    }
+}
+
+/// The items of a list; any other value has none.
+fn items_in(value: &Json) -> &[Json]
+    ensures { chain (items_of result.now) ≡ items_in (Some (data_of value.now)) }
+{
+    match value {
+        Json::List(items) => items.values(),
+        _ => &[],
+    }
+}
+
+/// Appends the lines of the states of a machine. The error is that memory ran out.
+#[cycle(walk)]
+pub(crate) fn put_machine_lines(
+    alloc: Global,
+    out: &mut String,
+    language: Language,
+    machine: &Json,
+) -> Result<(), AllocError>
+    ensures { OnOk result (string_bytes out.new
+        ≡ string_bytes out.old ++ machine_lines language (data_of machine.now)) }
+{
+    for member in members_in(machine) {
+        put_machine_part(alloc, out, language, member.key.as_str(), &member.value)?;
+    }
+    Ok(())
+}
+
+#[cycle(walk)]
+fn put_machine_part(
+    alloc: Global,
+    out: &mut String,
+    language: Language,
+    key: &str,
+    value: &Json,
+) -> Result<(), AllocError>
+    ensures { OnOk result (string_bytes out.new
+        ≡ string_bytes out.old ++ machine_part key.now (states_lines language (data_of value.now))) }
+{
+    if key == "States" {
+        put_states_lines(alloc, out, language, value)
+    } else {
+        Ok(())
+    }
+}
+
+#[cycle(walk)]
+fn put_states_lines(
+    alloc: Global,
+    out: &mut String,
+    language: Language,
+    states: &Json,
+) -> Result<(), AllocError>
+    ensures { OnOk result (string_bytes out.new
+        ≡ string_bytes out.old ++ states_lines language (data_of states.now)) }
+{
+    for member in members_in(states) {
+        let name = member.key.as_str();
+        put_state_lines(alloc, out, language, name, &member.value)?;
+        put_inner_lines(alloc, out, language, name, &member.value)?;
+    }
+    Ok(())
+}
+
+/// Appends the lines of the machines inside a state.
+#[cycle(walk)]
+fn put_inner_lines(
+    alloc: Global,
+    out: &mut String,
+    language: Language,
+    name: &str,
+    state: &Json,
+) -> Result<(), AllocError>
+    ensures { OnOk result (string_bytes out.new
+        ≡ string_bytes out.old ++ inner_lines language name.now (data_of state.now)) }
+{
+    for member in members_in(state) {
+        put_state_part(
+            alloc,
+            out,
+            language,
+            name,
+            member.key.as_str(),
+            &member.value,
+        )?;
+    }
+    Ok(())
+}
+
+#[cycle(walk)]
+fn put_state_part(
+    alloc: Global,
+    out: &mut String,
+    language: Language,
+    name: &str,
+    key: &str,
+    value: &Json,
+) -> Result<(), AllocError>
+    ensures { OnOk result (string_bytes out.new
+        ≡ string_bytes out.old ++ state_part language name.now key.now (data_of value.now)
+        (branches_lines language name.now (data_of value.now))
+        (machine_lines language (data_of value.now))) }
+{
+    if key == "Branches" {
+        put_branches(alloc, out, language, name, value)
+    } else if key == "Iterator" || key == "ItemProcessor" {
+        put_boxed(alloc, out, language, name, 0, " - each item", value)
+    } else {
+        Ok(())
+    }
+}
+
+#[cycle(walk)]
+fn put_branches(
+    alloc: Global,
+    out: &mut String,
+    language: Language,
+    name: &str,
+    branches: &Json,
+) -> Result<(), AllocError>
+    ensures { OnOk result (string_bytes out.new
+        ≡ string_bytes out.old ++ branches_lines language name.now (data_of branches.now)) }
+{
+    for (number, branch) in items_in(branches).iter().enumerate() {
+        let told = branch_told(alloc, number)?;
+        put_boxed(alloc, out, language, name, number, told.as_str(), branch)?;
+    }
+    Ok(())
+}
+
+/// Appends the box of the machine with this number inside a state; what tells of it is shown already.
+#[cycle(walk)]
+fn put_boxed(
+    alloc: Global,
+    out: &mut String,
+    language: Language,
+    name: &str,
+    number: usize,
+    told: &str,
+    machine: &Json,
+) -> Result<(), AllocError>
+    ensures { OnOk result (string_bytes out.new ≡ string_bytes out.old
+        ++ boxed language name.now number told.now (data_of machine.now)
+        (machine_lines language (data_of machine.now))) }
+{
+    put_box_heading(out, language, name, number, told)?;
+    let mark = mark_of(alloc, name, number)?;
+    put_begin_lines(out, language, mark.as_str(), text_at(machine, "StartAt"))?;
+    put_machine_lines(alloc, out, language, machine)?;
+    put_box_ending(out, language, name, number)
+}
