@@ -1,7 +1,7 @@
 //! Executions: worlds that go on by steps at places, and the text of a whole run.
 //!
 //! Modules in reading order: `execution` is what an execution has, `stepping` opens and steps one, `driving` takes the steps
-//! that come next, `rewinding` comes back to an earlier world, `swapping` says which steps may change places, and `obstacle` why
+//! that come next, `rewinding` comes back to an earlier world, `worlds` goes on from another one, `swapping` says which steps may change places, and `obstacle` why
 //! others may not; `printing` prints a run, `emulation` is a whole run, from texts to text, and `laws` says that texts have one.
 //! What an execution begins with and the refusals of texts are published from the crates below.
 #![tactic(auto)]
@@ -15,8 +15,11 @@ mod printing;
 mod rewinding;
 mod stepping;
 mod swapping;
+mod worlds;
 
-pub use asl_run::{Checkpoint, Frame, Next, Outcome, Refusal, SharedFrame};
+pub use asl_run::{
+    Checkpoint, Earliest, Frame, Next, Outcome, Refusal, SharedFrame, World, due_from,
+};
 pub use asl_setup::{EmulateFault, Setup, StepAt};
 pub use driving::Ended;
 pub use emulation::{Emulated, emulate, emulate_driven};

@@ -14,7 +14,7 @@ use std::alloc::{AllocError, Global};
 impl Execution {
     /// Takes a step, and tells why it was refused, if it was. The error is that memory ran out.
     #[tactic(auto, using(crate::proofs::Accepting::step_refused))]
-    pub(crate) fn reply(&mut self, at: &StepAt) -> Result<Option<Refusal>, AllocError>
+    pub fn reply(&mut self, at: &StepAt) -> Result<Option<Refusal>, AllocError>
         ensures reply { IfOk result (λ r. r
             ≡ refusal_in (setup_of self.old) (world_of self.old) at.now.place at.now.moment) }
         ensures world { OnOk result (world_of self.new

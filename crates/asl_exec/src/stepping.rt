@@ -55,16 +55,23 @@ fn deadline_of(setup: &Setup) -> Option<Moment>
     }
 }
 
+/// The world before the first step of what begins so. The error is that memory ran out.
+pub(crate) fn opening_world(alloc: Global, setup: &Setup) -> Result<World, AllocError>
+    ensures { IfOk result (λ w. w ≡ opening setup.now) }
+{
+    let start = start_of(alloc, &setup.machine)?;
+    let deadline = deadline_of(setup);
+    let states = setup.machine.len();
+    World::open(alloc, states, start, &setup.input, setup.start, deadline)
+}
+
 impl Execution {
     /// The world before the first step: the branch at the root is about to enter the state that the machine starts at.
     pub fn open(alloc: Global, setup: Setup) -> Result<Execution, AllocError>
         ensures setup { IfOk result (λ x. setup_of x ≡ setup) }
         ensures world { IfOk result (λ x. world_of x ≡ opening setup) }
     {
-        let start = start_of(alloc, &setup.machine)?;
-        let deadline = deadline_of(&setup);
-        let states = setup.machine.len();
-        let world = World::open(alloc, states, start, &setup.input, setup.start, deadline)?;
+        let world = opening_world(alloc, &setup)?;
         let context = Context::new(alloc, facts_of(alloc, &setup)?)?;
         Ok(Execution {
             setup,

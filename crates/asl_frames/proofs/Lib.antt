@@ -9,3 +9,7 @@ pub mod Placing
 pub mod Turning
 pub mod Skipping
 pub mod Going
+pub mod Copying
+pub mod Likening
+pub mod Sameness
+pub mod Timing

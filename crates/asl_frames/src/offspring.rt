@@ -89,7 +89,7 @@ pub(crate) fn undone_of(frames: &[SharedFrame]) -> usize
 }
 
 /// How many of these have failed.
-fn failed_of(frames: &[SharedFrame]) -> usize
+pub(crate) fn failed_of(frames: &[SharedFrame]) -> usize
     ensures { result ≡ count_failed frames.now }
 {
     let mut failed = 0;

@@ -62,7 +62,7 @@ fn due_by(crowded: bool, busy: bool, current: &Record) -> Option<Moment>
 }
 
 /// The later of two moments.
-fn later(a: Moment, b: Moment) -> Moment
+pub(crate) fn later(a: Moment, b: Moment) -> Moment
     ensures { result ≡ max a b }
 {
     if a.millis() < b.millis() { b } else { a }
