@@ -5,3 +5,4 @@ pub mod Picks
 pub mod Doing
 pub mod Earlier
 pub mod Copying
+pub mod Bareness

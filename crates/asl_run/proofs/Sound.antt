@@ -99,7 +99,7 @@ pub sound-after : (p : List ℕ) (o : Option ℕ) (now : ℕ) (e : Effect) (ns :
 sound-after p o now e ns counts events before after s t room few tells changes goes = record {
   linked = linked-after e.events e.children p now e.after ns events t changes s.linked;
   placed = placed-after p e.after (last_id (length e.events) (length (events_after p now e.events events))) e.children ns s.placed;
-  counted = λ k. omega (arith, counted-after o (length events) (length e.events) e.raises counts tells s.counted k, events-length p now e.events events);
+  counted = λ k. omega (arith, counted-after o (1000000000 + length events) (length e.events) e.raises counts tells s.counted k, events-length p now e.events events);
   goes = goes;
 }
 

@@ -40,10 +40,14 @@ abbrev pub with_stamp : List ℕ → Option ℕ → List ℕ
 with_stamp words None = words
 with_stamp words (Some until) = words ++ 32 ∷ stamp_of until
 
+-- number and name, and the moment that is waited for
+abbrev pub refusal_text : Refusal → List ℕ
+refusal_text r = with_stamp (refusal_words r) (awaited r)
+
 -- `ok`, or why the step was refused
 abbrev pub reply_text : Option Refusal → List ℕ
 reply_text None = codes "ok"
-reply_text (Some r) = with_stamp (refusal_words r) (awaited r)
+reply_text (Some r) = refusal_text r
 
 -- `step`, the place and the reply, a space between and a line feed behind
 abbrev pub step_line : List ℕ → Option Refusal → List ℕ

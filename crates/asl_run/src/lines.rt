@@ -5,7 +5,7 @@ ghost use Rattle.asl_json.specs.View.{data_of};
 ghost use Rattle.asl_json.specs.Compact.{compact};
 ghost use Rattle.asl_time.specs.StampText.{stamp_of};
 ghost use Rattle.asl_history.specs.Lines.{history_text};
-ghost use Rattle.asl_run.specs.Lines.{refusal_words, awaited, with_stamp, reply_text, step_line, status_text, status_line, end_text, is_success};
+ghost use Rattle.asl_run.specs.Lines.{refusal_words, awaited, refusal_text, reply_text, step_line, status_text, status_line, end_text, is_success};
 ghost use Rattle.asl_steps.specs.Rows.{error_output};
 
 use crate::outcome::Outcome;
@@ -18,6 +18,8 @@ use asl_steps::{ErrorOut, error_output};
 use asl_text::whole_or_none;
 use asl_time::{Moment, put_stamp};
 use std::alloc::{AllocError, Global};
+use std::error::Error;
+use std::fmt;
 
 impl Refusal {
     /// The number and the name of the refusal.
@@ -48,6 +50,24 @@ impl Refusal {
     }
 }
 
+/// As `S7 NotYet 2024-01-01T00:00:10.000Z`.
+impl fmt::Display for Refusal {
+    ghost use Rattle.std.specs.Prelude.{Some};
+    ghost use Rattle.asl_run.specs.Lines.{refusal_text};
+
+    ghost output = { λ refusal. Some (refusal_text refusal) };
+
+    fn fmt<W: fmt::Write>(&self, f: &mut fmt::Formatter<W>) -> fmt::Result {
+        let words = self.words();
+        match self.awaited() {
+            None => f.write_str(words),
+            Some(until) => write!(f, "{words} {until}"),
+        }
+    }
+}
+
+impl Error for Refusal {}
+
 /// Appends a space and the stamp of a moment. Where memory runs out, the space may be there.
 fn put_until(out: &mut String, moment: Moment) -> Result<(), AllocError>
     ensures ok { OnOk result (string_bytes out.new ≡ string_bytes out.old ++ 32 ∷ stamp_of moment) }
@@ -60,7 +80,7 @@ fn put_until(out: &mut String, moment: Moment) -> Result<(), AllocError>
 /// Appends why a step was refused. Where memory runs out, a part of it may be there.
 fn put_refusal(out: &mut String, refusal: Refusal) -> Result<(), AllocError>
     ensures ok { OnOk result (string_bytes out.new
-        ≡ string_bytes out.old ++ with_stamp (refusal_words refusal) (awaited refusal)) }
+        ≡ string_bytes out.old ++ refusal_text refusal) }
     ensures kept { Keeps (string_bytes out.old) (string_bytes out.new) }
 {
     out.push_str(refusal.words())?;

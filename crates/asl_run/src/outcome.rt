@@ -7,6 +7,7 @@ use asl_steps::ErrorOut;
 use std::alloc::{AllocError, Global};
 
 /// How far an execution is. (Step Functions Developer Guide, DescribeExecution, `status`.)
+#[derive(PartialEq, Eq)]
 pub enum Outcome {
     /// `RUNNING`.
     Running,

@@ -1,9 +1,13 @@
 // Why a step is refused.
+ghost use Rattle.std.specs.Prelude.{◌≡◌};
+ghost use Rattle.std.specs.Bool.{Decides};
+ghost use Rattle.asl_run.specs.Equal.{refusal_eq};
+ghost use Rattle.asl_run.specs.declared.refusal.Refusal.{Refusal};
 
 use asl_time::Moment;
 
 /// Why a step is refused. Of several reasons the first in this order is answered. A refused step changes nothing.
-#[derive(Clone, Copy, PartialEq, Eq)]
+#[derive(Clone, Copy, Debug, PartialEq, Eq)]
 pub enum Refusal {
     /// S1: the execution has ended.
     Over,
@@ -24,3 +28,8 @@ pub enum Refusal {
     /// S9: memory ran out.
     OutOfMemory,
 }
+
+/// `==` of refusals is true exactly where the two are equal as contracts see them. The law has no code.
+pub fn equal_refusals_are_one()
+    ensures { (x y : Refusal) → Decides (refusal_eq x y) (x ≡ y) }
+{}

@@ -2,12 +2,14 @@
 //!
 //! Modules in reading order: `record` says what a branch is doing; `facts` is what stays the same as an execution goes on, `visit`
 //! what a step may read, `context` the Context Object, `effect` what a step does, and `rows` has the pieces: a state is entered, left,
-//! or fails. `specs/Bounds.antt` says what holds of each effect.
+//! or fails. `specs/Bounds.antt` says what holds of each effect,
+//! and `laws` what `==` says.
 #![tactic(auto)]
 
 mod context;
 mod effect;
 mod facts;
+mod laws;
 mod record;
 mod rows;
 mod visit;
@@ -15,6 +17,7 @@ mod visit;
 pub use context::Context;
 pub use effect::{Children, Draft, Drafts, Effect, Ended, Progress, Records};
 pub use facts::Facts;
+pub use laws::equal_records_are_one;
 pub use record::{ErrorOut, Record, Uses};
 pub use rows::{
     beginning, entering, error_output, failing, forking, idle, is_within_limit, leaving,

@@ -1,5 +1,5 @@
 -- What always holds of a run.
-use Rattle.std.specs.Prelude.{ℕ, ◌≡◌, ◌≤◌, Bool, true, false, not, List, [], ◌∷◌, length, slice_index}
+use Rattle.std.specs.Prelude.{ℕ, ◌≡◌, ◌≤◌, ◌+◌, Bool, true, false, not, List, [], ◌∷◌, length, slice_index}
 use Rattle.asl_history.specs.declared.event.Event.{Event}
 use Rattle.asl_frames.specs.Trees.{Node}
 use Rattle.asl_frames.specs.private.Links.{IsLinked, ArePlaced}
@@ -17,6 +17,7 @@ pub record IsSound (nodes : List Node) (counts : List ℕ) (events : List Event)
   -- the branches know the latest events, and their places
   pub linked : IsLinked nodes events
   pub placed : ArePlaced nodes
-  pub counted : (n : ℕ) → slice_index counts n ≤ length events
+  -- no state was invoked too often: a world without its history begins with at most 10^9
+  pub counted : (n : ℕ) → slice_index counts n ≤ 1_000_000_000 + length events
   -- while the execution runs, the branch that it began with does
   pub goes : is_over outcome ≡ false → is_going nodes ≡ true
