@@ -1,0 +1,4 @@
+pub mod Runs
+pub mod Closing
+pub mod Answer
+pub mod Laws

@@ -1,0 +1,24 @@
+//! Runs that threads share: sessions behind one lock.
+//!
+//! Modules in reading order: `seat` is what a thread keeps of its own commands, `row` and `shared` are what lies behind a run's lock;
+//! `run` opens a run, and `closing` closes it, which `agreeing` judges. `laws` says what a run is in which nothing but steps is told,
+//! what equal replies are, and what may cross threads.
+#![tactic(auto)]
+
+mod agreeing;
+mod closing;
+mod laws;
+mod row;
+mod run;
+mod seat;
+mod shared;
+
+pub use closing::{Cause, CloseFault, Ended, RunRecord};
+pub use laws::{
+    commands_and_replies_are_compared_as_data, runs_and_seats_cross_threads,
+    steps_of_all_threads_are_one_list,
+};
+pub use row::Row;
+pub use run::SharedRun;
+pub use seat::{Entry, Seat};
+pub use shared::{ApplyFault, Shared};
