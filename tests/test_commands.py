@@ -251,7 +251,11 @@ class CommandTest(ProgramTest):
     def test_files_are_read_in_their_order(self):
         # Of two that can't be read the first one is told.
         names = [os.path.join(self.room, f"none{number}") for number in range(4)]
-        for words, places in [(["run", *self.files, *self.steps], [1, 2, 4, 6]), (["debug", *self.files, self.script], [1, 2, 4, 5])]:
+        for words, places in [
+            (["run", *self.files], [1, 2, 4]),
+            (["run", *self.files, *self.steps], [1, 2, 4, 6]),
+            (["debug", *self.files, self.script], [1, 2, 4, 5]),
+        ]:
             for first, at in enumerate(places):
                 for second, other in enumerate(places):
                     if first < second:

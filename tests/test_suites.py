@@ -14,6 +14,19 @@ ONE_TASK = '{"StartAt":"T","States":{"T":{"Type":"Task","Resource":"r","End":tru
 MOCKS = """{"StateMachines":{"M":{"TestCases":{"A":{"T":"one"},"B":{"T":"bad"},"C":{}}}},
 "MockedResponses":{"one":{"0":{"Return":1}},"bad":{"0":{"Throw":{"Error":"E","Cause":"why"}}}}}"""
 
+# A Task that throws at first, and what becomes of that; what is told of a test by which it is to succeed.
+FAILING = [
+    # Retried, and then there is no answer.
+    ('"Retry":[{"ErrorEquals":["E"]}],"End":true', '{"Type":"Succeed"}', '{"Error":"States.Runtime","Cause":"no mocked answer"}; no answer 1 of the Task "T"'),
+    # Caught, and then another Task has no answer.
+    ('"Catch":[{"ErrorEquals":["E"],"Next":"F"}],"End":true', '{"Type":"Task","Resource":"r","End":true}', '{"Error":"States.Runtime","Cause":"no mocked answer"}; no answer 0 of the Task "F"'),
+    # Caught, and then it fails for another reason.
+    ('"Catch":[{"ErrorEquals":["E"],"Next":"F"}],"End":true', '{"Type":"Fail","Error":"X"}', '{"Error":"X"}'),
+    ('"Catch":[{"ErrorEquals":["E"],"Next":"F"}],"End":true', '{"Type":"Fail","Error":"States.Runtime","Cause":"no mocked answer"}', '{"Error":"States.Runtime","Cause":"no mocked answer"}'),
+    # Neither.
+    ('"End":true', '{"Type":"Succeed"}', '{"Error":"E","Cause":"why"}'),
+]
+
 PASS_LOOP = '{"StartAt":"P","States":{"P":{"Type":"Pass","Next":"P"}}}'
 
 # Each verdict but `limit` and `visits`.
@@ -147,6 +160,13 @@ class SuitesTest(ProgramTest):
             shown = re.sub("[\u0000-\u0008\u000b\u000c\u000e-\u001f\ufffe\uffff]", "\ufffd", name)
             self.assertEqual(case.get("name"), f"1 {shown}")
             self.assertEqual(json.loads(self.on_suite(rows, "--format", "json").stdout)["case"], name)
+
+    def test_a_missing_answer_is_told_where_the_run_failed_for_it(self):
+        for members, other, wanted in FAILING:
+            # (F is entered by T's Catch alone; where T has none, a Choice before it leads there)
+            definition = f'{{"StartAt":"C","States":{{"C":{{"Type":"Choice","Choices":[{{"Variable":"$.f","IsPresent":true,"Next":"F"}}],"Default":"T"}},"T":{{"Type":"Task","Resource":"r",{members}}},"F":{other}}}}}'
+            ran = self.on_suite(tests(("B", "SUCCEEDED", {})), definition=definition)
+            self.assertEqual(ran.stderr, f'test 1 "M#B": status: wanted SUCCEEDED, came FAILED {wanted}\n', definition)
 
     def test_a_test_is_run_alone_as_told(self):
         """The command line that is told for a test shows the same execution."""

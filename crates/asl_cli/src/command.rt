@@ -2,12 +2,14 @@
 ghost use Rattle.std.specs.Prelude.{◌≡◌, ◌⊎◌, List, ℕ, Some, None, string_bytes, IfOk, IfErr};
 ghost use Rattle.asl_cli.specs.Answers.{IsRan, IsDebugged, IsChecked, IsFormPrinted, IsUpgraded, IsAnswered};
 ghost use Rattle.asl_host.specs.Outcomes.{status_of, IsPrinted, IsTold};
+ghost use Rattle.asl_cli.specs.Graphing.{IsDrawn};
 ghost use Rattle.asl_cli.specs.Suites.{IsTested};
 ghost use Rattle.asl_cli.specs.Faults.{steps_name, IsStepped, IsDriven, IsEmulated, IsReason};
 
 use crate::checking::check;
 use crate::debugging::debug;
 use crate::fault::CommandFault;
+use crate::graphing::graph;
 use crate::printing::print;
 use crate::reading::{read_file, read_texts};
 use crate::testing::test;
@@ -15,7 +17,7 @@ use crate::upgrading::upgrade;
 use asl_exec::{Emulated, emulate, emulate_driven};
 use asl_history::Sink;
 use asl_host::{
-    DebugWords, DefinitionWords, Files, GivenFault, Input, RunWords, TestWords, Words,
+    DebugWords, DefinitionWords, Files, GivenFault, GraphWords, Input, RunWords, TestWords, Words,
     malformed_word, read_words, tell_fault, write_piece,
 };
 use asl_setup::EmulateFault;
@@ -68,6 +70,8 @@ pub fn run_words<
         (F.gives files.old) (F.lacks files.old) w out.old out.new err.old err.new result)
         ⊎ ((w : DefinitionWords) × IsUpgraded O.taken O.failures E.taken E.failures
         (F.gives files.old) (F.lacks files.old) w out.old out.new err.old err.new result)
+        ⊎ ((w : GraphWords) × IsDrawn O.taken O.failures E.taken E.failures
+        (F.gives files.old) (F.lacks files.old) w out.old out.new err.old err.new result)
         ⊎ ((w : TestWords) × IsTested O.taken O.failures E.taken E.failures
         (F.gives files.old) (F.lacks files.old) w out.old out.new err.old err.new result)
         ⊎ ((files.new ≡ files.old) × IsAnswered O.taken O.failures E.taken E.failures
@@ -77,6 +81,7 @@ pub fn run_words<
         Ok(Words::Check(words)) => check(alloc, &words, files, out, err),
         Ok(Words::Print(words)) => print(alloc, &words, files, out, err),
         Ok(Words::Upgrade(words)) => upgrade(alloc, &words, files, out, err),
+        Ok(Words::Graph(words)) => graph(alloc, &words, files, out, err),
         Ok(Words::Run(words)) => run(alloc, &words, files, out, err),
         Ok(Words::Debug(words)) => debug(alloc, &words, files, input, out, err),
         Ok(Words::Test(words)) => test(rt, gate, alloc, &words, files, out, err),

@@ -1,7 +1,5 @@
 // Why a command isn't done, and the line that tells it.
-ghost use Rattle.std.specs.Prelude.{◌≡◌, ◌++◌, List, ℕ, codes, IfOk, string_bytes};
-ghost use Rattle.asl_expect.specs.Lines.{expect_line};
-ghost use Rattle.asl_check.specs.Lines.{fault_line as definition_fault_line};
+ghost use Rattle.std.specs.Prelude.{◌≡◌, List, ℕ, IfOk, string_bytes};
 ghost use Rattle.asl_host.specs.Outcomes.{fault_line, IsTold};
 ghost use Rattle.asl_cli.specs.Faults.{reason_text, Tells};
 
@@ -12,9 +10,11 @@ use asl_host::tell_fault;
 use asl_session::ScriptFault;
 use asl_setup::EmulateFault;
 use std::alloc::{AllocError, Global};
+use std::error::Error;
+use std::fmt;
 
 /// Why a command isn't done.
-#[derive(Drop)]
+#[derive(Debug, Drop)]
 pub enum CommandFault<'a> {
     /// The file of this name can't be read.
     File(&'a str),
@@ -45,40 +45,25 @@ impl<'a> CommandFault<'a> {
     fn text(&self, alloc: Global) -> Result<String, AllocError>
         ensures { IfOk result (λ t. string_bytes t ≡ reason_text self.now) }
     {
+        self.to_string(alloc)
+    }
+}
+
+impl fmt::Display for CommandFault<'_> {
+    ghost use Rattle.std.specs.Prelude.{Some};
+
+    ghost output = { λ e. Some (reason_text e) };
+
+    fn fmt<W: fmt::Write>(&self, f: &mut fmt::Formatter<W>) -> fmt::Result {
         match self {
-            CommandFault::File(name) => file_text(alloc, name),
-            CommandFault::Definition(fault) => definition_text(alloc, fault),
-            CommandFault::Emulation(fault) => fault.text(alloc),
-            CommandFault::Script(fault) => fault.text(alloc),
-            CommandFault::Expectations(fault) => expectations_text(alloc, fault),
-            CommandFault::OutOfMemory => String::from_str(alloc, "OutOfMemory"),
+            CommandFault::File(name) => write!(f, "file {name}"),
+            CommandFault::Definition(fault) => write!(f, "definition: {fault}"),
+            CommandFault::Emulation(fault) => write!(f, "{fault}"),
+            CommandFault::Script(fault) => write!(f, "{fault}"),
+            CommandFault::Expectations(fault) => write!(f, "expectations: {fault}"),
+            CommandFault::OutOfMemory => f.write_str("OutOfMemory"),
         }
     }
 }
 
-fn definition_text(alloc: Global, fault: &Fault) -> Result<String, AllocError>
-    ensures { IfOk result (λ t. string_bytes t
-        ≡ codes "definition: " ++ definition_fault_line fault.now) }
-{
-    let mut text = String::from_str(alloc, "definition: ")?;
-    let line = fault.text(alloc)?;
-    text.push_str(line.as_str())?;
-    Ok(text)
-}
-
-fn expectations_text(alloc: Global, fault: &ExpectFault) -> Result<String, AllocError>
-    ensures { IfOk result (λ t. string_bytes t ≡ codes "expectations: " ++ expect_line fault.now) }
-{
-    let mut text = String::from_str(alloc, "expectations: ")?;
-    let line = fault.text(alloc)?;
-    text.push_str(line.as_str())?;
-    Ok(text)
-}
-
-fn file_text(alloc: Global, name: &str) -> Result<String, AllocError>
-    ensures { IfOk result (λ t. string_bytes t ≡ codes "file " ++ name.now) }
-{
-    let mut text = String::from_str(alloc, "file ")?;
-    text.push_str(name)?;
-    Ok(text)
-}
+impl Error for CommandFault<'_> {}

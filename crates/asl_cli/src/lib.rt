@@ -1,7 +1,7 @@
 //! The commands of the emulator: one function over words, files and two sinks, which the program `asl` calls.
 //!
 //! Modules in reading order: `fault` is why a command isn't done, and its line; `reading` reads the files that words name; `checking` is
-//! the command `check`, `printing` the command `print`, `upgrading` the command `upgrade`, `debugging` the command `debug`,
+//! the command `check`, `printing` the command `print`, `upgrading` the command `upgrade`, `graphing` the command `graph`, `debugging` the command `debug`,
 //! for which `talking` answers lines, `testing` the command `test`, for which `progress` tells how far it is and `covering` what is covered; `command` has the command `run`, and all that a command line may
 //! ask for.
 #![tactic(auto)]
@@ -11,6 +11,7 @@ mod command;
 mod covering;
 mod debugging;
 mod fault;
+mod graphing;
 mod printing;
 mod progress;
 mod reading;
@@ -22,6 +23,7 @@ pub use checking::check;
 pub use command::{refuse_words, run, run_words};
 pub use debugging::debug;
 pub use fault::CommandFault;
+pub use graphing::graph;
 pub use printing::print;
 pub use progress::Progress;
 pub use testing::test;

@@ -5,15 +5,18 @@ ghost use Rattle.asl_host.specs.Limits.{most_bytes};
 use std::alloc::Global;
 use std::io::{ErrorKind, Read};
 use std::{fs, io, rt};
+use thiserror::Error;
 
 /// How many bytes a file may have, and in how many reads it is read at most.
 pub const MOST_BYTES: usize = 16_777_216;
 
 /// Why a file wasn't read.
-#[derive(Clone, Copy, Debug, PartialEq, Eq)]
+#[derive(Clone, Copy, Debug, PartialEq, Eq, Error)]
 pub enum ReadFault {
     /// It isn't there, can't be read, or is too long.
+    #[error("the file can't be read")]
     Unreadable,
+    #[error("OutOfMemory")]
     OutOfMemory,
 }
 

@@ -10,6 +10,9 @@ use std::{env, io};
 /// The words for the formats of reports.
 const FORMATS: [&str; 3] = ["text", "junit", "json"];
 
+/// The words for the languages of graphs.
+const LANGUAGES: [&str; 2] = ["mermaid", "dot"];
+
 /// What a command line asks for.
 #[derive(Clone, Copy)]
 pub enum Words<'a> {
@@ -19,6 +22,8 @@ pub enum Words<'a> {
     Print(DefinitionWords<'a>),
     /// A definition is to be printed in the newer spelling of Map states.
     Upgrade(DefinitionWords<'a>),
+    /// A definition's graph is to be printed.
+    Graph(GraphWords<'a>),
     /// An execution is to be emulated.
     Run(RunWords<'a>),
     /// An execution is to be debugged.
@@ -31,6 +36,22 @@ pub enum Words<'a> {
 #[derive(Clone, Copy)]
 pub struct DefinitionWords<'a> {
     pub definition: &'a str,
+}
+
+/// The language in which a graph is printed.
+#[derive(Clone, Copy, Debug, PartialEq, Eq)]
+pub enum GraphFormat {
+    /// A flowchart of Mermaid.
+    Mermaid,
+    /// A directed graph of DOT.
+    Dot,
+}
+
+/// The words of `graph`.
+#[derive(Clone, Copy)]
+pub struct GraphWords<'a> {
+    pub definition: DefinitionWords<'a>,
+    pub format: GraphFormat,
 }
 
 /// What an execution begins with: names of files, and the machine and the case that are chosen.
@@ -91,10 +112,12 @@ pub struct TestWords<'a> {
 }
 
 /// Why the program's words can't be had.
-#[derive(Clone, Copy)]
+#[derive(Clone, Copy, Debug, thiserror::Error)]
 pub enum GivenFault {
     /// A word isn't UTF-8, or the system doesn't give it.
+    #[error("a word isn't UTF-8")]
     Malformed,
+    #[error("OutOfMemory")]
     OutOfMemory,
 }
 
@@ -155,11 +178,24 @@ fn words_of<'a>(matches: &ArgMatches<'a>) -> Option<Words<'a>> {
             script: matches.get_str("SCRIPT"),
         }));
     }
+    if let Some(matches) = matches.subcommand_matches("graph") {
+        return Some(Words::Graph(GraphWords {
+            definition: definition_words_of(matches)?,
+            format: graph_format_of(matches.get_str("format")),
+        }));
+    }
     let matches = matches.subcommand_matches("run")?;
     Some(Words::Run(RunWords {
         setup: setup_words_of(matches)?,
         steps: matches.get_str("steps"),
     }))
+}
+
+fn graph_format_of(word: Option<&str>) -> GraphFormat {
+    match word {
+        Some("dot") => GraphFormat::Dot,
+        _ => GraphFormat::Mermaid,
+    }
 }
 
 fn definition_words_of<'a>(matches: &ArgMatches<'a>) -> Option<DefinitionWords<'a>> {
@@ -241,6 +277,7 @@ fn asl_command<'a>(alloc: Global) -> Result<Command<'a>, AllocError> {
     asl.subcommand(check_command(alloc)?)?
         .subcommand(print_command(alloc)?)?
         .subcommand(upgrade_command(alloc)?)?
+        .subcommand(graph_command(alloc)?)?
         .subcommand(run_command(alloc)?)?
         .subcommand(debug_command(alloc)?)?
         .subcommand(test_command(alloc)?)
@@ -262,6 +299,19 @@ fn upgrade_command<'a>(alloc: Global) -> Result<Command<'a>, AllocError> {
     Command::new(alloc, "upgrade")
         .about("Prints a definition as print does, in the newer spelling of Map states")
         .arg(definition_word(alloc))
+}
+
+fn graph_command<'a>(alloc: Global) -> Result<Command<'a>, AllocError> {
+    let format = Arg::new(alloc, "format")
+        .long("format")
+        .value_name("FORMAT")
+        .value_parser(LANGUAGES.as_slice())
+        .default_value("mermaid")
+        .help("The language of the graph");
+    Command::new(alloc, "graph")
+        .about("Prints the graph of a definition, for a program that draws it")
+        .arg(definition_word(alloc))?
+        .arg(format)
 }
 
 fn run_command<'a>(alloc: Global) -> Result<Command<'a>, AllocError> {

@@ -1,0 +1,95 @@
+"""Graphs in Mermaid and in DOT, read line by line by a grammar of the part of each that the program writes."""
+import re
+from typing import NamedTuple
+
+ID = r"[A-Za-z0-9_]+"
+# A label: ASCII letters, digits, space, full stop, hyphen and underscore, whatever is beyond ASCII, and characters by their numbers.
+MERMAID_LABEL = r"(?:[A-Za-z0-9 ._-]|[^\x00-\x7f]|#[0-9]+;)*"
+DOT_LABEL = MERMAID_LABEL.replace("#", "&#")
+
+LINES = {
+    "mermaid": {
+        "mark": rf'({ID})\(\(" "\)\)',
+        "state": rf'({ID})\["({MERMAID_LABEL})<br/>({MERMAID_LABEL})"\]',
+        "plain": rf"({ID}) --> ({ID})",
+        "into": rf"({ID}) -\.-> ({ID})",
+        "box": rf'subgraph ({ID}) \["({MERMAID_LABEL})"\]',
+        "close": r"end",
+    },
+    "dot": {
+        "mark": rf"({ID}) \[shape=point\];",
+        "state": rf'({ID}) \[label="({DOT_LABEL})\\n({DOT_LABEL})"\];',
+        "plain": rf"({ID}) -> ({ID});",
+        "into": rf"({ID}) -> ({ID}) \[style=dotted\];",
+        "box": rf"subgraph cluster_({ID}) \{{",
+        "close": r"\}",
+    },
+}
+LABELLED = {
+    "mermaid": (rf'({ID}) -->\|"({MERMAID_LABEL})"\| ({ID})', (0, 1, 2)),
+    "dot": (rf'({ID}) -> ({ID}) \[label="({DOT_LABEL})"\];', (0, 2, 1)),
+}
+HEADS = {"mermaid": ["flowchart TD"], "dot": ["digraph {", "node [shape=box];"]}
+ENTITY = {"mermaid": r"#([0-9]+);", "dot": r"&#([0-9]+);"}
+
+
+class Graph(NamedTuple):
+    """What a graph draws: states by identifier, transitions, marks, and the boxes around each; boxes by identifier with their labels."""
+
+    states: dict
+    edges: list
+    marks: dict
+    boxes: dict
+
+
+def plain(language, label):
+    """The text that a label shows."""
+    return re.sub(ENTITY[language], lambda found: chr(int(found[1])), label)
+
+
+def named(word):
+    """The name of which an identifier is made."""
+    return re.sub(r"_([0-9]+)_", lambda found: chr(int(found[1])), word)
+
+
+def lines_in(language, text):
+    """The lines between the head and the end."""
+    assert text.endswith("\n"), text
+    lines = text[:-1].split("\n")
+    head = HEADS[language]
+    assert lines[: len(head)] == head, lines[:2]
+    if language == "dot":
+        assert lines[-1] == "}", lines[-1]
+        return lines[len(head) : -1]
+    return lines[len(head) :]
+
+
+def graph_of(language, text):
+    """The graph that a text draws. A line that isn't of the language fails."""
+    graph, around = Graph({}, [], {}, {}), []
+    lines = iter(lines_in(language, text))
+    pattern, order = LABELLED[language]
+    for line in lines:
+        labelled = re.fullmatch(pattern, line)
+        if labelled:
+            start, label, end = (labelled.groups()[place] for place in order)
+            graph.edges.append((start, plain(language, label), end))
+            continue
+        kinds = [(kind, re.fullmatch(rule, line)) for kind, rule in LINES[language].items()]
+        (kind, found), *others = [(kind, found) for kind, found in kinds if found] or [(None, None)]
+        assert kind and not others, line
+        if kind == "mark":
+            graph.marks[found[1]] = tuple(around)
+        elif kind == "state":
+            assert found[1] not in graph.states, line
+            graph.states[found[1]] = (plain(language, found[2]), plain(language, found[3]), tuple(around))
+        elif kind in ("plain", "into"):
+            graph.edges.append((found[1], None if kind == "plain" else "into", found[2]))
+        elif kind == "box":
+            label = found[2] if language == "mermaid" else re.fullmatch(rf'label="({DOT_LABEL})";', next(lines))[1]
+            graph.boxes[found[1]] = (plain(language, label), tuple(around))
+            around.append(found[1])
+        else:
+            around.pop()
+    assert not around, text
+    return graph
