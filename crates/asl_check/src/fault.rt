@@ -1,13 +1,15 @@
 // Why a text is no definition.
-ghost use Rattle.std.specs.Prelude.{◌≡◌, ◌++◌, IfOk, string_bytes};
-ghost use Rattle.asl_check.specs.Lines.{definition_line, fault_line};
+ghost use Rattle.std.specs.Prelude.{◌≡◌, IfOk, string_bytes};
+ghost use Rattle.asl_check.specs.Lines.{fault_line};
 
 use asl_json::{JsonFault, Pointer};
 use asl_schema::FaultKind;
 use std::alloc::{AllocError, Global};
+use std::error::Error;
+use std::fmt;
 
 /// Why a text is no definition.
-#[derive(Drop)]
+#[derive(Debug, Drop)]
 pub enum Fault {
     /// F1: it is no JSON text.
     Json(JsonFault),
@@ -28,38 +30,27 @@ impl From<AllocError> for Fault {
     }
 }
 
-/// Number and name of a fault, and its place where that isn't the whole definition.
-fn definition_line(alloc: Global, kind: FaultKind, place: &Pointer) -> Result<String, AllocError>
-    ensures { IfOk result (λ t. string_bytes t ≡ definition_line kind place.now) }
-{
-    let mut text = String::from_str(alloc, kind.words())?;
-    let place = place.as_str();
-    if !place.is_empty() {
-        text.push(' ')?;
-        text.push_str(place)?;
+impl fmt::Display for Fault {
+    ghost use Rattle.std.specs.Prelude.{Some};
+
+    ghost output = { λ e. Some (fault_line e) };
+
+    fn fmt<W: fmt::Write>(&self, f: &mut fmt::Formatter<W>) -> fmt::Result {
+        match self {
+            Fault::Json(fault) => write!(f, "F1 Json {fault}"),
+            Fault::Definition(kind, place) => place.write_behind(kind.words(), f),
+            Fault::OutOfMemory => f.write_str("F16 OutOfMemory"),
+        }
     }
-    Ok(text)
 }
 
-/// Number and name of a fault of a JSON text, behind those of this fault.
-fn json_line(alloc: Global, fault: &JsonFault) -> Result<String, AllocError>
-    ensures { IfOk result (λ t. string_bytes t ≡ fault_line (Fault.Json fault.now)) }
-{
-    let mut text = String::from_str(alloc, "F1 Json ")?;
-    let inner = fault.text(alloc)?;
-    text.push_str(inner.as_str())?;
-    Ok(text)
-}
+impl Error for Fault {}
 
 impl Fault {
     /// The text of the fault, as `F10 NoTarget /States/A/Next` or `F1 Json J1 Syntax 5`. The error is that memory ran out.
     pub fn text(&self, alloc: Global) -> Result<String, AllocError>
         ensures { IfOk result (λ t. string_bytes t ≡ fault_line self.now) }
     {
-        match self {
-            Fault::Json(fault) => json_line(alloc, fault),
-            Fault::Definition(kind, place) => definition_line(alloc, *kind, place),
-            Fault::OutOfMemory => String::from_str(alloc, "F16 OutOfMemory"),
-        }
+        self.to_string(alloc)
     }
 }

@@ -1,12 +1,14 @@
 // Why a definition is refused.
-ghost use Rattle.asl_def.specs.Answer.{Tells};
+ghost use Rattle.asl_def.specs.Answer.{Tells, def_line};
 
 use asl_json::Pointer;
 use asl_schema::{Fault, FaultKind};
 use std::alloc::{AllocError, Global};
+use std::error::Error;
+use std::fmt;
 
 /// Why a definition is refused.
-#[derive(Drop)]
+#[derive(Debug, Drop)]
 pub enum DefFault {
     /// F2 to F15: a fault with its place in the definition, as `/States/A/Next`. A member that is missing has the place where it
     /// would stand. The place of the whole definition is empty.
@@ -25,6 +27,21 @@ impl From<AllocError> for DefFault {
         DefFault::OutOfMemory
     }
 }
+
+impl fmt::Display for DefFault {
+    ghost use Rattle.std.specs.Prelude.{Some};
+
+    ghost output = { λ e. Some (def_line e) };
+
+    fn fmt<W: fmt::Write>(&self, f: &mut fmt::Formatter<W>) -> fmt::Result {
+        match self {
+            DefFault::Refused(kind, place) => place.write_behind(kind.words(), f),
+            DefFault::OutOfMemory => f.write_str("F16 OutOfMemory"),
+        }
+    }
+}
+
+impl Error for DefFault {}
 
 /// The fault with its place as text.
 pub(crate) fn answer(alloc: Global, fault: &Fault) -> DefFault

@@ -1,13 +1,15 @@
 // Why bytes are no expectations file.
 ghost use Rattle.std.specs.Prelude.{◌≡◌, IfOk, string_bytes};
-ghost use Rattle.asl_expect.specs.Lines.{with_place, expect_line};
+ghost use Rattle.asl_expect.specs.Lines.{expect_line};
 ghost use Rattle.asl_expect.specs.Told.{unread};
 
 use asl_json::{JsonFault, Pointer};
 use std::alloc::{AllocError, Global};
+use std::error::Error;
+use std::fmt;
 
 /// Why bytes are no expectations file. Places are JSON Pointers, as `/0/visits/A`.
-#[derive(Drop)]
+#[derive(Debug, Drop)]
 pub enum ExpectFault {
     /// X1: they are no JSON text.
     Json(JsonFault),
@@ -28,38 +30,27 @@ pub(crate) fn unread(fault: JsonFault) -> ExpectFault
     }
 }
 
-/// Number and name of a fault, and its place where that isn't the whole file. The error is that memory ran out.
-fn placed_line(alloc: Global, words: &str, place: &Pointer) -> Result<String, AllocError>
-    ensures { IfOk result (λ t. string_bytes t ≡ with_place words.now place.now) }
-{
-    let mut text = String::from_str(alloc, words)?;
-    let place = place.as_str();
-    if !place.is_empty() {
-        text.push(' ')?;
-        text.push_str(place)?;
+impl fmt::Display for ExpectFault {
+    ghost use Rattle.std.specs.Prelude.{Some};
+
+    ghost output = { λ e. Some (expect_line e) };
+
+    fn fmt<W: fmt::Write>(&self, f: &mut fmt::Formatter<W>) -> fmt::Result {
+        match self {
+            ExpectFault::Json(fault) => write!(f, "X1 Json {fault}"),
+            ExpectFault::Shape(place) => place.write_behind("X2 Shape", f),
+            ExpectFault::OutOfMemory => f.write_str("X3 OutOfMemory"),
+        }
     }
-    Ok(text)
 }
 
-/// Number and name of a fault of a JSON text, behind those of this fault. The error is that memory ran out.
-fn json_line(alloc: Global, fault: &JsonFault) -> Result<String, AllocError>
-    ensures { IfOk result (λ t. string_bytes t ≡ expect_line (ExpectFault.Json fault.now)) }
-{
-    let mut text = String::from_str(alloc, "X1 Json ")?;
-    let inner = fault.text(alloc)?;
-    text.push_str(inner.as_str())?;
-    Ok(text)
-}
+impl Error for ExpectFault {}
 
 impl ExpectFault {
     /// The text of the fault, as `X2 Shape /0/status` or `X1 Json J1 Syntax 5`. The error is that memory ran out.
     pub fn text(&self, alloc: Global) -> Result<String, AllocError>
         ensures { IfOk result (λ t. string_bytes t ≡ expect_line self.now) }
     {
-        match self {
-            ExpectFault::Json(fault) => json_line(alloc, fault),
-            ExpectFault::Shape(place) => placed_line(alloc, "X2 Shape", place),
-            ExpectFault::OutOfMemory => String::from_str(alloc, "X3 OutOfMemory"),
-        }
+        self.to_string(alloc)
     }
 }

@@ -2,12 +2,16 @@
 ghost use Rattle.std.specs.Prelude.{◌≡◌, ◌+◌, ◌^◌, ◌<◌, ℕ};
 ghost use Rattle.asl_history.specs.Sending.{sent_of, failures_after};
 
+use thiserror::Error;
+
 /// Why a history wasn't written whole, and how many bytes of its text went out before.
-#[derive(Clone, Copy, Debug, PartialEq, Eq)]
+#[derive(Clone, Copy, Debug, PartialEq, Eq, Error)]
 pub enum WriteFault {
     /// Y1: the sink failed.
+    #[error("Y1 Write {sent}")]
     Write { sent: u128 },
     /// Y2: memory ran out.
+    #[error("Y2 OutOfMemory {sent}")]
     OutOfMemory { sent: u128 },
 }
 

@@ -4,9 +4,11 @@ ghost use Rattle.asl_history.specs.Sinks.{counted};
 
 use std::alloc::Global;
 use std::marker::Model;
+use thiserror::Error;
 
 /// That a sink took nothing.
-#[derive(Clone, Copy, Debug, PartialEq, Eq)]
+#[derive(Clone, Copy, Debug, PartialEq, Eq, Error)]
+#[error("the sink failed")]
 pub struct SinkFault;
 
 /// What bytes are written to, as memory, a file or a socket. It counts its failures, modulo 2^64.

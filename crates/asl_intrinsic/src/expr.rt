@@ -19,21 +19,27 @@ use asl_functions::EvalFault;
 use asl_json::{Json, Txt};
 use std::alloc::{AllocError, Global};
 use std::marker::Model;
+use thiserror::Error;
 
 /// Why a text is no call.
-#[derive(PartialEq, Eq, Drop)]
+#[derive(Debug, PartialEq, Eq, Drop, Error)]
 pub enum CallFault {
     /// I1: the number of the first wrong byte, counted from 0. It is the first byte at which the text is no longer the
     /// beginning of a call, or the first byte of a number past the limits, whichever is less; the length of the text if
     /// it ends too early.
+    #[error("I1 Syntax {0}")]
     Syntax(usize),
     /// I2: there is no function of this name behind `States.`.
+    #[error("I2 Unknown {0}")]
     Unknown(Txt),
     /// I3: a call is inside ten others.
+    #[error("I3 Depth")]
     Depth,
     /// I4: a function takes more or fewer arguments.
+    #[error("I4 Arity")]
     Arity,
     /// I5: a growth was refused.
+    #[error("I5 OutOfMemory")]
     OutOfMemory,
 }
 

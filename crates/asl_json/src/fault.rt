@@ -1,8 +1,10 @@
 // Why bytes aren't read.
 ghost use Rattle.std.specs.Prelude.{◌≡◌, IfOk, string_bytes};
-ghost use Rattle.asl_json.specs.FaultText.{fault_words, place_in, fault_text};
+ghost use Rattle.asl_json.specs.FaultText.{fault_text};
 
 use std::alloc::{AllocError, AllocFailed, Global};
+use std::error::Error;
+use std::fmt;
 
 /// What is wrong at a place of a text.
 #[derive(Clone, Copy, Debug, PartialEq, Eq)]
@@ -71,44 +73,31 @@ pub enum JsonFault {
     OutOfMemory,
 }
 
+impl fmt::Display for JsonFault {
+    ghost use Rattle.std.specs.Prelude.{Some};
+
+    ghost output = { λ e. Some (fault_text e) };
+
+    fn fmt<W: fmt::Write>(&self, f: &mut fmt::Formatter<W>) -> fmt::Result {
+        match *self {
+            JsonFault::Syntax(at) => write!(f, "J1 Syntax {at}"),
+            JsonFault::Duplicate(at) => write!(f, "J2 Duplicate {at}"),
+            JsonFault::Depth(at) => write!(f, "J3 Depth {at}"),
+            JsonFault::Number(at) => write!(f, "J4 Number {at}"),
+            JsonFault::Size => f.write_str("J5 Size"),
+            JsonFault::Utf8(at) => write!(f, "J6 Utf8 {at}"),
+            JsonFault::OutOfMemory => f.write_str("J7 OutOfMemory"),
+        }
+    }
+}
+
+impl Error for JsonFault {}
+
 impl JsonFault {
-    /// The number and the name that its text begins with.
-    fn words(&self) -> &'static str
-        ensures { result.now ≡ fault_words self.now }
-    {
-        match self {
-            JsonFault::Syntax(_) => "J1 Syntax",
-            JsonFault::Duplicate(_) => "J2 Duplicate",
-            JsonFault::Depth(_) => "J3 Depth",
-            JsonFault::Number(_) => "J4 Number",
-            JsonFault::Size => "J5 Size",
-            JsonFault::Utf8(_) => "J6 Utf8",
-            JsonFault::OutOfMemory => "J7 OutOfMemory",
-        }
-    }
-
-    /// Where the fault is.
-    fn place(&self) -> Option<usize>
-        ensures { result ≡ place_in self.now }
-    {
-        match self {
-            JsonFault::Syntax(at)
-            | JsonFault::Duplicate(at)
-            | JsonFault::Depth(at)
-            | JsonFault::Number(at)
-            | JsonFault::Utf8(at) => Some(*at),
-            JsonFault::Size | JsonFault::OutOfMemory => None,
-        }
-    }
-
     /// The text of the fault, as `J1 Syntax 5`. The error is that memory ran out.
     pub fn text(&self, alloc: Global) -> Result<String, AllocError>
         ensures { IfOk result (λ t. string_bytes t ≡ fault_text self.now) }
     {
-        let mut text = String::from_str(alloc, self.words())?;
-        if let Some(place) = self.place() {
-            write!(text, " {place}")?;
-        }
-        Ok(text)
+        self.to_string(alloc)
     }
 }

@@ -1,8 +1,10 @@
 // Places in a value, as text.
 ghost use Rattle.std.specs.Prelude.{◌≡◌, ◌++◌, [], IfOk, OnOk, string_bytes};
-ghost use Rattle.asl_json.specs.Pointers.{escaped_char, escaped, name_part, index_part};
+ghost use Rattle.std.specs.Fmt.{WritesOnOk};
+ghost use Rattle.asl_json.specs.Pointers.{escaped_char, escaped, name_part, index_part, with_pointer};
 
 use std::alloc::{AllocError, Global};
+use std::fmt;
 use std::marker::Model;
 
 /// A place in a value as a JSON Pointer (RFC 6901), as `/a/0`. Contracts see it as its text.
@@ -78,5 +80,32 @@ impl Pointer {
         ensures { result.now ≡ self.now }
     {
         self.text.as_str()
+    }
+
+    /// Writes words and behind them this place, as `M2 Shape /a/0`. The place of the whole value isn't written.
+    pub fn write_behind<W: fmt::Write>(&self, words: &str, f: &mut fmt::Formatter<W>) -> fmt::Result
+        ensures { WritesOnOk W.write_str_gives f.old result (with_pointer words.now self.now) f.new }
+    {
+        let place = self.as_str();
+        if place.is_empty() {
+            return f.write_str(words);
+        }
+        write!(f, "{words} {place}")
+    }
+}
+
+impl fmt::Display for Pointer {
+    ghost use Rattle.std.specs.Prelude.{Some};
+
+    ghost output = { λ p. Some p };
+
+    fn fmt<W: fmt::Write>(&self, f: &mut fmt::Formatter<W>) -> fmt::Result {
+        f.write_str(self.as_str())
+    }
+}
+
+impl fmt::Debug for Pointer {
+    fn fmt<W: fmt::Write>(&self, f: &mut fmt::Formatter<W>) -> fmt::Result {
+        fmt::Debug::fmt(self.as_str(), f)
     }
 }

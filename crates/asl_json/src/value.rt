@@ -9,6 +9,7 @@ ghost use Rattle.asl_json.specs.Access.{is_list, is_dict};
 use crate::units::units;
 use arrayvec::ArrayString;
 use std::alloc::{AllocError, Global};
+use std::fmt;
 use std::marker::Model;
 
 /// A text in UTF-8. Contracts see it as its bytes.
@@ -198,6 +199,22 @@ impl Txt {
         ensures { IfOk result (λ t. t ≡ self.now) }
     {
         Txt::of(alloc, self.as_str())
+    }
+}
+
+impl fmt::Display for Txt {
+    ghost use Rattle.std.specs.Prelude.{Some};
+
+    ghost output = { λ t. Some t };
+
+    fn fmt<W: fmt::Write>(&self, f: &mut fmt::Formatter<W>) -> fmt::Result {
+        f.write_str(self.as_str())
+    }
+}
+
+impl fmt::Debug for Txt {
+    fn fmt<W: fmt::Write>(&self, f: &mut fmt::Formatter<W>) -> fmt::Result {
+        fmt::Debug::fmt(self.as_str(), f)
     }
 }
 

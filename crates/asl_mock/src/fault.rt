@@ -1,14 +1,16 @@
 // Why bytes are no mock file, and why a case isn't found.
 ghost use Rattle.std.specs.Prelude.{◌≡◌, IfOk, string_bytes};
-ghost use Rattle.asl_mock.specs.Lines.{with_place, mock_line, case_line};
+ghost use Rattle.asl_mock.specs.Lines.{mock_line, case_line};
 ghost use Rattle.asl_mock.specs.Told.{unread};
 
 use asl_json::{JsonFault, Pointer};
 use std::alloc::{AllocError, Global};
+use std::error::Error;
+use std::fmt;
 
 /// Why bytes are no mock file. The lowest number is answered, and of several places of one number the first in document order.
 /// Places are JSON Pointers, as `/MockedResponses/R/0-1`.
-#[derive(Drop)]
+#[derive(Debug, Drop)]
 pub enum MockFault {
     /// M1: they are no JSON text.
     Json(JsonFault),
@@ -43,44 +45,45 @@ pub(crate) fn unread(fault: JsonFault) -> MockFault
     }
 }
 
-/// Number and name of a fault, and its place where that isn't the whole file. The error is that memory ran out.
-fn placed_line(alloc: Global, words: &str, place: &Pointer) -> Result<String, AllocError>
-    ensures { IfOk result (λ t. string_bytes t ≡ with_place words.now place.now) }
-{
-    let mut text = String::from_str(alloc, words)?;
-    let place = place.as_str();
-    if !place.is_empty() {
-        text.push(' ')?;
-        text.push_str(place)?;
+impl fmt::Display for MockFault {
+    ghost use Rattle.std.specs.Prelude.{Some};
+
+    ghost output = { λ e. Some (mock_line e) };
+
+    fn fmt<W: fmt::Write>(&self, f: &mut fmt::Formatter<W>) -> fmt::Result {
+        match self {
+            MockFault::Json(fault) => write!(f, "M1 Json {fault}"),
+            MockFault::Shape(place) => place.write_behind("M2 Shape", f),
+            MockFault::Key(place) => place.write_behind("M3 Key", f),
+            MockFault::Overlap(place) => place.write_behind("M4 Overlap", f),
+            MockFault::NoResponse(place) => place.write_behind("M5 NoResponse", f),
+            MockFault::OutOfMemory => f.write_str("M6 OutOfMemory"),
+        }
     }
-    Ok(text)
 }
 
-/// Number and name of a fault of a JSON text, behind those of this fault. The error is that memory ran out.
-fn json_line(alloc: Global, fault: &JsonFault) -> Result<String, AllocError>
-    ensures { IfOk result (λ t. string_bytes t ≡ mock_line (MockFault.Json fault.now)) }
-{
-    let mut text = String::from_str(alloc, "M1 Json ")?;
-    let inner = fault.text(alloc)?;
-    text.push_str(inner.as_str())?;
-    Ok(text)
-}
+impl Error for MockFault {}
 
 impl MockFault {
     /// The text of the fault, as `M4 Overlap /MockedResponses/R/2` or `M1 Json J1 Syntax 5`. The error is that memory ran out.
     pub fn text(&self, alloc: Global) -> Result<String, AllocError>
         ensures { IfOk result (λ t. string_bytes t ≡ mock_line self.now) }
     {
-        match self {
-            MockFault::Json(fault) => json_line(alloc, fault),
-            MockFault::Shape(place) => placed_line(alloc, "M2 Shape", place),
-            MockFault::Key(place) => placed_line(alloc, "M3 Key", place),
-            MockFault::Overlap(place) => placed_line(alloc, "M4 Overlap", place),
-            MockFault::NoResponse(place) => placed_line(alloc, "M5 NoResponse", place),
-            MockFault::OutOfMemory => String::from_str(alloc, "M6 OutOfMemory"),
-        }
+        self.to_string(alloc)
     }
 }
+
+impl fmt::Display for CaseFault {
+    ghost use Rattle.std.specs.Prelude.{Some};
+
+    ghost output = { λ e. Some (case_line e) };
+
+    fn fmt<W: fmt::Write>(&self, f: &mut fmt::Formatter<W>) -> fmt::Result {
+        f.write_str(self.text())
+    }
+}
+
+impl Error for CaseFault {}
 
 impl CaseFault {
     /// The text of the fault, as `M7 NoMachine`.

@@ -14,26 +14,42 @@ use crate::step::{Root, Step, copies};
 use crate::walk::walk;
 use asl_json::{Json, Txt};
 use std::alloc::{AllocError, Global};
+use std::fmt;
 use std::marker::Model;
+use thiserror::Error;
 
 /// Why a text is no path.
-#[derive(Clone, Copy, Debug, PartialEq, Eq)]
+#[derive(Clone, Copy, Debug, PartialEq, Eq, Error)]
 pub enum PathFault {
     /// P1: the number of the first byte, counted from 0, that can't continue a path; the length of the text if it ends
     /// too early.
+    #[error("P1 PathProfile {0}")]
     PathProfile(usize),
     /// P2: a growth was refused.
+    #[error("P2 OutOfMemory")]
     OutOfMemory,
 }
 
 /// Why a value wasn't put. Both values come back as they were: first the base, then the part.
-#[derive(Drop)]
+#[derive(Drop, Error)]
 pub enum PutFault {
     /// P3: there is no such place. A name needs an object, which gets the member if it is missing; an index needs a
     /// list that is long enough.
+    #[error("P3 NoMatch")]
     NoMatch(Json, Json),
     /// P4: a growth was refused.
+    #[error("P4 OutOfMemory")]
     OutOfMemory(Json, Json),
+}
+
+/// Without the values.
+impl fmt::Debug for PutFault {
+    fn fmt<W: fmt::Write>(&self, f: &mut fmt::Formatter<W>) -> fmt::Result {
+        match self {
+            PutFault::NoMatch(_, _) => f.write_str("NoMatch(..)"),
+            PutFault::OutOfMemory(_, _) => f.write_str("OutOfMemory(..)"),
+        }
+    }
 }
 
 /// A path that was read: `$` or `$$`, then steps `.name`, `['name']`, `["name"]` and `[index]`. Contracts see it as its

@@ -7,6 +7,8 @@ ghost use Rattle.asl_schema.specs.Pointers.{pointer_text};
 
 use asl_json::{Pointer, Txt};
 use std::alloc::{AllocError, Global};
+use std::error::Error;
+use std::fmt;
 use std::marker::Model;
 
 /// What a definition is refused for.
@@ -87,6 +89,18 @@ impl FaultKind {
         }
     }
 }
+
+impl fmt::Display for FaultKind {
+    ghost use Rattle.std.specs.Prelude.{Some};
+
+    ghost output = { λ k. Some (words_of k) };
+
+    fn fmt<W: fmt::Write>(&self, f: &mut fmt::Formatter<W>) -> fmt::Result {
+        f.write_str(self.words())
+    }
+}
+
+impl Error for FaultKind {}
 
 /// A step down a definition, to a member or an item.
 #[derive(Drop)]

@@ -13,10 +13,11 @@ use asl_history::Place;
 use asl_json::{Json, JsonFault, Name, read};
 use asl_setup::{read_step, split_line};
 use std::alloc::{AllocError, AllocFailed, Global};
-use std::str;
+use std::error::Error;
+use std::{fmt, str};
 
 /// Why a file is no script.
-#[derive(Drop)]
+#[derive(Debug, Drop)]
 pub enum ScriptFault {
     /// E2 ScriptLine: the number, from 1, of the first line that is no command.
     Line(usize),
@@ -24,27 +25,28 @@ pub enum ScriptFault {
     OutOfMemory,
 }
 
-impl ScriptFault {
-    ghost use Rattle.asl_session.specs.Scripts.{script_refusal};
+impl fmt::Display for ScriptFault {
+    ghost use Rattle.std.specs.Prelude.{Some};
 
-    /// The text of the fault, as `script: E2 ScriptLine 2`. The error is that memory ran out.
-    pub fn text(&self, alloc: Global) -> Result<String, AllocError>
-        ensures { IfOk result (λ t. string_bytes t ≡ script_refusal self.now) }
-    {
+    ghost output = { λ e. Some (script_refusal e) };
+
+    fn fmt<W: fmt::Write>(&self, f: &mut fmt::Formatter<W>) -> fmt::Result {
         match self {
-            ScriptFault::Line(number) => line_fault(alloc, *number),
-            ScriptFault::OutOfMemory => String::from_str(alloc, "OutOfMemory"),
+            ScriptFault::Line(number) => write!(f, "script: E2 ScriptLine {number}"),
+            ScriptFault::OutOfMemory => f.write_str("OutOfMemory"),
         }
     }
 }
 
-/// The text of the fault of a line.
-fn line_fault(alloc: Global, number: usize) -> Result<String, AllocError>
-    ensures { IfOk result (λ t. string_bytes t ≡ script_refusal (ScriptFault.Line number)) }
-{
-    let mut text = String::from_str(alloc, "script: E2 ScriptLine ")?;
-    write!(text, "{number}")?;
-    Ok(text)
+impl Error for ScriptFault {}
+
+impl ScriptFault {
+    /// The text of the fault, as `script: E2 ScriptLine 2`. The error is that memory ran out.
+    pub fn text(&self, alloc: Global) -> Result<String, AllocError>
+        ensures { IfOk result (λ t. string_bytes t ≡ script_refusal self.now) }
+    {
+        self.to_string(alloc)
+    }
 }
 
 impl From<AllocError> for ScriptFault {

@@ -1,5 +1,6 @@
 -- Files of steps: a line for each, which is a place, one space and a timestamp.
-use Rattle.std.specs.Prelude.{◌≡◌, ℕ, List, ◌∷◌, ◌++◌, ⊤}
+use Rattle.std.specs.Prelude.{◌≡◌, ℕ, List, ◌∷◌, ◌++◌, ⊤, codes}
+use Rattle.std.specs.Fmt.{decimal}
 use Rattle.asl_history.specs.Places.{IsPlace, place_text}
 use Rattle.asl_time.specs.Timestamp.{IsTimestamp}
 use Rattle.asl_setup.specs.declared.step_at.StepAt.{StepAt}
@@ -22,3 +23,8 @@ IsStepsFile bytes ss = AreSpelled IsStepLine (lines_in bytes) ss
 abbrev pub IsStepsFault : List ℕ → StepsFault → Type 0
 IsStepsFault bytes (Line n) = IsFirstBadLine IsStepLine bytes n
 IsStepsFault bytes OutOfMemory = ⊤
+
+-- the text of a fault
+abbrev pub steps_refusal : StepsFault → List ℕ
+steps_refusal (Line n) = codes "E1 StepLine " ++ decimal n
+steps_refusal OutOfMemory = codes "OutOfMemory"

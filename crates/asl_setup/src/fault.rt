@@ -1,14 +1,16 @@
 // Why the texts of a run are refused.
-ghost use Rattle.std.specs.Prelude.{◌≡◌, ◌++◌, IfOk, string_bytes};
+ghost use Rattle.std.specs.Prelude.{◌≡◌, IfOk, string_bytes};
 ghost use Rattle.asl_setup.specs.Texts.{refusal_line};
 
 use asl_check::Fault;
 use asl_json::JsonFault;
 use asl_mock::{CaseFault, MockFault};
 use std::alloc::{AllocError, Global};
+use std::error::Error;
+use std::fmt;
 
 /// Why the texts of a run are refused: the first fault of the first text that has one, in this order.
-#[derive(Drop)]
+#[derive(Debug, Drop)]
 pub enum EmulateFault {
     /// F1 to F15: the first fault of the definition.
     Definition(Fault),
@@ -35,32 +37,24 @@ impl From<AllocError> for EmulateFault {
     }
 }
 
-/// Two texts one behind the other.
-fn joined(alloc: Global, front: &str, back: String) -> Result<String, AllocError>
-    ensures { IfOk result (λ t. string_bytes t ≡ front.now ++ string_bytes back) }
-{
-    let mut text = String::from_str(alloc, front)?;
-    text.push_str(back.as_str())?;
-    Ok(text)
+impl fmt::Display for EmulateFault {
+    ghost use Rattle.std.specs.Prelude.{Some};
+
+    ghost output = { λ e. Some (refusal_line e) };
+
+    fn fmt<W: fmt::Write>(&self, f: &mut fmt::Formatter<W>) -> fmt::Result {
+        match self {
+            EmulateFault::Definition(fault) => write!(f, "definition: {fault}"),
+            EmulateFault::Mocks(fault) => write!(f, "mocks: {fault}"),
+            EmulateFault::Case(fault) => write!(f, "case: {fault}"),
+            EmulateFault::Input(fault) => write!(f, "input: {fault}"),
+            EmulateFault::StepLine(number) => write!(f, "steps: E1 StepLine {number}"),
+            EmulateFault::OutOfMemory => f.write_str("OutOfMemory"),
+        }
+    }
 }
 
-/// The fault of a test case that isn't found.
-fn case_text(alloc: Global, fault: CaseFault) -> Result<String, AllocError>
-    ensures { IfOk result (λ t. string_bytes t ≡ refusal_line (EmulateFault.Case fault)) }
-{
-    let mut text = String::from_str(alloc, "case: ")?;
-    text.push_str(fault.text())?;
-    Ok(text)
-}
-
-/// The fault of a step's line.
-fn step_line(alloc: Global, number: usize) -> Result<String, AllocError>
-    ensures { IfOk result (λ t. string_bytes t ≡ refusal_line (EmulateFault.StepLine number)) }
-{
-    let mut text = String::from_str(alloc, "steps: E1 StepLine ")?;
-    write!(text, "{number}")?;
-    Ok(text)
-}
+impl Error for EmulateFault {}
 
 impl EmulateFault {
     /// The text of the fault: the role of the text that it is in, its number and name, and what it carries, as
@@ -68,13 +62,6 @@ impl EmulateFault {
     pub fn text(&self, alloc: Global) -> Result<String, AllocError>
         ensures { IfOk result (λ t. string_bytes t ≡ refusal_line self.now) }
     {
-        match self {
-            EmulateFault::Definition(fault) => joined(alloc, "definition: ", fault.text(alloc)?),
-            EmulateFault::Mocks(fault) => joined(alloc, "mocks: ", fault.text(alloc)?),
-            EmulateFault::Case(fault) => case_text(alloc, *fault),
-            EmulateFault::Input(fault) => joined(alloc, "input: ", fault.text(alloc)?),
-            EmulateFault::StepLine(number) => step_line(alloc, *number),
-            EmulateFault::OutOfMemory => String::from_str(alloc, "OutOfMemory"),
-        }
+        self.to_string(alloc)
     }
 }

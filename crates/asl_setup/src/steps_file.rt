@@ -9,16 +9,33 @@ use crate::step_at::StepAt;
 use asl_history::Place;
 use asl_time::read_stamp;
 use std::alloc::{AllocError, AllocFailed, Global};
-use std::str;
+use std::error::Error;
+use std::{fmt, str};
 
 /// Why a file is no list of steps.
-#[derive(Drop)]
+#[derive(Debug, Drop)]
 pub enum StepsFault {
     /// E1 StepLine: the number, from 1, of the first line that is no step.
     Line(usize),
     /// Memory ran out.
     OutOfMemory,
 }
+
+impl fmt::Display for StepsFault {
+    ghost use Rattle.std.specs.Prelude.{Some};
+    ghost use Rattle.asl_setup.specs.StepsFile.{steps_refusal};
+
+    ghost output = { λ e. Some (steps_refusal e) };
+
+    fn fmt<W: fmt::Write>(&self, f: &mut fmt::Formatter<W>) -> fmt::Result {
+        match self {
+            StepsFault::Line(number) => write!(f, "E1 StepLine {number}"),
+            StepsFault::OutOfMemory => f.write_str("OutOfMemory"),
+        }
+    }
+}
+
+impl Error for StepsFault {}
 
 impl From<AllocError> for StepsFault {
     ghost use Rattle.std.specs.Prelude.{◌≡◌};

@@ -10,21 +10,27 @@ use asl_json::{Pointer, Txt};
 use asl_path::Step;
 use std::alloc::{AllocError, Global};
 use std::marker::Model;
+use thiserror::Error;
 
 /// Why a value isn't a template, with the place in the value. The answer is the fault with the lowest number; of
 /// several places the first in document order.
-#[derive(Drop)]
+#[derive(Debug, Drop, Error)]
 pub enum TemplateFault {
     /// L1: the value of a member `name.$` is no text.
+    #[error("L1 NotText {0}")]
     NotText(Pointer),
     /// L2: `name` and `name.$` are in one object. The place is the later of the two.
+    #[error("L2 Both {0}")]
     Both(Pointer),
     /// L5: the text of a member `name.$` begins with `$` and isn't a path. The number is that of the first byte,
     /// counted from 0, that can't continue a path.
+    #[error("L5 PathText {0}: P1 PathProfile {1}")]
     PathText(Pointer, usize),
     /// L6: the text of a member `name.$` is no call.
+    #[error("L6 CallText {0}: {1}")]
     CallText(Pointer, CallFault),
     /// L7: memory ran out.
+    #[error("L7 OutOfMemory")]
     OutOfMemory,
 }
 

@@ -16,30 +16,39 @@ use asl_intrinsic::{EvalFault, Expr, Reason};
 use asl_json::{Items, Json, Members, Txt};
 use asl_path::RefPath;
 use std::alloc::{AllocError, AllocFailed, Global};
+use thiserror::Error;
 
 /// Why a call of a template has no value.
-#[derive(Clone, Copy, Debug, PartialEq, Eq)]
+#[derive(Clone, Copy, Debug, PartialEq, Eq, Error)]
 pub enum Word {
     /// An argument of a wrong type.
+    #[error("an argument of a wrong type")]
     Unfit,
     /// An argument out of range.
+    #[error("an argument out of range")]
     Range,
     /// A wrong number of arguments.
+    #[error("a wrong number of arguments")]
     Count,
     /// A text that can't be decoded.
+    #[error("a text that can't be decoded")]
     Undecoded,
     /// A path among the arguments that names nothing.
+    #[error("a path that names nothing")]
     Path,
 }
 
 /// Why a template can't be filled. Keys are given as they are written, with their `.$`.
-#[derive(Drop)]
+#[derive(Debug, Drop, Error)]
 pub enum FillFault {
     /// L3: the path of the member of this key names nothing.
+    #[error("L3 PathFails {0}")]
     PathFails(Txt),
     /// L4: the call of the member of this key has no value.
+    #[error("L4 IntrinsicFails {0}: {1}")]
     IntrinsicFails(Txt, Word),
     /// L7: memory ran out.
+    #[error("L7 OutOfMemory")]
     OutOfMemory,
 }
 

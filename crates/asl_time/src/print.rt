@@ -8,6 +8,7 @@ ghost use Rattle.asl_time.specs.Timestamp.{IsTimestamp};
 use crate::moment::Moment;
 use jiff_core::civil::DateTime;
 use std::alloc::{AllocError, Global};
+use std::fmt;
 
 /// The last decimal digit of a number, as its ASCII code.
 fn digit(number: u32) -> u8
@@ -113,6 +114,29 @@ pub fn print_stamp(alloc: Global, moment: Moment) -> Result<String, AllocError>
         → u ≡ string_bytes t) }
 {
     spell(alloc, shown(moment))
+}
+
+/// The text of a moment as bytes, as `print_stamp` gives it.
+fn stamp(moment: Moment) -> [u8; 24]
+    ensures value { result ≡ stamp_of moment }
+    ensures ascii { IsAscii result }
+{
+    bytes_of(shown(moment))
+}
+
+/// As `print_stamp` gives it.
+impl fmt::Display for Moment {
+    ghost use Rattle.std.specs.Prelude.{Some};
+
+    ghost output = { λ moment. Some (stamp_of moment) };
+
+    fn fmt<W: fmt::Write>(&self, f: &mut fmt::Formatter<W>) -> fmt::Result {
+        let bytes = stamp(*self);
+        let Ok(text) = str::from_utf8(&bytes) else {
+            unreachable!();
+        };
+        f.write_str(text)
+    }
 }
 
 /// The text of each moment, computed from its day, is what calendar and clock show at that moment. The law has no code.

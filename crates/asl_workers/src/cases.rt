@@ -1,6 +1,7 @@
 // What workers run, and why there may be no reports.
 use asl_suite::CaseReport;
 use std::alloc::{AllocError, Global};
+use thiserror::Error;
 
 /// What has numbered cases.
 pub trait Cases {
@@ -23,11 +24,13 @@ pub trait Cases {
 }
 
 /// Why a suite has no reports.
-#[derive(Debug, Clone, Copy, PartialEq, Eq)]
+#[derive(Debug, Clone, Copy, PartialEq, Eq, Error)]
 pub enum SuiteFault {
     /// The case of this number found no memory, the least of those that found none.
+    #[error("case {0}: OutOfMemory")]
     NotRun(usize),
     /// There was no memory for the list of reports.
+    #[error("OutOfMemory")]
     OutOfMemory,
 }
 
