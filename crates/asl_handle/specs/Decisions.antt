@@ -44,12 +44,16 @@ wait_after r n =
 abbrev pub last_moment : ℕ
 last_moment = 253_402_300_799_999
 
+-- so many milliseconds later, or the last moment
+abbrev pub delayed : ℕ → ℕ → ℕ
+delayed now wait = min (now + wait) last_moment
+
 -- the first retrier that is for the error decides, where it isn't used up
 abbrev pub retried : List ℕ → ℕ → Option (ℕ × Data) → Handling → Handling
 retried uses now None otherwise = otherwise
 retried uses now (Some x) otherwise =
     if nat_lt (used uses x.0) (attempts_of x.1)
-    then again x.0 (min (now + wait_after x.1 (used uses x.0)) last_moment) else otherwise
+    then again x.0 (delayed now (wait_after x.1 (used uses x.0))) else otherwise
 
 -- the first catcher that is for it
 abbrev pub caught_by : Option (ℕ × Data) → Handling

@@ -1,12 +1,12 @@
 -- What callers may rely on: a retry is by one of the retriers, which isn't used up.
-use Rattle.std.specs.Prelude.{◌≡◌, ℕ, suc, ◌+◌, ◌<◌, List, Bool, true, false, Option, None, Some, if◌then◌else◌, nat_lt, min}
+use Rattle.std.specs.Prelude.{◌≡◌, ℕ, suc, ◌+◌, ◌<◌, List, Bool, true, false, Option, None, Some, if◌then◌else◌, nat_lt}
 use Rattle.std.proofs.Common.{refl, arith, ap, subst}
 use Rattle.std.proofs.lemmas.Bool.{ltb-true}
 use Rattle.asl_json.specs.Data.{Data, Chain, no_items, item}
 use Rattle.asl_schema.specs.Claims.{item_count}
 use Rattle.asl_members.specs.Retries.{attempts_of}
 use Rattle.asl_handle.specs.Names.{is_for}
-use Rattle.asl_handle.specs.Decisions.{Handling, again, handlers_in, first_for, used, wait_after, last_moment, retried, caught_by, decision}
+use Rattle.asl_handle.specs.Decisions.{Handling, again, handlers_in, first_for, used, wait_after, delayed, retried, caught_by, decision}
 
 -- the retrier of this number is the first that is for the error, and isn't used up
 pub record IsNext (retry : Option Data) (error uses : List ℕ) (i : ℕ) : Type 0 where
@@ -43,7 +43,7 @@ retried-next uses now None h i t not e = absurd (not e)
 retried-next uses now (Some x) h i t not e = by (nat_lt (used uses x.0) (attempts_of x.1)) refl e
   where
     until : ℕ
-    until = min (now + wait_after x.1 (used uses x.0)) last_moment
+    until = delayed now (wait_after x.1 (used uses x.0))
 
     by : (b : Bool) → nat_lt (used uses x.0) (attempts_of x.1) ≡ b
         → (if b then again x.0 until else h) ≡ again i t

@@ -1,8 +1,8 @@
 // What becomes of an error.
-ghost use Rattle.std.specs.Prelude.{◌≡◌, ◌<◌, ◌+◌, min, option_map};
+ghost use Rattle.std.specs.Prelude.{◌≡◌, ◌<◌, option_map};
 ghost use Rattle.asl_members.specs.Shown.{retrier_object};
 ghost use Rattle.asl_parts.specs.Parts.{catcher_object};
-ghost use Rattle.asl_handle.specs.Decisions.{OnAgain, decision, handlers_in, first_for, used, wait_after, last_moment};
+ghost use Rattle.asl_handle.specs.Decisions.{OnAgain, decision, handlers_in, first_for, used, wait_after, delayed};
 ghost use Rattle.asl_handle.specs.Seen.{seen, retry_of, catch_of};
 
 use crate::first::first_for;
@@ -51,7 +51,7 @@ fn uses_at(uses: &[u32], retrier: usize) -> u32
 /// The moment of a retry behind so many others.
 fn retry_at(retrier: &Retrier, uses: u32, now: Moment) -> Moment
     requires { uses < 99_999_999 }
-    ensures { result ≡ min (now + wait_after (retrier_object retrier.now) uses) last_moment }
+    ensures { result ≡ delayed now (wait_after (retrier_object retrier.now) uses) }
 {
     let wait = delay(
         retrier.interval(),

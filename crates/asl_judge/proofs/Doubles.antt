@@ -19,7 +19,8 @@ use Rattle.asl_schema.specs.declared.sort.Sort.{Sort}
 use Rattle.asl_schema.specs.Members.{Shape, sort_at, is_among}
 use Rattle.asl_schema.specs.Demands.{number_of, unique}
 use Rattle.asl_schema.specs.Claims.{Claim, step, under}
-use Rattle.asl_schema.specs.First.{Hold, Each, Found, number, IsFirst, under_step}
+use Rattle.asl_schema.specs.First.{Hold, Each, Found, number, IsFirst}
+use Rattle.asl_judge.specs.private.Firsts.{under_step}
 use Rattle.asl_schema.specs.States.{Named, further, own_name, states_in, item_states, member_states, unique_claims, names_of, Has, Finds}
 use Rattle.asl_judge.proofs.Answering.{each-append, each-weaken, first_before, first_behind, vacuous, answers-under, one_broken}
 

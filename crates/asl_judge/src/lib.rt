@@ -12,4 +12,4 @@ mod value;
 mod walk;
 
 pub use definition::first_fault;
-pub use laws::{a_path_has_the_root_that_it_starts_from, the_canonical_form_is_accepted};
+pub use laws::the_canonical_form_is_accepted;

@@ -1,13 +1,15 @@
 // What is demanded of a value by itself.
-ghost use Rattle.std.specs.Prelude.{◌≡◌, ◌∷◌, [], IfOk, if◌then◌else◌, pos, nat_le, ◌==◌, ◌&&◌};
+ghost use Rattle.std.specs.Prelude.{◌≡◌, ◌↔◌, ◌∷◌, [], IfOk, IsTrue, if◌then◌else◌, pos, nat_le, ◌==◌, ◌&&◌};
 ghost use Rattle.asl_json.specs.Whole.{whole_of};
 ghost use Rattle.asl_json.specs.Number.{units_of};
 ghost use Rattle.asl_json.specs.View.{data_of};
 ghost use Rattle.asl_json.specs.Data.{chain};
+ghost use Rattle.asl_path.specs.Grammar.{IsPath, StartsFrom};
+ghost use Rattle.asl_path.specs.declared.step.Root.TheVariants.{Input};
 ghost use Rattle.asl_judge.specs.private.Spots.{spot_of};
 ghost use Rattle.asl_schema.specs.Demands.{form_of, is_of, path, place, call, timestamp};
-ghost use Rattle.asl_schema.specs.Claims.{root_in, is_input, is_name, is_jitter, path_or_call, is_template, is_nonempty, item_count, has_all, is_last, spot_demands, form_demand, text_demands, number_demands, list_demands, value_demands, demands, is_between_whole, is_between, is_list, is_object};
-ghost use Rattle.asl_schema.specs.First.{Judges, sooner, unless};
+ghost use Rattle.asl_schema.specs.Claims.{is_name, is_jitter, path_or_call, is_template, is_nonempty, item_count, has_all, is_last, spot_demands, form_demand, text_demands, number_demands, list_demands, value_demands, demands, is_between_whole, is_between, is_list, is_object};
+ghost use Rattle.asl_judge.specs.private.Firsts.{Judges, sooner, unless};
 
 use crate::spot::{MAX_MACHINES, Spot};
 use asl_intrinsic::{CallFault, Expr};
@@ -158,13 +160,12 @@ fn form_fault(sort: Sort, value: &Json) -> Option<FaultKind>
     }
 }
 
-/// What a text starts from, where it is a path.
-fn root_of(alloc: Global, text: &str) -> Result<Option<Root>, AllocError>
-    ensures { IfOk result (λ r. r ≡ root_in text.now) }
+fn is_ref_path(alloc: Global, text: &str) -> Result<bool, AllocError>
+    ensures { IfOk result (λ b. IsTrue b ↔ IsPath text.now) }
 {
     match RefPath::read(alloc, text) {
-        Ok(path) => Ok(Some(path.root())),
-        Err(PathFault::PathProfile(_)) => Ok(None),
+        Ok(_) => Ok(true),
+        Err(PathFault::PathProfile(_)) => Ok(false),
         Err(PathFault::OutOfMemory) => Err(AllocError),
     }
 }
@@ -172,25 +173,35 @@ fn root_of(alloc: Global, text: &str) -> Result<Option<Root>, AllocError>
 fn path_fault(alloc: Global, text: &str) -> Result<Option<FaultKind>, AllocError>
     ensures { IfOk result (Judges (path text.now ∷ [])) }
 {
-    let root = root_of(alloc, text)?;
-    Ok(unless(root.is_some(), FaultKind::Path))
+    let fits = is_ref_path(alloc, text)?;
+    Ok(unless(fits, FaultKind::Path))
 }
 
-fn is_input(root: Option<Root>) -> bool
-    ensures { result ≡ is_input root }
+fn is_in_input(path: &RefPath) -> bool
+    ensures { IsTrue result ↔ StartsFrom Input path.now }
 {
-    match root {
-        Some(Root::Input) => true,
-        Some(Root::Context) => false,
-        None => false,
+    match path.root() {
+        Root::Input => true,
+        Root::Context => false,
+    }
+}
+
+/// Whether a text is a path into the input.
+fn is_place(alloc: Global, text: &str) -> Result<bool, AllocError>
+    ensures { IfOk result (λ b. IsTrue b ↔ StartsFrom Input text.now) }
+{
+    match RefPath::read(alloc, text) {
+        Ok(path) => Ok(is_in_input(&path)),
+        Err(PathFault::PathProfile(_)) => Ok(false),
+        Err(PathFault::OutOfMemory) => Err(AllocError),
     }
 }
 
 fn place_fault(alloc: Global, text: &str) -> Result<Option<FaultKind>, AllocError>
     ensures { IfOk result (Judges (place text.now ∷ [])) }
 {
-    let root = root_of(alloc, text)?;
-    Ok(unless(is_input(root), FaultKind::Path))
+    let fits = is_place(alloc, text)?;
+    Ok(unless(fits, FaultKind::Path))
 }
 
 fn call_fault(alloc: Global, text: &str) -> Result<Option<FaultKind>, AllocError>

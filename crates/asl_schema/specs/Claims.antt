@@ -1,6 +1,6 @@
 -- What is demanded of a definition, place by place, in document order. (Amazon States Language,
 -- "Structure of a State Machine".)
-use Rattle.std.specs.Prelude.{ℕ, suc, List, [], ◌∷◌, ◌++◌, Bool, true, false, ◌||◌, ◌&&◌, not, ◌==◌, Option, Some, None, is_some, if◌then◌else◌, codes, map, nat_lt, nat_le, int_lt, count_by, pos, ℤ, Result, Ok, Err}
+use Rattle.std.specs.Prelude.{ℕ, suc, List, [], ◌∷◌, ◌++◌, Bool, true, false, ◌||◌, ◌&&◌, not, ◌==◌, Option, Some, None, is_some, if◌then◌else◌, codes, map, nat_lt, nat_le, int_lt, count_by, pos, ℤ}
 use Rattle.std.specs.Fmt.{decimal}
 use Rattle.asl_json.specs.Data.{Data, null, boolean, number, text, list, dict, Chain, no_items, item, Pairs, no_members, member}
 use Rattle.asl_json.specs.Same.{bytes_eq}
@@ -8,10 +8,6 @@ use Rattle.asl_json.specs.Meaning.{value_at, count}
 use Rattle.asl_json.specs.Number.{units_of}
 use Rattle.asl_json.specs.Whole.{whole_of}
 use Rattle.asl_json.specs.Distinct.{Members}
-use Rattle.asl_path.specs.private.Steps.{steps}
-use Rattle.asl_path.specs.declared.step.Root.{Root}
-use Rattle.asl_path.specs.declared.step.Root.TheVariants.{Input, Context}
-use Rattle.asl_path.specs.declared.step.Step.{Step as PathStep}
 use Rattle.asl_template.specs.Names.{is_double}
 use Rattle.asl_template.specs.Filling.{is_path}
 use Rattle.asl_schema.specs.declared.fault.Step.{Step}
@@ -80,19 +76,6 @@ spot_demands p s = []
 abbrev pub form_demand : Sort → Data → Demand
 form_demand sort.Definition d = object d
 form_demand s d = typed (form_of s) d
-
--- what a path text starts from
-abbrev pub start_of : Result (Root × List PathStep) ℕ → Option Root
-start_of (Ok x) = Some x.0
-start_of (Err left) = None
-
-abbrev pub root_in : List ℕ → Option Root
-root_in t = start_of (steps t)
-
-abbrev pub is_input : Option Root → Bool
-is_input (Some Input) = true
-is_input (Some Context) = false
-is_input None = false
 
 -- a text that begins with `$` is to be a path, any other a call
 abbrev pub path_or_call : List ℕ → Demand

@@ -1,10 +1,10 @@
 -- Which of some demands that are broken is answered: the lowest number, and of its places the first
 -- in document order.
-use Rattle.std.specs.Prelude.{◌≡◌, ◌<◌, ◌≤◌, ℕ, List, [], ◌∷◌, ◌++◌, Option, Some, None, Bool, nat_lt, option_map, if◌then◌else◌}
+use Rattle.std.specs.Prelude.{◌≡◌, ◌<◌, ◌≤◌, ℕ, List, [], ◌∷◌, ◌++◌, Option, Some, None}
 use Rattle.asl_schema.specs.declared.fault.FaultKind.{FaultKind}
 use Rattle.asl_schema.specs.declared.fault.Step.{Step}
 use Rattle.asl_schema.specs.Demands.{Demand, Holds, fault_of, number_of}
-use Rattle.asl_schema.specs.Claims.{Claim, heres}
+use Rattle.asl_schema.specs.Claims.{Claim}
 
 abbrev pub Hold : Claim → Type 0
 Hold c = Holds c.0
@@ -34,31 +34,7 @@ pub record IsFirst (cs : List Claim) (f : Found) : Type 0 where
   pub earlier : Each (λ (b : Claim). IsBroken b → number claim < number b) before
   pub later : Each (λ (b : Claim). IsBroken b → number claim ≤ number b) after
 
--- the one with the lower number, else the earlier one
-abbrev pub better : Option Found → Option Found → Option Found
-better None b = b
-better (Some a) None = Some a
-better (Some a) (Some b) = if nat_lt (number_of b.0) (number_of a.0) then Some b else Some a
-
-abbrev pub under_step : Step → Found → Found
-under_step s f = (f.0, s ∷ f.1)
-
 -- what is answered: nothing where all hold, else the first
 abbrev pub Answers : List Claim → Option Found → Type 0
 Answers cs None = Each Hold cs
 Answers cs (Some f) = IsFirst cs f
-
--- the same of demands at one place
-abbrev pub at_root : FaultKind → Found
-at_root k = (k, [])
-
-abbrev pub Judges : List Demand → Option FaultKind → Type 0
-Judges qs o = Answers (heres qs) (option_map at_root o)
-
-abbrev pub sooner : Option FaultKind → Option FaultKind → Option FaultKind
-sooner None b = b
-sooner (Some a) None = Some a
-sooner (Some a) (Some b) = if nat_lt (number_of b) (number_of a) then Some b else Some a
-
-abbrev pub unless : Bool → FaultKind → Option FaultKind
-unless b k = if b then None else Some k

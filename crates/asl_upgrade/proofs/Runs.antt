@@ -15,7 +15,7 @@ use Rattle.asl_steps.specs.declared.record.Record.{Record}
 use Rattle.asl_steps.specs.Records.{name_or_none, state_in}
 use Rattle.asl_steps.specs.Seen.{Seen}
 use Rattle.asl_kinds.specs.Members.{later}
-use Rattle.asl_kinds.specs.Table.{slots}
+use Rattle.asl_kinds.specs.Table.{slots, whole_or_zero}
 use Rattle.asl_def.specs.Machines.{state_object, state_number}
 use Rattle.asl_def.specs.Upgraded.{newer_value, upgraded}
 use Rattle.asl_def.proofs.NewerStates.{count_upgraded, object_upgraded, number_upgraded, start_upgraded, timeout_upgraded}
@@ -28,7 +28,7 @@ use Rattle.asl_run.specs.Picking.{refusal_with, pick}
 use Rattle.asl_run.specs.Refusals.{opening_at}
 use Rattle.asl_setup.specs.declared.setup.Setup.{Setup}
 use Rattle.asl_setup.specs.declared.step_at.StepAt.{StepAt}
-use Rattle.asl_exec.specs.Steps.{facts_of, number_in, object_in, invokes_by, slots_or, limits_in, seen_at, effect_by, effect_in, moved_on, stepped, refusal_in, step, deadline_of, opening, world_after}
+use Rattle.asl_exec.specs.Steps.{facts_of, number_in, object_in, invokes_by, limits_in, seen_at, effect_by, effect_in, moved_on, stepped, refusal_in, step, deadline_of, opening, world_after}
 use Rattle.asl_exec.specs.RunText.{step_lines}
 use Rattle.asl_exec.specs.Driving.{Chosen, chosen_by, chosen, after, driven, driven_steps}
 use Rattle.asl_upgrade.specs.Laws.{upgraded_setup, UpgradedStepsAlike, UpgradedRunsAlike, UpgradedDrivesAlike}
@@ -58,12 +58,12 @@ invokes_newer (Some d) = state_invokes d
 invokes_same : (d : Data) (r : Record) → invokes_by (object_in (upgraded d) r) ≡ invokes_by (object_in d r)
 invokes_same d r = ap invokes_by (object_newer d r) ∙ invokes_newer (object_in d r)
 
-slots_newer : (o : Option Data) → slots_or (option_map slots (option_map (newer_value sort.State) o)) ≡ slots_or (option_map slots o)
+slots_newer : (o : Option Data) → whole_or_zero (option_map slots (option_map (newer_value sort.State) o)) ≡ whole_or_zero (option_map slots o)
 slots_newer None = refl
 slots_newer (Some d) = state_slots d
 
 limits_same : (d : Data) → limits_in (upgraded d) ≡ limits_in d
-limits_same d = fun_ext (λ n. ap (λ (o : Option Data). slots_or (option_map slots o)) (object_upgraded n d) ∙ slots_newer (state_object n d))
+limits_same d = fun_ext (λ n. ap (λ (o : Option Data). whole_or_zero (option_map slots o)) (object_upgraded n d) ∙ slots_newer (state_object n d))
 
 -- ---- what it does
 

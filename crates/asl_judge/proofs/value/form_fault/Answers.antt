@@ -2,7 +2,7 @@ use Rattle.std.proofs.Common.{◌∷◌, [], refl, sym, ap, ◌∙◌, subst}
 use Rattle.asl_json.specs.View.{data_of}
 use Rattle.asl_schema.specs.Demands.{form_of, is_of, typed, object}
 use Rattle.asl_schema.specs.Claims.{form_demand}
-use Rattle.asl_schema.specs.First.{Judges}
+use Rattle.asl_judge.specs.private.Firsts.{Judges}
 use Rattle.asl_schema.specs.declared.fault.FaultKind.TheVariants as kind
 use Rattle.asl_judge.proofs.Answering.{judged}
 use Rattle.asl_judge.proofs.Forms.{typed_form}

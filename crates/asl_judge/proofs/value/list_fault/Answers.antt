@@ -3,7 +3,7 @@ use Rattle.asl_json.specs.Data.{chain}
 use Rattle.asl_judge.specs.private.Spots.{spot_of}
 use Rattle.asl_schema.specs.Demands.{in_range, last}
 use Rattle.asl_schema.specs.Claims.{list_demands, is_nonempty, is_last}
-use Rattle.asl_schema.specs.First.{Judges}
+use Rattle.asl_judge.specs.private.Firsts.{Judges}
 use Rattle.asl_judge.proofs.Answering.{in_range_judged, last_judged, judges-append}
 use Rattle.asl_judge.proofs.value.list_fault.Goals as goal
 

@@ -1,6 +1,6 @@
 use Rattle.std.proofs.Common.{sym, subst}
 use Rattle.asl_schema.specs.Claims.{number_demands}
-use Rattle.asl_schema.specs.First.{Judges}
+use Rattle.asl_judge.specs.private.Firsts.{Judges}
 use Rattle.asl_judge.proofs.Answering.{in_range_judged}
 use Rattle.asl_judge.proofs.value.number_fault.Goals as goal
 

@@ -3,7 +3,7 @@ use Rattle.asl_json.specs.View.{data_of}
 use Rattle.asl_judge.specs.private.Spots.{spot_of}
 use Rattle.asl_schema.specs.Demands.{alone}
 use Rattle.asl_schema.specs.Claims.{spot_demands, form_demand, value_demands, demands}
-use Rattle.asl_schema.specs.First.{Judges, sooner}
+use Rattle.asl_judge.specs.private.Firsts.{Judges, sooner}
 use Rattle.asl_judge.proofs.Answering.{alone_judged, judges-append}
 use Rattle.asl_judge.proofs.value.own_fault.Goals as goal
 

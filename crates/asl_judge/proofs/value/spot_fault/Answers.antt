@@ -3,7 +3,7 @@ use Rattle.std.specs.Prelude.{Some, false}
 use Rattle.asl_judge.specs.private.Spots.{spot_of}
 use Rattle.asl_schema.specs.Claims.{spot_demands}
 use Rattle.asl_schema.specs.Demands.{supported, known}
-use Rattle.asl_schema.specs.First.{Judges}
+use Rattle.asl_judge.specs.private.Firsts.{Judges}
 use Rattle.asl_judge.proofs.Answering.{in_range_judged, within_judged, judges_broken}
 use Rattle.asl_judge.proofs.Machines.{machine_spot}
 use Rattle.asl_judge.proofs.value.spot_fault.Goals as goal
