@@ -13,3 +13,4 @@ pub mod Copying
 pub mod Likening
 pub mod Sameness
 pub mod Timing
+pub mod Ordering

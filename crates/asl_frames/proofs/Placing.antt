@@ -5,9 +5,8 @@ use Rattle.asl_steps.specs.declared.effect.Children.{Children}
 use Rattle.asl_steps.specs.declared.effect.Children.TheVariants.{Kept, Removed, Forked as Made}
 use Rattle.asl_steps.specs.declared.record.Record.{Record}
 use Rattle.asl_frames.specs.Branches.{same_place}
-use Rattle.asl_frames.specs.Trees.{Node}
+use Rattle.asl_frames.specs.Trees.{Node, ArePlaced}
 use Rattle.asl_frames.specs.Changes.{newborns, kids_of, litter_of, Change, change, grown, litter, touched, node_after, nodes_after}
-use Rattle.asl_frames.specs.private.Links.{ArePlaced}
 use Rattle.asl_frames.proofs.Reading.{nflat}
 use Rattle.asl_frames.proofs.Linking.{same-eq}
 

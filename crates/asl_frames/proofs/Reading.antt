@@ -12,6 +12,7 @@ use Rattle.asl_steps.specs.declared.record.Record.{Record}
 use Rattle.asl_steps.specs.Records.{is_failed, is_done}
 use Rattle.asl_frames.specs.Branches.{Branch, same_place, first_of, record_at, children_at, is_stopped, is_busy}
 use Rattle.asl_frames.specs.Trees.{Held, Spot, Family, Node, pushed, below_of, branch_of, branches_of, node_of, nodes_of, count_undone, count_failed, one_if}
+use Rattle.asl_frames.specs.Orders.{record_in}
 use Rattle.asl_frames.specs.private.Links.{known, latest}
 
 pub neq-false : (i k : ℕ) → i ≢ k → (i == k) ≡ false
@@ -105,10 +106,6 @@ first-head [] = refl
 first-head (b ∷ bs) = refl
 
 -- ---- what is read at a place below
-
-abbrev pub record_in : List ℕ → Option Family → Option Record
-record_in p None = None
-record_in p (Some k) = record_at p (branches_of k)
 
 record_in-head : (ns : List ℕ) (o : Option Family) → head_of (currents_in (same_place ns) o) ≡ record_in ns o
 record_in-head ns None = refl

@@ -11,7 +11,7 @@ use Rattle.asl_steps.specs.Records.{is_failed, is_done}
 use Rattle.asl_frames.specs.Branches.{children_at, map_in, is_busy}
 use Rattle.asl_frames.specs.Trees.{Held, Family, Spot, pushed, below_of, branches_of, count_undone, count_failed, one_if}
 use Rattle.asl_frames.specs.Turns.{Limits, limit_of, is_full, due_by, Due, Turn, comes_first, sooner, turn_at, soonest}
-use Rattle.asl_frames.specs.Walking.{dues_in, dues_below, soonest_of}
+use Rattle.asl_frames.specs.private.Walking.{dues_in, dues_below, soonest_of}
 use Rattle.asl_frames.specs.private.Resting.{waits, IsOver, IsIdle, IsResting}
 use Rattle.asl_frames.specs.declared.resting.Resting.{Resting}
 use Rattle.asl_frames.proofs.Keeping.{undone-over}

@@ -7,7 +7,7 @@ use Rattle.asl_steps.specs.Records.{is_failed, is_done}
 use Rattle.asl_frames.specs.Branches.{children_at, map_in, is_stopped, is_busy}
 use Rattle.asl_frames.specs.Trees.{Held, Family, Spot, Node, node_of, pushed, below_of, branches_of, count_undone, count_failed, one_if}
 use Rattle.asl_frames.specs.Turns.{Limits, limit_of, is_full, due_by, due_at, Due, dues_of, Turn, comes_first, sooner, turn_at, soonest}
-use Rattle.asl_frames.specs.Walking.{dues_in, dues_below, soonest_of}
+use Rattle.asl_frames.specs.private.Walking.{dues_in, dues_below, soonest_of}
 use Rattle.asl_frames.proofs.Counts.{undone-more}
 use Rattle.asl_frames.proofs.Reading.{fam, record-by, children-by, stopped-by, stopped-here}
 use Rattle.asl_frames.proofs.Forking.{forker-root, forker-here, forker-by}

@@ -2,6 +2,7 @@
 use Rattle.std.specs.Prelude.{ℕ, ◌≡◌, ◌+◌, ◌*◌, ◌≤◌, not, if◌then◌else◌, Bool, true, List, [], ◌∷◌, ◌++◌, length, map}
 use Rattle.std.proofs.Common.{arith, length-append}
 use Rattle.std.proofs.lemmas.List.{length-map}
+use Rattle.std.specs.List.{AllByRecursion}
 use denote.Param.Weighed.{most}
 use Rattle.asl_steps.specs.Records.{is_failed, is_done}
 use Rattle.asl_steps.specs.declared.record.Record.{Record}
@@ -59,6 +60,10 @@ nodes_of f = record { place = []; held = f.head } ∷ map node_of f.below
 
 abbrev pub plain : Node → Branch
 plain n = record { place = n.place; current = n.held.current }
+
+-- each frame has the place that the root sees it at
+abbrev pub ArePlaced : List Node → Type 0
+ArePlaced ns = AllByRecursion (λ n. n.held.place ≡ n.place) ns
 
 pub most-below : (i : ℕ) (kids : List Family)
     → most (λ k. 2 * length k.below + 1 + 1) kids ≤ 2 * length (below_of i kids)

@@ -5,6 +5,7 @@ use Rattle.asl_steps.specs.declared.record.Record.{Record}
 use Rattle.asl_steps.specs.declared.record.Record.TheVariants.{New, Ready, Pausing, Again, Forked, Done, Failed}
 use Rattle.asl_frames.specs.Branches.{Branch, record_at, children_at, forker_at, is_stopped, is_busy, elders_at, undone_in}
 use Rattle.asl_frames.specs.Trees.{Family, Node, branches_of, nodes_of}
+use Rattle.asl_frames.specs.declared.turns.Turn as declared
 
 -- how many iterations a Map of this name runs at once; 0 where there is no limit
 abbrev pub Limits : Type 0
@@ -60,6 +61,9 @@ dues_among limits bs = map (λ (b : Branch). (b.place, due_at limits bs b.place)
 -- a branch, and a moment at which it may step
 abbrev pub Turn : Type 0
 Turn = List ℕ × ℕ
+
+abbrev pub turn_of : declared.Turn → Turn
+turn_of t = (t.place.now, t.moment)
 
 -- a turn comes before the first one so far
 abbrev pub comes_first : Option Turn → Option Turn → Bool

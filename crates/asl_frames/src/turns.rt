@@ -3,8 +3,8 @@ ghost use Rattle.std.specs.Prelude.{◌≡◌, ◌≤◌, ◌<◌, ◌+◌, ◌^
 ghost use Rattle.asl_frames.specs.Branches.{children_at, is_busy};
 ghost use Rattle.asl_steps.specs.Records.{is_finished};
 ghost use Rattle.asl_frames.specs.Trees.{branches_of, one_if, count_undone, count_failed};
-ghost use Rattle.asl_frames.specs.Turns.{limit_of, is_full, due_by, dues_of, soonest, comes_first, turn_at};
-ghost use Rattle.asl_frames.specs.Walking.{turn_of, dues_in, dues_below, soonest_of};
+ghost use Rattle.asl_frames.specs.Turns.{limit_of, is_full, due_by, dues_of, soonest, comes_first, turn_at, turn_of};
+ghost use Rattle.asl_frames.specs.private.Walking.{dues_in, dues_below, soonest_of};
 
 use crate::frame::Frame;
 use crate::shared::SharedFrame;

@@ -1,4 +1,5 @@
 pub mod Members
 pub mod Forks
 pub mod Table
+pub mod Entering
 pub mod private

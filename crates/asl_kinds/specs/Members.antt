@@ -1,10 +1,11 @@
 -- What a state gives and where it goes on, by the members of its object.
-use Rattle.std.specs.Prelude.{ℕ, ◌+◌, ◌*◌, min, List, [], Option, Some, None, option_map, Result, Ok, Err, codes}
+use Rattle.std.specs.Prelude.{ℕ, ◌*◌, List, [], Option, Some, None, option_map, Result, Ok, Err, codes}
 use Rattle.asl_json.specs.Data.{Data, null, boolean, number, text, list, dict}
 use Rattle.asl_json.specs.View.{data_of, json_of, unchained}
 use Rattle.asl_json.specs.Meaning.{value_in}
 use Rattle.asl_json.specs.declared.value.Json.{Json}
 use Rattle.asl_parts.specs.Texts.{text_in}
+use Rattle.asl_handle.specs.Decisions.{delayed}
 use Rattle.asl_steps.specs.declared.record.ErrorOut.{ErrorOut}
 use Rattle.asl_choice.specs.Truth.{Fault, missing, open_escape}
 use Rattle.asl_states.specs.Choosing.{chosen_next}
@@ -135,7 +136,7 @@ moment_or e (Some m) = Ok m
 
 -- so many seconds later, or the last moment
 abbrev pub later : ℕ → ℕ → ℕ
-later now seconds = min (now + seconds * 1000) 253_402_300_799_999
+later now seconds = delayed now (seconds * 1000)
 
 -- until when a Wait waits that was entered now: by the one of the four members that is there
 abbrev pub until_by : Option Data → Option (List ℕ) → Option Data → Option (List ℕ) → ℕ → Data

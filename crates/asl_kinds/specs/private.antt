@@ -1,2 +1,3 @@
 -- Words that only proofs need.
 pub mod Laws
+pub mod Telling

@@ -114,6 +114,10 @@ impl StateKind for Choice {
 
     ghost bounded = { λ k f v. (choice-lawful (choice_object k) f v).bounds };
 
+    ghost use Rattle.asl_kinds.specs.private.Telling.{choice-told};
+
+    ghost entered = { λ k. choice-told (choice_object k) };
+
     fn visit(
         &self,
         alloc: Global,

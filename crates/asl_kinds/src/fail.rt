@@ -95,6 +95,10 @@ impl StateKind for Fail {
 
     ghost bounded = { λ k f v. (fail-lawful (fail_object k) f v).bounds };
 
+    ghost use Rattle.asl_kinds.specs.private.Telling.{fail-told};
+
+    ghost entered = { λ k. fail-told (fail_object k) };
+
     fn visit(
         &self,
         alloc: Global,

@@ -4,6 +4,7 @@ ghost use Rattle.asl_steps.specs.declared.effect.Effect.{Effect};
 ghost use Rattle.asl_steps.specs.declared.facts.Facts.{Facts};
 ghost use Rattle.asl_steps.specs.Seen.{Seen, seen};
 ghost use Rattle.asl_steps.specs.Bounds.{AreFew, IsBounded};
+ghost use Rattle.asl_kinds.specs.Entering.{IsEntering, IsTold};
 
 use asl_steps::{Context, Effect, Visit};
 use std::alloc::{AllocError, Global};
@@ -43,4 +44,8 @@ pub trait StateKind {
     /// where the branch at the root ends.
     ghost bounded: { (k : Self) (f : Facts) (v : Seen)
         → IsBounded v (is_invoking k) (effect k f v) };
+
+    /// A state that is entered tells of it. (That a fork tells is a part of `bounded`.)
+    ghost entered: { (k : Self) (f : Facts) (v : Seen) → IsEntering v.current
+        → IsTold (effect k f v) };
 }

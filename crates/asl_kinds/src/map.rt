@@ -225,6 +225,10 @@ impl StateKind for Map {
 
     ghost bounded = { λ k. map-bounded (map_object [] k) };
 
+    ghost use Rattle.asl_kinds.specs.private.Telling.{map-told};
+
+    ghost entered = { λ k. map-told (map_object [] k) };
+
     fn visit(
         &self,
         alloc: Global,

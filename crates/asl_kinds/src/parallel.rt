@@ -105,6 +105,10 @@ impl StateKind for Parallel {
 
     ghost bounded = { λ k. parallel-bounded (parallel_object [] k) };
 
+    ghost use Rattle.asl_kinds.specs.private.Telling.{parallel-told};
+
+    ghost entered = { λ k. parallel-told (parallel_object [] k) };
+
     fn visit(
         &self,
         alloc: Global,

@@ -61,6 +61,10 @@ impl StateKind for Pass {
 
     ghost bounded = { λ k f v. (pass-lawful (pass_object k) f v).bounds };
 
+    ghost use Rattle.asl_kinds.specs.private.Telling.{pass-told};
+
+    ghost entered = { λ k. pass-told (pass_object k) };
+
     fn visit(
         &self,
         alloc: Global,

@@ -19,6 +19,10 @@ impl StateKind for State {
 
     ghost bounded = { λ k. state-bounded (state_of [] k) };
 
+    ghost use Rattle.asl_kinds.specs.private.Telling.{state-told};
+
+    ghost entered = { state-told };
+
     fn visit(
         &self,
         alloc: Global,

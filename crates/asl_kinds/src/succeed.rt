@@ -59,6 +59,10 @@ impl StateKind for Succeed {
 
     ghost bounded = { λ k f v. (succeed-lawful (succeed_object k) f v).bounds };
 
+    ghost use Rattle.asl_kinds.specs.private.Telling.{succeed-told};
+
+    ghost entered = { λ k. succeed-told (succeed_object k) };
+
     fn visit(
         &self,
         alloc: Global,

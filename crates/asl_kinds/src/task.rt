@@ -153,6 +153,10 @@ impl StateKind for Task {
 
     ghost bounded = { λ k f v. (task-lawful (task_object k) f v).bounds };
 
+    ghost use Rattle.asl_kinds.specs.private.Telling.{task-told};
+
+    ghost entered = { λ k. task-told (task_object k) };
+
     fn visit(
         &self,
         alloc: Global,

@@ -119,6 +119,10 @@ impl StateKind for Wait {
 
     ghost bounded = { λ k f v. (wait-lawful (wait_object k) f v).bounds };
 
+    ghost use Rattle.asl_kinds.specs.private.Telling.{wait-told};
+
+    ghost entered = { λ k. wait-told (wait_object k) };
+
     fn visit(
         &self,
         alloc: Global,

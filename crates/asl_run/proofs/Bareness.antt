@@ -4,10 +4,10 @@ use Rattle.std.specs.Prelude.{slice_index, if◌then◌else◌}
 use Rattle.asl_history.specs.declared.event.Event.{Event}
 use Rattle.asl_frames.specs.declared.earliest.Earliest.{Earliest}
 use Rattle.asl_frames.specs.Branches.{Branch}
-use Rattle.asl_frames.specs.Trees.{Held, Spot, Family, branch_of, branches_of, node_of, nodes_of}
+use Rattle.asl_frames.specs.Trees.{Held, Spot, Family, branch_of, branches_of, node_of, nodes_of, ArePlaced}
 use Rattle.asl_frames.specs.Bare.{bare_held, bare_spot, bare_family}
 use Rattle.asl_frames.specs.Earliest.{due_from, helds_of, earliest_of}
-use Rattle.asl_frames.specs.private.Links.{known, latest, KnowUpTo, ArePlaced}
+use Rattle.asl_frames.specs.private.Links.{known, latest, KnowUpTo}
 use Rattle.asl_frames.proofs.Sameness.{json, error}
 use Rattle.asl_run.specs.World.{World}
 use Rattle.asl_run.specs.Bare.{bare, earliest}

@@ -5,8 +5,7 @@ use Rattle.std.proofs.lemmas.Bool.Decides.{nat_tests}
 use Rattle.asl_steps.specs.declared.record.Record.{Record}
 use Rattle.asl_steps.specs.declared.record.Record.TheVariants.{New, Ready, Pausing, Again, Forked, Done, Failed}
 use Rattle.asl_frames.specs.Branches.{Branch, record_at, children_at, forker_at, is_stopped, is_busy}
-use Rattle.asl_frames.specs.Trees.{Family, Node, Spot, branch_of, branches_of, node_of, nodes_of}
-use Rattle.asl_frames.specs.private.Links.{ArePlaced}
+use Rattle.asl_frames.specs.Trees.{Family, Node, Spot, branch_of, branches_of, node_of, nodes_of, ArePlaced}
 use Rattle.asl_frames.specs.Turns.{Limits, limit_of, is_crowded, due_by, due_of, due_at, Due, dues_of, dues_among, Turn, sooner, turn_at, soonest}
 use Rattle.asl_frames.proofs.Turning.{IsLate, late-soonest, now-first, none-sooner}
 use Rattle.asl_run.specs.declared.refusal.Refusal.{Refusal}

@@ -1,8 +1,7 @@
 // What comes next.
 ghost use Rattle.std.specs.Prelude.{◌≡◌, max, option_map, is_some, true, false};
 ghost use Rattle.asl_run.specs.World.{is_over};
-ghost use Rattle.asl_frames.specs.Turns.{dues_among, soonest};
-ghost use Rattle.asl_frames.specs.Walking.{turn_of};
+ghost use Rattle.asl_frames.specs.Turns.{dues_among, soonest, turn_of};
 ghost use Rattle.asl_run.specs.Picking.{first_at, pick, picked, CanBeDone};
 
 use crate::time_limit::within;

@@ -1,12 +1,13 @@
 // What changes as an execution goes on.
-ghost use Rattle.std.specs.Prelude.{◌≡◌, ◌≤◌, ◌+◌, ◌<◌, [], ◌∷◌, ◌++◌, length, IfOk, IfSome, IsSome, OnOk, OnErr, true, false, None, vec_len, slice_index, max, is_some, option_map, ◌^◌, not, nat_lt};
+ghost use Rattle.std.specs.Prelude.{◌≡◌, ◌≤◌, ◌+◌, ◌<◌, [], ◌∷◌, ◌++◌, length, IfOk, IfSome, IsSome, OnOk, OnErr, true, false, None, vec_len, slice_index, max, is_some, option_map, ◌^◌, not, nat_lt, map};
 ghost use Rattle.asl_history.specs.Events.{previous_id, IsHistory};
 ghost use Rattle.asl_steps.specs.Bounds.{AreFew, are_kept};
 ghost use Rattle.asl_steps.specs.Records.{is_finished};
 ghost use Rattle.asl_json.specs.View.{data_of};
 ghost use Rattle.asl_frames.specs.Branches.{record_at, children_at, forker_at, iteration_at};
-ghost use Rattle.asl_frames.specs.Trees.{branches_of, nodes_of};
-ghost use Rattle.asl_frames.specs.private.Links.{ArePlaced, latest};
+ghost use Rattle.asl_frames.specs.Trees.{branches_of, nodes_of, ArePlaced};
+ghost use Rattle.asl_frames.specs.Orders.{AreInOrder};
+ghost use Rattle.asl_frames.specs.private.Links.{latest};
 ghost use Rattle.asl_run.specs.World.{world_with, counts_after, outcome_after, count_of, is_over, is_late, timed_out};
 ghost use Rattle.asl_run.specs.private.Telling.{placed, AllAt, told_after, last_id};
 ghost use Rattle.asl_run.specs.Refusals.{refusal_of, opening_at, most_events, is_full};
@@ -209,6 +210,14 @@ impl World {
         ensures placed { ArePlaced (nodes_of result.now) }
     {
         &self.root
+    }
+
+    /// Its branches are listed in the order of their places, and no place is there twice. It does nothing: it is there for what its
+    /// contract says of every world.
+    pub fn is_in_order(&self)
+        ensures { AreInOrder (map (λ b. b.place) self.now.branches) }
+    {
+        self.root.is_in_order();
     }
 
     /// The frame at a place; none where no branch runs there.

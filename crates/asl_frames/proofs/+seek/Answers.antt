@@ -3,8 +3,8 @@ use Rattle.std.specs.Prelude.{nat_lt, slice_get}
 use Rattle.std.proofs.lemmas.List.{drop_more}
 use Rattle.asl_steps.specs.Records.{is_failed, is_done}
 use Rattle.asl_frames.specs.Trees.{Held, Family, one_if}
-use Rattle.asl_frames.specs.Turns.{limit_of, comes_first, soonest}
-use Rattle.asl_frames.specs.Walking.{turn_of, dues_below}
+use Rattle.asl_frames.specs.Turns.{limit_of, comes_first, soonest, turn_of}
+use Rattle.asl_frames.specs.private.Walking.{dues_below}
 use Rattle.asl_frames.proofs.Turning.{comes-now, late-of, late-soonest, one-more}
 use Rattle.asl_frames.proofs.Skipping.{same-first, over-skipped, idle-then-active, idle-is, idle-late, skips-idle, takes-first, takes-second, below-part, part-length, below-child}
 use Rattle.asl_frames.proofs.Keeping.{undone-most}

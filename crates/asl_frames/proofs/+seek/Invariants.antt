@@ -1,8 +1,8 @@
 use Rattle.std.proofs.Common.{◌≡◌, ◌≤◌, ◌+◌, ◌*◌, false, take, drop, length, option_map}
 use Rattle.std.specs.Prelude.{is_some}
 use Rattle.asl_frames.specs.Trees.{below_of, count_undone, count_failed}
-use Rattle.asl_frames.specs.Turns.{sooner}
-use Rattle.asl_frames.specs.Walking.{turn_of, soonest_of}
+use Rattle.asl_frames.specs.Turns.{sooner, turn_of}
+use Rattle.asl_frames.specs.private.Walking.{soonest_of}
 use Rattle.asl_frames.proofs.+seek.Given as goal
 
 abbrev pub decreases-frame::Frame::seek : goal.decreases-frame::Frame::seek

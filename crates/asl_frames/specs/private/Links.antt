@@ -30,7 +30,3 @@ pub record IsLinked (ns : List Node) (es : List Event) : Type 0 where
   pub told : IsHistory es
   pub known : KnowUpTo (length es) ns
   pub links : (q : List ℕ) → is_there q ns ≡ true → latest q ns ≡ previous_id q es
-
--- each frame has the place that the root sees it at
-abbrev pub ArePlaced : List Node → Type 0
-ArePlaced ns = AllByRecursion (λ n. n.held.place ≡ n.place) ns

@@ -1,8 +1,8 @@
 -- What always holds of a run.
 use Rattle.std.specs.Prelude.{ℕ, ◌≡◌, ◌≤◌, ◌+◌, Bool, true, false, not, List, [], ◌∷◌, length, slice_index}
 use Rattle.asl_history.specs.declared.event.Event.{Event}
-use Rattle.asl_frames.specs.Trees.{Node}
-use Rattle.asl_frames.specs.private.Links.{IsLinked, ArePlaced}
+use Rattle.asl_frames.specs.Trees.{Node, ArePlaced}
+use Rattle.asl_frames.specs.private.Links.{IsLinked}
 use Rattle.asl_steps.specs.Records.{is_finished}
 use Rattle.asl_run.specs.World.{is_over}
 use Rattle.asl_run.specs.declared.outcome.Outcome.{Outcome}

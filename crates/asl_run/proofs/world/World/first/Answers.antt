@@ -1,6 +1,6 @@
 use Rattle.std.proofs.Common.{◌∙◌}
 use Rattle.std.specs.Prelude.{max}
-use Rattle.asl_frames.specs.Walking.{turn_of}
+use Rattle.asl_frames.specs.Turns.{turn_of}
 use Rattle.asl_run.proofs.Picks.{open-is, over-is, first-over, first-late, first-full, first-none, first-later, first-here}
 use Rattle.asl_run.proofs.world.World.first.Goals as goal
 

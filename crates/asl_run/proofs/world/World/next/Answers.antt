@@ -1,6 +1,6 @@
 use Rattle.std.proofs.Common.{◌∙◌, ◌≡◌, sym, ap, true, false, Some}
 use Rattle.std.specs.Prelude.{max, is_some}
-use Rattle.asl_frames.specs.Walking.{turn_of}
+use Rattle.asl_frames.specs.Turns.{turn_of}
 use Rattle.asl_run.specs.Picking.{Place, Moment, lesser}
 use Rattle.asl_run.proofs.Picks.{open-is, last-open, running-is, next-late, next-later, next-here}
 use Rattle.asl_run.proofs.Doing.{can, early-at-root}

@@ -3,12 +3,7 @@ use Rattle.std.specs.Prelude.{ℕ, Bool, not, ◌+◌, nat_lt, List, [], ◌∷�
 use Rattle.asl_steps.specs.Records.{is_failed, is_done}
 use Rattle.asl_frames.specs.Branches.{children_at, is_busy}
 use Rattle.asl_frames.specs.Trees.{Family, Spot, branches_of, one_if}
-use Rattle.asl_frames.specs.Turns.{Limits, is_full, due_by, due_at, Due, Turn as SpecTurn, sooner, soonest}
-use Rattle.asl_frames.specs.declared.turns.Turn.{Turn}
-
--- a turn as definitions have it
-abbrev pub turn_of : Turn → SpecTurn
-turn_of t = (t.place.now, t.moment)
+use Rattle.asl_frames.specs.Turns.{Limits, is_full, due_by, due_at, Due, Turn, sooner, soonest}
 
 -- the branches under one, where no sibling of it or of a branch above it has failed
 abbrev pub dues_below : Limits → Family → List Due
@@ -24,7 +19,7 @@ dues_in limits crowded f =
 
 -- the turn that comes first among children, of whose elders so many aren't done, and of all of whom
 -- so many have failed
-abbrev pub soonest_of : Limits → ℕ → ℕ → ℕ → ℕ → List Family → Option SpecTurn
+abbrev pub soonest_of : Limits → ℕ → ℕ → ℕ → ℕ → List Family → Option Turn
 soonest_of limits now limit failed undone [] = None
 soonest_of limits now limit failed undone (k ∷ ks) =
     sooner (if nat_lt (one_if (is_failed k.head.current)) failed then None
