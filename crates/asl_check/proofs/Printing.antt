@@ -35,6 +35,12 @@ fitting d sound keys accepted short flat =
       compiled = sym (canonical_twice d);
     }
 
+-- the same for a value that is its own canonical form
+pub fitting_machine : (m : Data) → IsSound m → KeysDiffer m → Accepted m → canonical m ≡ m → length (compact m) ≤ max_len → depth m ≤ max_depth → IsMachineOf (compact m) m
+fitting_machine m sound keys accepted stays short flat =
+    subst (λ (x : Data). IsMachineOf (compact x) x) stays
+    (fitting m sound keys accepted (subst (λ (x : Data). length (compact x) ≤ max_len) (sym stays) short) (subst (λ (x : Data). depth x ≤ max_depth) (sym stays) flat))
+
 spelled_no_longer : (b : List ℕ) (d : Data) → ReadsAs b d → length (compact (canonical d)) ≤ length b
 spelled_no_longer b d h = omega (arith, no_longer Definition d, no_text_is_shorter d b h.reads.0)
 

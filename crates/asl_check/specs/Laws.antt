@@ -22,6 +22,12 @@ FittingIsAccepted d =
     Accepted d → length (compact (canonical d)) ≤ max_len → depth (canonical d) ≤ max_depth
     → IsMachineOf (compact (canonical d)) (canonical d)
 
+-- what is printed for a machine is accepted as that machine, unless it is too long or too deep to be
+-- read
+abbrev pub MachineIsAccepted : Data → Type 0
+MachineIsAccepted m =
+    length (compact m) ≤ max_len → depth m ≤ max_depth → IsMachineOf (compact m) m
+
 -- no text is accepted as two machines
 abbrev pub OneMachine : Type 0
 OneMachine = (b : List ℕ) (m n : Data) → IsMachineOf b m → IsMachineOf b n → m ≡ n

@@ -1,8 +1,12 @@
 // Laws of what is accepted and of what is printed for it.
-ghost use Rattle.asl_check.specs.Laws.{PrintedIsAccepted, PrintedIsNoLonger, FittingIsAccepted, OneMachine};
+ghost use Rattle.asl_check.specs.Laws.{PrintedIsAccepted, PrintedIsNoLonger, FittingIsAccepted, MachineIsAccepted, OneMachine};
 ghost use Rattle.asl_json.specs.View.{data_of};
+ghost use Rattle.asl_json.specs.Compact.{compact};
+ghost use Rattle.std.specs.Prelude.{◌≡◌, IfOk, string_bytes};
 
-use asl_json::{Json, every_value_is_sound};
+use asl_def::Machine;
+use asl_json::{Json, every_value_is_sound, write};
+use std::alloc::{AllocError, Global};
 
 /// What is printed for a machine is accepted as that machine, over all texts. The laws have no code.
 pub fn what_is_printed_is_accepted()
@@ -20,4 +24,16 @@ pub fn what_is_printed_of_a_value_is_accepted(value: &Json)
     ensures { FittingIsAccepted (data_of value.now) }
 {
     every_value_is_sound(value);
+}
+
+/// The text of a machine, which is accepted as that machine wherever the machine came from, as long as it is no longer and no deeper
+/// than a text may be. The error is that memory ran out.
+pub fn print_of(alloc: Global, machine: &Machine) -> Result<String, AllocError>
+    ensures text { IfOk result (λ t. string_bytes t ≡ compact machine.now) }
+    ensures accepted { IfOk result (λ _. MachineIsAccepted machine.now) }
+{
+    let value = machine.json(alloc)?;
+    every_value_is_sound(&value);
+    machine.is_accepted();
+    write(alloc, &value)
 }

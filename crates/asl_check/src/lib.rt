@@ -11,4 +11,4 @@ mod laws;
 
 pub use fault::Fault;
 pub use judging::accept;
-pub use laws::{what_is_printed_is_accepted, what_is_printed_of_a_value_is_accepted};
+pub use laws::{print_of, what_is_printed_is_accepted, what_is_printed_of_a_value_is_accepted};

@@ -149,3 +149,54 @@ fn maps_in_either_spelling(rt: HostRuntime) -> Result<(), Fail> {
     assert!(rt; runs(&machine, "N", "NI") && selects(&rt, &machine, "N", "none"));
     Ok(())
 }
+
+const WITH_DATA: &str = r#"{"StartAt":"T","States":{
+    "T":{"Type":"Task","Resource":"r","InputPath":"$.in","Parameters":{"p":1},"ResultSelector":{"r":2},"ResultPath":null,"Next":"P"},
+    "P":{"Type":"Pass","Parameters":{"q":3},"End":true}}}"#;
+
+fn lends_path(machine: &Machine, name: &str, member: &str, wanted: Option<&str>) -> bool {
+    match machine.state(name) {
+        Some(state) => match (state.path(member), wanted) {
+            (Some(path), Some(text)) => path.text() == text,
+            (None, None) => true,
+            _ => false,
+        },
+        None => false,
+    }
+}
+
+/// The text of the template that a member of a state is.
+fn template(rt: &HostRuntime, machine: &Machine, name: &str, member: &str) -> Option<String> {
+    match machine.state(name)?.template(member) {
+        Some(template) => write(rt.alloc(), &template.json(rt.alloc()).ok()?).ok(),
+        None => String::from_str(rt.alloc(), "none").ok(),
+    }
+}
+
+fn lends_template(
+    rt: &HostRuntime,
+    machine: &Machine,
+    name: &str,
+    member: &str,
+    wanted: &str,
+) -> bool {
+    match template(rt, machine, name, member) {
+        Some(text) => text.as_str() == wanted,
+        None => false,
+    }
+}
+
+#[test]
+fn states_lend_paths_and_templates_by_their_members(rt: HostRuntime) -> Result<(), Fail> {
+    let machine = machine(&rt, WITH_DATA).ok_or("refused")?;
+    assert!(rt; lends_path(&machine, "T", "InputPath", Some("$.in")));
+    assert!(rt;
+        lends_path(&machine, "T", "ResultPath", None)
+            && lends_path(&machine, "P", "InputPath", None)
+    );
+    assert!(rt; lends_template(&rt, &machine, "T", "Parameters", r#"{"p":1}"#));
+    assert!(rt; lends_template(&rt, &machine, "T", "ResultSelector", r#"{"r":2}"#));
+    assert!(rt; lends_template(&rt, &machine, "P", "Parameters", r#"{"q":3}"#));
+    assert!(rt; lends_template(&rt, &machine, "P", "ResultSelector", "none"));
+    Ok(())
+}
