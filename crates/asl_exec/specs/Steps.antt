@@ -9,12 +9,12 @@ use Rattle.asl_steps.specs.declared.record.Record.{Record}
 use Rattle.asl_steps.specs.declared.facts.Facts.{Facts}
 use Rattle.asl_steps.specs.Rows.{idle}
 use Rattle.asl_steps.specs.Seen.{Seen}
-use Rattle.asl_kinds.specs.Table.{state_effect, invokes, slots}
+use Rattle.asl_kinds.specs.Table.{state_effect, invokes, slots, whole_or_zero}
+use Rattle.asl_kinds.specs.Forks.{start_in}
 use Rattle.asl_kinds.specs.Members.{later}
 use Rattle.asl_members.specs.Retries.{whole_in}
 use Rattle.asl_mock.specs.Answers.{Case}
-use Rattle.asl_parts.specs.Texts.{text_in}
-use Rattle.asl_steps.specs.Records.{state_in, name_or_none}
+use Rattle.asl_steps.specs.Records.{state_in}
 use Rattle.asl_frames.specs.Branches.{record_at, children_at, forker_at, iteration_at}
 use Rattle.asl_frames.specs.Turns.{Limits}
 use Rattle.asl_run.specs.World.{World, count_of, is_late, world_with, timed_out}
@@ -43,13 +43,9 @@ abbrev pub invokes_by : Option Data → Bool
 invokes_by None = false
 invokes_by (Some o) = invokes o
 
-abbrev pub slots_or : Option ℕ → ℕ
-slots_or None = 0
-slots_or (Some n) = n
-
 -- how many iterations the Map of a name runs at once; 0 where there is no limit, or no Map
 abbrev pub limits_in : Data → Limits
-limits_in d name = slots_or (option_map slots (state_object name d))
+limits_in d name = whole_or_zero (option_map slots (state_object name d))
 
 -- what a step may read
 abbrev pub seen_at : Data → Case → World → List ℕ → ℕ → Record → Seen
@@ -95,10 +91,6 @@ unfoldable pub step : Setup → World → List ℕ → ℕ → World
 step s w p t = if is_none (refusal_in s w p t) then stepped s w p (max w.last t) else w
 
 -- ---- runs
-
--- the state that a machine starts at
-abbrev pub start_in : Data → List ℕ
-start_in d = name_or_none (text_in (value_in (codes "StartAt") d))
 
 -- the moment at which the time of an execution is over, where its machine has a time limit (ASL,
 -- "Top-level fields": TimeoutSeconds)

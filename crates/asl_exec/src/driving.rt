@@ -105,7 +105,7 @@ impl Execution {
     }
 
     /// Steps as `next` says, at the moment that it names, at most so many times: how many steps were taken, and how it ended. The
-    /// error is that memory ran out, behind so many steps.
+    /// error is that memory ran out, behind so many steps, each of which was taken.
     pub fn drive(&mut self, limit: u32) -> Result<(u32, Ended), (u32, AllocError)>
         ensures world { OnOk result (world_of self.new
             ≡ driven limit (setup_of self.old) (world_of self.old)) }
@@ -116,6 +116,8 @@ impl Execution {
         ensures err { IfErr result
             (λ e. (e.0 ≤ limit)
             × (world_of self.new ≡ driven e.0 (setup_of self.old) (world_of self.old))) }
+        ensures counted { IfErr result (λ e. e.0
+            ≡ driven_steps e.0 (setup_of self.old) (world_of self.old)) }
         ensures setup { setup_of self.new ≡ setup_of self.old }
     {
         for count in 0..limit {

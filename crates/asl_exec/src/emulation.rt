@@ -1,11 +1,12 @@
 // A whole run, from texts to text.
-ghost use Rattle.std.specs.Prelude.{◌≡◌, IfOk, IfErr, string_bytes};
-ghost use Rattle.asl_setup.specs.Emulations.{IsRefused, IsSetupRefused};
+ghost use Rattle.std.specs.Prelude.{Some, None, IfOk, IfErr, string_bytes};
+ghost use Rattle.asl_setup.specs.Emulations.{IsRefused, run_texts};
 ghost use Rattle.asl_setup.specs.Texts.{Unless};
-ghost use Rattle.asl_exec.specs.Emulations.{IsRunOf, IsDrivenRunOf};
+ghost use Rattle.asl_setup.specs.Views.{texts_of};
+ghost use Rattle.asl_exec.specs.Emulations.{IsRunOf};
 
-use crate::printing::{run, run_driven};
-use asl_setup::{EmulateFault, Emulation, Setup};
+use crate::printing::run;
+use asl_setup::{EmulateFault, Emulation, RunTexts};
 use std::alloc::Global;
 
 /// What becomes of a run.
@@ -17,48 +18,72 @@ pub struct Emulated {
     pub good: bool,
 }
 
-/// Runs an execution by a list of steps.
+/// Runs an execution: by the steps of a file, where there is one, else by the steps that come next, at most so many, from the epoch
+/// on. With a file the limit says nothing.
 ///
 /// The texts are read as `Emulation::read` does, with its faults.
 ///
-/// The text has a line for each step with its reply, then the lines of the history, then the status.
-pub fn emulate(
+/// The text has a line for each step of a file with its reply, then the lines of the history, then the status.
+pub fn emulate_texts(
     alloc: Global,
-    definition: &[u8],
-    mocks: &[u8],
-    chosen: &str,
-    input: &[u8],
-    steps: &[u8],
+    texts: &RunTexts<'_>,
+    limit: u32,
 ) -> Result<Emulated, EmulateFault>
-    ensures run { IfOk result (λ e. IsRunOf definition.now mocks.now chosen.now input.now steps.now
-        (string_bytes e.text) e.good) }
-    ensures fault { IfErr result
-        (Unless (IsRefused definition.now mocks.now chosen.now input.now steps.now)) }
+    ensures run { IfOk result
+        (λ e. IsRunOf (texts_of texts.now) limit (string_bytes e.text) e.good) }
+    ensures fault { IfErr result (Unless (IsRefused (texts_of texts.now))) }
 {
-    let emulation = Emulation::read(alloc, definition, mocks, chosen, input, steps)?;
-    let (text, good) = run(alloc, emulation.setup, &emulation.steps)?;
+    let emulation = Emulation::read(alloc, texts)?;
+    let (text, good) = run(alloc, emulation.setup, emulation.steps.as_deref(), limit)?;
     Ok(Emulated { text, good })
 }
 
-/// Runs an execution by the steps that come next, at most so many, from the epoch on.
-///
-/// The texts are read as `Setup::read` does, with its faults.
-///
-/// The text has the lines of the history, then the status.
-pub fn emulate_driven(
+/// `emulate_texts` by a file of steps.
+pub fn emulate<'a>(
     alloc: Global,
-    definition: &[u8],
-    mocks: &[u8],
-    chosen: &str,
-    input: &[u8],
+    definition: &'a [u8],
+    mocks: &'a [u8],
+    chosen: &'a str,
+    input: &'a [u8],
+    steps: &'a [u8],
+) -> Result<Emulated, EmulateFault>
+    ensures run { IfOk result (λ e. IsRunOf
+        (run_texts definition.now mocks.now chosen.now input.now (Some steps.now)) 0
+        (string_bytes e.text) e.good) }
+    ensures fault { IfErr result (Unless (IsRefused
+        (run_texts definition.now mocks.now chosen.now input.now (Some steps.now)))) }
+{
+    let texts = RunTexts {
+        definition,
+        mocks,
+        chosen,
+        input,
+        steps: Some(steps),
+    };
+    emulate_texts(alloc, &texts, 0)
+}
+
+/// `emulate_texts` by the steps that come next, at most so many.
+pub fn emulate_driven<'a>(
+    alloc: Global,
+    definition: &'a [u8],
+    mocks: &'a [u8],
+    chosen: &'a str,
+    input: &'a [u8],
     limit: u32,
 ) -> Result<Emulated, EmulateFault>
-    ensures run { IfOk result (λ e. IsDrivenRunOf definition.now mocks.now chosen.now input.now
-        limit (string_bytes e.text) e.good) }
-    ensures fault { IfErr result
-        (Unless (IsSetupRefused definition.now mocks.now chosen.now input.now)) }
+    ensures run { IfOk result (λ e. IsRunOf
+        (run_texts definition.now mocks.now chosen.now input.now None) limit
+        (string_bytes e.text) e.good) }
+    ensures fault { IfErr result (Unless (IsRefused
+        (run_texts definition.now mocks.now chosen.now input.now None))) }
 {
-    let setup = Setup::read(alloc, definition, mocks, chosen, input)?;
-    let (text, good) = run_driven(alloc, setup, limit)?;
-    Ok(Emulated { text, good })
+    let texts = RunTexts {
+        definition,
+        mocks,
+        chosen,
+        input,
+        steps: None,
+    };
+    emulate_texts(alloc, &texts, limit)
 }

@@ -20,9 +20,9 @@ mod worlds;
 pub use asl_run::{
     Checkpoint, Earliest, Frame, Next, Outcome, Refusal, SharedFrame, World, due_from,
 };
-pub use asl_setup::{EmulateFault, Setup, StepAt};
+pub use asl_setup::{EmulateFault, RunTexts, Setup, StepAt};
 pub use driving::Ended;
-pub use emulation::{Emulated, emulate, emulate_driven};
+pub use emulation::{Emulated, emulate, emulate_driven, emulate_texts};
 pub use execution::Execution;
 pub use laws::texts_have_one_run;
 pub use obstacle::{Obstacle, put_obstacle};

@@ -1,9 +1,8 @@
 // The text of a run.
-ghost use Rattle.std.specs.Prelude.{◌≡◌, ◌++◌, OnOk, OnErr, IfOk, string_bytes};
+ghost use Rattle.std.specs.Prelude.{◌≡◌, ◌++◌, OnOk, OnErr, IfOk, option_map, string_bytes};
 ghost use Rattle.asl_run.specs.Lines.{end_text, is_success};
-ghost use Rattle.asl_exec.specs.RunText.{step_lines, run_text};
+ghost use Rattle.asl_exec.specs.RunText.{step_lines, lines_by, world_by, text_by};
 ghost use Rattle.asl_exec.specs.Steps.{opening, refusal_in, step, world_after};
-ghost use Rattle.asl_exec.specs.Driving.{driven};
 ghost use Rattle.asl_exec.specs.Views.{setup_of, world_of};
 
 use crate::execution::Execution;
@@ -44,6 +43,31 @@ impl Execution {
         Ok(())
     }
 
+    /// Takes the steps of a list in order, with a line for each; without a list those that come next, at most so many. The error is
+    /// that memory ran out.
+    fn put_run(
+        &mut self,
+        out: &mut String,
+        steps: Option<&[StepAt]>,
+        limit: u32,
+    ) -> Result<(), AllocError>
+        ensures text { OnOk result (string_bytes out.new
+            ≡ string_bytes out.old
+            ++ lines_by (setup_of self.old) (world_of self.old)
+            (option_map (λ ss. ss.now) steps.entry)) }
+        ensures world { OnOk result (world_of self.new
+            ≡ world_by limit (setup_of self.old) (world_of self.old)
+            (option_map (λ ss. ss.now) steps.entry)) }
+    {
+        let Some(steps) = steps else {
+            return match self.drive(limit) {
+                Ok(_) => Ok(()),
+                Err((_, AllocError)) => Err(AllocError),
+            };
+        };
+        self.put_steps(out, steps)
+    }
+
     /// The text so far with the history and the status behind it, and whether the execution has succeeded. The error is that memory
     /// ran out.
     fn ended(&self, text: String) -> Result<(String, bool), AllocError>
@@ -56,67 +80,39 @@ impl Execution {
         Ok((text, is_success(self.outcome())))
     }
 
-    /// Takes steps in order: the text of them, of the history and of the status, and whether the execution has succeeded then. The
-    /// error is that memory ran out.
-    fn print(&mut self, steps: &[StepAt]) -> Result<(String, bool), AllocError>
+    /// Takes steps as `put_run` does: the text of them, of the history and of the status, and whether the execution has succeeded
+    /// then. The error is that memory ran out.
+    fn print(&mut self, steps: Option<&[StepAt]>, limit: u32) -> Result<(String, bool), AllocError>
         ensures text { IfOk result (λ r. string_bytes r.0
-            ≡ step_lines (setup_of self.old) (world_of self.old) steps.now
-            ++ end_text (world_after (setup_of self.old) (world_of self.old) steps.now)) }
+            ≡ lines_by (setup_of self.old) (world_of self.old) (option_map (λ ss. ss.now) steps.entry)
+            ++ end_text (world_by limit (setup_of self.old) (world_of self.old)
+            (option_map (λ ss. ss.now) steps.entry))) }
         ensures good { IfOk result (λ r. r.1
-            ≡ is_success (world_after (setup_of self.old) (world_of self.old) steps.now).outcome) }
-        ensures world { OnOk result (world_of self.new
-            ≡ world_after (setup_of self.old) (world_of self.old) steps.now) }
+            ≡ is_success (world_by limit (setup_of self.old) (world_of self.old)
+            (option_map (λ ss. ss.now) steps.entry)).outcome) }
     {
         let mut text = String::new(self.alloc());
-        self.put_steps(&mut text, steps)?;
+        self.put_run(&mut text, steps, limit)?;
         self.ended(text)
-    }
-
-    /// Takes the steps that come next, at most so many: the text of the history and of the status, and whether the execution has
-    /// succeeded then. The error is that memory ran out.
-    fn print_driven(&mut self, limit: u32) -> Result<(String, bool), AllocError>
-        ensures text { IfOk result (λ r. string_bytes r.0
-            ≡ end_text (driven limit (setup_of self.old) (world_of self.old))) }
-        ensures good { IfOk result (λ r. r.1
-            ≡ is_success (driven limit (setup_of self.old) (world_of self.old)).outcome) }
-    {
-        match self.drive(limit) {
-            Ok(_) => self.ended(String::new(self.alloc())),
-            Err((_, AllocError)) => Err(AllocError),
-        }
     }
 }
 
-/// The text of the run of these steps, and whether the execution has succeeded then. The error is that memory ran out.
+/// The text of the run of these steps, or, without a list, of those that come next, at most so many, and whether the execution has
+/// succeeded then. The error is that memory ran out.
 pub(crate) fn run(
     alloc: Global,
     setup: Setup,
-    steps: &[StepAt],
-) -> Result<(String, bool), AllocError>
-    ensures text { IfOk result (λ r. string_bytes r.0 ≡ run_text setup steps.now) }
-    ensures good { IfOk result (λ r. r.1
-        ≡ is_success (world_after setup (opening setup) steps.now).outcome) }
-{
-    let mut execution = Execution::open(alloc, setup)?;
-    let printed = execution.print(steps);
-    drop(execution);
-    printed
-}
-
-/// The text of a run of the steps that come next, at most so many, and whether the execution has succeeded then. The error is that
-/// memory ran out.
-pub(crate) fn run_driven(
-    alloc: Global,
-    setup: Setup,
+    steps: Option<&[StepAt]>,
     limit: u32,
 ) -> Result<(String, bool), AllocError>
     ensures text { IfOk result (λ r. string_bytes r.0
-        ≡ end_text (driven limit setup (opening setup))) }
+        ≡ text_by limit setup (option_map (λ ss. ss.now) steps.entry)) }
     ensures good { IfOk result (λ r. r.1
-        ≡ is_success (driven limit setup (opening setup)).outcome) }
+        ≡ is_success (world_by limit setup (opening setup)
+        (option_map (λ ss. ss.now) steps.entry)).outcome) }
 {
     let mut execution = Execution::open(alloc, setup)?;
-    let printed = execution.print_driven(limit);
+    let printed = execution.print(steps, limit);
     drop(execution);
     printed
 }

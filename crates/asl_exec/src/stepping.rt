@@ -7,9 +7,9 @@ ghost use Rattle.asl_schema.specs.Canon.{Named};
 ghost use Rattle.asl_steps.specs.Bounds.{AreFew};
 ghost use Rattle.asl_steps.specs.Seen.{seen};
 ghost use Rattle.asl_frames.specs.Branches.{record_at, children_at};
-ghost use Rattle.asl_frames.specs.private.Links.{ArePlaced};
-ghost use Rattle.asl_frames.specs.Trees.{branches_of, nodes_of};
-ghost use Rattle.asl_exec.specs.Steps.{opening, facts_of, refusal_in, limits_in, deadline_of, step, invokes_by, effect_by, effect_in, number_in, object_in, seen_at, start_in};
+ghost use Rattle.asl_frames.specs.Trees.{branches_of, nodes_of, ArePlaced};
+ghost use Rattle.asl_exec.specs.Steps.{opening, facts_of, refusal_in, limits_in, deadline_of, step, invokes_by, effect_by, effect_in, number_in, object_in, seen_at};
+ghost use Rattle.asl_kinds.specs.Forks.{start_in};
 ghost use Rattle.asl_exec.specs.Views.{setup_of, world_of};
 
 use crate::execution::Execution;

@@ -6,7 +6,7 @@ use asl_history::{EventKind, History, Place, line};
 use asl_json::{Json, Name, Shared, SharedItems, read, write};
 use asl_kinds::StateKind;
 use asl_run::put_step;
-use asl_setup::{Emulation, Setup};
+use asl_setup::Setup;
 use asl_states::State;
 use asl_steps::{
     Children, Context, Draft, Drafts, Effect, Ended, Facts, Record, Visit, error_output, idle,
@@ -566,15 +566,14 @@ fn mocks(alloc: Global) -> Result<String, Fail> {
 }
 
 fn setup(alloc: Global) -> Result<Setup, Fail> {
-    let emulation = Emulation::read(
+    let setup = Setup::read(
         alloc,
         AGAIN_AND_AGAIN.as_bytes(),
         mocks(alloc)?.as_bytes(),
         "M#c",
         b"{\"l\":[[7],8]}",
-        b"",
     );
-    Ok(emulation.map_err(|_| "refused")?.setup)
+    Ok(setup.map_err(|_| "refused")?)
 }
 
 /// The places that are stepped and viewed.

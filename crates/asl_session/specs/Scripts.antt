@@ -1,8 +1,9 @@
 -- Scripts: files of commands, a line for each, and the text of a run by one.
-use Rattle.std.specs.Prelude.{◌≡◌, ℕ, ◌+◌, ◌-◌, ◌*◌, Bool, ◌&&◌, nat_le, if◌then◌else◌, List, [], ◌∷◌, ◌++◌, length, ⊤, Option, Some, None, codes}
+use Rattle.std.specs.Prelude.{◌≡◌, ℕ, Bool, ◌&&◌, nat_le, if◌then◌else◌, List, [], ◌∷◌, ◌++◌, length, ⊤, Option, Some, None, codes}
 use Rattle.std.specs.List.{list_all}
 use Rattle.std.specs.Fmt.{decimal}
 use Rattle.asl_json.specs.Data.{text}
+use Rattle.asl_json.specs.Number.{digits_value}
 use Rattle.asl_json.specs.Wrong.{ReadsAs}
 use Rattle.asl_history.specs.Places.{IsPlace, place_text}
 use Rattle.asl_run.specs.Lines.{end_text}
@@ -31,16 +32,11 @@ pub record IsPlaceText (t p : List ℕ) : Type 0 where
 abbrev pub is_digit : ℕ → Bool
 is_digit c = nat_le 48 c && nat_le c 57
 
--- digits, behind those of a number
-abbrev pub value_behind : ℕ → List ℕ → ℕ
-value_behind n [] = n
-value_behind n (c ∷ cs) = value_behind (n * 10 + (c - 48)) cs
-
 -- the number that 1 to 9 digits spell
 abbrev pub count_in : List ℕ → Option ℕ
 count_in t =
     if nat_le 1 (length t) && nat_le (length t) 9 && list_all is_digit t
-    then Some (value_behind 0 t) else None
+    then Some (digits_value 0 t) else None
 
 -- a word with a space, and what stands behind it
 pub record IsBehind (word : List ℕ) (P : List ℕ → Type 0) (line : List ℕ) : Type 0 where

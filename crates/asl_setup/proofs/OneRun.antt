@@ -1,10 +1,9 @@
 -- Texts that spell a run spell one, and aren't refused.
 use Rattle.std.proofs.Common.{ℕ, ◌≡◌, List, [], ◌∷◌, ◌++◌, refl, sym, ◌∙◌, ap, subst, true}
-use Rattle.std.specs.Prelude.{Ok, Err, Some, None}
+use Rattle.std.specs.Prelude.{Ok, Err, Some, None, Option}
 use Rattle.asl_json.specs.Data.{Data}
 use Rattle.asl_json.specs.View.{data_of, same_json}
 use Rattle.asl_json.specs.Wrong.{ReadsAs, HasFault, IsFaultOf}
-use Rattle.asl_json.specs.declared.value.Json.{Json}
 use Rattle.asl_json.specs.declared.fault.JsonFault.{JsonFault}
 use Rattle.asl_json.specs.declared.fault.JsonFault.TheVariants as json
 use Rattle.asl_json.proofs.Passing.{text_read}
@@ -30,10 +29,12 @@ use Rattle.asl_setup.specs.declared.fault.EmulateFault.{EmulateFault}
 use Rattle.asl_setup.specs.declared.fault.EmulateFault.TheVariants.{Definition, Mocks, Case, Input, StepLine, OutOfMemory}
 use Rattle.asl_setup.specs.declared.step_at.StepAt.{StepAt}
 use Rattle.asl_setup.specs.Chosen.{case_chosen, IsCaseOf, IsLost}
-use Rattle.asl_setup.specs.StepsFile.{IsStepLine, IsStepsFile}
-use Rattle.asl_setup.specs.Texts.{IsDefinitionFault, IsBadDefinition, IsMockFault, AreBadMocks, IsBadCase, IsBadInput, AreBadSteps}
+use Rattle.asl_setup.specs.StepsFile.{IsStepLine}
+use Rattle.asl_setup.specs.Texts.{AreStepsOf, start_of, setup_for, IsDefinitionFault, IsBadDefinition, IsMockFault, AreBadMocks, IsBadCase, IsBadInput, AreBadSteps}
+use Rattle.asl_setup.specs.Emulations.{Texts, Accepts, IsRefused, by_definition, by_mocks, by_case, by_input, by_steps}
+use Rattle.asl_setup.specs.declared.setup.Setup.{Setup}
 use Rattle.asl_setup.proofs.LinesRead.{no_bad_line}
-use Rattle.asl_setup.specs.Emulations.{AreSetupTextsOf, AreTextsOf, IsSetupRefused, by_definition, by_mocks, by_case, by_input, IsRefused, by_setup, by_steps}
+use Rattle.asl_setup.proofs.OneReading.{one_reading}
 
 -- ---- a JSON text
 
@@ -135,26 +136,38 @@ input_is_good b v (Case e) h bad = bad
 input_is_good b v (StepLine n) h bad = bad
 input_is_good b v OutOfMemory h bad = bad
 
-steps_are_good : (b : List ℕ) (ss : List StepAt) (f : EmulateFault) → IsStepsFile b ss → AreBadSteps b f → ⊥
-steps_are_good b ss (StepLine n) h bad = no_bad_line IsStepLine b ss n h bad
-steps_are_good b ss (Definition e) h bad = bad
-steps_are_good b ss (Mocks e) h bad = bad
-steps_are_good b ss (Case e) h bad = bad
-steps_are_good b ss (Input e) h bad = bad
-steps_are_good b ss OutOfMemory h bad = bad
+one_list_of_steps : (o : Option (List ℕ)) (ss us : Option (List StepAt)) → AreStepsOf o ss → AreStepsOf o us → ss ≡ us
+one_list_of_steps None None None h g = refl
+one_list_of_steps None None (Some us) h g = absurd g
+one_list_of_steps None (Some ss) us h g = absurd h
+one_list_of_steps (Some b) None us h g = absurd h
+one_list_of_steps (Some b) (Some ss) None h g = absurd g
+one_list_of_steps (Some b) (Some ss) (Some us) h g = ap Some (one_reading b ss us h g)
+
+steps_are_good : (o : Option (List ℕ)) (ss : Option (List StepAt)) (f : EmulateFault) → AreStepsOf o ss → AreBadSteps o f → ⊥
+steps_are_good None ss f h bad = bad
+steps_are_good (Some b) None f h bad = h
+steps_are_good (Some b) (Some ss) (StepLine n) h bad = no_bad_line IsStepLine b ss n h bad
+steps_are_good (Some b) (Some ss) (Definition e) h bad = bad
+steps_are_good (Some b) (Some ss) (Mocks e) h bad = bad
+steps_are_good (Some b) (Some ss) (Case e) h bad = bad
+steps_are_good (Some b) (Some ss) (Input e) h bad = bad
+steps_are_good (Some b) (Some ss) OutOfMemory h bad = bad
 
 -- ---- all texts of a run
 
-pub one_setup : (definition file chosen input : List ℕ) (m n : Data) (c d : mocks.Case) (x y : Json) → AreSetupTextsOf definition file chosen input m c x → AreSetupTextsOf definition file chosen input n d y → (m ≡ n) × (c ≡ d) × (x ≡ y)
-one_setup definition file chosen input m n c d x y h g =
-    (one_machine definition m n h.machine g.machine, one_case file chosen c d h.case_is g.case_is, same_json x y (one_value input (data_of x) (data_of y) h.input_is g.input_is))
+pub one_emulation : (t : Texts) (s u : Setup) (ss us : Option (List StepAt)) → Accepts t s ss → Accepts t u us → (s ≡ u) × (ss ≡ us)
+one_emulation t s u ss us h g =
+    let machines = one_machine t.definition s.machine u.machine h.machine_is g.machine_is in
+    let cases = one_case t.mocks t.chosen s.case u.case h.case_is g.case_is in
+    let inputs = same_json s.input u.input (one_value t.input (data_of s.input) (data_of u.input) h.input_is g.input_is) in
+    let steps = one_list_of_steps t.steps ss us h.steps_are g.steps_are in
+    let setups : setup_for s.machine t.chosen s.case s.input (start_of ss) ≡ setup_for u.machine t.chosen u.case u.input (start_of us) = λ i. setup_for (machines i) t.chosen (cases i) (inputs i) (start_of (steps i)) in
+    (h.setup_is ∙ setups ∙ sym g.setup_is, steps)
 
-pub setup_read : (definition file chosen input : List ℕ) (m : Data) (c : mocks.Case) (x : Json) (f : EmulateFault) → AreSetupTextsOf definition file chosen input m c x → IsSetupRefused definition file chosen input f → ⊥
-setup_read definition file chosen input m c x f h (by_definition bad) = definition_is_good definition m f h.machine bad
-setup_read definition file chosen input m c x f h (by_mocks is bad) = mocks_are_good file h.case_is.machines f h.case_is.mocks_are bad
-setup_read definition file chosen input m c x f h (by_case is bad) = case_is_good file chosen c f h.case_is bad
-setup_read definition file chosen input m c x f h (by_input is case bad) = input_is_good input (data_of x) f h.input_is bad
-
-pub run_read : (definition file chosen input steps : List ℕ) (m : Data) (c : mocks.Case) (x : Json) (ss : List StepAt) (f : EmulateFault) → AreTextsOf definition file chosen input steps m c x ss → IsRefused definition file chosen input steps f → ⊥
-run_read definition file chosen input steps m c x ss f h (by_setup bad) = setup_read definition file chosen input m c x f h.begins bad
-run_read definition file chosen input steps m c x ss f h (by_steps is case input_is bad) = steps_are_good steps ss f h.steps_are bad
+pub accepted_not_refused : (t : Texts) (s : Setup) (ss : Option (List StepAt)) (f : EmulateFault) → Accepts t s ss → IsRefused t f → ⊥
+accepted_not_refused t s ss f h (by_definition bad) = definition_is_good t.definition s.machine f h.machine_is bad
+accepted_not_refused t s ss f h (by_mocks is bad) = mocks_are_good t.mocks h.case_is.machines f h.case_is.mocks_are bad
+accepted_not_refused t s ss f h (by_case is bad) = case_is_good t.mocks t.chosen s.case f h.case_is bad
+accepted_not_refused t s ss f h (by_input is case_is bad) = input_is_good t.input (data_of s.input) f h.input_is bad
+accepted_not_refused t s ss f h (by_steps is case_is input_is bad) = steps_are_good t.steps ss f h.steps_are bad

@@ -1,30 +1,18 @@
 -- Laws of the texts of a run, over all texts.
-use Rattle.std.specs.Prelude.{◌≡◌, List, ℕ}
-use Rattle.asl_json.specs.Data.{Data}
-use Rattle.asl_json.specs.declared.value.Json.{Json}
-use Rattle.asl_mock.specs.Answers.{Case}
+use Rattle.std.specs.Prelude.{◌≡◌, List, Option}
 use Rattle.asl_setup.specs.declared.fault.EmulateFault.{EmulateFault}
+use Rattle.asl_setup.specs.declared.setup.Setup.{Setup}
 use Rattle.asl_setup.specs.declared.step_at.StepAt.{StepAt}
-use Rattle.asl_setup.specs.Emulations.{AreSetupTextsOf, AreTextsOf, IsSetupRefused, IsRefused}
+use Rattle.asl_setup.specs.Emulations.{Texts, Accepts, IsRefused}
 
--- texts spell at most one machine, test case and input
-abbrev pub OneSetup : Type 0
-OneSetup =
-    (definition mocks chosen input : List ℕ) (m n : Data) (c d : Case) (x y : Json)
-    → AreSetupTextsOf definition mocks chosen input m c x
-    → AreSetupTextsOf definition mocks chosen input n d y → (m ≡ n) × (c ≡ d) × (x ≡ y)
+-- texts are accepted as one setup and one list of steps at most
+abbrev pub OneEmulation : Type 0
+OneEmulation =
+    (t : Texts) (s u : Setup) (ss us : Option (List StepAt)) → Accepts t s ss → Accepts t u us
+    → (s ≡ u) × (ss ≡ us)
 
--- texts that spell these aren't refused
-abbrev pub SetupIsRead : Type 0
-SetupIsRead =
-    (definition mocks chosen input : List ℕ) (m : Data) (c : Case) (x : Json) (f : EmulateFault)
-    → AreSetupTextsOf definition mocks chosen input m c x
-    → IsSetupRefused definition mocks chosen input f → ⊥
-
--- nor are texts that spell steps besides
-abbrev pub RunIsRead : Type 0
-RunIsRead =
-    (definition mocks chosen input steps : List ℕ) (m : Data) (c : Case) (x : Json)
-    (ss : List StepAt) (f : EmulateFault)
-    → AreTextsOf definition mocks chosen input steps m c x ss
-    → IsRefused definition mocks chosen input steps f → ⊥
+-- texts that are accepted aren't refused
+abbrev pub AcceptedIsNotRefused : Type 0
+AcceptedIsNotRefused =
+    (t : Texts) (s : Setup) (ss : Option (List StepAt)) (f : EmulateFault) → Accepts t s ss
+    → IsRefused t f → ⊥

@@ -3,6 +3,7 @@ pub mod StepsFile
 pub mod Chosen
 pub mod Texts
 pub mod Emulations
+pub mod Views
 pub mod Laws
 pub mod Equal
 pub mod private

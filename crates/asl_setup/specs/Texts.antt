@@ -1,5 +1,5 @@
 -- What the texts of a run spell, and which fault of them is answered.
-use Rattle.std.specs.Prelude.{◌≡◌, ℕ, List, [], ◌∷◌, ◌++◌, Err, codes}
+use Rattle.std.specs.Prelude.{◌≡◌, ℕ, List, [], ◌∷◌, ◌++◌, ⊤, Option, Some, None, Err, codes}
 use Rattle.std.specs.Fmt.{decimal}
 use Rattle.asl_json.specs.Data.{Data}
 use Rattle.asl_json.specs.View.{data_of}
@@ -21,14 +21,9 @@ use Rattle.asl_setup.specs.declared.setup.Setup.{Setup}
 use Rattle.asl_setup.specs.declared.step_at.StepAt.{StepAt}
 use Rattle.asl_setup.specs.Chosen.{machine_name, execution_name, case_chosen, IsLost}
 use Rattle.asl_setup.specs.FileLines.{IsFirstBadLine}
-use Rattle.asl_setup.specs.StepsFile.{IsStepLine}
+use Rattle.asl_setup.specs.StepsFile.{IsStepLine, IsStepsFile}
 
 -- ---- what they spell
-
--- the text is some definition
-pub record IsDefinition (b : List ℕ) : Type 0 where
-  pub machine : Data
-  pub is_of : IsMachineOf b machine
 
 abbrev pub IsInputOf : List ℕ → Json → Type 0
 IsInputOf b x = ReadsAs b (data_of x)
@@ -38,10 +33,19 @@ pub record IsInput (b : List ℕ) : Type 0 where
   pub value : Json
   pub is_of : IsInputOf b value
 
--- an execution starts at the moment of its first step, and at the epoch where there is none
-abbrev pub start_at : List StepAt → ℕ
-start_at [] = 0
-start_at (s ∷ ss) = s.moment
+-- a file, where there is one, spells these steps
+abbrev pub AreStepsOf : Option (List ℕ) → Option (List StepAt) → Type 0
+AreStepsOf None None = ⊤
+AreStepsOf None (Some ss) = ⊥
+AreStepsOf (Some b) None = ⊥
+AreStepsOf (Some b) (Some ss) = IsStepsFile b ss
+
+-- an execution starts at the moment of the first step that is named, and at the epoch where there is
+-- none
+abbrev pub start_of : Option (List StepAt) → ℕ
+start_of (Some (s ∷ ss)) = s.moment
+start_of (Some []) = 0
+start_of None = 0
 
 -- the setup of a run that starts at this moment
 abbrev pub setup_for : Data → List ℕ → mocks.Case → Json → ℕ → Setup
@@ -87,8 +91,9 @@ abbrev pub IsBadInput : List ℕ → EmulateFault → Type 0
 IsBadInput b (Input f) = IsTextFault b f
 IsBadInput b _ = ⊥
 
-abbrev pub AreBadSteps : List ℕ → EmulateFault → Type 0
-AreBadSteps b (StepLine n) = IsFirstBadLine IsStepLine b n
+-- a file of steps, where there is one, has this first line that is no step
+abbrev pub AreBadSteps : Option (List ℕ) → EmulateFault → Type 0
+AreBadSteps (Some b) (StepLine n) = IsFirstBadLine IsStepLine b n
 AreBadSteps b _ = ⊥
 
 -- this is why, unless memory ran out

@@ -1,12 +1,14 @@
 // All that a run is of, from its texts.
-ghost use Rattle.std.specs.Prelude.{◌≡◌, IfOk, IfErr};
-ghost use Rattle.asl_setup.specs.Emulations.{AreTextsOf, IsRefused};
-ghost use Rattle.asl_setup.specs.Texts.{Unless, setup_for, start_at};
+ghost use Rattle.std.specs.Prelude.{IfOk, IfErr};
+ghost use Rattle.asl_setup.specs.Emulations.{Accepts, IsRefused};
+ghost use Rattle.asl_setup.specs.Texts.{Unless};
+ghost use Rattle.asl_setup.specs.Views.{texts_of, steps_in};
 
 use crate::fault::EmulateFault;
+use crate::run_texts::RunTexts;
 use crate::setup::Setup;
 use crate::step_at::StepAt;
-use crate::texts::{start_of, steps_of};
+use crate::texts::{case_of, input_of, machine_of, mocks_of, setup_for, start_of, steps_of};
 use std::alloc::Global;
 
 /// What the texts of a run say.
@@ -14,34 +16,26 @@ use std::alloc::Global;
 pub struct Emulation {
     /// What the execution begins with.
     pub setup: Setup,
-    /// The steps that it is to take, in order.
-    pub steps: Vec<StepAt>,
+    /// The steps that it is to take, in order, where a file names them.
+    pub steps: Option<Vec<StepAt>>,
 }
 
 impl Emulation {
-    /// Reads the texts of a run: those of its setup, as `Setup::read` does, and a file of steps. The execution starts at the moment
-    /// of its first step, or at the epoch.
+    /// Reads the texts of a run. A definition is judged as `asl_check::accept` does. The execution has the name of its test case, or
+    /// `run`. It starts at the moment of its first step, or at the epoch.
     ///
-    /// The fault is the first of the first text that has one, in the order of the parameters.
-    pub fn read(
-        alloc: Global,
-        definition: &[u8],
-        mocks: &[u8],
-        chosen: &str,
-        input: &[u8],
-        steps: &[u8],
-    ) -> Result<Emulation, EmulateFault>
-        ensures found { IfOk result (λ e. AreTextsOf definition.now mocks.now chosen.now input.now
-            steps.now e.setup.machine e.setup.case e.setup.input e.steps.items) }
-        ensures setup { IfOk result (λ e. e.setup
-            ≡ setup_for e.setup.machine chosen.now e.setup.case e.setup.input
-            (start_at e.steps.items)) }
-        ensures fault { IfErr result
-            (Unless (IsRefused definition.now mocks.now chosen.now input.now steps.now)) }
+    /// The fault is the first of the first text that has one, in the order of the fields.
+    pub fn read(alloc: Global, texts: &RunTexts<'_>) -> Result<Emulation, EmulateFault>
+        ensures found { IfOk result (λ e. Accepts (texts_of texts.now) e.setup (steps_in e.steps)) }
+        ensures fault { IfErr result (Unless (IsRefused (texts_of texts.now))) }
     {
-        let mut setup = Setup::read(alloc, definition, mocks, chosen, input)?;
-        let steps = steps_of(alloc, steps)?;
-        setup.start = start_of(&steps);
+        let machine = machine_of(alloc, texts.definition)?;
+        let file = mocks_of(alloc, texts.mocks)?;
+        let case = case_of(&file, texts.chosen)?;
+        let input = input_of(alloc, texts.input)?;
+        let steps = steps_of(alloc, texts.steps)?;
+        let start = start_of(steps.as_deref());
+        let setup = setup_for(alloc, machine, texts.chosen, case, input, start)?;
         Ok(Emulation { setup, steps })
     }
 }

@@ -1,11 +1,12 @@
 // What an execution begins with.
-ghost use Rattle.std.specs.Prelude.{◌≡◌, ◌↔◌, IfOk, IfErr, IsTrue};
-ghost use Rattle.asl_setup.specs.Emulations.{AreSetupTextsOf, IsSetupRefused};
+ghost use Rattle.std.specs.Prelude.{◌≡◌, ◌↔◌, None, IfOk, IfErr, IsTrue};
+ghost use Rattle.asl_setup.specs.Emulations.{Accepts, IsRefused, run_texts};
 ghost use Rattle.asl_setup.specs.Equal.{setup_equal};
-ghost use Rattle.asl_setup.specs.Texts.{Unless, setup_for};
+ghost use Rattle.asl_setup.specs.Texts.{Unless};
 
+use crate::emulation::Emulation;
 use crate::fault::EmulateFault;
-use crate::texts::{case_of, input_of, machine_of, mocks_of, setup_for};
+use crate::run_texts::RunTexts;
 use asl_def::Machine;
 use asl_json::{Shared, Txt};
 use asl_mock::Case;
@@ -78,30 +79,27 @@ impl Eq for Setup {
 }
 
 impl Setup {
-    /// Reads the texts of a setup: a state machine's definition, a mock file, the name of the machine, behind which `#` and the name
-    /// of a test case may stand, and the execution's input. What is chosen is cut at its first `#`; where no test case is named, none
-    /// is looked up, whatever the machine's name. The execution has the name of its test case, or `run`. It starts at the epoch.
-    ///
-    /// A definition is judged as `asl_check::accept` does. The fault is the first of the first text that has one, in the order of
-    /// the parameters.
-    pub fn read(
+    /// Reads the texts of a run without a file of steps, as `Emulation::read` does, with its faults. The execution starts at the epoch.
+    pub fn read<'a>(
         alloc: Global,
-        definition: &[u8],
-        mocks: &[u8],
-        chosen: &str,
-        input: &[u8],
+        definition: &'a [u8],
+        mocks: &'a [u8],
+        chosen: &'a str,
+        input: &'a [u8],
     ) -> Result<Setup, EmulateFault>
-        ensures found { IfOk result (λ s. AreSetupTextsOf definition.now mocks.now chosen.now
-            input.now s.machine s.case s.input) }
-        ensures setup { IfOk result (λ s. s ≡ setup_for s.machine chosen.now s.case s.input 0) }
-        ensures fault { IfErr result
-            (Unless (IsSetupRefused definition.now mocks.now chosen.now input.now)) }
+        ensures found { IfOk result (λ s.
+            Accepts (run_texts definition.now mocks.now chosen.now input.now None) s None) }
+        ensures fault { IfErr result (Unless (IsRefused
+            (run_texts definition.now mocks.now chosen.now input.now None))) }
     {
-        let machine = machine_of(alloc, definition)?;
-        let file = mocks_of(alloc, mocks)?;
-        let case = case_of(&file, chosen)?;
-        let input = input_of(alloc, input)?;
-        Ok(setup_for(alloc, machine, chosen, case, input, Moment::FIRST)?)
+        let texts = RunTexts {
+            definition,
+            mocks,
+            chosen,
+            input,
+            steps: None,
+        };
+        Ok(Emulation::read(alloc, &texts)?.setup)
     }
 
     /// An equal setup, which shares machine, case and input with this one. The error is that memory ran out, or that there are too

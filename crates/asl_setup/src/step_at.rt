@@ -1,5 +1,8 @@
 // Steps of an execution.
 ghost use Rattle.std.specs.Prelude.{◌≡◌, IfOk};
+ghost use Rattle.std.specs.Bool.{Decides};
+ghost use Rattle.asl_setup.specs.Equal.{step_eq};
+ghost use Rattle.asl_setup.specs.declared.step_at.StepAt.{StepAt};
 
 use asl_history::Place;
 use asl_time::Moment;
@@ -36,3 +39,8 @@ impl StepAt {
         })
     }
 }
+
+/// `==` of steps is true exactly where the two are equal as contracts see them. The law has no code.
+pub fn equal_steps_are_one()
+    ensures { (x y : StepAt) → Decides (step_eq x y) (x ≡ y) }
+{}

@@ -1,10 +1,10 @@
 // What the texts of a run spell.
-ghost use Rattle.std.specs.Prelude.{◌≡◌, Ok, IfOk, IfErr};
+ghost use Rattle.std.specs.Prelude.{◌≡◌, Ok, IfOk, IfErr, option_map};
 ghost use Rattle.asl_check.specs.Judged.{IsMachineOf};
 ghost use Rattle.asl_mock.specs.Told.{IsMockFile};
 ghost use Rattle.asl_setup.specs.Chosen.{case_name, machine_name, execution_name, case_chosen};
-ghost use Rattle.asl_setup.specs.Texts.{IsInputOf, start_at, setup_for, IsBadDefinition, AreBadMocks, IsNoCase, IsBadInput, AreBadSteps, Unless};
-ghost use Rattle.asl_setup.specs.StepsFile.{IsStepsFile};
+ghost use Rattle.asl_setup.specs.Texts.{IsInputOf, AreStepsOf, start_of, setup_for, IsBadDefinition, AreBadMocks, IsNoCase, IsBadInput, AreBadSteps, Unless};
+ghost use Rattle.asl_setup.specs.Views.{steps_in};
 
 use crate::fault::EmulateFault;
 use crate::setup::Setup;
@@ -79,25 +79,31 @@ pub(crate) fn input_of(alloc: Global, input: &[u8]) -> Result<Json, EmulateFault
     }
 }
 
-/// The steps of a run.
-pub(crate) fn steps_of(alloc: Global, steps: &[u8]) -> Result<Vec<StepAt>, EmulateFault>
-    ensures found { IfOk result (λ v. IsStepsFile steps.now v.items) }
-    ensures fault { IfErr result (Unless (AreBadSteps steps.now)) }
+/// The steps of a run, where a file names them.
+pub(crate) fn steps_of(
+    alloc: Global,
+    steps: Option<&[u8]>,
+) -> Result<Option<Vec<StepAt>>, EmulateFault>
+    ensures found { IfOk result (λ o. AreStepsOf (option_map (λ b. b.now) steps.entry) (steps_in o)) }
+    ensures fault { IfErr result (Unless (AreBadSteps (option_map (λ b. b.now) steps.entry))) }
 {
+    let Some(steps) = steps else {
+        return Ok(None);
+    };
     match read_steps(alloc, steps) {
-        Ok(steps) => Ok(steps),
+        Ok(steps) => Ok(Some(steps)),
         Err(StepsFault::OutOfMemory) => Err(EmulateFault::OutOfMemory),
         Err(StepsFault::Line(number)) => Err(EmulateFault::StepLine(number)),
     }
 }
 
-/// When an execution starts: at the moment of its first step, and at the epoch where there is none.
-pub(crate) fn start_of(steps: &[StepAt]) -> Moment
-    ensures { result ≡ start_at steps.now }
+/// When an execution starts: at the moment of the first step that is named, and at the epoch where there is none.
+pub(crate) fn start_of(steps: Option<&[StepAt]>) -> Moment
+    ensures { result ≡ start_of (option_map (λ ss. ss.now) steps.entry) }
 {
     match steps {
-        [] => Moment::FIRST,
-        [first, ..] => first.moment,
+        Some([first, ..]) => first.moment,
+        _ => Moment::FIRST,
     }
 }
 
