@@ -90,7 +90,7 @@ session_send = search (execution_send, step_send, checkpoint_send, crossing.name
 reply_send : IsSend reply_field.row
 reply_send = search (record_field_send, refusal.the_send, refusal.the_field_send, crossing.name_send, sendable) depth 60 fits 20000
 
-command_send : IsSend command_field.row
+pub command_send : IsSend command_field.row
 command_send = search (moment.the_send, crossing.name_send, place.the_send, sendable) depth 60 fits 20000
 
 entry_send : IsSend entry_row

@@ -1,4 +1,5 @@
 pub mod Replays
+pub mod Dues
 pub mod Least
 pub mod Equalities
 pub mod OneList

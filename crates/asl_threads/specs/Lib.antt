@@ -1,4 +1,5 @@
 pub mod Runs
 pub mod Closing
 pub mod Answer
+pub mod Turns
 pub mod Laws

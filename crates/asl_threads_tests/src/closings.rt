@@ -1,11 +1,69 @@
 // Runs that are closed, and runs that aren't.
 use crate::told::{
-    BRANCHES, LOOP, closed, command, ended, opened, put_behind, refused, taken, told, with,
+    BRANCHES, LOOP, closed, command, ended, opened, put_behind, refused, row_is, taken, told, with,
 };
+use asl_session::Command;
 use asl_threads::{Cause, Seat, SharedRun};
 use std::alloc::Global;
 use std::sync::Wait;
 use std::test::Fail;
+use std::thread;
+use std::thread::Threads;
+
+/// What takes commands of a type `C` from seats of a type `S`. That they may cross threads is asked of these types, and of no closure that
+/// holds them.
+trait Told<S, C> {
+    /// Carries out a command from a seat. Says whether it was.
+    fn tell<R: Wait>(&self, rt: &R, seat: &mut S, command: C) -> bool;
+}
+
+impl Told<Seat, Command> for SharedRun {
+    fn tell<R: Wait>(&self, rt: &R, seat: &mut Seat, command: Command) -> bool {
+        self.state().lock(rt).apply(seat, command).is_ok()
+    }
+}
+
+/// Two threads carry out a command each, each from a seat. Says whether both were.
+fn tell_both<R: Threads + Wait + Sync, T: Told<S, C> + Sync, S: Send, C: Send + Drop>(
+    rt: &R,
+    run: &T,
+    zero: &mut S,
+    left: C,
+    one: &mut S,
+    right: C,
+) -> bool {
+    let (a, b) = thread::join(rt, || run.tell(rt, zero, left), || run.tell(rt, one, right));
+    a && b
+}
+
+#[test]
+fn two_threads_step_one_run(rt: HostRuntime) -> Result<(), Fail> {
+    let (run, mut seats) = opened(rt.alloc(), BRANCHES, 2, 7)?;
+    let mut one = taken(&mut seats)?;
+    let mut zero = taken(&mut seats)?;
+    let forked = told(
+        &rt,
+        rt.alloc(),
+        &run,
+        &mut zero,
+        "step / 2024-01-01T00:00:00Z",
+    )?;
+    assert_eq!(rt; forked.as_str(), "ok\n");
+    let left = command(rt.alloc(), "step /0 2024-01-01T00:00:00Z")?;
+    let right = command(rt.alloc(), "step /1 2024-01-01T00:00:00Z")?;
+    assert!(rt; tell_both(&rt, &run, &mut zero, left, &mut one, right));
+    let record = closed(run, with(with(seats, zero)?, one)?)?;
+    assert_eq!(rt; record.rows.len(), 3);
+    assert_eq!(rt; record.session.steps().len(), 3);
+    for (seat, line) in [
+        (0, "step / 2024-01-01T00:00:00Z"),
+        (0, "step /0 2024-01-01T00:00:00Z"),
+        (1, "step /1 2024-01-01T00:00:00Z"),
+    ] {
+        assert!(rt; row_is(rt.alloc(), &record, seat, line, "ok\n")?);
+    }
+    Ok(())
+}
 
 /// What is told from two seats in turn: each kind of command.
 const TOLD: &[(&str, &str)] = &[

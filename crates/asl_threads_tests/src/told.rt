@@ -16,6 +16,10 @@ pub(crate) const BRANCHES: &str =
 pub(crate) const LOOP: &str =
     r#"{"StartAt":"A","States":{"A":{"Type":"Pass","Parameters":{"n.$":"States.MathAdd($.n, 1)"},"Next":"D"},"D":{"Type":"Pass","Next":"C"},"C":{"Type":"Choice","Choices":[{"Variable":"$.n","NumericLessThan":2,"Next":"A"}],"Default":"Z"},"Z":{"Type":"Succeed"}}}"#;
 
+/// A state that waits for ten seconds.
+pub(crate) const WAIT: &str =
+    r#"{"StartAt":"W","States":{"W":{"Type":"Wait","Seconds":10,"End":true}}}"#;
+
 /// A run with so many seats, and these. The input is `{"n":0}`.
 pub(crate) fn opened(
     alloc: Global,
@@ -32,11 +36,6 @@ pub(crate) fn opened(
 /// The command of a line.
 pub(crate) fn command(alloc: Global, line: &str) -> Result<Command, Fail> {
     Ok(read_command(alloc, line.as_bytes())?.ok_or("no command")?)
-}
-
-/// Carries out a command from a seat. Says whether it was.
-pub(crate) fn apply<R: Wait>(rt: &R, run: &SharedRun, seat: &mut Seat, command: Command) -> bool {
-    run.state().lock(rt).apply(seat, command).is_ok()
 }
 
 /// Carries out the command of a line from a seat: the line of the reply, with its line feed.
@@ -105,4 +104,22 @@ pub(crate) fn refused(
             Ok((cause, run, seats))
         }
     }
+}
+
+/// Whether a record has one row of the seat of this number with the command of this line, whose reply has this line.
+pub(crate) fn row_is(
+    alloc: Global,
+    record: &RunRecord,
+    number: usize,
+    line: &str,
+    reply: &str,
+) -> Result<bool, Fail> {
+    let command = command(alloc, line)?;
+    let mut text = String::new(alloc);
+    for row in &record.rows {
+        if row.seat == number && row.command == command {
+            put_answer(alloc, &mut text, &row.reply)?;
+        }
+    }
+    Ok(text.as_str() == reply)
 }

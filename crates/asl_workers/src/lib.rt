@@ -1,16 +1,15 @@
 //! Workers that run the cases of a suite side by side.
 //!
-//! Modules in reading order: `gate` and `cases` are what workers need, `claims` is how they share the work, `workers` runs the cases, and
-//! `suites` the tests of a suite.
+//! Modules in reading order: `cases` is what workers need, `claims` is how they share the work, `workers` runs the cases, and `suites` the
+//! tests of a suite.
 #![tactic(auto)]
 
 mod cases;
 mod claims;
-mod gate;
 mod suites;
 mod workers;
 
+pub use asl_gate::{Gate, NoGate};
 pub use cases::{Cases, SuiteFault};
-pub use gate::{Gate, NoGate};
 pub use suites::run_suite;
 pub use workers::run_cases;

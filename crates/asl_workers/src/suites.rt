@@ -5,8 +5,8 @@ ghost use Rattle.asl_workers.specs.Cases.{IsFault};
 ghost use Rattle.asl_workers.specs.Suites.{test_count, Gives};
 
 use crate::cases::{Cases, SuiteFault};
-use crate::gate::Gate;
 use crate::workers::run_cases;
+use asl_gate::Gate;
 use asl_suite::{CaseReport, Suite, run_case};
 use std::alloc::{AllocError, Global};
 use std::sync::Wait;

@@ -5,7 +5,7 @@ ghost use Rattle.asl_workers.specs.Cases.{IsDone, AreDone, IsAnswered, IsEach, I
 
 use crate::cases::{Cases, SuiteFault};
 use crate::claims::{Claims, Done};
-use crate::gate::Gate;
+use asl_gate::Gate;
 use asl_suite::CaseReport;
 use core::thread::Stack;
 use std::alloc::{AllocError, Global};

@@ -1,4 +1,5 @@
-use Rattle.asl_threads.proofs.Equalities.{record_decides, command_decides, reply_decides}
+use Rattle.asl_steps.proofs.Equalities.{record_decides}
+use Rattle.asl_threads.proofs.Equalities.{command_decides, reply_decides}
 use Rattle.asl_threads.proofs.laws.commands_and_replies_are_compared_as_data.Goals as goal
 
 pub returns-clause-commands : goal.returns-clause-commands

@@ -1,4 +1,5 @@
-// What workers tell of their work.
+//! What workers tell of their work, whatever it is.
+#![tactic(auto)]
 
 /// Is told of each piece of work, before and after. No lock is held meanwhile, so that it may wait for another worker.
 pub trait Gate {
