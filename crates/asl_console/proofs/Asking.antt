@@ -1,15 +1,16 @@
 -- Each word asks for its own.
-use Rattle.std.proofs.Common.{ℕ, ◌≡◌, List, [], ◌∷◌, false, Option, Some, refl, sym, ◌∙◌, ap}
+use Rattle.std.proofs.Common.{ℕ, ◌≡◌, List, [], ◌∷◌, Option, Some, refl, sym, ◌∙◌, ap}
 use Rattle.std.specs.Prelude.{option_map}
 use Rattle.std.specs.Str.{IsUtf8}
 use Rattle.std.proofs.lemmas.Str.{IsUtf8-from_ascii}
 use Rattle.asl_setup.proofs.StepLines.{stamp_ascii}
 use Rattle.asl_time.specs.Timestamp.{IsTimestamp}
+use Rattle.asl_setup.specs.declared.step_at.StepAt.{StepAt}
 use Rattle.asl_session.specs.Scripts.{IsPlaceText}
 use Rattle.asl_console.specs.declared.word.Word.TheVariants as word
 use Rattle.asl_console.specs.declared.request.Request.{Request}
 use Rattle.asl_console.specs.declared.request.Request.TheVariants.{Next, Continue, Until, Places, Data, Events, Steps, Swap, Help, Quit}
-use Rattle.asl_console.specs.Requests.{IsSpaced, count_or, few, alone, IsAsked, is_swap}
+use Rattle.asl_console.specs.Requests.{IsSpaced, count_or, few, alone, AreSteps, IsAsked}
 
 pub only-next : (line t : List ℕ) (o : Option ℕ) → o ≡ count_or 1 t → (r : Request) → IsAsked word.Next line t r → option_map Next o ≡ Some r
 only-next line t o e (Next n) k = ap (option_map Next) (e ∙ k)
@@ -47,10 +48,9 @@ pub only-quit : (line t : List ℕ) (r : Request) → IsAsked word.Quit line t r
 only-quit line t Quit k = rw k refl
 only-quit line t r k = absurd k
 
--- but for two steps
-pub only-swap : (line t : List ℕ) (o : Option Request) (r : Request) → is_swap r ≡ false → IsAsked word.Swap line t r → o ≡ Some r
-only-swap line t o (Swap a b) n k = (cc)
-only-swap line t o r n k = absurd k
+pub only-swap : (line t : List ℕ) (o : Option (StepAt × StepAt)) → ((a b : StepAt) → IsSpaced (λ s. AreSteps s a b) t → o ≡ Some (a, b)) → (r : Request) → IsAsked word.Swap line t r → option_map (λ x. Swap x.0 x.1) o ≡ Some r
+only-swap line t o only (Swap a b) k = ap (option_map (λ x. Swap x.0 x.1)) (only a b k)
+only-swap line t o only r k = absurd k
 
 -- ---- the same where nothing stands behind a word
 

@@ -1,4 +1,5 @@
 mod Trees
 mod Moves
 mod Asking
+mod Spaces
 mod Answering

@@ -3,8 +3,7 @@ use Rattle.std.proofs.Common.{ℕ, Result, Ok, Err, OnOk, append_assoc, ◌≡�
 use Rattle.std.specs.List.{flat_map}
 use Rattle.std.proofs.lemmas.Grind.{flat_map-append}
 use Rattle.std.proofs.lemmas.List.{map-append}
-use Rattle.asl_frames.specs.Trees.{Spot, Family, pushed, below_of, branch_of, node_of}
-use Rattle.asl_frames.specs.private.Links.{ArePlaced}
+use Rattle.asl_frames.specs.Trees.{Spot, Family, pushed, below_of, branch_of, node_of, ArePlaced}
 use Rattle.asl_session.specs.Sessions.{Session}
 use Rattle.asl_steps.specs.declared.record.Record.{Record}
 use Rattle.asl_console.specs.Views.{branch_line, helds_of, held_lines}

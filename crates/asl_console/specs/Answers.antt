@@ -12,7 +12,7 @@ use Rattle.asl_session.specs.declared.command.Command.TheVariants.{Step}
 use Rattle.asl_console.specs.declared.request.Request.{Request}
 use Rattle.asl_console.specs.declared.request.Request.TheVariants.{Told, Next, Continue, Until, Places, Data, Events, Steps, Swap, Help, Quit}
 use Rattle.asl_console.specs.Words.{words, help_lines}
-use Rattle.asl_console.specs.Requests.{IsRequest, is_swap, complaint}
+use Rattle.asl_console.specs.Requests.{IsRequest, complaint}
 use Rattle.asl_console.specs.Onward.{freed, gone, gone_lines}
 use Rattle.asl_console.specs.Views.{places_text, data_text, events_text, steps_text}
 
@@ -111,10 +111,10 @@ next_console c r = record {
   settled = c.settled || settles r;
 }
 
--- a line was answered: what it asks for was done; or it asks for nothing, unless for two steps that
--- may change places, and what it could be was told
+-- a line was answered: what it asks for was done; or it asks for nothing, and what it could be was
+-- told
 pub data IsAnswer (c : Console) (line text : List ℕ) (quits : Bool) (d : Console) : Type 0 where
   Obeyed : (r : Request) → IsRequest line r → text ≡ answer_to (started c r) r
       → quits ≡ is_quit r → d ≡ next_console c r → IsAnswer c line text quits d
-  Complained : ((r : Request) → is_swap r ≡ false → IsRequest line r → ⊥) → text ≡ complaint line
+  Complained : ((r : Request) → IsRequest line r → ⊥) → text ≡ complaint line
       → quits ≡ false → d ≡ c → IsAnswer c line text quits d

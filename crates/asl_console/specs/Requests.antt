@@ -1,5 +1,5 @@
 -- What a line of the debugger asks for.
-use Rattle.std.specs.Prelude.{ℕ, ◌≡◌, ◌==◌, if◌then◌else◌, Bool, true, false, List, [], ◌∷◌, ◌++◌, length, drop, Option, Some, None, codes}
+use Rattle.std.specs.Prelude.{ℕ, ◌≡◌, ◌==◌, if◌then◌else◌, List, [], ◌∷◌, ◌++◌, length, drop, Option, Some, None, codes}
 use Rattle.asl_time.specs.Timestamp.{IsTimestamp}
 use Rattle.asl_setup.specs.declared.step_at.StepAt.{StepAt}
 use Rattle.asl_setup.specs.StepsFile.{IsStepLine}
@@ -74,10 +74,6 @@ IsAskedBy (Some w) line r = IsAsked w line (drop (length (name_of w)) line) r
 -- the line asks for this
 abbrev pub IsRequest : List ℕ → Request → Type 0
 IsRequest line r = IsAskedBy (word_begun line) line r
-
-abbrev pub is_swap : Request → Bool
-is_swap (Swap a b) = true
-is_swap r = false
 
 -- ---- what is told of a line that asks for nothing
 

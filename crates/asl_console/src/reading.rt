@@ -1,10 +1,10 @@
 // What a line asks for, and what is told of a line that asks for nothing.
-ghost use Rattle.std.specs.Prelude.{◌≡◌, false, ◌∷◌, ◌++◌, List, ℕ, Some, None, IfOk, IfSome, OnOk, string_bytes};
+ghost use Rattle.std.specs.Prelude.{◌≡◌, ◌∷◌, ◌++◌, List, ℕ, Some, None, IfOk, IfSome, IsSomeAnd, OnOk, string_bytes};
 ghost use Rattle.asl_time.specs.Timestamp.{IsTimestamp};
 ghost use Rattle.asl_setup.specs.declared.step_at.StepAt.{StepAt};
 ghost use Rattle.asl_session.specs.Scripts.{IsPlaceText};
 ghost use Rattle.asl_console.specs.declared.request.Request.{Request};
-ghost use Rattle.asl_console.specs.Requests.{IsSpaced, count_or, AreSteps, IsTold, alone, IsAsked, is_swap, IsRequest, complaint_on, complaint};
+ghost use Rattle.asl_console.specs.Requests.{IsSpaced, count_or, AreSteps, IsTold, alone, IsAsked, IsRequest, complaint_on, complaint};
 
 use crate::request::Request;
 use crate::word::Word;
@@ -68,27 +68,32 @@ fn read_spaced_place(alloc: Global, text: &[u8]) -> Result<Option<Place>, AllocE
 }
 
 /// The two parts of a text around its second space.
-fn halves(text: &[u8]) -> Option<(&[u8], &[u8])>
-    ensures { IfSome result (λ x. text.now ≡ x.0.now ++ 32 ∷ x.1.now) }
+fn halves(text: &str) -> Option<(&[u8], &[u8])>
+    ensures found { IfSome result (λ x. text.now ≡ x.0.now ++ 32 ∷ x.1.now) }
+    ensures only { (a b : StepAt) (h : AreSteps text.now a b)
+        → IsSomeAnd result (λ x. (x.0.now ≡ h.one) × (x.1.now ≡ h.other)) }
 {
-    let mut seen = false;
-    for (at, byte) in text.iter().enumerate() {
-        if *byte == b' ' {
-            if seen {
-                return Some((&text[..at], &text[at + 1..]));
-            }
-            seen = true;
-        }
-    }
-    None
+    let Some((place, rest)) = text.split_once(' ') else {
+        return None;
+    };
+    let Some((stamp, other)) = rest.split_once(' ') else {
+        return None;
+    };
+    let end = place.len() + 1 + stamp.len();
+    Some((&text.as_bytes()[..end], other.as_bytes()))
 }
 
 /// The two steps behind a space. The error is that memory ran out.
 fn read_steps(alloc: Global, text: &[u8]) -> Result<Option<(StepAt, StepAt)>, AllocError>
     ensures found { IfOk result (λ o. IfSome o
         (λ x. IsSpaced (λ s. AreSteps s x.0 x.1) text.now)) }
+    ensures only { IfOk result (λ o. (a b : StepAt)
+        → IsSpaced (λ s. AreSteps s a b) text.now → o ≡ Some (a, b)) }
 {
     let Some(text) = behind_space(text) else {
+        return Ok(None);
+    };
+    let Ok(text) = str::from_utf8(text) else {
         return Ok(None);
     };
     let Some((one, other)) = halves(text) else {
@@ -129,7 +134,7 @@ fn read_asked(
     text: &[u8],
 ) -> Result<Option<Request>, AllocError>
     ensures found { IfOk result (λ o. IfSome o (IsAsked word line.now text.now)) }
-    ensures only { IfOk result (λ o. (r : Request) → is_swap r ≡ false
+    ensures only { IfOk result (λ o. (r : Request)
         → IsAsked word line.now text.now r → o ≡ Some r) }
 {
     match word {
@@ -167,8 +172,7 @@ fn read_asked(
 /// What a line asks for; none where it asks for nothing. The error is that memory ran out.
 pub(crate) fn read_request(alloc: Global, line: &[u8]) -> Result<Option<Request>, AllocError>
     ensures found { IfOk result (λ o. IfSome o (IsRequest line.now)) }
-    ensures only { IfOk result (λ o. (r : Request) → is_swap r ≡ false
-        → IsRequest line.now r → o ≡ Some r) }
+    ensures only { IfOk result (λ o. (r : Request) → IsRequest line.now r → o ≡ Some r) }
 {
     let Some(word) = Word::beginning(line) else {
         return Ok(None);
