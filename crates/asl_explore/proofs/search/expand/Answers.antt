@@ -1,0 +1,85 @@
+use Rattle.std.proofs.Common.{◌<◌, ◌≤◌, ◌≡◌, true, false, sym, ◌∙◌, refl, arith, length}
+use Rattle.std.proofs.lemmas.List.{length-map}
+use Rattle.asl_run.specs.Bare.{bare}
+use Rattle.asl_exec.specs.Views.{setup_of}
+use Rattle.asl_explore.specs.declared.met.Node.{Node}
+use Rattle.asl_explore.specs.Searches.{worlds_of, outcomes_of}
+use Rattle.asl_explore.proofs.Growing.{later-same, later-then, later-length}
+use Rattle.asl_explore.proofs.Expanding.{node-at, shown-as, runs-still, met-at, met-more, expanded-all}
+use Rattle.asl_explore.proofs.search.expand.Goals as goal
+use Rattle.asl_explore.proofs.search.expand.Goals.{then-whole, else-whole}
+
+pub returns-in_err-turns-clause-later : goal.returns-in_err-turns-clause-later
+returns-in_err-turns-clause-later c = later-same (worlds_of c.args.met.now.nodes.items) (outcomes_of c.args.found.now.items)
+
+pub returns-in_default-clause-later : goal.returns-in_default-clause-later
+returns-in_default-clause-later c = later-same (worlds_of c.args.met.now.nodes.items) (outcomes_of c.args.found.now.items)
+
+pub loop-index-init : goal.loop-index-init
+loop-index-init c = record {
+  later = later-same (worlds_of c.args.met.now.nodes.items) (outcomes_of c.args.found.now.items);
+  setup = refl;
+  shown = λ h. h;
+  once = λ h. h;
+  met = λ w k d z lt. absurd (omega arith);
+}
+
+pub visit-requires-clause-there : goal.visit-requires-clause-there
+visit-requires-clause-there c =
+    let ns = c.args.met.now.nodes.items in
+    let ms = c.loop-index.met.nodes.items in
+    omega (arith, c.requires, later-length (worlds_of ns) (worlds_of ms) (outcomes_of c.args.found.now.items) (outcomes_of c.loop-index.found.items) c.loop-index.invariant.later, length-map ns (λ (n : Node). bare n.world), length-map ms (λ (n : Node). bare n.world))
+
+pub visit-requires-clause-runs : goal.visit-requires-clause-runs
+visit-requires-clause-runs c d =
+    let ns = c.args.met.now.nodes.items in
+    let ms = c.loop-index.met.nodes.items in
+    let lt : c.args.number < length (worlds_of ns) = omega (arith, c.requires, length-map ns (λ (n : Node). bare n.world)) in
+    runs-still (worlds_of ns) (worlds_of ms) (outcomes_of c.args.found.now.items) (outcomes_of c.loop-index.found.items) c.args.number d c.index.result.now.world c.loop-index.invariant.later lt
+    (node-at ns c.args.number c.index.result.now d c.requires c.index.ensures) (rw c.in-Some.is at c.in_ok-turns.ensures.runs)
+
+pub returns-in_err-is_met-clause-shown : goal.returns-in_err-is_met-clause-shown
+returns-in_err-is_met-clause-shown c h = shown-as (setup_of c.loop-index.execution) (setup_of c.args.execution.now) c.loop-index.found.items c.visit.new.found.items c.loop-index.invariant.setup c.visit.ensures.shown (c.loop-index.invariant.shown h)
+
+pub returns-in_err-is_met-clause-once : goal.returns-in_err-is_met-clause-once
+returns-in_err-is_met-clause-once c h = c.visit.ensures.once (c.loop-index.invariant.once h)
+
+pub loop-index-preserved : goal.loop-index-preserved
+loop-index-preserved c =
+    let s = setup_of c.args.execution.now in
+    let ws = worlds_of c.args.met.now.nodes.items in
+    let vs = worlds_of c.loop-index.met.nodes.items in
+    let xs = worlds_of c.visit.new.met.nodes.items in
+    let os = outcomes_of c.args.found.now.items in
+    let us = outcomes_of c.loop-index.found.items in
+    let ys = outcomes_of c.visit.new.found.items in
+    let i = c.loop-index.index in
+    let turns = c.in-Some.turns.items in
+    let inv = c.loop-index.invariant in
+    let lt : c.args.number < length ws = omega (arith, c.requires, length-map c.args.met.now.nodes.items (λ (n : Node). bare n.world)) in
+    let li : i < length turns = omega (arith, c.in-Some.turns.ok.0, c.loop-index-test.true, c.len-index-end.ensures) in
+    record {
+      later = later-then ws vs xs os us ys inv.later c.visit.ensures.later;
+      setup = c.visit.ensures.setup ∙ inv.setup;
+      shown = λ h. shown-as (setup_of c.loop-index.execution) s c.loop-index.found.items c.visit.new.found.items inv.setup c.visit.ensures.shown (inv.shown h);
+      once = λ h. c.visit.ensures.once (inv.once h);
+      met = λ w.
+          let both : (c.loop-index.whole ≡ true) × (c.in_ok-is_met.is_met ≡ true) = elim c.if-whole.branch [ then-whole b ↦ (b.if-whole.true, sym b.whole-is ∙ w) | else-whole b ↦ let e : true ≡ false = sym w ∙ b.whole-is ∙ b.if-whole.false in absurd (cc) ] in
+          met-more s ws vs xs us ys c.args.number turns i c.visit.ensures.later (inv.met both.0)
+          (met-at s (setup_of c.loop-index.execution) ws vs xs os us ys c.args.number turns i c.index-turn.result.now c.in_ok-try_clone.field-0 inv.setup inv.later lt li c.index-turn.ensures c.in_ok-try_clone.ensures (c.in_ok-is_met.ensures.met both.1));
+    }
+
+pub returns-clause-expanded : goal.returns-clause-expanded
+returns-clause-expanded c t =
+    let s = setup_of c.args.execution.now in
+    let ns = c.args.met.now.nodes.items in
+    let ms = c.loop-index.met.nodes.items in
+    let os = outcomes_of c.args.found.now.items in
+    let us = outcomes_of c.loop-index.found.items in
+    let turns = c.in-Some.turns.items in
+    let inv = c.loop-index.invariant in
+    let lt : c.args.number < length (worlds_of ns) = omega (arith, c.requires, length-map ns (λ (n : Node). bare n.world)) in
+    let more = later-length (worlds_of ns) (worlds_of ms) os us inv.later in
+    let le : length turns ≤ c.loop-index.index = omega (arith, c.in-Some.turns.ok.0, c.loop-index-test.false, c.len-index-end.ensures) in
+    expanded-all s (worlds_of ns) (worlds_of ms) os us c.args.number c.index.result.now.world turns c.loop-index.index inv.later lt (omega (arith, lt, more)) (λ d. node-at ns c.args.number c.index.result.now d c.requires c.index.ensures)
+    (rw c.in-Some.is at c.in_ok-turns.ensures.runs) (rw c.in-Some.is at c.in_ok-turns.ensures.root) (rw c.in-Some.is at c.in_ok-turns.ensures.turns) le (inv.met t)

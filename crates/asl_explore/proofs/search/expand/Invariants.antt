@@ -1,0 +1,16 @@
+use Rattle.std.proofs.Common.{◌≡◌, true}
+use Rattle.std.specs.List.{All}
+use Rattle.asl_exec.specs.Views.{setup_of}
+use Rattle.asl_explore.specs.Searches.{IsLater, Shows, AreDistinct, worlds_of, outcomes_of}
+use Rattle.asl_explore.proofs.Expanding.{AreMet}
+use Rattle.asl_explore.proofs.search.expand.Given as goal
+
+-- the worlds that the steps so far lead to are met, unless one was left out
+abbrev pub invariant-loop-index : goal.invariant-loop-index
+invariant-loop-index l = record {
+  later : IsLater (worlds_of l.fn.met.nodes.items) (outcomes_of l.fn.found.items) (worlds_of l.met.nodes.items) (outcomes_of l.found.items);
+  setup : setup_of l.execution ≡ setup_of l.fn.execution;
+  shown : All (Shows (setup_of l.fn.execution)) l.fn.found.items → All (Shows (setup_of l.fn.execution)) l.found.items;
+  once : AreDistinct (outcomes_of l.fn.found.items) → AreDistinct (outcomes_of l.found.items);
+  met : l.whole ≡ true → AreMet (setup_of l.fn.execution) (worlds_of l.fn.met.nodes.items) l.number (worlds_of l.met.nodes.items) (outcomes_of l.found.items) l.turns.items l.index;
+}

@@ -1,0 +1,20 @@
+use Rattle.std.proofs.Common.{◌≡◌, ◌≤◌, ◌-◌, true, length}
+use Rattle.std.specs.List.{All, AllWithin}
+use Rattle.asl_exec.specs.Steps.{opening}
+use Rattle.asl_exec.specs.Views.{setup_of}
+use Rattle.asl_explore.specs.Searches.{IsMet, IsExpanded, Shows, AreDistinct, worlds_of, outcomes_of}
+use Rattle.asl_explore.proofs.search.explore.Given as goal
+
+-- the first worlds are expanded, unless one was left out
+abbrev pub invariant-loop-number : goal.invariant-loop-number
+invariant-loop-number g l = record {
+  setup : setup_of l.execution ≡ l.fn.setup;
+  shown : All (Shows l.fn.setup) l.found.items;
+  once : AreDistinct (outcomes_of l.found.items);
+  begins : IsMet (worlds_of l.met.nodes.items) (outcomes_of l.found.items) (opening l.fn.setup);
+  within : l.number ≤ length (worlds_of l.met.nodes.items);
+  expanded : l.whole ≡ true → AllWithin (IsExpanded l.fn.setup (worlds_of l.met.nodes.items) (outcomes_of l.found.items)) (worlds_of l.met.nodes.items) 0 l.number;
+}
+
+abbrev pub decreases-loop-number : goal.decreases-loop-number
+decreases-loop-number g l = l.limit - l.number

@@ -1,0 +1,4 @@
+pub mod Orders
+pub mod Searches
+pub mod Reports
+pub mod Laws

@@ -1,0 +1,31 @@
+// What a search finds.
+
+use asl_exec::Outcome;
+use asl_setup::StepAt;
+
+/// An outcome, and steps that end in it.
+#[derive(Drop)]
+pub struct Found {
+    pub outcome: Outcome,
+    pub steps: Vec<StepAt>,
+}
+
+/// What a search found.
+#[derive(Drop)]
+pub struct Explored {
+    /// The outcomes, each once, in the order in which they were found: those of fewer steps first.
+    pub found: Vec<Found>,
+    /// The numbers, from 1, of those that come only where a branch is late: another one steps at a later moment first. None is among
+    /// them where that isn't known.
+    pub late: Vec<usize>,
+    /// Whether nothing was left out: each world that was met was tried.
+    pub complete: bool,
+    /// So many worlds were met, the first among them.
+    pub worlds: usize,
+    /// Where the search was cut, all orders of at most so many steps were tried; none where that isn't known.
+    pub depth: Option<u32>,
+    /// Whether the execution has a time limit: steps at later moments may end it.
+    pub limited: bool,
+    /// Whether the definition may read the clock: steps at other moments may give other outcomes.
+    pub clocked: bool,
+}

@@ -1,0 +1,27 @@
+//! Every order of the branches of an execution.
+//!
+//! Modules in reading order: `found` is what a search finds; `met` the worlds that it met, which are looked up by `table` and `digest`;
+//! `order` takes steps at their earliest moments; `visiting` takes one step of a search; `search` takes all of them, and tells `watch` how
+//! far it is; `late` marks outcomes; `clock` looks for the clock in a definition; `report` tells what was found; `laws` says that nothing is
+//! left out.
+#![tactic(auto)]
+
+mod clock;
+mod digest;
+mod found;
+mod late;
+mod laws;
+mod met;
+mod order;
+mod report;
+mod search;
+mod table;
+mod visiting;
+mod watch;
+
+pub use asl_setup::Setup;
+pub use found::{Explored, Found};
+pub use laws::searches_leave_out_nothing;
+pub use report::{is_good, put_explored, put_steps};
+pub use search::explore;
+pub use watch::Watch;

@@ -1,0 +1,113 @@
+// The worlds that a search met.
+ghost use Rattle.std.specs.Prelude.{◌≡◌, List, ◌∷◌, [], true, IfOk, OnOk};
+ghost use Rattle.std.specs.List.{Contains};
+ghost use Rattle.asl_run.specs.Bare.{bare};
+ghost use Rattle.asl_run.specs.declared.outcome.Outcome.{Outcome};
+ghost use Rattle.asl_explore.specs.Searches.{worlds_of, IsLater};
+
+use crate::digest::digest_of;
+use crate::table::Table;
+use asl_exec::World;
+use asl_setup::StepAt;
+use std::alloc::{AllocError, Global};
+
+/// A world that was met, without its history.
+#[derive(Drop)]
+pub(crate) struct Node {
+    pub world: World,
+    /// The number of the world in which the step was taken that led to it.
+    pub parent: usize,
+    pub at: StepAt,
+    /// So many steps led to it.
+    pub depth: u32,
+    /// By which it is looked up.
+    pub digest: u64,
+    /// The number, from 1, of the last world before it in the same part of the table; 0 where there is none.
+    pub before: usize,
+}
+
+/// The worlds that were met, in the order in which they were, and a table to look them up.
+#[derive(Drop)]
+pub(crate) struct Met {
+    pub nodes: Vec<Node>,
+    table: Table,
+    /// So many states the machine has.
+    states: usize,
+}
+
+impl Met {
+    /// One world is met: that before the first step, of a machine with so many states. The error is that memory ran out.
+    pub(crate) fn new(
+        alloc: Global,
+        states: usize,
+        world: World,
+        at: StepAt,
+    ) -> Result<Met, AllocError>
+        ensures { IfOk result (λ m. worlds_of m.nodes.items ≡ bare world ∷ []) }
+    {
+        let digest = digest_of(&world, states);
+        let mut nodes = Vec::new(alloc);
+        nodes.push(Node {
+            world,
+            parent: 0,
+            at,
+            depth: 0,
+            digest,
+            before: 0,
+        })?;
+        let mut table = Table::new(alloc)?;
+        table.put(digest, 1);
+        Ok(Met {
+            nodes,
+            table,
+            states,
+        })
+    }
+
+    /// Whether a world was met, if this is true.
+    fn holds(&self, world: &World, digest: u64) -> bool
+        ensures { result ≡ true → Contains (worlds_of self.now.nodes.items) (bare world.now) }
+    {
+        let mut number = self.table.last_in(digest);
+        for _ in 0..self.nodes.len() {
+            if number == 0 || number > self.nodes.len() {
+                return false;
+            }
+            let node = &self.nodes[number - 1];
+            if node.digest == digest && node.world.is_alike(world) {
+                return true;
+            }
+            number = node.before;
+        }
+        false
+    }
+
+    /// A world that runs is among those that were met, put there if it wasn't. The error is that memory ran out.
+    pub(crate) fn put(
+        &mut self,
+        next: World,
+        parent: usize,
+        depth: u32,
+        at: StepAt,
+    ) -> Result<(), AllocError>
+        ensures met { OnOk result (Contains (worlds_of self.new.nodes.items) (bare next)) }
+        ensures later { (os : List Outcome)
+            → IsLater (worlds_of self.old.nodes.items) os (worlds_of self.new.nodes.items) os }
+    {
+        let digest = digest_of(&next, self.states);
+        if self.holds(&next, digest) {
+            return Ok(());
+        }
+        let before = self.table.last_in(digest);
+        self.nodes.push(Node {
+            world: next,
+            parent,
+            at,
+            depth,
+            digest,
+            before,
+        })?;
+        self.table.put(digest, self.nodes.len());
+        Ok(())
+    }
+}

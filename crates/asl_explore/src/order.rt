@@ -1,0 +1,65 @@
+// Steps at the earliest moments.
+ghost use Rattle.std.specs.Prelude.{◌≡◌, true, IfOk};
+ghost use Rattle.asl_frames.specs.Earliest.{due_from};
+ghost use Rattle.asl_exec.specs.Steps.{opening, world_after};
+ghost use Rattle.asl_exec.specs.Views.{setup_of, world_of};
+ghost use Rattle.asl_explore.specs.Orders.{due, timed, places_of};
+
+use crate::met::Node;
+use asl_exec::{Execution, due_from};
+use asl_history::Place;
+use asl_setup::StepAt;
+use asl_time::Moment;
+use std::alloc::{AllocError, Global};
+
+/// The steps that led to a world, and one more. The error is that memory ran out.
+pub(crate) fn path(
+    alloc: Global,
+    nodes: &[Node],
+    number: usize,
+    at: StepAt,
+) -> Result<Vec<StepAt>, AllocError> {
+    let mut steps = Vec::new(alloc);
+    steps.push(at)?;
+    let mut number = number;
+    for _ in 0..nodes.len() {
+        if number == 0 || number >= nodes.len() {
+            break;
+        }
+        let node = &nodes[number];
+        steps.push(node.at.try_clone()?)?;
+        number = node.parent;
+    }
+    steps.reverse();
+    Ok(steps)
+}
+
+/// The earliest moment at which the branch at a place may step.
+fn due(execution: &Execution, place: &Place) -> Moment
+    ensures { result ≡ due (world_of execution.now) place.now }
+{
+    let last = execution.world().last();
+    match execution.view(place) {
+        Some(current) => due_from(last, current),
+        None => last,
+    }
+}
+
+/// Takes these steps from the beginning, if this is true: each is at the earliest moment. The error is that memory ran out.
+pub(crate) fn replay(execution: &mut Execution, steps: &[StepAt]) -> Result<bool, AllocError>
+    ensures world { IfOk result (λ b. b ≡ true → world_of execution.new
+        ≡ world_after (setup_of execution.old) (opening (setup_of execution.old)) steps.now) }
+    ensures timed { IfOk result (λ b. b ≡ true → steps.now
+        ≡ timed (setup_of execution.old) (opening (setup_of execution.old)) (places_of steps.now)) }
+    ensures setup { setup_of execution.new ≡ setup_of execution.old }
+{
+    let world = execution.opening()?;
+    execution.enter(world);
+    for at in steps {
+        if due(execution, &at.place).millis() != at.moment.millis() {
+            return Ok(false);
+        }
+        let _reply = execution.reply(at)?;
+    }
+    Ok(true)
+}

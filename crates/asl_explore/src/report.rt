@@ -1,0 +1,270 @@
+// What is told of a search.
+ghost use Rattle.std.specs.Prelude.{◌≡◌, ◌++◌, ◌||◌, OnOk, string_bytes, nat_eq};
+ghost use Rattle.std.specs.Fmt.{decimal};
+ghost use Rattle.std.specs.List.{list_any};
+ghost use Rattle.asl_json.specs.View.{data_of};
+ghost use Rattle.asl_json.specs.Compact.{compact};
+ghost use Rattle.asl_steps.specs.Rows.{error_output};
+ghost use Rattle.asl_explore.specs.Reports.{ended_text, place_word, order_line, step_text, steps_text, outcome_line, found_text, late_line, founds_text, number_line, note_text, gap, time_limit_note, clock_note, notes_text, searched_text, explored_text, are_good, is_good};
+
+use crate::found::{Explored, Found};
+use asl_exec::Outcome;
+use asl_json::{Json, put};
+use asl_run::is_success;
+use asl_setup::StepAt;
+use asl_steps::{ErrorOut, error_output};
+use asl_time::put_stamp;
+use itoa::Buffer;
+use std::alloc::{AllocError, Global};
+
+/// Appends a number in plain decimal. The error is that memory ran out.
+fn put_number(out: &mut String, number: u64) -> Result<(), AllocError>
+    ensures { OnOk result (string_bytes out.new ≡ string_bytes out.old ++ decimal number) }
+{
+    let mut buffer = Buffer::new();
+    out.push_str(buffer.format(number))
+}
+
+/// Appends a word, a number and a line feed. The error is that memory ran out.
+fn put_number_line(out: &mut String, word: &str, number: u64) -> Result<(), AllocError>
+    ensures { OnOk result (string_bytes out.new
+        ≡ string_bytes out.old ++ number_line word.now number) }
+{
+    out.push_str(word)?;
+    put_number(out, number)?;
+    out.push('\n')
+}
+
+/// Appends a status and the value that it has. The error is that memory ran out.
+fn put_value(out: &mut String, status: &str, value: &Json) -> Result<(), AllocError>
+    ensures { OnOk result (string_bytes out.new
+        ≡ string_bytes out.old ++ (status.now ++ compact (data_of value.now))) }
+{
+    out.push_str(status)?;
+    put(out, value)
+}
+
+/// Appends a status and the error output. The error is that memory ran out.
+fn put_error(
+    alloc: Global,
+    out: &mut String,
+    status: &str,
+    error: &ErrorOut,
+) -> Result<(), AllocError>
+    ensures { OnOk result (string_bytes out.new
+        ≡ string_bytes out.old ++ (status.now ++ compact (data_of (error_output error.now)))) }
+{
+    let output = error_output(alloc, error)?;
+    put_value(out, status, &output)
+}
+
+/// Appends a status with its output or error. The error is that memory ran out.
+fn put_ended(alloc: Global, out: &mut String, outcome: &Outcome) -> Result<(), AllocError>
+    ensures { OnOk result (string_bytes out.new ≡ string_bytes out.old ++ ended_text outcome.now) }
+{
+    match outcome {
+        Outcome::Running => out.push_str("RUNNING"),
+        Outcome::Succeeded(output) => put_value(out, "SUCCEEDED ", output),
+        Outcome::Failed(error) => put_error(alloc, out, "FAILED ", error),
+        Outcome::TimedOut => out.push_str("TIMED_OUT {\"Error\":\"States.Timeout\"}"),
+    }
+}
+
+/// Appends a space and the place of a step. The error is that memory ran out.
+fn put_place(out: &mut String, at: &StepAt) -> Result<(), AllocError>
+    ensures { OnOk result (string_bytes out.new ≡ string_bytes out.old ++ place_word at.now) }
+{
+    out.push(' ')?;
+    at.place.put(out)
+}
+
+/// Appends the line of an order: the places of its steps. The error is that memory ran out.
+fn put_order(out: &mut String, steps: &[StepAt]) -> Result<(), AllocError>
+    ensures { OnOk result (string_bytes out.new ≡ string_bytes out.old ++ order_line steps.now) }
+{
+    out.push_str("order")?;
+    for at in steps {
+        put_place(out, at)?;
+    }
+    out.push('\n')
+}
+
+/// Appends an empty line, and the line of an outcome of this number. The error is that memory ran out.
+fn put_outcome(
+    alloc: Global,
+    out: &mut String,
+    number: u64,
+    outcome: &Outcome,
+) -> Result<(), AllocError>
+    ensures { OnOk result (string_bytes out.new
+        ≡ string_bytes out.old ++ outcome_line number outcome.now) }
+{
+    out.push_str("\noutcome ")?;
+    put_number(out, number)?;
+    out.push(' ')?;
+    put_ended(alloc, out, outcome)?;
+    out.push('\n')
+}
+
+/// Appends the lines of an outcome of this number. The error is that memory ran out.
+fn put_found(alloc: Global, out: &mut String, number: u64, found: &Found) -> Result<(), AllocError>
+    ensures { OnOk result (string_bytes out.new
+        ≡ string_bytes out.old ++ found_text number found.now) }
+{
+    put_outcome(alloc, out, number, &found.outcome)?;
+    put_order(out, &found.steps)
+}
+
+/// Whether a number is among these.
+fn is_among(numbers: &[usize], number: usize) -> bool
+    ensures { result ≡ list_any (λ k. nat_eq k number) numbers.now }
+{
+    numbers.iter().any(|one| *one == number)
+}
+
+/// Appends the line of an outcome that comes only where a branch is late, if this one does. The error is that memory ran out.
+fn put_late(out: &mut String, late: &[usize], number: usize) -> Result<(), AllocError>
+    ensures { OnOk result (string_bytes out.new
+        ≡ string_bytes out.old ++ late_line late.now number) }
+{
+    if is_among(late, number) {
+        return out.push_str("late\n");
+    }
+    Ok(())
+}
+
+/// Appends the lines of outcomes, numbered from 1. The error is that memory ran out.
+fn put_founds(
+    alloc: Global,
+    out: &mut String,
+    late: &[usize],
+    found: &[Found],
+) -> Result<(), AllocError>
+    ensures { OnOk result (string_bytes out.new
+        ≡ string_bytes out.old ++ founds_text late.now 1 found.now) }
+{
+    for (index, one) in found.iter().enumerate() {
+        let number = index + 1;
+        put_found(alloc, out, number as u64, one)?;
+        put_late(out, late, number)?;
+    }
+    Ok(())
+}
+
+/// Appends the line that says whether anything was left out. The error is that memory ran out.
+fn put_searched(out: &mut String, explored: &Explored) -> Result<(), AllocError>
+    ensures { OnOk result (string_bytes out.new
+        ≡ string_bytes out.old ++ searched_text explored.now.complete explored.now.depth) }
+{
+    if explored.complete {
+        return out.push_str("search complete\n");
+    }
+    match explored.depth {
+        None => out.push_str("search cut\n"),
+        Some(depth) => {
+            out.push_str("search cut after ")?;
+            put_number(out, u64::from(depth))?;
+            out.push_str(" steps\n")
+        }
+    }
+}
+
+/// Whether anything is noted.
+fn has_notes(explored: &Explored) -> bool
+    ensures { result ≡ (explored.now.limited || explored.now.clocked) }
+{
+    explored.limited || explored.clocked
+}
+
+/// Appends an empty line, where it is wanted. The error is that memory ran out.
+fn put_gap(out: &mut String, wanted: bool) -> Result<(), AllocError>
+    ensures { OnOk result (string_bytes out.new ≡ string_bytes out.old ++ note_text wanted gap) }
+{
+    if wanted {
+        return out.push('\n');
+    }
+    Ok(())
+}
+
+/// Appends the note on a time limit, where it is wanted. The error is that memory ran out.
+#[tactic(auto, unfolding(crate::specs::Reports::time_limit_note))]
+fn put_time_limit(out: &mut String, wanted: bool) -> Result<(), AllocError>
+    ensures { OnOk result (string_bytes out.new
+        ≡ string_bytes out.old ++ note_text wanted time_limit_note) }
+{
+    if wanted {
+        return out.push_str(
+            "note time limit: where a branch is late enough, any order ends as TIMED_OUT {\"Error\":\"States.Timeout\"}\n",
+        );
+    }
+    Ok(())
+}
+
+/// Appends the note on the clock, where it is wanted. The error is that memory ran out.
+#[tactic(auto, unfolding(crate::specs::Reports::clock_note))]
+fn put_clock(out: &mut String, wanted: bool) -> Result<(), AllocError>
+    ensures { OnOk result (string_bytes out.new
+        ≡ string_bytes out.old ++ note_text wanted clock_note) }
+{
+    if wanted {
+        return out.push_str(
+            "note the definition may read the clock: each step is taken at its earliest moment only\n",
+        );
+    }
+    Ok(())
+}
+
+/// Appends the lines of what else may come at other moments. The error is that memory ran out.
+fn put_notes(out: &mut String, explored: &Explored) -> Result<(), AllocError>
+    ensures { OnOk result (string_bytes out.new ≡ string_bytes out.old ++ notes_text explored.now) }
+{
+    put_gap(out, has_notes(explored))?;
+    put_time_limit(out, explored.limited)?;
+    put_clock(out, explored.clocked)
+}
+
+/// Appends what a search found. The error is that memory ran out.
+pub fn put_explored(alloc: Global, out: &mut String, explored: &Explored) -> Result<(), AllocError>
+    ensures { OnOk result (string_bytes out.new
+        ≡ string_bytes out.old ++ explored_text explored.now) }
+{
+    put_searched(out, explored)?;
+    put_number_line(out, "worlds ", explored.worlds as u64)?;
+    put_number_line(out, "outcomes ", explored.found.len() as u64)?;
+    put_founds(alloc, out, &explored.late, &explored.found)?;
+    put_notes(out, explored)
+}
+
+/// Appends the line of a step, as a steps file has it. The error is that memory ran out.
+fn put_step(out: &mut String, at: &StepAt) -> Result<(), AllocError>
+    ensures { OnOk result (string_bytes out.new ≡ string_bytes out.old ++ step_text at.now) }
+{
+    at.place.put(out)?;
+    out.push(' ')?;
+    put_stamp(out, at.moment)?;
+    out.push('\n')
+}
+
+/// Appends these steps, as a steps file. The error is that memory ran out.
+pub fn put_steps(out: &mut String, steps: &[StepAt]) -> Result<(), AllocError>
+    ensures { OnOk result (string_bytes out.new ≡ string_bytes out.old ++ steps_text steps.now) }
+{
+    for at in steps {
+        put_step(out, at)?;
+    }
+    Ok(())
+}
+
+/// Whether each outcome is a success.
+fn are_good(found: &[Found]) -> bool
+    ensures { result ≡ are_good found.now }
+{
+    found.iter().all(|one| is_success(&one.outcome))
+}
+
+/// Whether nothing was left out, and each outcome is a success.
+pub fn is_good(explored: &Explored) -> bool
+    ensures { result ≡ is_good explored.now }
+{
+    explored.complete && are_good(&explored.found)
+}

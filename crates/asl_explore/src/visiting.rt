@@ -1,0 +1,157 @@
+// One step of a search.
+ghost use Rattle.std.specs.Prelude.{◌≡◌, ◌<◌, List, [], true, false, length, slice_index_or, is_some, IfOk, IfSome};
+ghost use Rattle.std.specs.List.{All, Contains};
+ghost use Rattle.asl_frames.specs.Branches.{record_at};
+ghost use Rattle.asl_run.specs.Bare.{bare, earliest};
+ghost use Rattle.asl_run.specs.World.{World, is_over};
+ghost use Rattle.asl_run.specs.declared.outcome.Outcome.{Outcome};
+ghost use Rattle.asl_exec.specs.Steps.{step};
+ghost use Rattle.asl_exec.specs.Views.{setup_of, world_of};
+ghost use Rattle.asl_explore.specs.Searches.{IsMet, worlds_of, outcomes_of, Shows, AreDistinct, IsLater};
+
+use crate::found::Found;
+use crate::met::{Met, Node};
+use crate::order::{path, replay};
+use asl_exec::{Earliest, Execution, Outcome, World};
+use asl_history::Place;
+use asl_setup::StepAt;
+use std::alloc::{AllocError, Global};
+
+/// Each branch of a world that runs, with the earliest moment at which it may step; none where the world is over. The error is that
+/// memory ran out.
+pub(crate) fn turns_in(alloc: Global, world: &World) -> Result<Option<Vec<Earliest>>, AllocError>
+    ensures runs { IfOk result (λ o. IfSome o (λ v. is_over world.now.outcome ≡ false)) }
+    ensures root { IfOk result
+        (λ o. IfSome o (λ v. is_some (record_at [] world.now.branches) ≡ true)) }
+    ensures turns { IfOk result
+        (λ o. IfSome o (λ v. v.items ≡ earliest world.now.last world.now.branches)) }
+{
+    if !world.is_running() {
+        return Ok(None);
+    }
+    if world.frame_at(&Place::root()).is_none() {
+        return Ok(None);
+    }
+    let mut turns = Vec::new(alloc);
+    world.put_earliest(&mut turns)?;
+    Ok(Some(turns))
+}
+
+/// Whether an outcome was found.
+fn is_found(found: &[Found], outcome: &Outcome) -> bool
+    ensures there { result ≡ true → Contains (outcomes_of found.now) outcome.now }
+    ensures new { result ≡ false
+        → All (λ (o : Outcome). o ≡ outcome.now → ⊥) (outcomes_of found.now) }
+{
+    for one in found {
+        if one.outcome == *outcome {
+            return true;
+        }
+    }
+    false
+}
+
+/// Goes on from a world, without its history, if this is true. The error is that memory ran out.
+pub(crate) fn enter(
+    execution: &mut Execution,
+    alloc: Global,
+    world: &World,
+) -> Result<bool, AllocError>
+    ensures world { IfOk result (λ b. b ≡ true → world_of execution.new ≡ bare world.now) }
+    ensures setup { setup_of execution.new ≡ setup_of execution.old }
+{
+    match world.bare_copy(alloc)? {
+        Some(copy) => {
+            execution.enter(copy);
+            Ok(true)
+        }
+        None => Ok(false),
+    }
+}
+
+/// An outcome is among those that were found, if this is true: put there if it wasn't, with the steps that led to it, unless a run of
+/// these steps ends otherwise. The error is that memory ran out.
+fn conclude(
+    execution: &mut Execution,
+    alloc: Global,
+    nodes: &[Node],
+    found: &mut Vec<Found>,
+    outcome: &Outcome,
+    parent: usize,
+    at: StepAt,
+) -> Result<bool, AllocError>
+    requires { is_over outcome.now ≡ true }
+    ensures met { IfOk result
+        (λ b. b ≡ true → Contains (outcomes_of found.new.items) outcome.now) }
+    ensures later { (ws : List World)
+        → IsLater ws (outcomes_of found.old.items) ws (outcomes_of found.new.items) }
+    ensures shown { All (Shows (setup_of execution.old)) found.old.items
+        → All (Shows (setup_of execution.old)) found.new.items }
+    ensures once { AreDistinct (outcomes_of found.old.items)
+        → AreDistinct (outcomes_of found.new.items) }
+    ensures setup { setup_of execution.new ≡ setup_of execution.old }
+{
+    if is_found(found, outcome) {
+        return Ok(true);
+    }
+    let steps = path(alloc, nodes, parent, at)?;
+    if !replay(execution, &steps)? {
+        return Ok(false);
+    }
+    if execution.outcome() != outcome {
+        return Ok(false);
+    }
+    let outcome = outcome.try_clone(alloc)?;
+    found.push(Found { outcome, steps })?;
+    Ok(true)
+}
+
+/// Takes a step in a world that was met: the world that it leads to is met then, if this is true. The error is that memory ran out.
+pub(crate) fn visit(
+    execution: &mut Execution,
+    alloc: Global,
+    met: &mut Met,
+    found: &mut Vec<Found>,
+    number: usize,
+    at: StepAt,
+) -> Result<bool, AllocError>
+    requires there { number < length met.old.nodes.items }
+    requires runs { (d : World)
+        → is_over (slice_index_or (worlds_of met.old.nodes.items) number d).outcome ≡ false }
+    ensures met { IfOk result (λ b. b ≡ true → (d : World)
+        → IsMet (worlds_of met.new.nodes.items) (outcomes_of found.new.items)
+        (step (setup_of execution.old) (slice_index_or (worlds_of met.old.nodes.items) number d)
+        at.place at.moment)) }
+    ensures later { IsLater (worlds_of met.old.nodes.items) (outcomes_of found.old.items)
+        (worlds_of met.new.nodes.items) (outcomes_of found.new.items) }
+    ensures shown { All (Shows (setup_of execution.old)) found.old.items
+        → All (Shows (setup_of execution.old)) found.new.items }
+    ensures once { AreDistinct (outcomes_of found.old.items)
+        → AreDistinct (outcomes_of found.new.items) }
+    ensures setup { setup_of execution.new ≡ setup_of execution.old }
+{
+    let node = &met.nodes[number];
+    let depth = node.depth.saturating_add(1);
+    if !enter(execution, alloc, &node.world)? {
+        return Ok(false);
+    }
+    if execution.reply(&at)?.is_some() {
+        return Ok(true);
+    }
+    let Some(next) = execution.world().bare_copy(alloc)? else {
+        return Ok(false);
+    };
+    if next.is_running() {
+        met.put(next, number, depth, at)?;
+        return Ok(true);
+    }
+    conclude(
+        execution,
+        alloc,
+        &met.nodes,
+        found,
+        next.outcome(),
+        number,
+        at,
+    )
+}

@@ -1,0 +1,305 @@
+"""Every order of the branches: what is listed is given by its witness, and whatever steps are taken, their outcome is listed."""
+import glob
+import os
+import random
+import tempfile
+from typing import NamedTuple
+
+from program import TOP, ProgramTest, run_program
+
+START = "1970-01-01T00:00:00.000Z"
+
+# The examples in which the order decides, and how many outcomes they have.
+SEVERAL = {"order#shipped": 2, "orders#declined": 2, "thumbnails#made": 4, "loan#both": 2}
+
+
+class Found(NamedTuple):
+    """What is printed of an outcome: its text, the places of the steps that end in it, and whether it comes only where a branch is late."""
+
+    outcome: str
+    places: list
+    late: bool
+
+
+class Explored(NamedTuple):
+    """What is printed of a search: its first line, the number of worlds, the outcomes, and the notes behind them."""
+
+    search: str
+    worlds: int
+    found: list
+    notes: list
+
+    @property
+    def outcomes(self):
+        """The texts of the outcomes."""
+        return [one.outcome for one in self.found]
+
+
+def explored(text):
+    """What this text of a search says."""
+    head, *parts = text.split("\n\n")
+    search, worlds, outcomes = head.splitlines()
+    notes = parts.pop().splitlines() if parts and parts[-1].startswith("note ") else []
+    found = []
+    for number, part in enumerate(parts, 1):
+        first, order, *late = part.splitlines()
+        assert first.startswith(f"outcome {number} ") and order.startswith("order ") and late in ([], ["late"]), part
+        found.append(Found(first.split(" ", 2)[2], order.split(" ")[1:], bool(late)))
+    assert outcomes == f"outcomes {len(found)}", text
+    return Explored(search, int(worlds.removeprefix("worlds ")), found, notes)
+
+
+def example_cases():
+    """The folder, the chosen case and the input of each test case of the examples."""
+    for stored in sorted(glob.glob(f"{TOP}/examples/*/*.driven.txt")):
+        folder, case = os.path.dirname(stored), os.path.basename(stored).removesuffix(".driven.txt")
+        own = f"{folder}/{case}.input.json"
+        given = own if os.path.exists(own) else f"{folder}/input.json"
+        yield folder, f"{os.path.basename(folder)}#{case}", given, stored
+
+
+def chain(prefix, count, kind='"Type":"Pass"', last='"End":true'):
+    """The text of a machine of so many states in a row."""
+    names = [f"{prefix}{number}" for number in range(count)]
+    rows = []
+    for name, behind in zip(names, names[1:] + [None]):
+        goes = last if behind is None else f'"Next":"{behind}"'
+        rows.append(f'"{name}":{{{kind},{goes}}}')
+    return f'{{"StartAt":"{names[0]}","States":{{{",".join(rows)}}}}}'
+
+
+def parallel(branches, more=""):
+    """The text of a definition of a Parallel of these machines."""
+    return f'{{"StartAt":"P","States":{{"P":{{"Type":"Parallel","Branches":[{",".join(branches)}]{more},"End":true}}}}}}'
+
+
+def mapped(body, more=""):
+    """The text of a definition of a Map over the input."""
+    return f'{{"StartAt":"M","States":{{"M":{{"Type":"Map","ItemProcessor":{body}{more},"End":true}}}}}}'
+
+
+def mocked(answers):
+    """The text of a mock file of the machine M with the case c, in which each Task has these answers: a text of keys and answers each."""
+    named = ",".join(f'"{task}":"a{number}"' for number, task in enumerate(answers))
+    told = ",".join(f'"a{number}":{{{text}}}' for number, text in enumerate(answers.values()))
+    return f'{{"StateMachines":{{"M":{{"TestCases":{{"c":{{{named}}}}}}}}},"MockedResponses":{{{told}}}}}'
+
+
+def numbered(count):
+    """So many answers, all different."""
+    return ",".join(f'"{number}":{{"Return":{number}}}' for number in range(count))
+
+
+TASK = '"Type":"Task","Resource":"r"'
+ONE_TASK = '{"StartAt":"T","States":{"T":{"Type":"Task","Resource":"r","End":true}}}'
+FOR_EVER = '"0-9999":{"Return":1}'
+
+
+class Exploring(ProgramTest):
+    def explore(self, definition, given="{}", mocks="{}", chosen="M#c", *words):
+        """What a search of these texts prints, with its status and what it tells."""
+        with tempfile.TemporaryDirectory(prefix="asl-test-") as room:
+            names = []
+            for name, text in [("definition.json", definition), ("mocks.json", mocks), ("input.json", given)]:
+                names.append(os.path.join(room, name))
+                with open(names[-1], "w", encoding="utf-8") as out:
+                    out.write(text)
+            return run_program("explore", names[0], names[1], chosen, names[2], *words)
+
+    def complete(self, definition, given="{}", mocks="{}", chosen="M#c"):
+        """What a search found that left out nothing. Its status is 0 just if all succeed."""
+        ran = self.explore(definition, given, mocks, chosen)
+        self.assertEqual(ran.stderr, "")
+        told = explored(ran.stdout)
+        self.assertEqual(told.search, "search complete")
+        self.assertEqual(len(set(told.outcomes)), len(told.outcomes))
+        self.assertEqual(ran.returncode, 0 if all(one.startswith("SUCCEEDED ") for one in told.outcomes) else 1)
+        return told
+
+    # ---- the examples
+
+    def test_the_witnesses_of_the_examples_reproduce_their_outcomes(self):
+        several = {}
+        for folder, chosen, given, stored in example_cases():
+            words = [f"{folder}/definition.json", f"{folder}/mocks.json", chosen, given]
+            ran = run_program("explore", *words)
+            told = explored(ran.stdout)
+            self.assertEqual((told.search, ran.stderr), ("search complete", ""), chosen)
+            for number, one in enumerate(told.found, 1):
+                witness = run_program("explore", *words, "--witness", str(number))
+                self.assertEqual((witness.returncode, witness.stderr), (0, ""))
+                lines = witness.stdout.splitlines()
+                self.assertEqual([line.split(" ")[0] for line in lines], one.places)
+                self.assertTrue(lines[0].endswith(f" {START}"))
+                with tempfile.NamedTemporaryFile("w", prefix="asl-test-") as file:
+                    file.write(witness.stdout)
+                    file.flush()
+                    again = run_program("run", *words, "--steps", file.name).stdout.splitlines()
+                self.assertEqual(again[: len(lines)], [f"step {place} ok" for place in one.places])
+                self.assertEqual(again[-1], f"status {one.outcome}")
+            with open(stored, encoding="utf-8") as file:
+                self.assertIn(file.read().splitlines()[-1].removeprefix("status "), told.outcomes, chosen)
+            if len(told.found) > 1:
+                several[chosen] = len(told.found)
+        self.assertEqual(several, SEVERAL)
+
+    # ---- outcomes that are known
+
+    def test_branches_that_only_pass_have_one_outcome(self):
+        for branches, length in [(4, 5), (6, 5)]:
+            told = self.complete(parallel([chain(f"B{number}S", length) for number in range(branches)]), chosen="M")
+            self.assertEqual(told.outcomes, [f"SUCCEEDED [{','.join(['{}'] * branches)}]"])
+
+    def test_tasks_of_their_own_names_have_one_outcome(self):
+        names = [f"B{branch}S{number}" for branch in range(5) for number in range(4)]
+        told = self.complete(parallel([chain(f"B{branch}S", 4, TASK) for branch in range(5)]), mocks=mocked({name: FOR_EVER for name in names}))
+        self.assertEqual(told.outcomes, ["SUCCEEDED [1,1,1,1,1]"])
+
+    def test_whichever_branch_fails_first_decides(self):
+        branches, answers = [], {}
+        for branch in range(4):
+            names = [f"B{branch}S{number}" for number in range(3)]
+            branches.append(chain(f"B{branch}S", 3, TASK))
+            answers.update({name: FOR_EVER for name in names[:-1]})
+            answers[names[-1]] = f'"0":{{"Throw":{{"Error":"E{branch}"}}}}'
+        told = self.complete(parallel(branches), mocks=mocked(answers))
+        self.assertEqual(sorted(told.outcomes), [f'FAILED {{"Error":"E{branch}"}}' for branch in range(4)])
+        one = {name: text if name == "B0S2" else FOR_EVER for name, text in answers.items()}
+        self.assertEqual(self.complete(parallel(branches), mocks=mocked(one)).outcomes, ['FAILED {"Error":"E0"}'])
+
+    def test_iterations_share_the_answers_of_a_task(self):
+        for items, more, answers, wanted in [
+            (6, "", numbered(6), 720),
+            (6, ',"MaxConcurrency":1', numbered(6), 1),
+            (6, ',"MaxConcurrency":2', numbered(6), 32),
+            (10, ',"MaxConcurrency":2', numbered(10), 512),
+            (10, "", FOR_EVER, 1),
+            (8, "", '"0":{"Return":"a"},"1-9999":{"Return":"b"}', 8),
+            (8, "", '"0-6":{"Return":0},"7":{"Throw":{"Error":"E"}}', 1),
+        ]:
+            told = self.complete(mapped(ONE_TASK, more), f"[{','.join('0' * items)}]", mocked({"T": answers}))
+            self.assertEqual(len(told.found), wanted, (items, more, answers))
+
+    def test_a_map_of_maps(self):
+        inner = f'{{"StartAt":"Q","States":{{"Q":{{"Type":"Parallel","Branches":[{chain("A", 2, TASK)},{chain("B", 2, TASK)}],"End":true}}}}}}'
+        told = self.complete(mapped(inner), "[0,0]", mocked({name: FOR_EVER for name in ["A0", "A1", "B0", "B1"]}))
+        self.assertEqual(told.outcomes, ["SUCCEEDED [[1,1],[1,1]]"])
+
+    def test_a_busy_service_is_asked_again(self):
+        body = '{"StartAt":"T","States":{"T":{"Type":"Task","Resource":"r","Retry":[{"ErrorEquals":["Busy"],"IntervalSeconds":2}],"End":true}}}'
+        told = self.complete(mapped(body), "[0,0,0,0,0,0]", mocked({"T": '"0":{"Throw":{"Error":"Busy"}},"1-9999":{"Return":1}'}))
+        self.assertEqual(told.outcomes, ["SUCCEEDED [1,1,1,1,1,1]"])
+
+    def test_a_later_wait_may_come_first(self):
+        def fails(name, seconds):
+            return f'{{"StartAt":"W{name}","States":{{"W{name}":{{"Type":"Wait","Seconds":{seconds},"Next":"F{name}"}},"F{name}":{{"Type":"Fail","Error":"{name}"}}}}}}'
+
+        told = self.complete(parallel([fails("A", 1), fails("B", 2)]), chosen="M")
+        self.assertEqual(sorted((one.outcome, one.late) for one in told.found), [('FAILED {"Error":"A"}', False), ('FAILED {"Error":"B"}', True)])
+
+    def test_an_outcome_is_late_only_where_a_branch_waits(self):
+        fails = ['{"StartAt":"%s","States":{"%s":{"Type":"Fail","Error":"%s"}}}' % (name, name, name) for name in "AB"]
+        told = self.complete(parallel(fails), chosen="M")
+        self.assertEqual(sorted((one.outcome, one.late) for one in told.found), [('FAILED {"Error":"A"}', False), ('FAILED {"Error":"B"}', False)])
+        waits = '{"StartAt":"W","States":{"W":{"Type":"Wait","Seconds":1,"Next":"C"},"C":{"Type":"Fail","Error":"C"}}}'
+        told = self.complete(parallel([*fails, waits]), chosen="M")
+        self.assertEqual(sorted((one.outcome[-3], one.late) for one in told.found), [("A", False), ("B", False), ("C", True)])
+
+    def test_a_branch_that_waits_beyond_the_time_limit(self):
+        definition = '{"StartAt":"W","TimeoutSeconds":5,"States":{"W":{"Type":"Wait","Seconds":10,"End":true}}}'
+        told = self.complete(definition, chosen="M")
+        self.assertEqual(told.outcomes, ['TIMED_OUT {"Error":"States.Timeout"}'])
+        self.assertEqual([note.split(":")[0] for note in told.notes], ["note time limit"])
+
+    def test_a_definition_that_reads_the_clock_is_noted(self):
+        for more, noted in [
+            ('"Parameters":{"at.$":"$$.State.EnteredTime"}', True),
+            ('"Parameters":{"at.$":"$$"}', True),
+            ('"Parameters":{"at.$":"States.Format(\'{}\', $$.State.EnteredTime)"}', True),
+            ('"Parameters":{"at.$":"States.JsonToString($$.State)"}', True),
+            ('"Parameters":{"at.$":"$$.State.Name"}', False),
+            ('"Parameters":{"at.$":"$$.Execution.StartTime"}', False),
+        ]:
+            told = self.complete('{"StartAt":"A","States":{"A":{"Type":"Pass",%s,"End":true}}}' % more, chosen="M")
+            self.assertEqual(len(told.notes), noted, more)
+
+    # ---- whatever steps are taken
+
+    def test_random_steps_end_in_a_listed_outcome(self):
+        chance = random.Random(46)
+        body = '{"StartAt":"T","States":{"T":{"Type":"Task","Resource":"r","Retry":[{"ErrorEquals":["Busy"],"IntervalSeconds":2}],"Next":"U"},"U":{"Type":"Pass","End":true}}}'
+        retried = parallel([chain("A", 2, TASK), chain("B", 2)], ',"Retry":[{"ErrorEquals":["E"],"IntervalSeconds":1,"MaxAttempts":1}]')
+        waits = parallel(['{"StartAt":"W","States":{"W":{"Type":"Wait","Seconds":3,"Next":"F"},"F":{"Type":"Fail","Error":"G"}}}', chain("A", 3, TASK)])
+        for definition, given, answers in [
+            (mapped(body), "[0,0,0]", {"T": '"0":{"Throw":{"Error":"Busy"}},"1":{"Return":1},"2-9999":{"Return":2}'}),
+            (retried, "{}", {"A0": FOR_EVER, "A1": '"0":{"Throw":{"Error":"E"}},"1":{"Return":2}'}),
+            (waits, "{}", {"A0": FOR_EVER, "A1": FOR_EVER, "A2": '"0":{"Throw":{"Error":"H"}}'}),
+        ]:
+            mocks = mocked(answers)
+            listed = self.complete(definition, given, mocks).outcomes
+            seen = set()
+            for _ in range(40):
+                moment, steps = 0, ""
+                for number in range(60):
+                    if number and chance.random() < 0.3:
+                        moment += chance.randrange(3000)
+                    steps += f"{chance.choice(['/', '/', '/0', '/1', '/2'])} 1970-01-01T00:00:{moment // 1000 % 60:02}.{moment % 1000:03}Z\n"
+                last = self.run_texts(definition, mocks, "M#c", given, steps).stdout.splitlines()[-1]
+                if last != "status RUNNING":
+                    seen.add(last.removeprefix("status "))
+            self.assertLessEqual(seen, set(listed))
+            self.assertTrue(seen)
+
+    # ---- searches that are cut
+
+    def test_a_loop_that_goes_on_is_cut(self):
+        loop = '{"StartAt":"T","States":{"T":{"Type":"Task","Resource":"r","Next":"T"}}}'
+        ran = self.explore(loop, "{}", mocked({"T": FOR_EVER}), "M#c", "--limit", "50")
+        told = explored(ran.stdout)
+        self.assertEqual((ran.returncode, told.search, told.outcomes), (1, "search cut after 50 steps", []))
+        self.assertEqual(told.worlds, 51)
+
+    def test_a_loop_that_comes_back_is_searched_whole(self):
+        told = self.complete('{"StartAt":"A","States":{"A":{"Type":"Pass","Next":"A"}}}', chosen="M")
+        self.assertEqual((told.worlds, told.outcomes), (1, []))
+
+    def test_a_search_of_just_so_many_worlds_is_complete(self):
+        definition = parallel([chain("A", 2), chain("B", 2)])
+        worlds = self.complete(definition, chosen="M").worlds
+        for limit, search in [(worlds, "search complete"), (worlds - 1, "search cut after ")]:
+            ran = self.explore(definition, "{}", "{}", "M", "--limit", str(limit))
+            self.assertTrue(explored(ran.stdout).search.startswith(search), ran.stdout)
+
+    def test_outcomes_of_fewer_steps_come_first(self):
+        fails = '{"StartAt":"F","States":{"F":{"Type":"Fail","Error":"E"}}}'
+        told = self.complete(parallel([chain("A", 3), fails]), chosen="M")
+        lengths = [len(one.places) for one in told.found]
+        self.assertEqual(lengths, sorted(lengths))
+
+    # ---- words and faults
+
+    def test_wrong_command_lines(self):
+        definition = parallel([chain("A", 2), chain("B", 2)])
+        for words in [("--limit", "0"), ("--limit", "1000001"), ("--limit", "x"), ("--witness", "0"), ("--witness", "2"), ("--witness", "x"), ("more",)]:
+            ran = self.explore(definition, "{}", "{}", "M", *words)
+            self.assertEqual((ran.returncode, ran.stdout), (2, ""), words)
+            self.assertRegex(ran.stderr, r"\Aerror: [^\n]+\n")
+
+    def test_faults_are_those_of_run(self):
+        good = chain("A", 2)
+        for definition, given, mocks, chosen in [
+            ("{", "{}", "{}", "M"),
+            (good, "{", "{}", "M"),
+            (good, "{}", "{", "M"),
+            (good, "{}", "{}", "M#c"),
+            ("{", "{", "{", "M#c"),
+            (good, "{", "{", "M#c"),
+        ]:
+            ran = self.explore(definition, given, mocks, chosen)
+            self.assertEqual((ran.returncode, ran.stdout), (2, ""))
+            self.assertEqual(ran.stderr, self.run_texts(definition, mocks, chosen, given, None).stderr)
+
+    def test_files_that_cannot_be_read(self):
+        with tempfile.TemporaryDirectory(prefix="asl-test-") as room:
+            ran = run_program("explore", f"{room}/none.json", f"{room}/no.json", "M", f"{room}/not.json")
+            self.assertEqual((ran.returncode, ran.stdout, ran.stderr), (2, "", f"fault: file {room}/none.json\n"))
