@@ -1,0 +1,4 @@
+pub mod Keys
+pub mod JsonLines
+pub mod Details
+pub mod Aws

@@ -1,0 +1,3 @@
+pub mod StepsFile
+pub mod Taken
+pub mod Told

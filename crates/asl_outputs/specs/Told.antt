@@ -1,0 +1,33 @@
+-- What a run prints in a format.
+use Rattle.std.specs.Prelude.{◌≡◌, List, ℕ, Bool, Option}
+use Rattle.asl_setup.specs.declared.setup.Setup.{Setup}
+use Rattle.asl_setup.specs.declared.step_at.StepAt.{StepAt}
+use Rattle.asl_setup.specs.Emulations.{Texts, Accepts}
+use Rattle.asl_run.specs.World.{World}
+use Rattle.asl_run.specs.Lines.{is_success}
+use Rattle.asl_exec.specs.RunText.{world_by}
+use Rattle.asl_exec.specs.Steps.{opening}
+use Rattle.asl_formats.specs.JsonLines.{json_lines_text}
+use Rattle.asl_formats.specs.Aws.{aws_text}
+use Rattle.asl_outputs.specs.declared.format.Format.{Format}
+use Rattle.asl_outputs.specs.declared.format.Format.TheVariants.{Json, Aws, Steps}
+use Rattle.asl_outputs.specs.StepsFile.{steps_file}
+use Rattle.asl_outputs.specs.Taken.{taken_by}
+
+-- an execution that took these steps to this world
+abbrev pub told : Format → List StepAt → World → List ℕ
+told Json ss w = json_lines_text w.events
+told Aws ss w = aws_text w.events
+told Steps ss w = steps_file ss
+
+-- the text is what the run that the texts spell prints, and says whether the execution has succeeded
+-- then; where no file names steps, those that come next are taken, at most so many
+pub record IsToldRunOf (format : Format) (t : Texts) (limit : ℕ) (text : List ℕ) (good : Bool)
+    : Type 0 where
+  pub setup : Setup
+  pub steps : Option (List StepAt)
+  pub accepted : Accepts t setup steps
+  pub text_is : text
+      ≡ told format (taken_by limit setup (opening setup) steps)
+      (world_by limit setup (opening setup) steps)
+  pub good_is : good ≡ is_success (world_by limit setup (opening setup) steps).outcome

@@ -1,0 +1,113 @@
+"""The formats of runs: each tells what the usual text tells, and the steps of a run lead to the same history."""
+import glob
+import json
+import os
+import re
+import tempfile
+
+from program import TOP, ProgramTest, run_program
+
+EVENT = re.compile(r'(\d+) (\d+) (\S+) (\S+) (\w+) ("(?:[^"\\]|\\.)*") (.*)')
+
+# The member with the details of an event, by its kind, where it has any; and what they are made of.
+STATE = {"Entered": ("stateEnteredEventDetails", "input"), "Exited": ("stateExitedEventDetails", "output")}
+OWN = {
+    "ExecutionStarted": "input",
+    "ExecutionSucceeded": "output",
+    "TaskSucceeded": "output",
+    "TaskScheduled": "parameters",
+    "ExecutionFailed": "error",
+    "ExecutionTimedOut": "error",
+    "TaskFailed": "error",
+    "MapStateStarted": "length",
+    "MapIterationStarted": "index",
+    "MapIterationSucceeded": "index",
+    "MapIterationFailed": "index",
+}
+
+
+def said(key, body):
+    """A value as a text, and that nothing was cut off."""
+    return {key: body, f"{key}Details": {"truncated": False}}
+
+
+def details(kind, name, body):
+    """The details of an event, in a member; `body` is a text."""
+    state = re.fullmatch(r"\w+State(Entered|Exited)", kind)
+    if state:
+        member, key = STATE[state[1]]
+        return {member: {"name": name, **said(key, body)}}
+    key = OWN.get(kind)
+    if key is None:
+        return {}
+    value = json.loads(body)
+    inside = {
+        "error": lambda: {low: value[low.capitalize()] for low in ("error", "cause") if low.capitalize() in value},
+        "length": lambda: {"length": value["length"]},
+        "index": lambda: {"name": name, "index": value["index"]},
+        "parameters": lambda: {"parameters": body},
+    }.get(key, lambda: said(key, body))()
+    return {f"{kind[0].lower()}{kind[1:]}EventDetails": inside}
+
+
+def events_in(text):
+    """The events of a usual text, each as the words of its line."""
+    return [EVENT.fullmatch(line).groups() for line in text.splitlines() if line[0].isdigit()]
+
+
+class FormatsTest(ProgramTest):
+    def cases(self):
+        """The words of a run of each case of each example, and the usual text."""
+        for stored in sorted(glob.glob(f"{TOP}/examples/*/*.driven.txt")):
+            folder, case = os.path.dirname(stored), os.path.basename(stored)[: -len(".driven.txt")]
+            given = f"{folder}/{case}.input.json"
+            given = given if os.path.exists(given) else f"{folder}/input.json"
+            with open(stored, encoding="utf-8") as file:
+                text = file.read()
+            yield [f"{folder}/definition.json", f"{folder}/mocks.json", f"{os.path.basename(folder)}#{case}", given], text
+
+    def formatted(self, words, text, form):
+        """What a run prints in a format; its status is that of the usual text."""
+        ran = run_program("run", *words, "--format", form)
+        wanted = 0 if text.splitlines()[-1].startswith("status SUCCEEDED ") else 1
+        self.assertEqual((ran.returncode, ran.stderr), (wanted, ""))
+        return ran.stdout
+
+    def test_lines_of_json(self):
+        for words, text in self.cases():
+            with self.subTest(words[2]):
+                wanted = [
+                    '{"id":%s,"previousEventId":%s,"timestamp":"%s","place":"%s","type":"%s","name":%s,"body":%s}' % event for event in events_in(text)
+                ]
+                told = self.formatted(words, text, "json")
+                self.assertEqual(told.splitlines(), wanted)
+                for line in wanted:
+                    json.loads(line)
+
+    def test_the_shape_of_the_service(self):
+        for words, text in self.cases():
+            with self.subTest(words[2]):
+                wanted = []
+                for number, previous, stamp, _, kind, name, body in events_in(text):
+                    event = {"timestamp": stamp, "type": kind, "id": int(number), "previousEventId": int(previous)}
+                    wanted.append({**event, **details(kind, json.loads(name), body)})
+                told = self.formatted(words, text, "aws")
+                self.assertEqual(json.loads(told), {"events": wanted})
+                self.assertEqual(told.count("\n"), 1)
+
+    def test_steps_lead_to_the_same_history(self):
+        for words, text in self.cases():
+            with self.subTest(words[2]), tempfile.NamedTemporaryFile(prefix="asl-test-") as file:
+                steps = self.formatted(words, text, "steps")
+                file.write(steps.encode())
+                file.flush()
+                again = run_program("run", *words, "--steps", file.name)
+                self.assertEqual("".join(line for line in again.stdout.splitlines(True) if not line.startswith("step ")), text)
+                self.assertNotIn(" refused", again.stdout)
+                same = run_program("run", *words, "--steps", file.name, "--format", "steps")
+                self.assertEqual(same.stdout, steps)
+
+    def test_text_is_the_default(self):
+        for words, text in self.cases():
+            self.assertEqual(self.formatted(words, text, "text"), text)
+            break
