@@ -15,9 +15,11 @@ answer_help() { # the words; fails where no help is stored for them
     '2 print --help' | '2 print -h' | '2 help print') cat "$help/print.txt" ;;
     '2 upgrade --help' | '2 upgrade -h' | '2 help upgrade') cat "$help/upgrade.txt" ;;
     '2 graph --help' | '2 graph -h' | '2 help graph') cat "$help/graph.txt" ;;
+    '2 mocks --help' | '2 mocks -h' | '2 help mocks') cat "$help/mocks.txt" ;;
     '2 run --help' | '2 run -h' | '2 help run') cat "$help/run.txt" ;;
     '2 debug --help' | '2 debug -h' | '2 help debug') cat "$help/debug.txt" ;;
     '2 test --help' | '2 test -h' | '2 help test') cat "$help/test.txt" ;;
+    '2 explore --help' | '2 explore -h' | '2 help explore') cat "$help/explore.txt" ;;
     '1 --version' | '1 -V') cat "$help/version.txt" ;;
     *) return 1 ;;
   esac

@@ -9,7 +9,7 @@ use Rattle.asl_host.specs.declared.words.SetupWords.{SetupWords}
 use Rattle.asl_host.specs.declared.words.RunWords.{RunWords}
 use Rattle.asl_host.specs.declared.words.DebugWords.{DebugWords}
 use Rattle.asl_host.specs.Outcomes.{status_of, fault_line, IsPrinted, IsTold}
-use Rattle.asl_cli.specs.Faults.{IsEmulated, IsReason, script_name, IsBegun, IsOpeningReason, IsDebugText, IsDebugReason, IsJudged, IsForm, IsNewerForm, IsDefinitionReason, Tells}
+use Rattle.asl_cli.specs.Faults.{steps_name, IsEmulated, IsRunReason, script_name, IsBegun, IsDebugText, IsDebugReason, IsJudged, IsForm, IsNewerForm, IsDefinitionReason, Tells}
 use Rattle.asl_cli.specs.Talking.{IsConversed}
 
 -- a command was done: a text that it may print was printed and gave its status, or a fault was told
@@ -30,7 +30,7 @@ abbrev pub IsRan : {O E : Type 0} → (O → List ℕ) → (O → ℕ) → (E �
 IsRan out_taken out_failures err_taken err_failures gives lacks w =
     IsDone out_taken out_failures err_taken err_failures
     (λ text status. (good : Bool) × IsEmulated gives w text good × (status ≡ status_of good))
-    (IsReason gives lacks w)
+    (IsRunReason gives lacks w.setup (steps_name w))
 
 -- a session was opened for these words, and its lines were answered; or it wasn't, which was told
 abbrev pub IsTyped : {I O E : Type 0} → (I → List ℕ) → (O → List ℕ) → (O → ℕ) → (E → List ℕ)
@@ -41,7 +41,7 @@ IsTyped given out_taken out_failures err_taken err_failures gives lacks w input 
     ((s : Setup) × IsBegun gives w s
     × IsConversed given out_taken out_failures err_taken err_failures (first_console s) input
     input_after out out_after err err_after status)
-    ⊎ ((r : CommandFault) × (t : List ℕ) × IsOpeningReason gives lacks w r × Tells r t
+    ⊎ ((r : CommandFault) × (t : List ℕ) × IsRunReason gives lacks w None r × Tells r t
     × (out_after ≡ out) × (status ≡ 2) × IsTold err_taken err_failures err err_after (fault_line t))
 
 abbrev pub IsDebuggedBy : {I O E : Type 0} → (I → List ℕ) → (O → List ℕ) → (O → ℕ) → (E → List ℕ)

@@ -13,14 +13,15 @@ use Rattle.asl_check.specs.declared.fault.Fault.TheVariants as fault
 use Rattle.asl_expect.specs.Lines.{expect_line}
 use Rattle.asl_setup.specs.declared.fault.EmulateFault.{EmulateFault}
 use Rattle.asl_setup.specs.declared.setup.Setup.{Setup}
-use Rattle.asl_setup.specs.Emulations.{AreSetupTextsOf, IsRefused, IsSetupRefused}
-use Rattle.asl_setup.specs.Texts.{Unless, setup_for, refusal_line}
-use Rattle.asl_exec.specs.Emulations.{IsRunOf, IsDrivenRunOf}
+use Rattle.asl_setup.specs.Emulations.{Texts, run_texts, Accepts, IsRefused}
+use Rattle.asl_setup.specs.Texts.{Unless, refusal_line}
 use Rattle.asl_session.specs.declared.script_file.ScriptFault.{ScriptFault}
 use Rattle.asl_session.specs.declared.script_file.ScriptFault.TheVariants as script
 use Rattle.asl_session.specs.Scripts.{IsScriptRun, IsScriptFault, script_refusal}
+use Rattle.asl_cli.specs.Formats.{format_of, IsRunIn}
 use Rattle.asl_cli.specs.declared.fault.CommandFault.{CommandFault}
 use Rattle.asl_cli.specs.declared.fault.CommandFault.TheVariants.{File, Definition, Emulation, Script, Expectations, OutOfMemory}
+use Rattle.asl_cli.specs.declared.reading.SetupTexts.{SetupTexts}
 use Rattle.asl_host.specs.declared.words.DefinitionWords.{DefinitionWords}
 use Rattle.asl_host.specs.declared.words.SetupWords.{SetupWords}
 use Rattle.asl_host.specs.declared.words.RunWords.{RunWords}
@@ -34,39 +35,80 @@ IsUnread lacks wanted (File name) = (name.now ≡ wanted) × lacks name.now
 IsUnread lacks wanted OutOfMemory = ⊤
 IsUnread lacks wanted _ = ⊥
 
--- ---- the texts of a setup
+-- ---- several files
 
--- the files that the words name may give these bytes: a definition, mocks and an input
-abbrev pub IsGiven : (List ℕ → List ℕ → Type 0) → SetupWords → List ℕ → List ℕ → List ℕ → Type 0
-IsGiven gives w definition mocks input =
-    gives w.definition.now definition × gives w.mocks.now mocks × gives w.input.now input
+-- of files that are read one after another this is the first that can't be: it may be lacking, and
+-- each before it may give something
+abbrev pub IsFirstUnread : (List ℕ → List ℕ → Type 0) → (List ℕ → Type 0) → List (List ℕ) → List ℕ
+    → Type 0
+IsFirstUnread gives lacks [] name = ⊥
+IsFirstUnread gives lacks (wanted ∷ names) name =
+    ((name ≡ wanted) × lacks name)
+    ⊎ (((b : List ℕ) × gives wanted b) × IsFirstUnread gives lacks names name)
 
--- the words name the file
-abbrev pub IsNamed : SetupWords → List ℕ → Type 0
-IsNamed w name =
-    (name ≡ w.definition.now) ⊎ (name ≡ w.mocks.now) ⊎ (name ≡ w.input.now)
+-- why they aren't read: the first that can't be, or memory ran out
+abbrev pub AreUnread : (List ℕ → List ℕ → Type 0) → (List ℕ → Type 0) → List (List ℕ)
+    → CommandFault → Type 0
+AreUnread gives lacks names (File name) = IsFirstUnread gives lacks names name.now
+AreUnread gives lacks names OutOfMemory = ⊤
+AreUnread gives lacks names _ = ⊥
 
--- why they aren't read: a file that the words name may be lacking, or memory ran out
-abbrev pub AreUnread : (List ℕ → Type 0) → SetupWords → CommandFault → Type 0
-AreUnread lacks w (File name) = IsNamed w name.now × lacks name.now
-AreUnread lacks w OutOfMemory = ⊤
-AreUnread lacks w _ = ⊥
+-- a file, where one is named, may give these bytes
+abbrev pub IsGiven : (List ℕ → List ℕ → Type 0) → Option (List ℕ) → Option (List ℕ) → Type 0
+IsGiven gives None None = ⊤
+IsGiven gives None (Some b) = ⊥
+IsGiven gives (Some name) None = ⊥
+IsGiven gives (Some name) (Some b) = gives name b
+
+-- ---- the texts of a run, or of a session
+
+-- a name, where there is one
+abbrev pub named : Option (List ℕ) → List (List ℕ)
+named None = []
+named (Some name) = name ∷ []
+
+-- the files that the words name, in their order, with one more where it is named
+abbrev pub names_in : SetupWords → Option (List ℕ) → List (List ℕ)
+names_in w more = w.definition.now ∷ w.mocks.now ∷ w.input.now ∷ named more
+
+-- the texts of a run with this choice, and with this file of steps, where there is one
+abbrev pub read_texts : SetupTexts → List ℕ → Option (List ℕ) → Texts
+read_texts t chosen steps =
+    run_texts t.definition.items t.mocks.items chosen t.input.items steps
+
+-- the files that the words name may give these texts, of steps where such a file is named
+pub record AreGiven (gives : List ℕ → List ℕ → Type 0) (w : SetupWords) (name : Option (List ℕ))
+    (t : Texts) : Type 0 where
+  pub definition : gives w.definition.now t.definition
+  pub mocks : gives w.mocks.now t.mocks
+  pub chosen : t.chosen ≡ w.chosen.now
+  pub input : gives w.input.now t.input
+  pub steps : IsGiven gives name t.steps
+
+-- why these texts are refused, or memory ran out
+abbrev pub IsTextsReason : Texts → CommandFault → Type 0
+IsTextsReason t (Emulation fault) = Unless (IsRefused t) fault
+IsTextsReason t OutOfMemory = ⊤
+IsTextsReason t _ = ⊥
 
 -- what the files may give is refused for this fault
-pub record IsRefusedSetup (gives : List ℕ → List ℕ → Type 0) (w : SetupWords)
-    (fault : EmulateFault) : Type 0 where
-  pub definition : List ℕ
-  pub mocks : List ℕ
-  pub input : List ℕ
-  pub given : IsGiven gives w definition mocks input
-  pub refused : Unless (IsSetupRefused definition mocks w.chosen.now input) fault
+pub record IsRefusedRun (gives : List ℕ → List ℕ → Type 0) (w : SetupWords)
+    (name : Option (List ℕ)) (fault : EmulateFault) : Type 0 where
+  pub texts : Texts
+  pub given : AreGiven gives w name texts
+  pub refused : Unless (IsRefused texts) fault
 
--- why these texts spell no setup, or memory ran out
-abbrev pub IsSetupReason : List ℕ → List ℕ → List ℕ → List ℕ → CommandFault → Type 0
-IsSetupReason definition mocks chosen input (Emulation fault) =
-    Unless (IsSetupRefused definition mocks chosen input) fault
-IsSetupReason definition mocks chosen input OutOfMemory = ⊤
-IsSetupReason definition mocks chosen input _ = ⊥
+-- why nothing is run: a file that the words name can't be read, what was read is refused, or memory
+-- ran out
+abbrev pub IsRunReason : (List ℕ → List ℕ → Type 0) → (List ℕ → Type 0) → SetupWords
+    → Option (List ℕ) → CommandFault → Type 0
+IsRunReason gives lacks w steps (File name) =
+    IsFirstUnread gives lacks (names_in w steps) name.now
+IsRunReason gives lacks w steps (Definition fault) = ⊥
+IsRunReason gives lacks w steps (Emulation fault) = IsRefusedRun gives w steps fault
+IsRunReason gives lacks w steps (Script fault) = ⊥
+IsRunReason gives lacks w steps (Expectations fault) = ⊥
+IsRunReason gives lacks w steps OutOfMemory = ⊤
 
 -- ---- a run
 
@@ -74,66 +116,17 @@ IsSetupReason definition mocks chosen input _ = ⊥
 abbrev pub steps_name : RunWords → Option (List ℕ)
 steps_name w = option_map (λ name. name.now) w.steps
 
--- the run of what the files may give, by this file of steps, prints this text and is good or not
-pub record IsStepped (gives : List ℕ → List ℕ → Type 0) (w : RunWords) (name : List ℕ)
-    (text : List ℕ) (good : Bool) : Type 0 where
-  pub definition : List ℕ
-  pub mocks : List ℕ
-  pub input : List ℕ
-  pub steps : List ℕ
-  pub given : IsGiven gives w.setup definition mocks input
-  pub given_steps : gives name steps
-  pub is_run : IsRunOf definition mocks w.setup.chosen.now input steps text good
-
 -- at most so many steps are taken where no file names them
 abbrev pub most_steps : ℕ
 most_steps = 10_000
 
--- the same by the steps that come next
-pub record IsDriven (gives : List ℕ → List ℕ → Type 0) (w : RunWords) (text : List ℕ)
+-- the run that the words ask for, of what the files may give, prints this text in the format that they
+-- ask for, and is good or not
+pub record IsEmulated (gives : List ℕ → List ℕ → Type 0) (w : RunWords) (text : List ℕ)
     (good : Bool) : Type 0 where
-  pub definition : List ℕ
-  pub mocks : List ℕ
-  pub input : List ℕ
-  pub given : IsGiven gives w.setup definition mocks input
-  pub is_run : IsDrivenRunOf definition mocks w.setup.chosen.now input most_steps text good
-
-abbrev pub IsEmulatedBy : (List ℕ → List ℕ → Type 0) → RunWords → Option (List ℕ) → List ℕ → Bool
-    → Type 0
-IsEmulatedBy gives w None text good = IsDriven gives w text good
-IsEmulatedBy gives w (Some name) text good = IsStepped gives w name text good
-
--- the run that the words ask for prints this text and is good or not
-abbrev pub IsEmulated : (List ℕ → List ℕ → Type 0) → RunWords → List ℕ → Bool → Type 0
-IsEmulated gives w text good = IsEmulatedBy gives w (steps_name w) text good
-
--- what the files may give is refused for this fault, with this file of steps
-pub record IsRefusedSteps (gives : List ℕ → List ℕ → Type 0) (w : RunWords) (name : List ℕ)
-    (fault : EmulateFault) : Type 0 where
-  pub definition : List ℕ
-  pub mocks : List ℕ
-  pub input : List ℕ
-  pub steps : List ℕ
-  pub given : IsGiven gives w.setup definition mocks input
-  pub given_steps : gives name steps
-  pub refused : Unless (IsRefused definition mocks w.setup.chosen.now input steps) fault
-
-abbrev pub IsRefusedBy : (List ℕ → List ℕ → Type 0) → RunWords → Option (List ℕ) → EmulateFault
-    → Type 0
-IsRefusedBy gives w None fault = IsRefusedSetup gives w.setup fault
-IsRefusedBy gives w (Some name) fault = IsRefusedSteps gives w name fault
-
--- why nothing is emulated: a file that the words name may be lacking, what was read is refused, or
--- memory ran out
-abbrev pub IsReason : (List ℕ → List ℕ → Type 0) → (List ℕ → Type 0) → RunWords → CommandFault
-    → Type 0
-IsReason gives lacks w (File name) =
-    (IsNamed w.setup name.now ⊎ (Some name.now ≡ steps_name w)) × lacks name.now
-IsReason gives lacks w (Definition fault) = ⊥
-IsReason gives lacks w (Emulation fault) = IsRefusedBy gives w (steps_name w) fault
-IsReason gives lacks w (Script fault) = ⊥
-IsReason gives lacks w (Expectations fault) = ⊥
-IsReason gives lacks w OutOfMemory = ⊤
+  pub texts : Texts
+  pub given : AreGiven gives w.setup (steps_name w) texts
+  pub is_run : IsRunIn (format_of w.format) texts most_steps text good
 
 -- ---- a session
 
@@ -143,23 +136,9 @@ script_name w = option_map (λ name. name.now) w.script
 
 -- the files that the words name may give the texts of this setup
 pub record IsBegun (gives : List ℕ → List ℕ → Type 0) (w : SetupWords) (s : Setup) : Type 0 where
-  pub definition : List ℕ
-  pub mocks : List ℕ
-  pub input : List ℕ
-  pub given : IsGiven gives w definition mocks input
-  pub texts : AreSetupTextsOf definition mocks w.chosen.now input s.machine s.case s.input
-  pub setup_is : s ≡ setup_for s.machine w.chosen.now s.case s.input 0
-
--- why no session is opened: a file that the words name may be lacking, what was read is refused, or
--- memory ran out
-abbrev pub IsOpeningReason : (List ℕ → List ℕ → Type 0) → (List ℕ → Type 0) → SetupWords
-    → CommandFault → Type 0
-IsOpeningReason gives lacks w (File name) = IsNamed w name.now × lacks name.now
-IsOpeningReason gives lacks w (Definition fault) = ⊥
-IsOpeningReason gives lacks w (Emulation fault) = IsRefusedSetup gives w fault
-IsOpeningReason gives lacks w (Script fault) = ⊥
-IsOpeningReason gives lacks w (Expectations fault) = ⊥
-IsOpeningReason gives lacks w OutOfMemory = ⊤
+  pub texts : Texts
+  pub given : AreGiven gives w None texts
+  pub accepted : Accepts texts s None
 
 -- the text is that of a run by this script of the setup that the files may give
 pub record IsDebugText (gives : List ℕ → List ℕ → Type 0) (w : SetupWords) (name text : List ℕ)
@@ -190,14 +169,14 @@ pub record IsBadScript (gives : List ℕ → List ℕ → Type 0) (w : SetupWord
   pub given : gives name bytes
   pub faulty : IsScriptFaulty bytes f
 
--- why nothing is debugged by this script: it or a file that the words name may be lacking, what was
+-- why nothing is debugged by this script: it or a file that the words name can't be read, what was
 -- read is refused, or memory ran out
 abbrev pub IsDebugReason : (List ℕ → List ℕ → Type 0) → (List ℕ → Type 0) → SetupWords → List ℕ
     → CommandFault → Type 0
 IsDebugReason gives lacks w script (File name) =
-    (IsNamed w name.now ⊎ (name.now ≡ script)) × lacks name.now
+    IsFirstUnread gives lacks (names_in w (Some script)) name.now
 IsDebugReason gives lacks w script (Definition fault) = ⊥
-IsDebugReason gives lacks w script (Emulation fault) = IsRefusedSetup gives w fault
+IsDebugReason gives lacks w script (Emulation fault) = IsRefusedRun gives w None fault
 IsDebugReason gives lacks w script (Script fault) = IsBadScript gives w script fault
 IsDebugReason gives lacks w script (Expectations fault) = ⊥
 IsDebugReason gives lacks w script OutOfMemory = ⊤

@@ -1,5 +1,9 @@
+pub mod Formats
 pub mod Answers
 pub mod Faults
+pub mod Exploring
 pub mod Suites
+pub mod Obeyed
 pub mod Talking
 pub mod Graphing
+pub mod Mocking

@@ -1,10 +1,9 @@
 -- What the command `test` reads, why nothing is tested, and what is printed and told of a suite.
-use Rattle.std.specs.Prelude.{ℕ, Bool, not, ◌&&◌, nat_lt, List, ◌++◌, Option, Some, None, ◌≡◌, ◌⊎◌, ⊤}
+use Rattle.std.specs.Prelude.{ℕ, Bool, not, ◌&&◌, nat_lt, List, [], ◌∷◌, ◌++◌, Option, Some, None, ◌≡◌, ◌⊎◌, ⊤}
 use Rattle.std.specs.List.{list_all}
 use Rattle.asl_check.specs.Judged.{IsDefinition, IsMachineOf}
-use Rattle.asl_mock.specs.Told.{IsMockFile, IsAnswer as IsMockAnswer}
+use Rattle.asl_mock.specs.Told.{IsMockFile}
 use Rattle.asl_mock.specs.Answers.{Machines}
-use Rattle.asl_mock.specs.declared.fault.MockFault.TheVariants as mock
 use Rattle.asl_expect.specs.Told.{IsExpectationsFile, IsAnswer as IsExpectAnswer}
 use Rattle.asl_expect.specs.Shards.{every}
 use Rattle.asl_expect.specs.declared.expectation.Expectation.{Expectation}
@@ -26,7 +25,7 @@ use Rattle.asl_host.specs.declared.words.ReportFormat.TheVariants as format
 use Rattle.asl_host.specs.Outcomes.{status_of, fault_line, IsPrinted, IsTold}
 use Rattle.asl_cli.specs.declared.fault.CommandFault.{CommandFault}
 use Rattle.asl_cli.specs.declared.fault.CommandFault.TheVariants.{File, Definition, Emulation, Expectations, OutOfMemory}
-use Rattle.asl_cli.specs.Faults.{Tells}
+use Rattle.asl_cli.specs.Faults.{AreUnread, Tells}
 
 -- ---- the files
 
@@ -37,16 +36,9 @@ AreSuiteTexts gives w definition mocks expectations =
     gives w.definition.now definition × gives w.mocks.now mocks
     × gives w.expectations.now expectations
 
--- the words name the file
-abbrev pub IsSuiteFile : TestWords → List ℕ → Type 0
-IsSuiteFile w name =
-    (name ≡ w.definition.now) ⊎ (name ≡ w.mocks.now) ⊎ (name ≡ w.expectations.now)
-
--- why they aren't read: a file that the words name may be lacking, or memory ran out
-abbrev pub AreSuiteUnread : (List ℕ → Type 0) → TestWords → CommandFault → Type 0
-AreSuiteUnread lacks w (File name) = IsSuiteFile w name.now × lacks name.now
-AreSuiteUnread lacks w OutOfMemory = ⊤
-AreSuiteUnread lacks w _ = ⊥
+-- the files that the words name, in their order
+abbrev pub suite_names : TestWords → List (List ℕ)
+suite_names w = w.definition.now ∷ w.mocks.now ∷ w.expectations.now ∷ []
 
 -- ---- the suite
 
@@ -122,10 +114,10 @@ pub record IsNoSuite (gives : List ℕ → List ℕ → Type 0) (w : TestWords) 
   pub given : AreSuiteTexts gives w definition mocks expectations
   pub reason : IsSuiteTextReason definition mocks expectations r
 
--- why nothing is tested
+-- why nothing is tested: a file that the words name can't be read, or what was read is no suite
 abbrev pub IsSuiteReason : (List ℕ → List ℕ → Type 0) → (List ℕ → Type 0) → TestWords
     → CommandFault → Type 0
-IsSuiteReason gives lacks w r = AreSuiteUnread lacks w r ⊎ IsNoSuite gives w r
+IsSuiteReason gives lacks w r = AreUnread gives lacks (suite_names w) r ⊎ IsNoSuite gives w r
 
 -- ---- what is printed
 

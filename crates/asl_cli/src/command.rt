@@ -1,26 +1,31 @@
 // The program behind its words, files and streams.
-ghost use Rattle.std.specs.Prelude.{◌≡◌, ◌⊎◌, List, ℕ, Some, None, string_bytes, IfOk, IfErr};
-ghost use Rattle.asl_cli.specs.Answers.{IsRan, IsDebugged, IsChecked, IsFormPrinted, IsUpgraded, IsAnswered};
+ghost use Rattle.std.specs.Prelude.{◌≡◌, ◌⊎◌, List, ℕ, string_bytes, IfOk, IfErr};
 ghost use Rattle.asl_host.specs.Outcomes.{status_of, IsPrinted, IsTold};
-ghost use Rattle.asl_cli.specs.Graphing.{IsDrawn};
-ghost use Rattle.asl_cli.specs.Suites.{IsTested};
-ghost use Rattle.asl_cli.specs.Faults.{steps_name, IsStepped, IsDriven, IsEmulated, IsReason};
+ghost use Rattle.asl_setup.specs.Views.{texts_of};
+ghost use Rattle.asl_cli.specs.Answers.{IsRan, IsAnswered};
+ghost use Rattle.asl_cli.specs.Formats.{format_of, IsRunIn};
+ghost use Rattle.asl_cli.specs.Faults.{most_steps, steps_name, IsEmulated, IsTextsReason, IsRunReason};
+ghost use Rattle.asl_cli.specs.Obeyed.{IsObeyed};
 
 use crate::checking::check;
 use crate::debugging::debug;
+use crate::exploring::explore;
 use crate::fault::CommandFault;
+use crate::formatting::emulate_in;
 use crate::graphing::graph;
+use crate::mocking::mocks;
 use crate::printing::print;
-use crate::reading::{read_file, read_texts};
+use crate::reading::{read_named, read_texts};
 use crate::testing::test;
 use crate::upgrading::upgrade;
-use asl_exec::{Emulated, emulate, emulate_driven};
+use asl_exec::Emulated;
+use asl_explore::Watch;
 use asl_history::Sink;
 use asl_host::{
-    DebugWords, DefinitionWords, Files, GivenFault, GraphWords, Input, RunWords, TestWords, Words,
-    malformed_word, read_words, tell_fault, write_piece,
+    Files, GivenFault, Input, RunFormat, RunWords, Words, malformed_word, read_words, tell_fault,
+    write_piece,
 };
-use asl_setup::EmulateFault;
+use asl_setup::{EmulateFault, RunTexts};
 use asl_workers::Gate;
 use clap::Error;
 use clap::error::ErrorKind;
@@ -42,7 +47,7 @@ pub(crate) const REFUSED: u8 = 2;
 /// The whole program: does what the words ask for, of which the first is the program's name, and tells its status.
 pub fn run_words<
     R: Threads + Wait + Sync,
-    G: Gate + Sync,
+    G: Gate + Watch + Sync,
     S: AsStr,
     F: Files,
     I: Input,
@@ -58,34 +63,43 @@ pub fn run_words<
     out: &mut O,
     err: &mut E,
 ) -> u8
-    // What the words of a command ask for was done; or other words were answered, and no file was read.
-    ensures { ((w : RunWords) × IsRan O.taken O.failures E.taken E.failures
-        (F.gives files.old) (F.lacks files.old) w out.old out.new err.old err.new result)
-        ⊎ ((w : DebugWords) × IsDebugged I.given O.taken O.failures E.taken E.failures
+    // What some words ask for was done; or other words were answered, and no file was read.
+    ensures { ((w : Words) × IsObeyed I.given O.taken O.failures E.taken E.failures
         (F.gives files.old) (F.lacks files.old) w input.old input.new out.old out.new err.old
         err.new result)
-        ⊎ ((w : DefinitionWords) × IsChecked O.taken O.failures E.taken E.failures
-        (F.gives files.old) (F.lacks files.old) w out.old out.new err.old err.new result)
-        ⊎ ((w : DefinitionWords) × IsFormPrinted O.taken O.failures E.taken E.failures
-        (F.gives files.old) (F.lacks files.old) w out.old out.new err.old err.new result)
-        ⊎ ((w : DefinitionWords) × IsUpgraded O.taken O.failures E.taken E.failures
-        (F.gives files.old) (F.lacks files.old) w out.old out.new err.old err.new result)
-        ⊎ ((w : GraphWords) × IsDrawn O.taken O.failures E.taken E.failures
-        (F.gives files.old) (F.lacks files.old) w out.old out.new err.old err.new result)
-        ⊎ ((w : TestWords) × IsTested O.taken O.failures E.taken E.failures
-        (F.gives files.old) (F.lacks files.old) w out.old out.new err.old err.new result)
         ⊎ ((files.new ≡ files.old) × IsAnswered O.taken O.failures E.taken E.failures
         out.old out.new err.old err.new result) }
 {
     match read_words(alloc, words) {
-        Ok(Words::Check(words)) => check(alloc, &words, files, out, err),
-        Ok(Words::Print(words)) => print(alloc, &words, files, out, err),
-        Ok(Words::Upgrade(words)) => upgrade(alloc, &words, files, out, err),
-        Ok(Words::Graph(words)) => graph(alloc, &words, files, out, err),
-        Ok(Words::Run(words)) => run(alloc, &words, files, out, err),
-        Ok(Words::Debug(words)) => debug(alloc, &words, files, input, out, err),
-        Ok(Words::Test(words)) => test(rt, gate, alloc, &words, files, out, err),
+        Ok(words) => obey(rt, gate, alloc, &words, files, input, out, err),
         Err(error) => answer_words(alloc, &error, out, err),
+    }
+}
+
+/// Does what words ask for, and tells the status of the program.
+pub fn obey<R: Threads + Wait + Sync, G: Gate + Watch + Sync, F: Files, I: Input, O: Sink, E: Sink>(
+    rt: &R,
+    gate: &G,
+    alloc: Global,
+    words: &Words<'_>,
+    files: &mut F,
+    input: &mut I,
+    out: &mut O,
+    err: &mut E,
+) -> u8
+    ensures { IsObeyed I.given O.taken O.failures E.taken E.failures (F.gives files.old)
+        (F.lacks files.old) words.now input.old input.new out.old out.new err.old err.new result }
+{
+    match words {
+        Words::Check(words) => check(alloc, words, files, out, err),
+        Words::Print(words) => print(alloc, words, files, out, err),
+        Words::Upgrade(words) => upgrade(alloc, words, files, out, err),
+        Words::Graph(words) => graph(alloc, words, files, out, err),
+        Words::Mocks(words) => mocks(alloc, words, files, out, err),
+        Words::Run(words) => run(alloc, words, files, out, err),
+        Words::Debug(words) => debug(alloc, words, files, input, out, err),
+        Words::Test(words) => test(rt, gate, alloc, words, files, out, err),
+        Words::Explore(words) => explore(gate, alloc, words, files, out, err),
     }
 }
 
@@ -129,64 +143,29 @@ fn emulate_files<'a, F: Files>(
 ) -> Result<Emulated, CommandFault<'a>>
     ensures emulated { IfOk result (λ e. IsEmulated (F.gives files.old) words.now
         (string_bytes e.text) e.good) }
-    ensures refused { IfErr result (IsReason (F.gives files.old) (F.lacks files.old) words.now) }
-{
-    match words.steps {
-        Some(name) => emulate_steps(alloc, words, name, files),
-        None => emulate_next(alloc, words, files),
-    }
-}
-
-/// The same by a file of steps.
-fn emulate_steps<'a, F: Files>(
-    alloc: Global,
-    words: &RunWords<'a>,
-    name: &'a str,
-    files: &mut F,
-) -> Result<Emulated, CommandFault<'a>>
-    requires { steps_name words.now ≡ Some name.now }
-    ensures emulated { IfOk result (λ e. IsStepped (F.gives files.old) words.now name.now
-        (string_bytes e.text) e.good) }
-    ensures refused { IfErr result (IsReason (F.gives files.old) (F.lacks files.old) words.now) }
+    ensures refused { IfErr result (IsRunReason (F.gives files.old) (F.lacks files.old)
+        words.now.setup (steps_name words.now)) }
 {
     let texts = read_texts(alloc, files, &words.setup)?;
-    let steps = read_file(alloc, files, name)?;
-    let answer = emulate(
-        alloc,
-        texts.definition.as_slice(),
-        texts.mocks.as_slice(),
-        words.setup.chosen,
-        texts.input.as_slice(),
-        steps.as_slice(),
-    );
-    match answer {
+    let steps = read_named(alloc, files, words.steps)?;
+    let given = texts.of_run(words.setup.chosen, steps.as_deref());
+    match emulate_given(alloc, words.format, &given) {
         Ok(emulated) => Ok(emulated),
-        Err(EmulateFault::OutOfMemory) => Err(CommandFault::OutOfMemory),
-        Err(fault) => Err(CommandFault::Emulation(fault)),
+        Err(refusal) => Err(refusal),
     }
 }
 
-/// The same by the steps that come next.
-fn emulate_next<'a, F: Files>(
+/// Emulates what was read.
+fn emulate_given<'a>(
     alloc: Global,
-    words: &RunWords<'a>,
-    files: &mut F,
+    format: RunFormat,
+    texts: &RunTexts<'_>,
 ) -> Result<Emulated, CommandFault<'a>>
-    requires { steps_name words.now ≡ None }
-    ensures emulated { IfOk result (λ e. IsDriven (F.gives files.old) words.now
+    ensures run { IfOk result (λ e. IsRunIn (format_of format) (texts_of texts.now) most_steps
         (string_bytes e.text) e.good) }
-    ensures refused { IfErr result (IsReason (F.gives files.old) (F.lacks files.old) words.now) }
+    ensures refused { IfErr result (IsTextsReason (texts_of texts.now)) }
 {
-    let texts = read_texts(alloc, files, &words.setup)?;
-    let answer = emulate_driven(
-        alloc,
-        texts.definition.as_slice(),
-        texts.mocks.as_slice(),
-        words.setup.chosen,
-        texts.input.as_slice(),
-        MOST_STEPS,
-    );
-    match answer {
+    match emulate_in(alloc, format, texts, MOST_STEPS) {
         Ok(emulated) => Ok(emulated),
         Err(EmulateFault::OutOfMemory) => Err(CommandFault::OutOfMemory),
         Err(fault) => Err(CommandFault::Emulation(fault)),
@@ -234,7 +213,7 @@ pub(crate) fn print_good<O: Sink>(text: &str, out: &mut O) -> u8
 }
 
 /// Tells what is wrong with a command line.
-fn tell_error<E: Sink>(alloc: Global, error: &Error, err: &mut E)
+pub(crate) fn tell_error<E: Sink>(alloc: Global, error: &Error, err: &mut E)
     ensures { (t : List ℕ) × IsTold E.taken E.failures err.old err.new t }
 {
     if error.kind() == ErrorKind::OutOfMemory {

@@ -1,12 +1,11 @@
 // The command `debug`.
-ghost use Rattle.std.specs.Prelude.{◌≡◌, IfOk, IfErr, string_bytes};
-ghost use Rattle.asl_setup.specs.Emulations.{AreSetupTextsOf};
-ghost use Rattle.asl_setup.specs.Texts.{setup_for};
+ghost use Rattle.std.specs.Prelude.{◌≡◌, None, IfOk, IfErr, string_bytes};
+ghost use Rattle.asl_setup.specs.Emulations.{Accepts};
 ghost use Rattle.asl_setup.specs.declared.setup.Setup.{Setup};
 ghost use Rattle.asl_console.specs.Answers.{first_console};
 ghost use Rattle.asl_cli.specs.Answers.{IsDone, IsTyped, IsDebugged};
 ghost use Rattle.asl_session.specs.Scripts.{IsScriptRun};
-ghost use Rattle.asl_cli.specs.Faults.{IsBegun, IsOpeningReason, IsSetupReason, IsScriptReason, IsDebugText, IsDebugReason};
+ghost use Rattle.asl_cli.specs.Faults.{read_texts, IsBegun, IsRunReason, IsTextsReason, IsScriptReason, IsDebugText, IsDebugReason};
 
 use crate::command::{REFUSED, print_good};
 use crate::fault::CommandFault;
@@ -124,7 +123,7 @@ fn open_session<'a, F: Files>(
     ensures opened { IfOk result (λ c. (s : Setup)
         × IsBegun (F.gives files.old) words.now s × (c ≡ first_console s)) }
     ensures refused { IfErr result
-        (IsOpeningReason (F.gives files.old) (F.lacks files.old) words.now) }
+        (IsRunReason (F.gives files.old) (F.lacks files.old) words.now None) }
 {
     let texts = read_texts(alloc, files, words)?;
     let setup = setup_of(alloc, words, &texts)?;
@@ -135,17 +134,15 @@ fn open_session<'a, F: Files>(
 }
 
 /// What an execution begins with, from its texts.
-fn setup_of<'a>(
+pub(crate) fn setup_of<'a>(
     alloc: Global,
     words: &SetupWords<'a>,
     texts: &SetupTexts,
 ) -> Result<Setup, CommandFault<'a>>
-    ensures found { IfOk result (λ s. AreSetupTextsOf texts.now.definition.items
-        texts.now.mocks.items words.now.chosen.now texts.now.input.items s.machine s.case s.input) }
-    ensures setup { IfOk result (λ s. s
-        ≡ setup_for s.machine words.now.chosen.now s.case s.input 0) }
-    ensures refused { IfErr result (IsSetupReason texts.now.definition.items texts.now.mocks.items
-        words.now.chosen.now texts.now.input.items) }
+    ensures found { IfOk result (λ s.
+        Accepts (read_texts texts.now words.now.chosen.now None) s None) }
+    ensures refused { IfErr result
+        (IsTextsReason (read_texts texts.now words.now.chosen.now None)) }
 {
     let answer = Setup::read(
         alloc,

@@ -1,8 +1,9 @@
 //! The commands of the emulator: one function over words, files and two sinks, which the program `asl` calls.
 //!
 //! Modules in reading order: `fault` is why a command isn't done, and its line; `reading` reads the files that words name; `checking` is
-//! the command `check`, `printing` the command `print`, `upgrading` the command `upgrade`, `graphing` the command `graph`, `debugging` the command `debug`,
-//! for which `talking` answers lines, `testing` the command `test`, for which `progress` tells how far it is and `covering` what is covered; `command` has the command `run`, and all that a command line may
+//! the command `check`, `printing` the command `print`, `upgrading` the command `upgrade`, `graphing` the command `graph`, `mocking` the command `mocks`,
+//! `debugging` the command `debug`, for which `talking` answers lines, `testing` the command `test`, for which `progress` tells how far it is and
+//! `covering` what is covered; `exploring` the command `explore`; `formatting` runs in the format that is asked for; `command` has the command `run`, and all that a command line may
 //! ask for.
 #![tactic(auto)]
 
@@ -10,8 +11,11 @@ mod checking;
 mod command;
 mod covering;
 mod debugging;
+mod exploring;
 mod fault;
+mod formatting;
 mod graphing;
+mod mocking;
 mod printing;
 mod progress;
 mod reading;
@@ -20,10 +24,12 @@ mod testing;
 mod upgrading;
 
 pub use checking::check;
-pub use command::{refuse_words, run, run_words};
+pub use command::{obey, refuse_words, run, run_words};
 pub use debugging::debug;
+pub use exploring::explore;
 pub use fault::CommandFault;
 pub use graphing::graph;
+pub use mocking::mocks;
 pub use printing::print;
 pub use progress::Progress;
 pub use testing::test;

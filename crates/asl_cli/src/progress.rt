@@ -1,9 +1,10 @@
-// What is told while a suite runs.
+// What is told while a suite or a search runs.
+use asl_explore::Watch;
 use asl_workers::Gate;
 use std::sync::atomic::{AtomicU64, Ordering};
 use std::time::Clock;
 
-/// Tells how many tests are done, where that is shown: a line on standard error, at most once a second.
+/// Tells how many tests are done, or how many worlds were tried, where that is shown: a line on standard error, at most once a second.
 #[derive(Drop)]
 pub struct Progress<'a, R> {
     rt: &'a R,
@@ -52,6 +53,15 @@ impl<'a, R: Clock + Eprint> Gate for Progress<'a, R> {
         if self.shown && self.is_due() {
             // A line that isn't written is no fault: it changes nothing.
             let _ = eprintln!(self.rt; "{done} tests done");
+        }
+    }
+}
+
+impl<'a, R: Clock + Eprint> Watch for Progress<'a, R> {
+    fn tried(&self, worlds: usize) {
+        if self.shown && self.is_due() {
+            // A line that isn't written is no fault: it changes nothing.
+            let _ = eprintln!(self.rt; "{worlds} worlds tried");
         }
     }
 }

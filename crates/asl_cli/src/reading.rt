@@ -1,9 +1,11 @@
 // What a command reads: the files that its words name.
-ghost use Rattle.std.specs.Prelude.{List, ℕ, IfOk, IfErr};
-ghost use Rattle.asl_cli.specs.Faults.{IsUnread, IsGiven, AreUnread};
+ghost use Rattle.std.specs.Prelude.{◌≡◌, List, ℕ, None, option_map, IfOk, IfErr};
+ghost use Rattle.asl_setup.specs.Views.{texts_of};
+ghost use Rattle.asl_cli.specs.Faults.{IsUnread, IsGiven, AreUnread, AreGiven, named, names_in, read_texts};
 
 use crate::fault::CommandFault;
 use asl_host::{Files, ReadFault, SetupWords};
+use asl_setup::RunTexts;
 use std::alloc::Global;
 
 /// Reads a file that a word names.
@@ -24,6 +26,24 @@ pub(crate) fn read_file<'a, F: Files>(
     }
 }
 
+/// Reads a file, where a word names one.
+pub(crate) fn read_named<'a, F: Files>(
+    alloc: Global,
+    files: &mut F,
+    name: Option<&'a str>,
+) -> Result<Option<Vec<u8>>, CommandFault<'a>>
+    ensures given { IfOk result (λ o. IsGiven (F.gives files.old) (option_map (λ n. n.now) name.entry)
+        (option_map (λ b. b.items) o)) }
+    ensures unread { IfErr result (AreUnread (F.gives files.old) (F.lacks files.old)
+        (named (option_map (λ n. n.now) name.entry))) }
+{
+    let Some(name) = name else {
+        return Ok(None);
+    };
+    let bytes = read_file(alloc, files, name)?;
+    Ok(Some(bytes))
+}
+
 /// The texts of what an execution begins with.
 #[derive(Drop)]
 pub(crate) struct SetupTexts {
@@ -32,21 +52,41 @@ pub(crate) struct SetupTexts {
     pub(crate) input: Vec<u8>,
 }
 
+impl SetupTexts {
+    /// The texts of a run with this choice, and with this file of steps, where there is one.
+    pub(crate) fn of_run<'a>(&'a self, chosen: &'a str, steps: Option<&'a [u8]>) -> RunTexts<'a>
+        ensures { texts_of result
+            ≡ read_texts self.now chosen.now (option_map (λ b. b.now) steps.entry) }
+    {
+        RunTexts {
+            definition: self.definition.as_slice(),
+            mocks: self.mocks.as_slice(),
+            chosen,
+            input: self.input.as_slice(),
+            steps,
+        }
+    }
+}
+
 /// Reads the files, in the order of the words.
 pub(crate) fn read_texts<'a, F: Files>(
     alloc: Global,
     files: &mut F,
     words: &SetupWords<'a>,
 ) -> Result<SetupTexts, CommandFault<'a>>
-    ensures given { IfOk result (λ t. IsGiven (F.gives files.old) words.now t.definition.items
-        t.mocks.items t.input.items) }
+    ensures given { IfOk result (λ t. AreGiven (F.gives files.old) words.now None
+        (read_texts t words.now.chosen.now None)) }
     ensures kept { (n b : List ℕ) → F.gives files.new n b → F.gives files.old n b }
     ensures lacking { (n : List ℕ) → F.lacks files.new n → F.lacks files.old n }
-    ensures unread { IfErr result (λ r. AreUnread (F.lacks files.old) words.now r) }
+    ensures unread { IfErr result
+        (AreUnread (F.gives files.old) (F.lacks files.old) (names_in words.now None)) }
 {
+    let definition = read_file(alloc, files, words.definition)?;
+    let mocks = read_file(alloc, files, words.mocks)?;
+    let input = read_file(alloc, files, words.input)?;
     Ok(SetupTexts {
-        definition: read_file(alloc, files, words.definition)?,
-        mocks: read_file(alloc, files, words.mocks)?,
-        input: read_file(alloc, files, words.input)?,
+        definition,
+        mocks,
+        input,
     })
 }

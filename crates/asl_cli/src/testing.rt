@@ -6,7 +6,8 @@ ghost use Rattle.asl_mock.specs.Told.{IsMockFile};
 ghost use Rattle.asl_expect.specs.Told.{IsExpectationsFile};
 ghost use Rattle.asl_suite.specs.Reports.{is_passed};
 ghost use Rattle.asl_host.specs.Outcomes.{status_of, IsPrinted, IsTold};
-ghost use Rattle.asl_cli.specs.Suites.{AreSuiteTexts, AreSuiteUnread, AreTestsOf, IsSuiteOf, IsGood, IsCovered, IsDefinitionTextReason, IsMocksTextReason, IsTestsTextReason, IsSuiteTextReason, IsSuiteReason, IsReportText, IsReport, IsReported, IsTested};
+ghost use Rattle.asl_cli.specs.Faults.{AreUnread};
+ghost use Rattle.asl_cli.specs.Suites.{AreSuiteTexts, suite_names, AreTestsOf, IsSuiteOf, IsGood, IsCovered, IsDefinitionTextReason, IsMocksTextReason, IsTestsTextReason, IsSuiteTextReason, IsSuiteReason, IsReportText, IsReport, IsReported, IsTested};
 
 use crate::command::{FAILED, GOOD, REFUSED};
 use crate::covering::coverage_of;
@@ -231,12 +232,16 @@ fn read_suite_texts<'a, F: Files>(
 ) -> Result<SuiteTexts, CommandFault<'a>>
     ensures given { IfOk result (λ t. AreSuiteTexts (F.gives files.old) words.now
         t.definition.items t.mocks.items t.expectations.items) }
-    ensures unread { IfErr result (λ r. AreSuiteUnread (F.lacks files.old) words.now r) }
+    ensures unread { IfErr result
+        (AreUnread (F.gives files.old) (F.lacks files.old) (suite_names words.now)) }
 {
+    let definition = read_file(alloc, files, words.definition)?;
+    let mocks = read_file(alloc, files, words.mocks)?;
+    let expectations = read_file(alloc, files, words.expectations)?;
     Ok(SuiteTexts {
-        definition: read_file(alloc, files, words.definition)?,
-        mocks: read_file(alloc, files, words.mocks)?,
-        expectations: read_file(alloc, files, words.expectations)?,
+        definition,
+        mocks,
+        expectations,
     })
 }
 

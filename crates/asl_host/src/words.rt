@@ -10,8 +10,14 @@ use std::{env, io};
 /// The words for the formats of reports.
 const FORMATS: [&str; 3] = ["text", "junit", "json"];
 
+/// The words for the formats of runs.
+const RUN_FORMATS: [&str; 4] = ["text", "json", "aws", "steps"];
+
 /// The words for the languages of graphs.
 const LANGUAGES: [&str; 2] = ["mermaid", "dot"];
+
+/// So many worlds are tried where no word says how many.
+const WORLDS: u32 = 100_000;
 
 /// What a command line asks for.
 #[derive(Clone, Copy)]
@@ -24,12 +30,16 @@ pub enum Words<'a> {
     Upgrade(DefinitionWords<'a>),
     /// A definition's graph is to be printed.
     Graph(GraphWords<'a>),
+    /// A mock file is to be printed for a definition.
+    Mocks(MocksWords<'a>),
     /// An execution is to be emulated.
     Run(RunWords<'a>),
     /// An execution is to be debugged.
     Debug(DebugWords<'a>),
     /// The tests of a suite are to be run.
     Test(TestWords<'a>),
+    /// Every order of an execution is to be tried.
+    Explore(ExploreWords<'a>),
 }
 
 /// The word of `check`, of `print` and of `upgrade`: the name of a file.
@@ -54,6 +64,14 @@ pub struct GraphWords<'a> {
     pub format: GraphFormat,
 }
 
+/// The words of `mocks`.
+#[derive(Clone, Copy)]
+pub struct MocksWords<'a> {
+    pub definition: DefinitionWords<'a>,
+    /// The name that the machine gets in the mock file.
+    pub machine: &'a str,
+}
+
 /// What an execution begins with: names of files, and the machine and the case that are chosen.
 #[derive(Clone, Copy)]
 pub struct SetupWords<'a> {
@@ -63,12 +81,26 @@ pub struct SetupWords<'a> {
     pub input: &'a str,
 }
 
+/// How a run is printed.
+#[derive(Clone, Copy, Debug, PartialEq, Eq)]
+pub enum RunFormat {
+    /// Its replies, its history and its status.
+    Text,
+    /// Its history, a JSON object each on a line.
+    Json,
+    /// Its history as one JSON text, in the shape in which the service tells one.
+    Aws,
+    /// The steps that it took, as a file of steps.
+    Steps,
+}
+
 /// The words of `run`.
 #[derive(Clone, Copy)]
 pub struct RunWords<'a> {
     pub setup: SetupWords<'a>,
     /// The name of a file. Where no file of steps is named, the execution takes the steps that come next.
     pub steps: Option<&'a str>,
+    pub format: RunFormat,
 }
 
 /// The words of `debug`.
@@ -109,6 +141,16 @@ pub struct TestWords<'a> {
     pub shard: Shard,
     /// The least percent that the tests are to cover; none where nothing is told of what they cover.
     pub coverage: Option<u32>,
+}
+
+/// The words of `explore`.
+#[derive(Clone, Copy)]
+pub struct ExploreWords<'a> {
+    pub setup: SetupWords<'a>,
+    /// So many worlds, from 1 to 1,000,000, are tried at most.
+    pub limit: u32,
+    /// The number, from 1, of the outcome whose steps are to be printed; none where all outcomes are.
+    pub witness: Option<u32>,
 }
 
 /// Why the program's words can't be had.
@@ -162,6 +204,13 @@ pub fn malformed_word(alloc: Global) -> Result<Error, Error> {
     Ok(command.error(ErrorKind::InvalidValue, message)?)
 }
 
+/// The error that tells of an outcome that isn't there.
+pub fn missing_outcome(alloc: Global) -> Result<Error, Error> {
+    let mut command = asl_command(alloc)?;
+    let message = "no outcome has the number that --witness names";
+    Ok(command.error(ErrorKind::ValueValidation, message)?)
+}
+
 fn words_of<'a>(matches: &ArgMatches<'a>) -> Option<Words<'a>> {
     if let Some(matches) = matches.subcommand_matches("check") {
         return Some(Words::Check(definition_words_of(matches)?));
@@ -178,16 +227,30 @@ fn words_of<'a>(matches: &ArgMatches<'a>) -> Option<Words<'a>> {
             script: matches.get_str("SCRIPT"),
         }));
     }
+    if let Some(matches) = matches.subcommand_matches("explore") {
+        return Some(Words::Explore(ExploreWords {
+            setup: setup_words_of(matches)?,
+            limit: matches.get_one::<u32>("limit").unwrap_or(WORLDS),
+            witness: matches.get_one::<u32>("witness"),
+        }));
+    }
     if let Some(matches) = matches.subcommand_matches("graph") {
         return Some(Words::Graph(GraphWords {
             definition: definition_words_of(matches)?,
             format: graph_format_of(matches.get_str("format")),
         }));
     }
+    if let Some(matches) = matches.subcommand_matches("mocks") {
+        return Some(Words::Mocks(MocksWords {
+            definition: definition_words_of(matches)?,
+            machine: matches.get_str("MACHINE")?,
+        }));
+    }
     let matches = matches.subcommand_matches("run")?;
     Some(Words::Run(RunWords {
         setup: setup_words_of(matches)?,
         steps: matches.get_str("steps"),
+        format: run_format_of(matches.get_str("format")),
     }))
 }
 
@@ -195,6 +258,15 @@ fn graph_format_of(word: Option<&str>) -> GraphFormat {
     match word {
         Some("dot") => GraphFormat::Dot,
         _ => GraphFormat::Mermaid,
+    }
+}
+
+fn run_format_of(word: Option<&str>) -> RunFormat {
+    match word {
+        Some("json") => RunFormat::Json,
+        Some("aws") => RunFormat::Aws,
+        Some("steps") => RunFormat::Steps,
+        _ => RunFormat::Text,
     }
 }
 
@@ -278,9 +350,11 @@ fn asl_command<'a>(alloc: Global) -> Result<Command<'a>, AllocError> {
         .subcommand(print_command(alloc)?)?
         .subcommand(upgrade_command(alloc)?)?
         .subcommand(graph_command(alloc)?)?
+        .subcommand(mocks_command(alloc)?)?
         .subcommand(run_command(alloc)?)?
         .subcommand(debug_command(alloc)?)?
-        .subcommand(test_command(alloc)?)
+        .subcommand(test_command(alloc)?)?
+        .subcommand(explore_command(alloc)?)
 }
 
 fn check_command<'a>(alloc: Global) -> Result<Command<'a>, AllocError> {
@@ -314,6 +388,18 @@ fn graph_command<'a>(alloc: Global) -> Result<Command<'a>, AllocError> {
         .arg(format)
 }
 
+fn mocks_command<'a>(alloc: Global) -> Result<Command<'a>, AllocError> {
+    let machine = Arg::new(alloc, "MACHINE")
+        .default_value("Machine")
+        .help("The machine's name in the mock file");
+    Command::new(alloc, "mocks")
+        .about(
+            "Prints a mock file to begin with, in which each Task of a definition gets an answer",
+        )
+        .arg(definition_word(alloc))?
+        .arg(machine)
+}
+
 fn run_command<'a>(alloc: Global) -> Result<Command<'a>, AllocError> {
     let steps = Arg::new(alloc, "steps")
         .long("steps")
@@ -322,7 +408,13 @@ fn run_command<'a>(alloc: Global) -> Result<Command<'a>, AllocError> {
     let run = Command::new(alloc, "run").about(
         "Runs an execution and prints its replies, its history and its status",
     );
-    with_setup_words(alloc, run)?.arg(steps)
+    let format = Arg::new(alloc, "format")
+        .long("format")
+        .value_name("FORMAT")
+        .value_parser(RUN_FORMATS.as_slice())
+        .default_value("text")
+        .help("How the run is printed");
+    with_setup_words(alloc, run)?.arg(steps)?.arg(format)
 }
 
 fn debug_command<'a>(alloc: Global) -> Result<Command<'a>, AllocError> {
@@ -375,6 +467,24 @@ fn test_command<'a>(alloc: Global) -> Result<Command<'a>, AllocError> {
         .arg(shard)?
         .arg(coverage)?
         .arg(min)
+}
+
+fn explore_command<'a>(alloc: Global) -> Result<Command<'a>, AllocError> {
+    let limit = Arg::new(alloc, "limit")
+        .long("limit")
+        .value_name("N")
+        .value_parser(ValueParser::unsigned(1, 1_000_000))
+        .default_value("100000")
+        .help("How many worlds are tried at most, from 1 to 1000000");
+    let witness = Arg::new(alloc, "witness")
+        .long("witness")
+        .value_name("I")
+        .value_parser(ValueParser::unsigned(1, 1_000_000))
+        .help("Prints the steps of the outcome of this number alone, as a steps file");
+    let explore = Command::new(alloc, "explore").about(
+        "Tries every order of an execution's branches and prints each outcome with an order that ends in it",
+    );
+    with_setup_words(alloc, explore)?.arg(limit)?.arg(witness)
 }
 
 /// The words for what an execution begins with.

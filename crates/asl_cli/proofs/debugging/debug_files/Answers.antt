@@ -1,15 +1,14 @@
+use Rattle.std.proofs.Common.{None}
+use Rattle.asl_cli.specs.Faults.{read_texts}
 use Rattle.asl_cli.proofs.debugging.debug_files.Goals as goal
 
 pub returns-in-Ok-clause-text : goal.returns-in-Ok-clause-text
 returns-in-Ok-clause-text g c = record {
   setup = c.in_ok-setup.setup;
   begins = record {
-    definition = c.in_ok-texts.texts.definition.items;
-    mocks = c.in_ok-texts.texts.mocks.items;
-    input = c.in_ok-texts.texts.input.items;
+    texts = read_texts c.in_ok-texts.texts c.args.words.now.chosen.now None;
     given = c.in_ok-texts.ensures.given;
-    texts = c.in_ok-setup.ensures.found;
-    setup_is = c.in_ok-setup.ensures.setup;
+    accepted = c.in_ok-setup.ensures.found;
   };
   bytes = c.in_ok-script.script.items;
   given = c.in_ok-texts.ensures.kept _ _ c.in_ok-script.ensures.given;

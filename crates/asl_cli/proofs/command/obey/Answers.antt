@@ -1,0 +1,4 @@
+use Rattle.asl_cli.proofs.command.obey.Goals as goal
+
+pub returns-in-Run : goal.returns-in-Run
+returns-in-Run g c = rw c.in-Run.is c.run.ensures

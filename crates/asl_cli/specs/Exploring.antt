@@ -1,0 +1,76 @@
+-- What the command `explore` finds, prints and tells.
+use Rattle.std.specs.Prelude.{ℕ, zero, suc, true, List, Option, Some, None, ◌≡◌, ◌⊎◌, slice_get, codes}
+use Rattle.std.specs.List.{All}
+use Rattle.asl_setup.specs.declared.setup.Setup.{Setup}
+use Rattle.asl_explore.specs.declared.found.Found.{Found}
+use Rattle.asl_explore.specs.declared.found.Explored.{Explored}
+use Rattle.asl_explore.specs.Orders.{IsWhole}
+use Rattle.asl_explore.specs.Searches.{Shows, AreDistinct, outcomes_of}
+use Rattle.asl_explore.specs.Reports.{explored_text, steps_text, is_good}
+use Rattle.asl_host.specs.declared.words.ExploreWords.{ExploreWords}
+use Rattle.asl_host.specs.Outcomes.{status_of, fault_line, IsPrinted, IsTold}
+use Rattle.asl_cli.specs.declared.fault.CommandFault.{CommandFault}
+use Rattle.asl_cli.specs.Faults.{IsBegun, IsRunReason, Tells}
+
+-- ---- what is found
+
+-- what a search may find for the setup that the files may give: each outcome with steps that end in
+-- it, none twice, and, where nothing was left out, the outcome of every order
+pub record IsFoundFor (gives : List ℕ → List ℕ → Type 0) (w : ExploreWords) (x : Explored) : Type 0
+  where
+    pub setup : Setup
+    pub begins : IsBegun gives w.setup setup
+    pub shown : All (Shows setup) x.found.items
+    pub once : AreDistinct (outcomes_of x.found.items)
+    pub whole : x.complete ≡ true → IsWhole setup (outcomes_of x.found.items)
+
+-- the outcome of a number, from 1
+abbrev pub numbered : List Found → ℕ → Option Found
+numbered fs zero = None
+numbered fs (suc n) = slice_get fs n
+
+-- ---- what is printed
+
+-- want of memory was told, nothing was printed, and the status is 2
+abbrev pub IsWanting : {O E : Type 0} → (E → List ℕ) → (E → ℕ) → O → O → E → E → ℕ → Type 0
+IsWanting err_taken err_failures out out_after err err_after status =
+    (out_after ≡ out) × (status ≡ 2)
+    × IsTold err_taken err_failures err err_after (fault_line (codes "OutOfMemory"))
+
+-- all outcomes were printed
+abbrev pub AreAllShown : {O E : Type 0} → (O → List ℕ) → (O → ℕ) → (E → List ℕ) → (E → ℕ)
+    → Explored → O → O → E → E → ℕ → Type 0
+AreAllShown out_taken out_failures err_taken err_failures x out out_after err err_after status =
+    ((err_after ≡ err)
+    × IsPrinted out_taken out_failures out out_after (explored_text x) (status_of (is_good x)) status)
+    ⊎ IsWanting err_taken err_failures out out_after err err_after status
+
+-- the steps of the outcome of this number were printed; or there is none, which was told
+abbrev pub IsOneShown : {O E : Type 0} → (O → List ℕ) → (O → ℕ) → (E → List ℕ) → (E → ℕ)
+    → Explored → ℕ → O → O → E → E → ℕ → Type 0
+IsOneShown out_taken out_failures err_taken err_failures x n out out_after err err_after status =
+    ((f : Found) × (numbered x.found.items n ≡ Some f) × (err_after ≡ err)
+    × IsPrinted out_taken out_failures out out_after (steps_text f.steps.items) 0 status)
+    ⊎ ((t : List ℕ) × (numbered x.found.items n ≡ None) × (out_after ≡ out) × (status ≡ 2)
+    × IsTold err_taken err_failures err err_after t)
+    ⊎ IsWanting err_taken err_failures out out_after err err_after status
+
+abbrev pub IsShown : {O E : Type 0} → (O → List ℕ) → (O → ℕ) → (E → List ℕ) → (E → ℕ)
+    → Explored → Option ℕ → O → O → E → E → ℕ → Type 0
+IsShown out_taken out_failures err_taken err_failures x None out out_after err err_after status =
+    AreAllShown out_taken out_failures err_taken err_failures x out out_after err err_after status
+IsShown out_taken out_failures err_taken err_failures x (Some n) out out_after err err_after status =
+    IsOneShown out_taken out_failures err_taken err_failures x n out out_after err err_after status
+
+-- the exploration for these words: what was found was printed; or nothing was tried, which was told
+abbrev pub IsExplored : {O E : Type 0} → (O → List ℕ) → (O → ℕ) → (E → List ℕ) → (E → ℕ)
+    → (List ℕ → List ℕ → Type 0) → (List ℕ → Type 0)
+    → ExploreWords → O → O → E → E → ℕ → Type 0
+IsExplored out_taken out_failures err_taken err_failures gives lacks w out out_after err err_after
+    status =
+    ((x : Explored) × IsFoundFor gives w x
+    × IsShown out_taken out_failures err_taken err_failures x w.witness out out_after err err_after
+    status)
+    ⊎ ((r : CommandFault) × (t : List ℕ) × IsRunReason gives lacks w.setup None r
+    × Tells r t
+    × (out_after ≡ out) × (status ≡ 2) × IsTold err_taken err_failures err err_after (fault_line t))

@@ -1,0 +1,21 @@
+-- What a run prints in the format that is asked for.
+use Rattle.std.specs.Prelude.{ℕ, Bool, List, Option, Some, None}
+use Rattle.asl_setup.specs.Emulations.{Texts}
+use Rattle.asl_exec.specs.Emulations.{IsRunOf}
+use Rattle.asl_outputs.specs.declared.format.Format.{Format}
+use Rattle.asl_outputs.specs.declared.format.Format.TheVariants.{Json, Aws, Steps}
+use Rattle.asl_outputs.specs.Told.{IsToldRunOf}
+use Rattle.asl_host.specs.declared.words.RunFormat.{RunFormat}
+use Rattle.asl_host.specs.declared.words.RunFormat.TheVariants as word
+
+-- the format that isn't the usual text
+abbrev pub format_of : RunFormat → Option Format
+format_of word.Text = None
+format_of word.Json = Some Json
+format_of word.Aws = Some Aws
+format_of word.Steps = Some Steps
+
+-- a run prints this text in the format
+abbrev pub IsRunIn : Option Format → Texts → ℕ → List ℕ → Bool → Type 0
+IsRunIn None t limit text good = IsRunOf t limit text good
+IsRunIn (Some f) t limit text good = IsToldRunOf f t limit text good

@@ -1,0 +1,162 @@
+// The command `explore`.
+ghost use Rattle.std.specs.Prelude.{◌≡◌, List, ℕ, None, IfOk, IfErr, string_bytes};
+ghost use Rattle.std.specs.Option.{option_copied};
+ghost use Rattle.asl_explore.specs.Reports.{explored_text, steps_text};
+ghost use Rattle.asl_host.specs.Outcomes.{status_of, IsPrinted, IsTold};
+ghost use Rattle.asl_cli.specs.Exploring.{IsExplored, IsFoundFor, IsShown, AreAllShown, IsOneShown, numbered};
+ghost use Rattle.asl_cli.specs.Faults.{IsRunReason};
+
+use crate::command::{FAILED, GOOD, REFUSED, print_good, tell_error};
+use crate::debugging::setup_of;
+use crate::fault::CommandFault;
+use crate::reading::read_texts;
+use asl_explore::{Explored, Found, Watch, explore as search, is_good, put_explored, put_steps};
+use asl_history::Sink;
+use asl_host::{ExploreWords, Files, missing_outcome, tell_fault, write_piece};
+use std::alloc::{AllocError, Global};
+
+/// The command `explore`: tries every order of an execution's branches, and prints each outcome with an order that ends in it, or the
+/// steps of one alone.
+pub fn explore<W: Watch, F: Files, O: Sink, E: Sink>(
+    watch: &W,
+    alloc: Global,
+    words: &ExploreWords<'_>,
+    files: &mut F,
+    out: &mut O,
+    err: &mut E,
+) -> u8
+    ensures { IsExplored O.taken O.failures E.taken E.failures (F.gives files.old)
+        (F.lacks files.old) words.now out.old out.new err.old err.new result }
+{
+    match explore_files(watch, alloc, words, files) {
+        Ok(explored) => show(alloc, &explored, words.witness, out, err),
+        Err(refusal) => {
+            refusal.write(alloc, err);
+            REFUSED
+        }
+    }
+}
+
+/// Reads the files, in the order of the words, and tries every order.
+fn explore_files<'a, W: Watch, F: Files>(
+    watch: &W,
+    alloc: Global,
+    words: &ExploreWords<'a>,
+    files: &mut F,
+) -> Result<Explored, CommandFault<'a>>
+    ensures found { IfOk result (IsFoundFor (F.gives files.old) words.now) }
+    ensures refused { IfErr result
+        (IsRunReason (F.gives files.old) (F.lacks files.old) words.now.setup None) }
+{
+    let texts = read_texts(alloc, files, &words.setup)?;
+    let setup = setup_of(alloc, &words.setup, &texts)?;
+    match search(alloc, setup, words.limit, watch) {
+        Ok(explored) => Ok(explored),
+        Err(AllocError) => Err(CommandFault::OutOfMemory),
+    }
+}
+
+/// Prints what was found, or the steps of the outcome of this number.
+fn show<O: Sink, E: Sink>(
+    alloc: Global,
+    explored: &Explored,
+    witness: Option<u32>,
+    out: &mut O,
+    err: &mut E,
+) -> u8
+    ensures { IsShown O.taken O.failures E.taken E.failures explored.now witness out.old out.new
+        err.old err.new result }
+{
+    match witness {
+        None => show_all(alloc, explored, out, err),
+        Some(number) => show_one(alloc, explored, number, out, err),
+    }
+}
+
+/// Prints all outcomes, and tells whether nothing was left out and each is a success.
+fn show_all<O: Sink, E: Sink>(alloc: Global, explored: &Explored, out: &mut O, err: &mut E) -> u8
+    ensures { AreAllShown O.taken O.failures E.taken E.failures explored.now out.old out.new
+        err.old err.new result }
+{
+    match report_of(alloc, explored) {
+        Ok(text) => print_all(text.as_str(), is_good(explored), out),
+        Err(AllocError) => {
+            tell_fault(err, "OutOfMemory");
+            REFUSED
+        }
+    }
+}
+
+/// The text of what was found.
+fn report_of(alloc: Global, explored: &Explored) -> Result<String, AllocError>
+    ensures { IfOk result (λ t. string_bytes t ≡ explored_text explored.now) }
+{
+    let mut text = String::new(alloc);
+    put_explored(alloc, &mut text, explored)?;
+    Ok(text)
+}
+
+/// Prints a text, and tells whether all is good.
+fn print_all<O: Sink>(text: &str, good: bool, out: &mut O) -> u8
+    ensures { IsPrinted O.taken O.failures out.old out.new text.now (status_of good) result }
+{
+    match write_piece(out, text) {
+        Ok(()) if good => GOOD,
+        Ok(()) => FAILED,
+        Err(_) => REFUSED,
+    }
+}
+
+/// Prints the steps of the outcome of a number, from 1.
+fn show_one<O: Sink, E: Sink>(
+    alloc: Global,
+    explored: &Explored,
+    number: u32,
+    out: &mut O,
+    err: &mut E,
+) -> u8
+    ensures { IsOneShown O.taken O.failures E.taken E.failures explored.now number out.old out.new
+        err.old err.new result }
+{
+    let Some(found) = outcome_of(&explored.found, number) else {
+        return refuse_number(alloc, err);
+    };
+    match steps_of(alloc, found) {
+        Ok(text) => print_good(text.as_str(), out),
+        Err(AllocError) => {
+            tell_fault(err, "OutOfMemory");
+            REFUSED
+        }
+    }
+}
+
+/// The outcome of a number, from 1; none where there is none.
+fn outcome_of(found: &[Found], number: u32) -> Option<&Found>
+    ensures { option_copied result ≡ numbered found.now number }
+{
+    if number == 0 {
+        return None;
+    }
+    found.get(number as usize - 1)
+}
+
+/// The steps of an outcome, as a steps file.
+fn steps_of(alloc: Global, found: &Found) -> Result<String, AllocError>
+    ensures { IfOk result (λ t. string_bytes t ≡ steps_text found.now.steps.items) }
+{
+    let mut text = String::new(alloc);
+    put_steps(&mut text, &found.steps)?;
+    Ok(text)
+}
+
+/// Tells that the command line names an outcome that isn't there.
+fn refuse_number<E: Sink>(alloc: Global, err: &mut E) -> u8
+    ensures status { result ≡ 2 }
+    ensures told { (t : List ℕ) × IsTold E.taken E.failures err.old err.new t }
+{
+    match missing_outcome(alloc) {
+        Ok(error) => tell_error(alloc, &error, err),
+        Err(error) => tell_error(alloc, &error, err),
+    }
+    REFUSED
+}
