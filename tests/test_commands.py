@@ -180,6 +180,10 @@ class CommandTest(ProgramTest):
         out = '1 0 1970-01-01T00:00:00.000Z / ExecutionStarted "" {}\nstatus RUNNING\n'
         self.assert_ran(["run", *self.files, *self.steps], 1, out, "")
 
+    def test_a_run_takes_ten_thousand_steps_by_itself(self):
+        loop = '{"StartAt":"P","States":{"P":{"Type":"Pass","Next":"P"}}}'
+        self.assert_ends(self.told(loop), 20_002, "status RUNNING")
+
     def test_definitions_are_judged_and_printed(self):
         for text, judged, printed in JUDGED:
             with self.subTest(text):
