@@ -2,11 +2,12 @@
 use Rattle.std.specs.Prelude.{ℕ, zero, suc, true, List, Option, Some, None, ◌≡◌, ◌⊎◌, slice_get, codes}
 use Rattle.std.specs.List.{All}
 use Rattle.asl_setup.specs.declared.setup.Setup.{Setup}
+use Rattle.asl_setup.specs.StepsFile.{steps_file}
 use Rattle.asl_explore.specs.declared.found.Found.{Found}
 use Rattle.asl_explore.specs.declared.found.Explored.{Explored}
 use Rattle.asl_explore.specs.Orders.{IsWhole}
 use Rattle.asl_explore.specs.Searches.{Shows, AreDistinct, outcomes_of}
-use Rattle.asl_explore.specs.Reports.{explored_text, steps_text, is_good}
+use Rattle.asl_explore.specs.Reports.{explored_text, is_good}
 use Rattle.asl_host.specs.declared.words.ExploreWords.{ExploreWords}
 use Rattle.asl_host.specs.Outcomes.{status_of, fault_line, IsPrinted, IsTold}
 use Rattle.asl_cli.specs.declared.fault.CommandFault.{CommandFault}
@@ -50,7 +51,7 @@ abbrev pub IsOneShown : {O E : Type 0} → (O → List ℕ) → (O → ℕ) → 
     → Explored → ℕ → O → O → E → E → ℕ → Type 0
 IsOneShown out_taken out_failures err_taken err_failures x n out out_after err err_after status =
     ((f : Found) × (numbered x.found.items n ≡ Some f) × (err_after ≡ err)
-    × IsPrinted out_taken out_failures out out_after (steps_text f.steps.items) 0 status)
+    × IsPrinted out_taken out_failures out out_after (steps_file f.steps.items) 0 status)
     ⊎ ((t : List ℕ) × (numbered x.found.items n ≡ None) × (out_after ≡ out) × (status ≡ 2)
     × IsTold err_taken err_failures err err_after t)
     ⊎ IsWanting err_taken err_failures out out_after err err_after status

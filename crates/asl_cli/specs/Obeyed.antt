@@ -9,7 +9,8 @@ use Rattle.asl_cli.specs.Mocking.{IsSampled}
 use Rattle.asl_cli.specs.Exploring.{IsExplored}
 
 -- what the words ask for was done, and nothing else: a definition was judged, printed, upgraded or
--- drawn, a mock file was made for it, an execution was run or debugged, or the tests of a suite were run
+-- drawn, a mock file was made for it, an execution was run or debugged, every order of its branches was
+-- tried, or the tests of a suite were run
 abbrev pub IsObeyed : {I O E : Type 0} → (I → List ℕ) → (O → List ℕ) → (O → ℕ) → (E → List ℕ)
     → (E → ℕ) → (List ℕ → List ℕ → Type 0) → (List ℕ → Type 0)
     → Words → I → I → O → O → E → E → ℕ → Type 0

@@ -1,7 +1,8 @@
 // The command `explore`.
 ghost use Rattle.std.specs.Prelude.{◌≡◌, List, ℕ, None, IfOk, IfErr, string_bytes};
 ghost use Rattle.std.specs.Option.{option_copied};
-ghost use Rattle.asl_explore.specs.Reports.{explored_text, steps_text};
+ghost use Rattle.asl_setup.specs.StepsFile.{steps_file};
+ghost use Rattle.asl_explore.specs.Reports.{explored_text};
 ghost use Rattle.asl_host.specs.Outcomes.{status_of, IsPrinted, IsTold};
 ghost use Rattle.asl_cli.specs.Exploring.{IsExplored, IsFoundFor, IsShown, AreAllShown, IsOneShown, numbered};
 ghost use Rattle.asl_cli.specs.Faults.{IsRunReason};
@@ -10,9 +11,10 @@ use crate::command::{FAILED, GOOD, REFUSED, print_good, tell_error};
 use crate::debugging::setup_of;
 use crate::fault::CommandFault;
 use crate::reading::read_texts;
-use asl_explore::{Explored, Found, Watch, explore as search, is_good, put_explored, put_steps};
+use asl_explore::{Explored, Found, Watch, explore as search, is_good, put_explored};
 use asl_history::Sink;
 use asl_host::{ExploreWords, Files, missing_outcome, tell_fault, write_piece};
+use asl_setup::put_steps;
 use std::alloc::{AllocError, Global};
 
 /// The command `explore`: tries every order of an execution's branches, and prints each outcome with an order that ends in it, or the
@@ -142,7 +144,7 @@ fn outcome_of(found: &[Found], number: u32) -> Option<&Found>
 
 /// The steps of an outcome, as a steps file.
 fn steps_of(alloc: Global, found: &Found) -> Result<String, AllocError>
-    ensures { IfOk result (λ t. string_bytes t ≡ steps_text found.now.steps.items) }
+    ensures { IfOk result (λ t. string_bytes t ≡ steps_file found.now.steps.items) }
 {
     let mut text = String::new(alloc);
     put_steps(&mut text, &found.steps)?;

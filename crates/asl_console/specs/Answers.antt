@@ -2,6 +2,7 @@
 use Rattle.std.specs.Prelude.{ℕ, ◌≡◌, Bool, true, false, ◌||◌, List, [], ◌∷◌, ◌++◌, Option, Some, None, codes}
 use Rattle.asl_setup.specs.declared.setup.Setup.{Setup}
 use Rattle.asl_setup.specs.declared.step_at.StepAt.{StepAt}
+use Rattle.asl_setup.specs.StepsFile.{steps_file}
 use Rattle.asl_exec.specs.Exchanges.{obstacle_to}
 use Rattle.asl_exec.specs.ObstacleText.{obstacle_text}
 use Rattle.asl_exec.specs.declared.obstacle.Obstacle.{Obstacle}
@@ -14,7 +15,7 @@ use Rattle.asl_console.specs.declared.request.Request.TheVariants.{Told, Next, C
 use Rattle.asl_console.specs.Words.{words, help_lines}
 use Rattle.asl_console.specs.Requests.{IsRequest, complaint}
 use Rattle.asl_console.specs.Onward.{freed, gone, gone_lines}
-use Rattle.asl_console.specs.Views.{places_text, data_text, events_text, steps_text}
+use Rattle.asl_console.specs.Views.{places_text, data_text, events_text}
 
 -- a session, and whether the moment at which its execution starts is settled
 pub record Console : Type 0 where
@@ -58,7 +59,7 @@ answer_to s (Until t) = gone_on_text most_moves t s
 answer_to s Places = places_text s
 answer_to s (Data p) = data_text s p
 answer_to s (Events n) = events_text n s
-answer_to s Steps = steps_text s
+answer_to s Steps = steps_file s.steps
 answer_to s (Swap a b) = swap_text s a b
 answer_to s Help = help_lines words
 answer_to s Quit = []

@@ -1,10 +1,9 @@
--- What a session is shown to be: its branches, data, events and steps.
+-- What a session is shown to be: its branches, data and events.
 use Rattle.std.specs.Prelude.{ℕ, ◌-◌, List, [], ◌∷◌, ◌++◌, length, drop, map, Option, Some, None, codes}
 use Rattle.std.specs.List.{flat_map}
 use Rattle.asl_json.specs.Data.{Data, text}
 use Rattle.asl_json.specs.View.{data_of}
 use Rattle.asl_json.specs.Compact.{compact}
-use Rattle.asl_time.specs.StampText.{stamp_of}
 use Rattle.asl_history.specs.Lines.{history_text}
 use Rattle.asl_history.specs.Places.{place_text}
 use Rattle.asl_steps.specs.Records.{state_in}
@@ -75,16 +74,8 @@ data_line (Some r) = compact (data_in r) ++ 10 ∷ []
 abbrev pub data_text : Session → List ℕ → List ℕ
 data_text s p = data_line (record_at p (world_in s).branches)
 
--- ---- events and steps
+-- ---- events
 
 -- the lines of the latest events, so many
 abbrev pub events_text : ℕ → Session → List ℕ
 events_text n s = history_text (drop (length (world_in s).events - n) (world_in s).events)
-
--- a step, as a steps file has it
-abbrev pub step_text : StepAt → List ℕ
-step_text a = place_text a.place ++ 32 ∷ (stamp_of a.moment ++ 10 ∷ [])
-
--- the steps that were taken, as a steps file
-abbrev pub steps_text : Session → List ℕ
-steps_text s = flat_map step_text s.steps

@@ -6,11 +6,11 @@ ghost use Rattle.asl_console.specs.Answers.{first_console, last_moment, most_mov
 use crate::going::go;
 use crate::reading::{put_complaint, read_request};
 use crate::request::Request;
-use crate::views::{put_data, put_events, put_places, put_steps};
+use crate::views::{put_data, put_events, put_places};
 use crate::word::put_help;
 use asl_exec::{Obstacle, put_obstacle};
 use asl_session::{Command, Session, put_answer};
-use asl_setup::{Setup, StepAt};
+use asl_setup::{Setup, StepAt, put_steps};
 use asl_time::Moment;
 use std::alloc::{AllocError, Global};
 use std::marker::Model;
@@ -218,7 +218,7 @@ impl Console {
             Request::Places => put_places(alloc, out, &self.session),
             Request::Data(place) => put_data(alloc, out, &self.session, place),
             Request::Events(count) => put_events(out, &self.session, *count),
-            Request::Steps => put_steps(out, &self.session),
+            Request::Steps => put_steps(out, self.session.steps()),
             Request::Swap(one, other) => put_swap(out, &self.session, one, other),
             Request::Help => put_help(out),
             Request::Quit => Ok(()),

@@ -1,10 +1,10 @@
-// What a session is shown to be: its branches, data, events and steps.
+// What a session is shown to be: its branches, data and events.
 ghost use Rattle.std.specs.Prelude.{◌≡◌, ◌++◌, ◌∷◌, [], option_map, OnOk, string_bytes};
 ghost use Rattle.std.specs.List.{flat_map};
 ghost use Rattle.asl_json.specs.View.{data_of};
 ghost use Rattle.asl_json.specs.Compact.{compact};
 ghost use Rattle.asl_history.specs.Lines.{history_text};
-ghost use Rattle.asl_console.specs.Views.{kind_word, state_text, branch_line, helds_of, held_lines, places_text, data_in, data_text, events_text, step_text, steps_text};
+ghost use Rattle.asl_console.specs.Views.{kind_word, state_text, branch_line, helds_of, held_lines, places_text, data_in, data_text, events_text};
 
 use asl_exec::{Frame, SharedFrame};
 use asl_history::{Event, Place, put_line};
@@ -12,7 +12,6 @@ use asl_json::{Json, Name, put, put_quoted};
 use asl_session::{Session, put_answer};
 use asl_setup::StepAt;
 use asl_steps::{Record, error_output};
-use asl_time::put_stamp;
 use std::alloc::{AllocError, Global};
 
 /// What a branch is doing, in a word.
@@ -178,25 +177,4 @@ pub(crate) fn put_events(out: &mut String, session: &Session, count: u32) -> Res
     let events = session.execution().history().events();
     let before = events.len().saturating_sub(count as usize);
     put_lines(out, &events[before..])
-}
-
-/// Appends the line of a step, as a steps file has it. The error is that memory ran out.
-fn put_step(out: &mut String, at: &StepAt) -> Result<(), AllocError>
-    ensures { OnOk result (string_bytes out.new ≡ string_bytes out.old ++ step_text at.now) }
-{
-    at.place.put(out)?;
-    out.push(' ')?;
-    put_stamp(out, at.moment)?;
-    out.push('\n')
-}
-
-/// Appends the steps that were taken, as a steps file. The error is that memory ran out.
-pub(crate) fn put_steps(out: &mut String, session: &Session) -> Result<(), AllocError>
-    ensures { OnOk result (string_bytes out.new
-        ≡ string_bytes out.old ++ steps_text session.now) }
-{
-    for at in session.steps() {
-        put_step(out, at)?;
-    }
-    Ok(())
 }

@@ -1,8 +1,8 @@
 // Laws of runs.
 ghost use Rattle.asl_exec.specs.Laws.{OneRun, RunIsNotRefused};
 
-/// Texts have at most one run, and those that have one aren't refused, over all texts: so `emulate_texts` can answer in one way only,
-/// unless memory runs out. The laws have no code.
+/// Texts have at most one run, and those that have one aren't refused, over all texts: so `emulate_texts` answers texts
+/// that have a run with that run, unless memory runs out. The laws have no code.
 pub fn texts_have_one_run()
     ensures one { OneRun }
     ensures not_refused { RunIsNotRefused }

@@ -4,7 +4,6 @@ use Rattle.std.specs.Fmt.{decimal}
 use Rattle.std.specs.List.{flat_map, list_all, list_any}
 use Rattle.asl_json.specs.View.{data_of}
 use Rattle.asl_json.specs.Compact.{compact}
-use Rattle.asl_time.specs.StampText.{stamp_of}
 use Rattle.asl_history.specs.Places.{place_text}
 use Rattle.asl_steps.specs.Rows.{error_output}
 use Rattle.asl_run.specs.Lines.{is_success}
@@ -86,13 +85,6 @@ explored_text x =
     searched_text x.complete x.depth
     ++ (number_line (codes "worlds ") x.worlds
     ++ (number_line (codes "outcomes ") (length x.found.items) ++ (founds_text x.late.items 1 x.found.items ++ notes_text x)))
-
--- a step as a steps file has it
-abbrev pub step_text : StepAt → List ℕ
-step_text a = place_text a.place ++ 32 ∷ (stamp_of a.moment ++ 10 ∷ [])
-
-abbrev pub steps_text : List StepAt → List ℕ
-steps_text l = flat_map step_text l
 
 -- each outcome is a success
 abbrev pub are_good : List Found → Bool

@@ -22,6 +22,6 @@ mod watch;
 pub use asl_setup::Setup;
 pub use found::{Explored, Found};
 pub use laws::searches_leave_out_nothing;
-pub use report::{is_good, put_explored, put_steps};
+pub use report::{is_good, put_explored};
 pub use search::explore;
 pub use watch::Watch;

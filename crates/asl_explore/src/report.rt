@@ -5,7 +5,7 @@ ghost use Rattle.std.specs.List.{list_any};
 ghost use Rattle.asl_json.specs.View.{data_of};
 ghost use Rattle.asl_json.specs.Compact.{compact};
 ghost use Rattle.asl_steps.specs.Rows.{error_output};
-ghost use Rattle.asl_explore.specs.Reports.{ended_text, place_word, order_line, step_text, steps_text, outcome_line, found_text, late_line, founds_text, number_line, note_text, gap, time_limit_note, clock_note, notes_text, searched_text, explored_text, are_good, is_good};
+ghost use Rattle.asl_explore.specs.Reports.{ended_text, place_word, order_line, outcome_line, found_text, late_line, founds_text, number_line, note_text, gap, time_limit_note, clock_note, notes_text, searched_text, explored_text, are_good, is_good};
 
 use crate::found::{Explored, Found};
 use asl_exec::Outcome;
@@ -13,7 +13,6 @@ use asl_json::{Json, put};
 use asl_run::is_success;
 use asl_setup::StepAt;
 use asl_steps::{ErrorOut, error_output};
-use asl_time::put_stamp;
 use itoa::Buffer;
 use std::alloc::{AllocError, Global};
 
@@ -233,26 +232,6 @@ pub fn put_explored(alloc: Global, out: &mut String, explored: &Explored) -> Res
     put_number_line(out, "outcomes ", explored.found.len() as u64)?;
     put_founds(alloc, out, &explored.late, &explored.found)?;
     put_notes(out, explored)
-}
-
-/// Appends the line of a step, as a steps file has it. The error is that memory ran out.
-fn put_step(out: &mut String, at: &StepAt) -> Result<(), AllocError>
-    ensures { OnOk result (string_bytes out.new ≡ string_bytes out.old ++ step_text at.now) }
-{
-    at.place.put(out)?;
-    out.push(' ')?;
-    put_stamp(out, at.moment)?;
-    out.push('\n')
-}
-
-/// Appends these steps, as a steps file. The error is that memory ran out.
-pub fn put_steps(out: &mut String, steps: &[StepAt]) -> Result<(), AllocError>
-    ensures { OnOk result (string_bytes out.new ≡ string_bytes out.old ++ steps_text steps.now) }
-{
-    for at in steps {
-        put_step(out, at)?;
-    }
-    Ok(())
 }
 
 /// Whether each outcome is a success.

@@ -10,21 +10,21 @@ pub(crate) const MAX_MACHINES: usize = 16;
 
 /// Where a value stands.
 #[derive(Clone, Copy)]
-pub(crate) struct Spot<'a> {
+pub struct Spot<'a> {
     /// The names of the states of the machine.
-    pub(crate) names: &'a HashSet<String>,
+    pub names: &'a HashSet<String>,
     /// How many machines it stands in.
-    pub(crate) level: usize,
+    pub level: usize,
     /// Whether what holds it is the last of its list.
-    pub(crate) ends: bool,
+    pub ends: bool,
     /// Its key.
-    pub(crate) key: &'a str,
+    pub key: &'a str,
     /// Whether another member of its group stands before it.
-    pub(crate) doubled: bool,
+    pub doubled: bool,
 }
 
 /// One machine further in. More than one too many aren't told apart.
-pub(crate) fn one_deeper(level: usize) -> usize
+pub fn one_deeper(level: usize) -> usize
     ensures { result ≡ one_deeper level }
 {
     if level > MAX_MACHINES {
@@ -34,7 +34,7 @@ pub(crate) fn one_deeper(level: usize) -> usize
 }
 
 /// The spot of an item of a list.
-pub(crate) fn at_item<'a>(spot: Spot<'a>, ends: bool) -> Spot<'a>
+pub fn at_item<'a>(spot: Spot<'a>, ends: bool) -> Spot<'a>
     ensures { spot_of result ≡ at_item (spot_of spot.entry) ends }
 {
     Spot {

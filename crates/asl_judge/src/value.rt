@@ -62,21 +62,21 @@ fn form_of(sort: Sort) -> Form
 }
 
 /// Whether a value of this sort is a template, or a part of one.
-pub(crate) fn is_template(sort: Sort) -> bool
+pub fn is_template(sort: Sort) -> bool
     ensures { result ≡ is_template sort }
 {
     matches!(sort, Sort::Template)
 }
 
 /// Whether lists of this sort are searched.
-pub(crate) fn is_list(sort: Sort) -> bool
+pub fn is_list(sort: Sort) -> bool
     ensures { result ≡ is_list sort }
 {
     matches!(form_of(sort), Form::List) || is_template(sort)
 }
 
 /// Whether objects of this sort are searched.
-pub(crate) fn is_object(sort: Sort) -> bool
+pub fn is_object(sort: Sort) -> bool
     ensures { result ≡ is_object sort }
 {
     matches!(form_of(sort), Form::Object) || is_template(sort)
@@ -97,7 +97,7 @@ fn is_of(form: Form, value: &Json) -> bool
 }
 
 /// No fault where the demand holds, else this one.
-pub(crate) fn unless(holds: bool, kind: FaultKind) -> Option<FaultKind>
+pub fn unless(holds: bool, kind: FaultKind) -> Option<FaultKind>
     ensures { result ≡ unless holds kind }
 {
     if holds {
@@ -134,8 +134,8 @@ fn is_name(text: &str) -> bool
     0 < characters && characters <= 80
 }
 
-/// By where the value stands.
-fn spot_fault(spot: Spot, sort: Sort) -> Option<FaultKind>
+/// The fault of a value by where it stands.
+pub fn spot_fault(spot: Spot, sort: Sort) -> Option<FaultKind>
     ensures { Judges (spot_demands (spot_of spot.entry) sort) result }
 {
     match sort {
@@ -149,8 +149,8 @@ fn spot_fault(spot: Spot, sort: Sort) -> Option<FaultKind>
     }
 }
 
-/// By the type of the value.
-fn form_fault(sort: Sort, value: &Json) -> Option<FaultKind>
+/// The fault of a value by its type of JSON.
+pub fn form_fault(sort: Sort, value: &Json) -> Option<FaultKind>
     ensures { Judges (form_demand sort (data_of value.now) ∷ []) result }
 {
     let fits = is_of(form_of(sort), value);
@@ -241,7 +241,8 @@ fn is_jitter(text: &str) -> bool
     text == "FULL" || text == "NONE"
 }
 
-fn text_fault(
+/// The fault of a text by what it is to be. The error is that memory ran out.
+pub fn text_fault(
     alloc: Global,
     spot: Spot,
     sort: Sort,
@@ -282,7 +283,8 @@ fn is_rate(number: &Dec) -> bool
     1_000_000_000 <= units && units <= 1_000_000_000_000
 }
 
-fn number_fault(sort: Sort, number: &Dec) -> Option<FaultKind>
+/// The fault of a number by its range.
+pub fn number_fault(sort: Sort, number: &Dec) -> Option<FaultKind>
     ensures { Judges (number_demands sort number.now) result }
 {
     match sort {
@@ -313,13 +315,14 @@ fn is_single(items: &Items) -> bool
 }
 
 /// Whether the name that stands for all errors stands alone, and in the last of the list.
-fn is_last(ends: bool, items: &Items) -> bool
+pub fn is_last(ends: bool, items: &Items) -> bool
     ensures { result ≡ is_last ends (chain items.now) }
 {
     !has_all(items) || (ends && is_single(items))
 }
 
-fn is_nonempty(items: &Items) -> bool
+/// Whether a list has an item.
+pub fn is_nonempty(items: &Items) -> bool
     ensures { result ≡ is_nonempty (chain items.now) }
 {
     !items.values().is_empty()
@@ -332,7 +335,7 @@ fn is_short(items: &Items) -> bool
 }
 
 /// Whether there are some machines, and not too many.
-fn is_fork(items: &Items) -> bool
+pub fn is_fork(items: &Items) -> bool
     ensures { result ≡ (is_nonempty (chain items.now)
         && nat_le (item_count (chain items.now)) 999999999) }
 {

@@ -109,7 +109,7 @@ fn any_counts(group: &Group, members: &[Member]) -> bool
 }
 
 /// Whether another member of a group of this one is among those before it.
-fn is_doubled(groups: &[Group], before: &[Member], member: &Member) -> bool
+pub fn is_doubled(groups: &[Group], before: &[Member], member: &Member) -> bool
     ensures { result ≡ is_doubled (groups_of groups.now) (members_of before.now) member.now.key
         (data_of member.now.value) }
 {
@@ -122,7 +122,7 @@ fn is_doubled(groups: &[Group], before: &[Member], member: &Member) -> bool
 }
 
 /// The fault of an object in which no member of this group is there.
-fn undecided(group: &Group, members: &[Member]) -> Option<FaultKind>
+pub fn undecided(group: &Group, members: &[Member]) -> Option<FaultKind>
     ensures { result ≡ unless
         (not group.now.exact || any_counts (group_of group.now) (members_of members.now))
         FaultKind.Neither }
@@ -166,8 +166,13 @@ fn is_needed(row: Row, members: &[Member]) -> bool
     }
 }
 
-/// The fault of a required member that is missing.
-fn lack(alloc: Global, at: usize, row: Row, members: &[Member]) -> Result<Option<Fault>, AllocError>
+/// The fault of a required member that is missing. The error is that memory ran out.
+pub fn lack(
+    alloc: Global,
+    at: usize,
+    row: Row,
+    members: &[Member],
+) -> Result<Option<Fault>, AllocError>
     ensures { IfOk result (Answers
         (row_claims at (row_of row ∷ []) (pairs (members_of members.now)))) }
 {
@@ -214,8 +219,8 @@ fn states_in(members: &[Member]) -> &[Member]
     }
 }
 
-/// The names of a machine's states.
-fn state_names(alloc: Global, members: &[Member]) -> Result<HashSet<String>, AllocError>
+/// The names of a machine's states. The error is that memory ran out.
+pub fn state_names(alloc: Global, members: &[Member]) -> Result<HashSet<String>, AllocError>
     ensures { IfOk result (λ s. (k : List ℕ)
         → contains_text s k ≡ names_in (pairs (members_of members.now)) k) }
 {
@@ -339,8 +344,8 @@ fn check_members(
     Ok(best)
 }
 
-/// Whether of `k` and `k.$` in an object of a template the other one stands before.
-fn is_twice(
+/// Whether of `k` and `k.$` in an object of a template the other one stands before. The error is that memory ran out.
+pub fn is_twice(
     alloc: Global,
     others: Sort,
     keys: &Keys,

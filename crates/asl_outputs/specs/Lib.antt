@@ -1,3 +1,2 @@
-pub mod StepsFile
 pub mod Taken
 pub mod Told

@@ -11,7 +11,7 @@ use Rattle.asl_formats.specs.JsonLines.{json_lines_text}
 use Rattle.asl_formats.specs.Aws.{aws_text}
 use Rattle.asl_outputs.specs.declared.format.Format.{Format}
 use Rattle.asl_outputs.specs.declared.format.Format.TheVariants.{Json, Aws, Steps}
-use Rattle.asl_outputs.specs.StepsFile.{steps_file}
+use Rattle.asl_setup.specs.StepsFile.{steps_file}
 use Rattle.asl_outputs.specs.Taken.{taken_by}
 
 -- an execution that took these steps to this world

@@ -3,9 +3,9 @@ ghost use Rattle.std.specs.Prelude.{◌≡◌, IfOk, string_bytes};
 ghost use Rattle.asl_exec.specs.Views.{world_of};
 ghost use Rattle.asl_outputs.specs.Told.{told};
 
-use crate::steps_file::steps_text;
 use asl_exec::{Execution, StepAt};
 use asl_formats::{aws_json, lines_of_json};
+use asl_setup::put_steps;
 use std::alloc::{AllocError, Global};
 
 /// How a run is printed.
@@ -31,6 +31,10 @@ pub(crate) fn told(
     match format {
         Format::Json => lines_of_json(alloc, execution.history().events()),
         Format::Aws => aws_json(alloc, execution.history().events()),
-        Format::Steps => steps_text(alloc, steps),
+        Format::Steps => {
+            let mut out = String::new(alloc);
+            put_steps(&mut out, steps)?;
+            Ok(out)
+        }
     }
 }

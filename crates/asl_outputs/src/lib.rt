@@ -1,6 +1,6 @@
 //! Runs, and what they print in other formats than the usual text: their histories for other programs, and the steps that they took.
 //!
-//! Modules in reading order: `steps_file` writes steps as a file; `driving` takes steps and tells which they were; `format` is how a run is
+//! Modules in reading order: `driving` takes steps and tells which they were; `format` is how a run is
 //! printed, `emulation` is a whole run, from texts to text, and `laws` says that the steps of a run lead where it led.
 #![tactic(auto)]
 
@@ -8,10 +8,8 @@ mod driving;
 mod emulation;
 mod format;
 mod laws;
-mod steps_file;
 
 pub use driving::take_by;
 pub use emulation::emulate_as;
 pub use format::Format;
 pub use laws::taken_steps_lead_to_the_same_world;
-pub use steps_file::steps_text;

@@ -140,6 +140,20 @@ impl Fault {
         }
     }
 
+    /// A fault at a place, of which the innermost step comes first.
+    pub fn at(kind: FaultKind, steps: Vec<Step>) -> Fault
+        ensures { result ≡ (kind, reverse steps.items) }
+    {
+        Fault { kind, steps }
+    }
+
+    /// The steps to its place, the innermost first.
+    pub fn steps_back(&self) -> &[Step]
+        ensures { reverse result.now ≡ self.now.1 }
+    {
+        &self.steps
+    }
+
     /// What the definition is refused for.
     pub fn kind(&self) -> FaultKind
         ensures { result ≡ self.now.0 }

@@ -1,7 +1,7 @@
 //! What an execution begins with and the steps that it takes, read from texts.
 //!
 //! Modules in reading order: `setup` is what an execution begins with, `step_at` a step; `steps_file`
-//! reads steps, `texts` each other text, `fault` says why they are refused; `run_texts` is all texts of a run, `emulation` reads them,
+//! reads and writes steps, `texts` each other text, `fault` says why they are refused; `run_texts` is all texts of a run, `emulation` reads them,
 //! and `laws` says that they spell one run.
 #![tactic(auto)]
 
@@ -21,5 +21,5 @@ pub use run_texts::RunTexts;
 pub use setup::Setup;
 pub use step_at::{StepAt, equal_steps_are_one};
 pub use steps_file::{
-    StepsFault, files_spell_one_list_of_steps, read_step, read_steps, split_line,
+    StepsFault, files_spell_one_list_of_steps, put_steps, read_step, read_steps, split_line,
 };

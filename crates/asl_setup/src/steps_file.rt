@@ -1,13 +1,13 @@
 // Files of steps.
-ghost use Rattle.std.specs.Prelude.{◌≡◌, ◌<◌, ◌∷◌, List, ℕ, length, IfOk, IfErr, IfSome, MatchResult};
+ghost use Rattle.std.specs.Prelude.{◌≡◌, ◌<◌, ◌∷◌, ◌++◌, List, ℕ, length, IfOk, IfErr, IfSome, MatchResult, OnOk, string_bytes};
 ghost use Rattle.asl_setup.specs.declared.step_at.StepAt.{StepAt};
 ghost use Rattle.asl_setup.specs.declared.steps_file.StepsFault.TheVariants.{OutOfMemory};
 ghost use Rattle.asl_setup.specs.FileLines.{lines_in};
-ghost use Rattle.asl_setup.specs.StepsFile.{IsStepLine, IsStepsFile, IsStepsFault};
+ghost use Rattle.asl_setup.specs.StepsFile.{IsStepLine, IsStepsFile, IsStepsFault, step_line, steps_file};
 
 use crate::step_at::StepAt;
 use asl_history::Place;
-use asl_time::read_stamp;
+use asl_time::{put_stamp, read_stamp};
 use std::alloc::{AllocError, AllocFailed, Global};
 use std::error::Error;
 use std::{fmt, str};
@@ -117,6 +117,25 @@ pub fn read_steps(alloc: Global, bytes: &[u8]) -> Result<Vec<StepAt>, StepsFault
         rest = behind;
     }
     Ok(steps)
+}
+
+fn put_step(out: &mut String, step: &StepAt) -> Result<(), AllocError>
+    ensures { OnOk result (string_bytes out.new ≡ string_bytes out.old ++ step_line step.now) }
+{
+    step.place.put(out)?;
+    out.push(' ')?;
+    put_stamp(out, step.moment)?;
+    out.push('\n')
+}
+
+/// Appends these steps as a file: a line for each, its place and its moment. The error is that memory ran out.
+pub fn put_steps(out: &mut String, steps: &[StepAt]) -> Result<(), AllocError>
+    ensures { OnOk result (string_bytes out.new ≡ string_bytes out.old ++ steps_file steps.now) }
+{
+    for step in steps {
+        put_step(out, step)?;
+    }
+    Ok(())
 }
 
 /// A file spells at most one list of steps. A law: calling it does nothing.

@@ -1,7 +1,7 @@
 use Rattle.std.proofs.Common.{◌≡◌, ◌++◌, drop}
 use Rattle.std.specs.Prelude.{string_bytes}
-use Rattle.asl_outputs.specs.StepsFile.{steps_file}
-use Rattle.asl_outputs.proofs.steps_file.put_steps.Given as goal
+use Rattle.asl_setup.specs.StepsFile.{steps_file}
+use Rattle.asl_setup.proofs.steps_file.put_steps.Given as goal
 
 -- the lines so far and those of what is left are those of all
 abbrev pub invariant-loop-step : goal.invariant-loop-step
