@@ -17,7 +17,8 @@ use Rattle.asl_exec.specs.Steps.{step, opening, refusal_in}
 use Rattle.asl_exec.proofs.Accepting.{step_refused}
 use Rattle.asl_explore.specs.declared.met.Node.{Node}
 use Rattle.asl_explore.specs.Orders.{IsWhole}
-use Rattle.asl_explore.specs.Searches.{IsMet, IsExpanded, IsLater, Shows, worlds_of}
+use Rattle.asl_explore.specs.declared.orders.Orders.{Orders}
+use Rattle.asl_explore.specs.Searches.{IsMet, IsExpanded, IsBound, IsLater, Shows, is_beyond, worlds_of}
 use Rattle.asl_explore.proofs.Growing.{later-at, met-later, within-later}
 use Rattle.asl_explore.proofs.Whole.{expanded, closed-whole}
 
@@ -42,12 +43,16 @@ met-over ws os v next e o c = record {
   runs = λ r. let x : true ≡ false = sym o ∙ ap (λ (z : World). is_over z.outcome) e ∙ r in absurd (cc);
 }
 
-abbrev pub AreMet : Setup → List World → ℕ → List World → List Outcome → List Earliest → ℕ → Type 0
-AreMet s ws number vs us turns i = AllWithin (λ (e : Earliest). (d : World) → IsMet vs us (step s (get_or ws number d) e.place e.moment)) turns 0 i
+-- the world that a step leads to is met, unless it is later than is tried
+abbrev pub IsMetBy : Setup → List World → ℕ → List World → List Outcome → Option ℕ → Earliest → Type 0
+IsMetBy s ws number vs us bound e = is_beyond bound e.moment ≡ false → (d : World) → IsMet vs us (step s (get_or ws number d) e.place e.moment)
 
-pub expanded-all : (s : Setup) (ws vs : List World) (os us : List Outcome) (number : ℕ) (w : World) (turns : List Earliest) (i : ℕ) → IsLater ws os vs us → number < length ws → number < length vs → ((d : World) → get_or ws number d ≡ bare w) → is_over w.outcome ≡ false → is_some (record_at [] w.branches) ≡ true → turns ≡ earliest w.last w.branches → length turns ≤ i
-    → AreMet s ws number vs us turns i → HoldsAt (IsExpanded s vs us) vs number
-expanded-all s ws vs os us number w turns i l lt lv same runs root et le met d = subst (IsExpanded s vs us) (sym at) (by (record_at [] w.branches) refl)
+abbrev pub AreMet : Setup → List World → ℕ → List World → List Outcome → Option ℕ → List Earliest → ℕ → Type 0
+AreMet s ws number vs us bound turns i = AllWithin (IsMetBy s ws number vs us bound) turns 0 i
+
+pub expanded-all : (o : Orders) (s : Setup) (ws vs : List World) (os us : List Outcome) (number : ℕ) (w : World) (bound : Option ℕ) (turns : List Earliest) (i : ℕ) → IsLater ws os vs us → number < length ws → number < length vs → ((d : World) → get_or ws number d ≡ bare w) → is_over w.outcome ≡ false → is_some (record_at [] w.branches) ≡ true → turns ≡ earliest w.last w.branches → length turns ≤ i → IsBound o s (bare w) bound
+    → AreMet s ws number vs us bound turns i → HoldsAt (IsExpanded o s vs us) vs number
+expanded-all o s ws vs os us number w bound turns i l lt lv same runs root et le b met d = subst (IsExpanded o s vs us) (sym at) (by (record_at [] w.branches) refl)
   where
     at : get_or vs number d ≡ bare w
     at = later-at ws vs os us number d l lt ∙ same d
@@ -55,16 +60,19 @@ expanded-all s ws vs os us number w turns i l lt lv same runs root et le met d =
     here : Contains vs (bare w)
     here = (number, lv, later-at ws vs os us number (bare w) l lt ∙ same (bare w))
 
-    all : All (λ (e : Earliest). IsMet vs us (step s (bare w) e.place e.moment)) (earliest w.last w.branches)
-    all = subst (All (λ (e : Earliest). IsMet vs us (step s (bare w) e.place e.moment))) et
-        (λ k z h. subst (λ (v : World). IsMet vs us (step s v (get_or turns k z).place (get_or turns k z).moment)) (same (bare w)) (met k z (omega arith) (omega arith) (bare w)))
+    Tried : Earliest → Type 0
+    Tried e = is_beyond bound e.moment ≡ false → IsMet vs us (step s (bare w) e.place e.moment)
 
-    by : (o : Option Record) → record_at [] w.branches ≡ o → IsExpanded s vs us (bare w)
-    by (Some r) e = expanded s vs us (bare w) r runs here e all
+    all : All Tried (earliest w.last w.branches)
+    all = subst (All Tried) et
+        (λ k z h inside. subst (λ (v : World). IsMet vs us (step s v (get_or turns k z).place (get_or turns k z).moment)) (same (bare w)) (met k z (omega arith) (omega arith) inside (bare w)))
+
+    by : (r : Option Record) → record_at [] w.branches ≡ r → IsExpanded o s vs us (bare w)
+    by (Some r) e = expanded o s vs us (bare w) bound r runs here e b all
     by None e = let x : false ≡ true = ap is_some (sym e) ∙ root in absurd (cc)
 
-pub all-whole : (s : Setup) (ws : List World) (os : List Outcome) (i : ℕ) → length ws ≤ i → IsMet ws os (opening s) → AllWithin (IsExpanded s ws os) ws 0 i → IsWhole s os
-all-whole s ws os i le m h = closed-whole s ws os m (λ k d l. h k d (omega arith) (omega arith))
+pub all-whole : (o : Orders) (s : Setup) (ws : List World) (os : List Outcome) (i : ℕ) → length ws ≤ i → IsMet ws os (opening s) → AllWithin (IsExpanded o s ws os) ws 0 i → IsWhole o s os
+all-whole o s ws os i le m h = closed-whole o s ws os m (λ k d l. h k d (omega arith) (omega arith))
 
 -- a search begins with the world before the first step
 pub met-first : (s z : Setup) (ws : List World) (os : List Outcome) → z ≡ s → ws ≡ bare (opening z) ∷ [] → IsMet ws os (opening s)
@@ -105,20 +113,20 @@ next-is s z ws number w v u next d p t ez ev eu en at = en ∙ ap bare eu ∙ (�
 pub shown-as : (s z : Setup) (fs gs : List Found) → s ≡ z → (All (Shows s) fs → All (Shows s) gs) → All (Shows z) fs → All (Shows z) gs
 shown-as s z fs gs e f = subst (λ (x : Setup). All (Shows x) fs → All (Shows x) gs) e f
 
-pub met-at : (s z : Setup) (ws vs xs : List World) (os us ys : List Outcome) (number : ℕ) (turns : List Earliest) (i : ℕ) (turn : Earliest) (p : List ℕ) → z ≡ s → IsLater ws os vs us → number < length ws → i < length turns → turn ≡ get_or turns i turn → p ≡ turn.place
-    → ((d : World) → IsMet xs ys (step z (get_or vs number d) p turn.moment)) → (d : Earliest) (w : World) → IsMet xs ys (step s (get_or ws number w) (get_or turns i d).place (get_or turns i d).moment)
-met-at s z ws vs xs os us ys number turns i turn p e l lt li et ep h d w =
+pub met-at : (s z : Setup) (ws vs xs : List World) (os us ys : List Outcome) (number : ℕ) (bound : Option ℕ) (turns : List Earliest) (i : ℕ) (turn : Earliest) → z ≡ s → IsLater ws os vs us → number < length ws → i < length turns → turn ≡ get_or turns i turn
+    → (is_beyond bound turn.moment ≡ false → (d : World) → IsMet xs ys (step z (get_or vs number d) turn.place turn.moment)) → (d : Earliest) → IsMetBy s ws number xs ys bound (get_or turns i d)
+met-at s z ws vs xs os us ys number bound turns i turn e l lt li et h d inside w =
     let r : turn ≡ get_or turns i d = get_or_read turns i turn li et d in
     let q = later-at ws vs os us number w l lt in
-    let place : p ≡ (get_or turns i d).place = ep ∙ ap (λ (x : Earliest). x.place) r in
-    let path : step z (get_or vs number w) p turn.moment ≡ step s (get_or ws number w) (get_or turns i d).place (get_or turns i d).moment = λ j. step (e j) (q j) (place j) (r j).moment in
-    subst (IsMet xs ys) path (h w)
+    let within : is_beyond bound turn.moment ≡ false = subst (λ (x : Earliest). is_beyond bound x.moment ≡ false) (sym r) inside in
+    let path : step z (get_or vs number w) turn.place turn.moment ≡ step s (get_or ws number w) (get_or turns i d).place (get_or turns i d).moment = λ j. step (e j) (q j) (r j).place (r j).moment in
+    subst (IsMet xs ys) path (h within w)
 
-pub met-more : (s : Setup) (ws vs xs : List World) (us ys : List Outcome) (number : ℕ) (turns : List Earliest) (i : ℕ) → IsLater vs us xs ys → AreMet s ws number vs us turns i → ((d : Earliest) (w : World) → IsMet xs ys (step s (get_or ws number w) (get_or turns i d).place (get_or turns i d).moment)) → AreMet s ws number xs ys turns (i + 1)
-met-more s ws vs xs us ys number turns i l h new =
-    AllWithin-more (λ (e : Earliest). (d : World) → IsMet xs ys (step s (get_or ws number d) e.place e.moment)) turns 0 i
-    (λ k d z lt w. met-later vs xs us ys (step s (get_or ws number w) (get_or turns k d).place (get_or turns k d).moment) l (h k d z lt w)) new
+pub met-more : (s : Setup) (ws vs xs : List World) (us ys : List Outcome) (number : ℕ) (bound : Option ℕ) (turns : List Earliest) (i : ℕ) → IsLater vs us xs ys → AreMet s ws number vs us bound turns i → ((d : Earliest) → IsMetBy s ws number xs ys bound (get_or turns i d)) → AreMet s ws number xs ys bound turns (i + 1)
+met-more s ws vs xs us ys number bound turns i l h new =
+    AllWithin-more (IsMetBy s ws number xs ys bound) turns 0 i
+    (λ k d z lt inside w. met-later vs xs us ys (step s (get_or ws number w) (get_or turns k d).place (get_or turns k d).moment) l (h k d z lt inside w)) new
 
-pub within-more : (s z : Setup) (ws vs : List World) (os us : List Outcome) (i : ℕ) → z ≡ s → IsLater ws os vs us → i ≤ length ws → AllWithin (IsExpanded s ws os) ws 0 i → HoldsAt (IsExpanded z vs us) vs i → AllWithin (IsExpanded s vs us) vs 0 (i + 1)
-within-more s z ws vs os us i e l le h new =
-    AllWithin-more (IsExpanded s vs us) vs 0 i (within-later s ws vs os us i l le h) (subst (λ (x : Setup). HoldsAt (IsExpanded x vs us) vs i) e new)
+pub within-more : (o : Orders) (s z : Setup) (ws vs : List World) (os us : List Outcome) (i : ℕ) → z ≡ s → IsLater ws os vs us → i ≤ length ws → AllWithin (IsExpanded o s ws os) ws 0 i → HoldsAt (IsExpanded o z vs us) vs i → AllWithin (IsExpanded o s vs us) vs 0 (i + 1)
+within-more o s z ws vs os us i e l le h new =
+    AllWithin-more (IsExpanded o s vs us) vs 0 i (within-later o s ws vs os us i l le h) (subst (λ (x : Setup). HoldsAt (IsExpanded o x vs us) vs i) e new)

@@ -7,6 +7,7 @@ use Rattle.asl_run.specs.declared.outcome.Outcome.{Outcome}
 use Rattle.asl_setup.specs.declared.setup.Setup.{Setup}
 use Rattle.asl_exec.specs.Steps.{opening, step}
 use Rattle.asl_explore.specs.Orders.{IsWhole}
+use Rattle.asl_explore.specs.declared.orders.Orders.{Orders}
 use Rattle.asl_explore.specs.Searches.{IsMet, IsExpanded}
 
 -- a step reads nothing of the history: it is refused, or leaves the same world but for the history
@@ -18,5 +19,5 @@ StepsIgnoreHistory =
 -- a search that met the opening world, and expanded each world that it met, left out nothing
 abbrev pub ClosedIsWhole : Type 0
 ClosedIsWhole =
-    (s : Setup) (ws : List World) (os : List Outcome) → IsMet ws os (opening s)
-    → All (IsExpanded s ws os) ws → IsWhole s os
+    (o : Orders) (s : Setup) (ws : List World) (os : List Outcome) → IsMet ws os (opening s)
+    → All (IsExpanded o s ws os) ws → IsWhole o s os

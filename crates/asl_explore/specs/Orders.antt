@@ -1,15 +1,18 @@
 -- Orders of branches: which branch steps, one after another, each at the earliest moment at which it
 -- may.
-use Rattle.std.specs.Prelude.{ℕ, ◌≡◌, true, List, [], ◌∷◌, map, Option, Some, None}
+use Rattle.std.specs.Prelude.{ℕ, ◌≡◌, ◌≤◌, ⊤, true, is_some, List, [], ◌∷◌, map, Option, Some, None}
 use Rattle.std.specs.List.{Contains}
 use Rattle.asl_steps.specs.declared.record.Record.{Record}
 use Rattle.asl_frames.specs.Branches.{record_at}
 use Rattle.asl_frames.specs.Earliest.{due_from}
 use Rattle.asl_run.specs.World.{World, is_over}
+use Rattle.asl_run.specs.Bare.{bare}
 use Rattle.asl_run.specs.declared.outcome.Outcome.{Outcome}
 use Rattle.asl_setup.specs.declared.setup.Setup.{Setup}
 use Rattle.asl_setup.specs.declared.step_at.StepAt.{StepAt}
-use Rattle.asl_exec.specs.Steps.{step, opening}
+use Rattle.asl_exec.specs.Steps.{step, opening, refusal_in}
+use Rattle.asl_explore.specs.declared.orders.Orders.{Orders}
+use Rattle.asl_explore.specs.declared.orders.Orders.TheVariants.{Every, Prompt}
 
 abbrev pub due_of : ℕ → Option Record → ℕ
 due_of last None = last
@@ -35,8 +38,31 @@ timed s w (p ∷ ps) =
 abbrev pub places_of : List StepAt → List (List ℕ)
 places_of l = map (λ (a : StepAt). a.place) l
 
--- in whatever order the branches step, the outcome is one of these
-abbrev pub IsWhole : Setup → List Outcome → Type 0
-IsWhole s os =
-    (ps : List (List ℕ)) → is_over (after_order s (opening s) ps).outcome ≡ true
+-- ---- which orders are tried
+
+-- a branch is at the place, and may step at its earliest moment
+abbrev pub MayStep : Setup → World → List ℕ → Type 0
+MayStep s w p =
+    (is_some (record_at p w.branches) ≡ true) × (refusal_in s w p (due w p) ≡ None)
+
+-- no branch is late where this one steps: it may, and none may earlier. How long the history is
+-- doesn't count
+abbrev pub IsPrompt : Setup → World → List ℕ → Type 0
+IsPrompt s w p =
+    MayStep s (bare w) p × ((q : List ℕ) → MayStep s (bare w) q → due w p ≤ due w q)
+
+abbrev pub IsTried : Orders → Setup → World → List ℕ → Type 0
+IsTried Every s w p = ⊤
+IsTried Prompt s w p = IsPrompt s w p
+
+-- each step of an order is one that is tried
+abbrev pub AreTried : Orders → Setup → World → List (List ℕ) → Type 0
+AreTried o s w [] = ⊤
+AreTried o s w (p ∷ ps) = IsTried o s w p × AreTried o s (step s w p (due w p)) ps
+
+-- in whatever order of these the branches step, the outcome is one of those
+abbrev pub IsWhole : Orders → Setup → List Outcome → Type 0
+IsWhole o s os =
+    (ps : List (List ℕ)) → AreTried o s (opening s) ps
+    → is_over (after_order s (opening s) ps).outcome ≡ true
     → Contains os (after_order s (opening s) ps).outcome

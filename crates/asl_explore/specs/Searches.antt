@@ -1,13 +1,15 @@
 -- What a search has met.
-use Rattle.std.specs.Prelude.{ℕ, ◌≡◌, ◌++◌, true, false, List, map}
-use Rattle.std.specs.List.{AllPairs, Contains}
+use Rattle.std.specs.Prelude.{ℕ, zero, suc, ◌≡◌, ◌<◌, length, get_or, ◌++◌, true, false, ⊤, Bool, nat_lt, List, map, Option, Some, None}
+use Rattle.std.specs.List.{All, AllPairs, Contains}
 use Rattle.asl_run.specs.World.{World, is_over}
 use Rattle.asl_run.specs.Bare.{bare}
 use Rattle.asl_run.specs.declared.outcome.Outcome.{Outcome}
 use Rattle.asl_setup.specs.declared.setup.Setup.{Setup}
 use Rattle.asl_exec.specs.Steps.{step, opening, world_after}
-use Rattle.asl_explore.specs.Orders.{due, timed, places_of}
+use Rattle.asl_explore.specs.Orders.{due, timed, places_of, MayStep, IsTried, AreTried, after_order}
 use Rattle.asl_explore.specs.declared.found.Found.{Found}
+use Rattle.asl_explore.specs.declared.orders.Orders.{Orders}
+use Rattle.asl_explore.specs.declared.orders.Orders.TheVariants.{Prompt}
 use Rattle.asl_explore.specs.declared.met.Node.{Node}
 
 -- a world is met: its outcome is among these, or, while it runs, it is one of these worlds, but for
@@ -16,9 +18,26 @@ pub record IsMet (ws : List World) (os : List Outcome) (w : World) : Type 0 wher
   pub ends : is_over w.outcome ≡ true → Contains os w.outcome
   pub runs : is_over w.outcome ≡ false → Contains ws (bare w)
 
--- whichever branch steps, the world that it leaves is met
-abbrev pub IsExpanded : Setup → List World → List Outcome → World → Type 0
-IsExpanded s ws os w = (p : List ℕ) → IsMet ws os (step s w p (due w p))
+-- whichever branch steps that is tried, the world that it leaves is met
+abbrev pub IsExpanded : Orders → Setup → List World → List Outcome → World → Type 0
+IsExpanded o s ws os w =
+    (p : List ℕ) → IsTried o s w p → IsMet ws os (step s w p (due w p))
+
+-- a step at this moment is later than one that may be taken
+abbrev pub is_beyond : Option ℕ → ℕ → Bool
+is_beyond None t = false
+is_beyond (Some m) t = nat_lt m t
+
+-- some branch may step at this moment
+pub record IsOpenAt (s : Setup) (w : World) (m : ℕ) : Type 0 where
+  pub place : List ℕ
+  pub may : MayStep s w place
+  pub due_is : due w place ≡ m
+
+-- no step that is tried is beyond this moment
+abbrev pub IsBound : Orders → Setup → World → Option ℕ → Type 0
+IsBound o s w None = ⊤
+IsBound o s w (Some m) = (o ≡ Prompt) × IsOpenAt s w m
 
 -- the worlds of a search, without their histories
 abbrev pub worlds_of : List Node → List World
@@ -32,6 +51,25 @@ pub record Shows (s : Setup) (f : Found) : Type 0 where
   pub over : is_over f.outcome ≡ true
   pub gives : (world_after s (opening s) f.steps.items).outcome ≡ f.outcome
   pub timed : f.steps.items ≡ timed s (opening s) (places_of f.steps.items)
+
+-- no order in which no branch is late ends in this outcome
+abbrev pub IsLateOutcome : Setup → Outcome → Type 0
+IsLateOutcome s o =
+    (ps : List (List ℕ)) → AreTried Prompt s (opening s) ps
+    → (after_order s (opening s) ps).outcome ≡ o → ⊥
+
+-- this holds of the outcome of this number, from 1
+abbrev pub IsNumbered : (Outcome → Type 0) → List Found → ℕ → Type 0
+IsNumbered P fs zero = ⊥
+IsNumbered P fs (suc i) = (i < length fs) × ((d : Found) → P (get_or fs i d).outcome)
+
+-- the outcomes of these numbers come only where a branch is late
+abbrev pub AreLate : Setup → List Found → List ℕ → Type 0
+AreLate s fs ns = All (IsNumbered (IsLateOutcome s) fs) ns
+
+-- an outcome isn't among those that were found
+abbrev pub IsMissing : List Found → Outcome → Type 0
+IsMissing fs o = All (λ (a : Outcome). a ≡ o → ⊥) (outcomes_of fs)
 
 -- no two are the same
 abbrev pub AreDistinct : List Outcome → Type 0

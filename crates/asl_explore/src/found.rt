@@ -1,5 +1,6 @@
 // What a search finds.
 
+use crate::orders::Orders;
 use asl_exec::Outcome;
 use asl_setup::StepAt;
 
@@ -18,6 +19,8 @@ pub struct Explored {
     /// The numbers, from 1, of those that come only where a branch is late: another one steps at a later moment first. None is among
     /// them where that isn't known.
     pub late: Vec<usize>,
+    /// The orders that were tried.
+    pub orders: Orders,
     /// Whether nothing was left out: each world that was met was tried.
     pub complete: bool,
     /// So many worlds were met, the first among them.

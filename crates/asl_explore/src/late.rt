@@ -1,99 +1,17 @@
 // Outcomes that come only where a branch is late.
+ghost use Rattle.std.specs.Prelude.{IfOk};
+ghost use Rattle.std.specs.List.{All};
+ghost use Rattle.asl_exec.specs.Views.{setup_of};
+ghost use Rattle.asl_explore.specs.Searches.{AreLate, IsMissing, IsNumbered, Shows};
 
 use crate::found::Found;
-use crate::met::{Met, Node};
-use crate::search::beginning;
-use crate::visiting::{enter, turns_in, visit};
-use asl_exec::{Earliest, Execution};
-use asl_setup::StepAt;
-use asl_time::Moment;
+use crate::met::Node;
+use crate::orders::Orders;
+use crate::search::search;
+use crate::visiting::{is_found, turns_in};
+use crate::watch::Unwatched;
+use asl_exec::Execution;
 use std::alloc::{AllocError, Global};
-
-/// The least moment at which a branch of an execution may step; none where no branch may.
-fn soonest(execution: &Execution, turns: &[Earliest]) -> Option<Moment> {
-    let mut least: Option<Moment> = None;
-    for turn in turns {
-        if execution.refusal(&turn.place, turn.moment).is_some() {
-            continue;
-        }
-        least = match least {
-            Some(moment) if moment.millis() <= turn.moment.millis() => Some(moment),
-            _ => Some(turn.moment),
-        };
-    }
-    least
-}
-
-/// Takes a step of each branch of a world that was met, if none may step earlier. Whether all worlds that they lead to are met then. The
-/// error is that memory ran out.
-fn expand_in_time(
-    execution: &mut Execution,
-    alloc: Global,
-    met: &mut Met,
-    found: &mut Vec<Found>,
-    number: usize,
-) -> Result<bool, AllocError> {
-    let Some(node) = met.nodes.get(number) else {
-        return Ok(false);
-    };
-    let Some(turns) = turns_in(alloc, &node.world)? else {
-        return Ok(false);
-    };
-    if !enter(execution, alloc, &node.world)? {
-        return Ok(false);
-    }
-    let least = soonest(execution, &turns);
-    let mut whole = true;
-    for turn in &turns {
-        if least == Some(turn.moment) {
-            let at = StepAt {
-                place: turn.place.try_clone()?,
-                moment: turn.moment,
-            };
-            whole = visit_again(execution, alloc, met, found, number, at)? && whole;
-        }
-    }
-    Ok(whole)
-}
-
-/// Takes a step in a world that was met, while it runs.
-fn visit_again(
-    execution: &mut Execution,
-    alloc: Global,
-    met: &mut Met,
-    found: &mut Vec<Found>,
-    number: usize,
-    at: StepAt,
-) -> Result<bool, AllocError> {
-    if number >= met.nodes.len() {
-        return Ok(false);
-    }
-    if !met.nodes[number].world.is_running() {
-        return Ok(false);
-    }
-    visit(execution, alloc, met, found, number, at)
-}
-
-/// The outcomes of the orders in which no branch is late; none where they were too many to be tried. The error is that memory ran out.
-fn in_time(
-    execution: &mut Execution,
-    alloc: Global,
-    limit: usize,
-) -> Result<Option<Vec<Found>>, AllocError> {
-    let Some(mut met) = beginning(alloc, execution)? else {
-        return Ok(None);
-    };
-    let mut found = Vec::new(alloc);
-    for number in 0..limit {
-        if number >= met.nodes.len() {
-            return Ok(Some(found));
-        }
-        if !expand_in_time(execution, alloc, &mut met, &mut found, number)? {
-            return Ok(None);
-        }
-    }
-    Ok(None)
-}
 
 /// Whether a branch waits in one of these worlds. The error is that memory ran out.
 fn any_waits(alloc: Global, nodes: &[Node]) -> Result<bool, AllocError> {
@@ -109,26 +27,39 @@ fn any_waits(alloc: Global, nodes: &[Node]) -> Result<bool, AllocError> {
     Ok(false)
 }
 
-/// The numbers, from 1, of the outcomes that come only where a branch is late. None is told where that isn't known. The error is that
-/// memory ran out.
+/// The numbers, from 1, of the outcomes that aren't among others. The error is that memory ran out.
+fn others_in(alloc: Global, found: &[Found], prompt: &[Found]) -> Result<Vec<usize>, AllocError>
+    ensures { IfOk result (λ v. All (IsNumbered (IsMissing prompt.now) found.now) v.items) }
+{
+    let mut others = Vec::new(alloc);
+    for index in 0..found.len() {
+        if !is_found(prompt, &found[index].outcome) {
+            others.push(index + 1)?;
+        }
+    }
+    Ok(others)
+}
+
+/// The numbers, from 1, of the outcomes that come only where a branch is late. None is told where that isn't known: where a search of the
+/// orders in which no branch is late is cut. The error is that memory ran out.
 pub(crate) fn late_among(
     execution: &mut Execution,
     alloc: Global,
     nodes: &[Node],
     found: &[Found],
-    limit: usize,
-) -> Result<Vec<usize>, AllocError> {
-    let mut late = Vec::new(alloc);
+    limit: u32,
+) -> Result<Vec<usize>, AllocError>
+    ensures { IfOk result (λ v. All (Shows (setup_of execution.old)) found.now
+        → AreLate (setup_of execution.old) found.now v.items) }
+{
     if found.len() < 2 || !any_waits(alloc, nodes)? {
-        return Ok(late);
+        return Ok(Vec::new(alloc));
     }
-    let Some(prompt) = in_time(execution, alloc, limit)? else {
-        return Ok(late);
+    let Some(prompt) = search(execution, alloc, Orders::Prompt, limit, &Unwatched)? else {
+        return Ok(Vec::new(alloc));
     };
-    for (number, one) in found.iter().enumerate() {
-        if !prompt.iter().any(|other| other.outcome == one.outcome) {
-            late.push(number + 1)?;
-        }
+    if !prompt.complete {
+        return Ok(Vec::new(alloc));
     }
-    Ok(late)
+    others_in(alloc, found, &prompt.found)
 }

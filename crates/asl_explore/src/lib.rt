@@ -1,6 +1,6 @@
 //! Every order of the branches of an execution.
 //!
-//! Modules in reading order: `found` is what a search finds; `met` the worlds that it met, which are looked up by `table` and `digest`;
+//! Modules in reading order: `orders` says which orders are tried; `found` is what a search finds; `met` the worlds that it met, which are looked up by `table` and `digest`;
 //! `order` takes steps at their earliest moments; `visiting` takes one step of a search; `search` takes all of them, and tells `watch` how
 //! far it is; `late` marks outcomes; `clock` looks for the clock in a definition; `report` tells what was found; `laws` says that nothing is
 //! left out.
@@ -13,6 +13,7 @@ mod late;
 mod laws;
 mod met;
 mod order;
+mod orders;
 mod report;
 mod search;
 mod table;
@@ -22,6 +23,7 @@ mod watch;
 pub use asl_setup::Setup;
 pub use found::{Explored, Found};
 pub use laws::searches_leave_out_nothing;
+pub use orders::Orders;
 pub use report::{is_good, put_explored};
 pub use search::explore;
 pub use watch::Watch;

@@ -1,12 +1,13 @@
 // Steps at the earliest moments.
-ghost use Rattle.std.specs.Prelude.{◌≡◌, true, IfOk};
+ghost use Rattle.std.specs.Prelude.{◌≡◌, ◌⊎◌, true, IfOk, IfSome, Some};
 ghost use Rattle.asl_frames.specs.Earliest.{due_from};
 ghost use Rattle.asl_exec.specs.Steps.{opening, world_after};
 ghost use Rattle.asl_exec.specs.Views.{setup_of, world_of};
-ghost use Rattle.asl_explore.specs.Orders.{due, timed, places_of};
+ghost use Rattle.asl_explore.specs.Orders.{due, timed, places_of, MayStep};
+ghost use Rattle.asl_explore.specs.Searches.{IsOpenAt};
 
 use crate::met::Node;
-use asl_exec::{Execution, due_from};
+use asl_exec::{Earliest, Execution, due_from};
 use asl_history::Place;
 use asl_setup::StepAt;
 use asl_time::Moment;
@@ -43,6 +44,45 @@ fn due(execution: &Execution, place: &Place) -> Moment
         Some(current) => due_from(last, current),
         None => last,
     }
+}
+
+/// The earliest moment at which the branch at a place may step; none where it may not.
+fn chance(execution: &Execution, place: &Place) -> Option<Moment>
+    ensures { IfSome result
+        (λ m. MayStep (setup_of execution.now) (world_of execution.now) place.now
+        × (due (world_of execution.now) place.now ≡ m)) }
+{
+    if execution.view(place).is_none() {
+        return None;
+    }
+    let moment = due(execution, place);
+    if execution.refusal(place, moment).is_some() {
+        return None;
+    }
+    Some(moment)
+}
+
+/// The earlier of two moments, the first of which there may not be.
+fn earlier(best: Option<Moment>, moment: Moment) -> Moment
+    ensures { (result ≡ moment) ⊎ (best ≡ Some result) }
+{
+    match best {
+        Some(earliest) if earliest.millis() <= moment.millis() => earliest,
+        _ => moment,
+    }
+}
+
+/// The earliest moment at which one of these branches may step; none where none may.
+pub(crate) fn soonest(execution: &Execution, turns: &[Earliest]) -> Option<Moment>
+    ensures { IfSome result (IsOpenAt (setup_of execution.now) (world_of execution.now)) }
+{
+    let mut least = None;
+    for turn in turns {
+        if let Some(moment) = chance(execution, &turn.place) {
+            least = Some(earlier(least, moment));
+        }
+    }
+    least
 }
 
 /// Takes these steps from the beginning, if this is true: each is at the earliest moment. The error is that memory ran out.

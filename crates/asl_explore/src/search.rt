@@ -1,35 +1,109 @@
 // A search over the worlds that steps lead to.
-ghost use Rattle.std.specs.Prelude.{◌≡◌, ◌<◌, ◌≤◌, ◌∷◌, [], true, length, IfOk, IfSome};
+ghost use Rattle.std.specs.Prelude.{◌≡◌, ◌<◌, ◌≤◌, ◌∷◌, [], true, false, length, slice_index_or, IfOk, IfSome};
 ghost use Rattle.std.specs.List.{All, HoldsAt};
 ghost use Rattle.asl_run.specs.Bare.{bare};
-ghost use Rattle.asl_exec.specs.Steps.{opening};
+ghost use Rattle.asl_run.specs.World.{World, is_over};
+ghost use Rattle.asl_exec.specs.Steps.{opening, step};
 ghost use Rattle.asl_exec.specs.Views.{setup_of};
 ghost use Rattle.asl_explore.specs.Orders.{IsWhole};
-ghost use Rattle.asl_explore.specs.Searches.{IsExpanded, worlds_of, outcomes_of, Shows, AreDistinct, IsLater};
+ghost use Rattle.asl_explore.specs.declared.orders.Orders.TheVariants.{Every};
+ghost use Rattle.asl_explore.specs.Searches.{IsMet, IsExpanded, IsBound, AreLate, worlds_of, outcomes_of, Shows, AreDistinct, IsLater, is_beyond};
 
 use crate::clock::may_read_clock;
 use crate::found::{Explored, Found};
 use crate::late::late_among;
 use crate::met::Met;
-use crate::visiting::{turns_in, visit};
+use crate::order::soonest;
+use crate::orders::Orders;
+use crate::visiting::{enter, turns_in, visit};
 use crate::watch::Watch;
-use asl_exec::Execution;
+use asl_exec::{Earliest, Execution, World};
 use asl_history::Place;
 use asl_setup::{Setup, StepAt};
+use asl_time::Moment;
 use std::alloc::{AllocError, Global};
 
-/// Takes a step of each branch in a world that was met, each at the earliest moment: whichever branch steps, the world that it leads
-/// to is met then, if this is true. The error is that memory ran out.
+/// The moment behind which no branch of a world steps that is tried; none where each is. The error is that memory ran out.
+fn bound_in(
+    execution: &mut Execution,
+    alloc: Global,
+    orders: Orders,
+    world: &World,
+    turns: &[Earliest],
+) -> Result<Option<Moment>, AllocError>
+    ensures bound { IfOk result (IsBound orders (setup_of execution.old) (bare world.now)) }
+    ensures setup { setup_of execution.new ≡ setup_of execution.old }
+{
+    match orders {
+        Orders::Every => Ok(None),
+        Orders::Prompt => {
+            if !enter(execution, alloc, world)? {
+                return Ok(None);
+            }
+            Ok(soonest(execution, turns))
+        }
+    }
+}
+
+/// Whether a step at this moment is later than one that may be taken.
+fn is_beyond(bound: Option<Moment>, moment: Moment) -> bool
+    ensures { result ≡ is_beyond bound moment }
+{
+    match bound {
+        Some(least) => least.millis() < moment.millis(),
+        None => false,
+    }
+}
+
+/// Takes a step of a branch in a world that was met, unless it is later than is tried: the world that it leads to is met then, if this is
+/// true. The error is that memory ran out.
+fn take(
+    execution: &mut Execution,
+    alloc: Global,
+    met: &mut Met,
+    found: &mut Vec<Found>,
+    number: usize,
+    turn: &Earliest,
+    bound: Option<Moment>,
+) -> Result<bool, AllocError>
+    requires there { number < length met.old.nodes.items }
+    requires runs { (d : World)
+        → is_over (slice_index_or (worlds_of met.old.nodes.items) number d).outcome ≡ false }
+    ensures met { IfOk result (λ b. b ≡ true → is_beyond bound turn.now.moment ≡ false → (d : World)
+        → IsMet (worlds_of met.new.nodes.items) (outcomes_of found.new.items)
+        (step (setup_of execution.old) (slice_index_or (worlds_of met.old.nodes.items) number d)
+        turn.now.place turn.now.moment)) }
+    ensures later { IsLater (worlds_of met.old.nodes.items) (outcomes_of found.old.items)
+        (worlds_of met.new.nodes.items) (outcomes_of found.new.items) }
+    ensures shown { All (Shows (setup_of execution.old)) found.old.items
+        → All (Shows (setup_of execution.old)) found.new.items }
+    ensures once { AreDistinct (outcomes_of found.old.items)
+        → AreDistinct (outcomes_of found.new.items) }
+    ensures setup { setup_of execution.new ≡ setup_of execution.old }
+{
+    if is_beyond(bound, turn.moment) {
+        return Ok(true);
+    }
+    let at = StepAt {
+        place: turn.place.try_clone()?,
+        moment: turn.moment,
+    };
+    visit(execution, alloc, met, found, number, at)
+}
+
+/// Takes a step of each branch in a world that was met, each at the earliest moment: whichever branch steps of those that are tried, the
+/// world that it leads to is met then, if this is true. The error is that memory ran out.
 fn expand(
     execution: &mut Execution,
     alloc: Global,
+    orders: Orders,
     met: &mut Met,
     found: &mut Vec<Found>,
     number: usize,
 ) -> Result<bool, AllocError>
     requires { number < length met.old.nodes.items }
     ensures expanded { IfOk result (λ b. b ≡ true → HoldsAt
-        (IsExpanded (setup_of execution.old) (worlds_of met.new.nodes.items)
+        (IsExpanded orders (setup_of execution.old) (worlds_of met.new.nodes.items)
         (outcomes_of found.new.items))
         (worlds_of met.new.nodes.items) number) }
     ensures later { IsLater (worlds_of met.old.nodes.items) (outcomes_of found.old.items)
@@ -43,21 +117,18 @@ fn expand(
     let Some(turns) = turns_in(alloc, &met.nodes[number].world)? else {
         return Ok(false);
     };
+    let bound = bound_in(execution, alloc, orders, &met.nodes[number].world, &turns)?;
     let mut whole = true;
     for index in 0..turns.len() {
         let turn = &turns[index];
-        let at = StepAt {
-            place: turn.place.try_clone()?,
-            moment: turn.moment,
-        };
-        let is_met = visit(execution, alloc, met, found, number, at)?;
+        let is_met = take(execution, alloc, met, found, number, turn, bound)?;
         whole = whole && is_met;
     }
     Ok(whole)
 }
 
 /// The worlds that a search begins with: that before the first step; none where it can't begin. The error is that memory ran out.
-pub(crate) fn beginning(alloc: Global, execution: &Execution) -> Result<Option<Met>, AllocError>
+fn beginning(alloc: Global, execution: &Execution) -> Result<Option<Met>, AllocError>
     ensures { IfOk result (λ o. IfSome o
         (λ m. worlds_of m.nodes.items ≡ bare (opening (setup_of execution.now)) ∷ [])) }
 {
@@ -72,28 +143,99 @@ pub(crate) fn beginning(alloc: Global, execution: &Execution) -> Result<Option<M
     Ok(Some(Met::new(alloc, states, world, at)?))
 }
 
-/// Tries every order of the branches of an execution, each branch at the earliest moments at which it may step: its outcomes, each
+/// What a search came to.
+#[derive(Drop)]
+pub(crate) struct Searched {
+    pub(crate) met: Met,
+    pub(crate) found: Vec<Found>,
+    /// Whether each world that was met was tried.
+    pub(crate) complete: bool,
+    /// Where the search was cut, all orders of at most so many steps were tried; none where that isn't known.
+    pub(crate) depth: Option<u32>,
+}
+
+/// Tries the orders of the branches of an execution, from the beginning: its outcomes, each once. At most so many worlds are tried. None
+/// where the search can't begin. The error is that memory ran out.
+pub(crate) fn search<W: Watch>(
+    execution: &mut Execution,
+    alloc: Global,
+    orders: Orders,
+    limit: u32,
+    watch: &W,
+) -> Result<Option<Searched>, AllocError>
+    ensures shown { IfOk result (λ o. IfSome o
+        (λ x. All (Shows (setup_of execution.old)) x.found.items)) }
+    ensures once { IfOk result (λ o. IfSome o (λ x. AreDistinct (outcomes_of x.found.items))) }
+    ensures whole { IfOk result (λ o. IfSome o (λ x. x.complete ≡ true
+        → IsWhole orders (setup_of execution.old) (outcomes_of x.found.items))) }
+    ensures setup { setup_of execution.new ≡ setup_of execution.old }
+{
+    let mut found = Vec::new(alloc);
+    let Some(mut met) = beginning(alloc, execution)? else {
+        return Ok(None);
+    };
+    let limit = limit as usize;
+    let mut number = 0;
+    let mut whole = true;
+    while number < met.nodes.len() && number < limit {
+        let is_expanded = expand(execution, alloc, orders, &mut met, &mut found, number)?;
+        whole = whole && is_expanded;
+        number += 1;
+        watch.tried(number);
+    }
+    let complete = is_complete(whole, number, met.nodes.len());
+    let depth = depth_of(&met, number, whole);
+    Ok(Some(Searched {
+        met,
+        found,
+        complete,
+        depth,
+    }))
+}
+
+/// The outcomes of a search that come only where a branch is late, by their numbers from 1; none where only orders were tried in which no
+/// branch is. The error is that memory ran out.
+fn late_in(
+    execution: &mut Execution,
+    alloc: Global,
+    orders: Orders,
+    searched: &Searched,
+    limit: u32,
+) -> Result<Vec<usize>, AllocError>
+    ensures { IfOk result (λ v. All (Shows (setup_of execution.old)) searched.now.found.items
+        → AreLate (setup_of execution.old) searched.now.found.items v.items) }
+{
+    match orders {
+        Orders::Every => late_among(execution, alloc, &searched.met.nodes, &searched.found, limit),
+        Orders::Prompt => Ok(Vec::new(alloc)),
+    }
+}
+
+/// Tries the orders of the branches of an execution, each branch at the earliest moments at which it may step: its outcomes, each
 /// once, with steps that end in it. At most so many worlds are tried; complete says that none was left. The error is that memory ran
 /// out.
 pub fn explore<W: Watch>(
     alloc: Global,
     setup: Setup,
+    orders: Orders,
     limit: u32,
     watch: &W,
 ) -> Result<Explored, AllocError>
     ensures shown { IfOk result (λ x. All (Shows setup) x.found.items) }
     ensures once { IfOk result (λ x. AreDistinct (outcomes_of x.found.items)) }
     ensures whole { IfOk result (λ x. x.complete ≡ true
-        → IsWhole setup (outcomes_of x.found.items)) }
+        → IsWhole orders setup (outcomes_of x.found.items)) }
+    ensures late { IfOk result (λ x. AreLate setup x.found.items x.late.items) }
+    ensures orders { IfOk result (λ x. x.orders ≡ orders) }
 {
     let limited = setup.machine.timeout().is_some();
     let clocked = may_read_clock(alloc, &setup.machine)?;
     let mut execution = Execution::open(alloc, setup)?;
-    let mut found = Vec::new(alloc);
-    let Some(mut met) = beginning(alloc, &execution)? else {
+    let Some(searched) = search(&mut execution, alloc, orders, limit, watch)? else {
         return Ok(Explored {
-            found,
+            found: Vec::new(alloc),
             late: Vec::new(alloc),
+            orders,
             complete: false,
             worlds: 0,
             depth: None,
@@ -101,24 +243,15 @@ pub fn explore<W: Watch>(
             clocked,
         });
     };
-    let limit = limit as usize;
-    let mut number = 0;
-    let mut whole = true;
-    while number < met.nodes.len() && number < limit {
-        let is_expanded = expand(&mut execution, alloc, &mut met, &mut found, number)?;
-        whole = whole && is_expanded;
-        number += 1;
-        watch.tried(number);
-    }
-    let worlds = met.nodes.len();
-    let complete = is_complete(whole, number, worlds);
-    let late = late_among(&mut execution, alloc, &met.nodes, &found, limit)?;
+    let late = late_in(&mut execution, alloc, orders, &searched, limit)?;
+    let worlds = searched.met.nodes.len();
     Ok(Explored {
-        found,
+        found: searched.found,
         late,
-        complete,
+        orders,
+        complete: searched.complete,
         worlds,
-        depth: depth_of(&met, number, whole),
+        depth: searched.depth,
         limited,
         clocked,
     })

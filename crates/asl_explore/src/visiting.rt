@@ -38,7 +38,7 @@ pub(crate) fn turns_in(alloc: Global, world: &World) -> Result<Option<Vec<Earlie
 }
 
 /// Whether an outcome was found.
-fn is_found(found: &[Found], outcome: &Outcome) -> bool
+pub(crate) fn is_found(found: &[Found], outcome: &Outcome) -> bool
     ensures there { result ≡ true → Contains (outcomes_of found.now) outcome.now }
     ensures new { result ≡ false
         → All (λ (o : Outcome). o ≡ outcome.now → ⊥) (outcomes_of found.now) }

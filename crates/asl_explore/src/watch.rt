@@ -5,3 +5,10 @@ pub trait Watch {
     /// So many worlds were tried.
     fn tried(&self, worlds: usize);
 }
+
+/// Nobody is told.
+pub(crate) struct Unwatched;
+
+impl Watch for Unwatched {
+    fn tried(&self, _worlds: usize) {}
+}
