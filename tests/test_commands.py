@@ -1,6 +1,8 @@
 """Command lines: what each command prints and tells, and its status."""
+import json
 import os
 import resource
+import shutil
 import signal
 import subprocess
 import tempfile
@@ -246,6 +248,73 @@ class CommandTest(ProgramTest):
         self.assert_ran(["check", none], 2, "", f"fault: file {none}\n")
         self.assert_ran(["upgrade", none], 2, "", f"fault: file {none}\n")
 
+    def test_why_a_file_cannot_be_read_is_told(self):
+        self.assert_ran(["check", self.room], 2, "", f"fault: file {self.room}: it is a folder\n")
+        below = os.path.join(self.files[0], "x")
+        self.assert_ran(["check", below], 2, "", f"fault: file {below}: a read failed\n")
+
+    def test_a_file_without_leave_to_read_it_is_refused(self):
+        # The system lets root read every file: nobody tries it, with a copy of the program that anybody may start.
+        os.chmod(self.room, 0o755)
+        program, secret = os.path.join(self.room, "asl"), self.file("secret", DEFINITION)
+        shutil.copy(PROGRAM, program)
+        os.chmod(program, 0o755)
+        os.chmod(secret, 0)
+        who = {"user": 65534, "group": 65534, "extra_groups": []} if os.geteuid() == 0 else {}
+        ran = subprocess.run([program, "check", secret], stdin=subprocess.DEVNULL, capture_output=True, encoding="utf-8", timeout=60, cwd="/", **who)
+        self.assertEqual((ran.returncode, ran.stdout, ran.stderr), (2, "", f"fault: file {secret}: permission denied\n"))
+
+    def test_names_are_told_on_one_line_that_a_terminal_shows(self):
+        for name, shown in [
+            ("no\nsuch", "no\\u000asuch"),
+            ("\x1b[2Jno", "\\u001b[2Jno"),
+            ("a\u202eb\u2066c\u200f\u061c", "a\\u202eb\\u2066c\\u200f\\u061c"),
+            ("\x7f\x80\x9f\xa0", "\\u007f\\u0080\\u009f\xa0"),
+            ("\u2028\u2029\u202f", "\\u2028\\u2029\u202f"),
+            (40 * "\U0001f600", 40 * "\U0001f600"),
+        ]:
+            self.assert_ran(["check", f"/{name}"], 2, "", f"fault: file /{shown}\n")
+            state = json.dumps(name)
+            self.file("machine", f'{{"StartAt":{state},"States":{{{state}:{{"Type":"Pass"}}}}}}')
+            self.assert_ran(["check", self.files[0]], 2, "", f"fault: definition: F9 Neither /States/{shown.replace('~', '~0')}\n")
+
+    def test_a_hyphen_is_standard_input(self):
+        words = [*self.files, *self.steps]
+        for at, text in [(0, DEFINITION), (1, MOCKS), (3, "{}"), (5, TWO_STEPS)]:
+            given = [*words[:at], "-", *words[at + 1 :]]
+            ran = subprocess.run([PROGRAM, "run", *given], input=text, capture_output=True, encoding="utf-8", timeout=60)
+            self.assertEqual((ran.returncode, ran.stdout, ran.stderr), (0, STEPPED, ""))
+        ran = subprocess.run([PROGRAM, "check", "-"], input=DEFINITION, capture_output=True, encoding="utf-8", timeout=60)
+        self.assertEqual((ran.returncode, ran.stdout, ran.stderr), (0, "ok\n", ""))
+        ran = subprocess.run([PROGRAM, "check", "-"], input="{", capture_output=True, encoding="utf-8", timeout=60)
+        self.assertEqual((ran.returncode, ran.stdout, ran.stderr), (2, "", "fault: definition: F1 Json J1 Syntax 1\n"))
+        ran = subprocess.run([PROGRAM, "check", "-"], input=16_777_217 * " ", capture_output=True, encoding="utf-8", timeout=60)
+        self.assertEqual((ran.returncode, ran.stdout, ran.stderr), (2, "", "fault: file -: it has more than 16777216 bytes\n"))
+
+    def test_standard_input_is_read_once(self):
+        ran = subprocess.run([PROGRAM, "run", "-", "-", *self.files[2:]], input=DEFINITION, capture_output=True, encoding="utf-8", timeout=60)
+        self.assertEqual((ran.returncode, ran.stdout, ran.stderr), (2, "", "fault: file -: standard input was read before\n"))
+
+    def test_options_stand_for_words(self):
+        definition, mocks, chosen, given = self.files
+        options = ["--mocks", mocks, "--case", chosen, "--input", given]
+        wanted = 0, STEPPED, ""
+        self.assert_ran(["run", definition, *options, *self.steps], *wanted)
+        self.assert_ran(["run", *options, definition, *self.steps], *wanted)
+        self.assert_ran(["run", definition, mocks, *options[2:], *self.steps], *wanted)
+        self.assert_ran(["run", definition, mocks, chosen, *options[4:], *self.steps], *wanted)
+        self.assert_ran(["debug", definition, *options, "--script", self.script], 0, DEBUGGED, "")
+        explored = run_program("explore", *self.files)
+        self.assertEqual(run_program("explore", definition, *options), explored)
+        for lacking in range(0, 6, 2):
+            ran = run_program("run", definition, *options[:lacking], *options[lacking + 2 :])
+            self.assertEqual((ran.returncode, ran.stdout), (2, ""))
+            self.assertIn("required", ran.stderr)
+        for twice in range(0, 6, 2):
+            ran = run_program("run", *self.files, *options[twice : twice + 2])
+            self.assertEqual((ran.returncode, ran.stdout), (2, ""))
+            self.assertIn("cannot be used with", ran.stderr)
+
     def test_a_file_that_cannot_be_read_comes_before_a_text_that_is_refused(self):
         none = os.path.join(self.room, "none")
         self.file("machine", "{")
@@ -270,13 +339,13 @@ class CommandTest(ProgramTest):
         longest = self.file("longest", 16_777_216 * " ")
         self.assert_ran(["check", longest], 2, "", "fault: definition: F1 Json J5 Size\n")
         longer = self.file("longer", 16_777_217 * " ")
-        self.assert_ran(["check", longer], 2, "", f"fault: file {longer}\n")
+        self.assert_ran(["check", longer], 2, "", f"fault: file {longer}: it has more than 16777216 bytes\n")
 
     def test_reads_may_be_short_and_interrupted_but_not_fail(self):
         library = os.path.join(self.room, "reads.so")
         subprocess.run([os.environ.get("CC", "cc"), "-shared", "-fPIC", "-o", library, f"{TOP}/tests/reads.c"], check=True)
         words = [PROGRAM, "run", *self.files, *self.steps]
-        for more, wanted in [({}, (0, STEPPED, "")), ({"READ_FAILS": "9"}, (2, "", f"fault: file {self.files[0]}\n"))]:
+        for more, wanted in [({}, (0, STEPPED, "")), ({"READ_FAILS": "9"}, (2, "", f"fault: file {self.files[0]}: a read failed\n"))]:
             ran = subprocess.run(words, env={**os.environ, "LD_PRELOAD": library, **more}, capture_output=True, encoding="utf-8", timeout=60)
             self.assertEqual((ran.returncode, ran.stdout, ran.stderr), wanted)
 

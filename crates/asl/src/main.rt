@@ -18,7 +18,7 @@ fn program<R: Threads + Wait + Sync>(handle: &R, rt: HostRuntime) -> u8 {
     let alloc = rt.alloc();
     let mut out = Stream::new(rt.stdout());
     let mut err = Stream::new(rt.stderr());
-    let mut files = HostFiles::new(&rt);
+    let mut files = HostFiles::new(&rt, rt.stdin());
     let Ok(reader) = BufReader::new(alloc, rt.stdin()) else {
         tell_fault(&mut err, "OutOfMemory");
         return 2;

@@ -4,6 +4,7 @@ use Rattle.std.specs.Prelude.{ℕ, Bool, List, [], ◌∷◌, ◌++◌, ◌≡�
 use Rattle.asl_setup.specs.declared.setup.Setup.{Setup}
 use Rattle.asl_console.specs.Answers.{first_console}
 use Rattle.asl_cli.specs.declared.fault.CommandFault.{CommandFault}
+use Rattle.asl_host.specs.Reading.{Lacks}
 use Rattle.asl_host.specs.declared.words.DefinitionWords.{DefinitionWords}
 use Rattle.asl_host.specs.declared.words.SetupWords.{SetupWords}
 use Rattle.asl_host.specs.declared.words.RunWords.{RunWords}
@@ -25,7 +26,7 @@ IsDone out_taken out_failures err_taken err_failures prints refuses out out_afte
 
 -- the run of these words: what was emulated was printed, and the status is that of its success
 abbrev pub IsRan : {O E : Type 0} → (O → List ℕ) → (O → ℕ) → (E → List ℕ) → (E → ℕ)
-    → (List ℕ → List ℕ → Type 0) → (List ℕ → Type 0)
+    → (List ℕ → List ℕ → Type 0) → Lacks
     → RunWords → O → O → E → E → ℕ → Type 0
 IsRan out_taken out_failures err_taken err_failures gives lacks w =
     IsDone out_taken out_failures err_taken err_failures
@@ -34,7 +35,7 @@ IsRan out_taken out_failures err_taken err_failures gives lacks w =
 
 -- a session was opened for these words, and its lines were answered; or it wasn't, which was told
 abbrev pub IsTyped : {I O E : Type 0} → (I → List ℕ) → (O → List ℕ) → (O → ℕ) → (E → List ℕ)
-    → (E → ℕ) → (List ℕ → List ℕ → Type 0) → (List ℕ → Type 0)
+    → (E → ℕ) → (List ℕ → List ℕ → Type 0) → Lacks
     → SetupWords → I → I → O → O → E → E → ℕ → Type 0
 IsTyped given out_taken out_failures err_taken err_failures gives lacks w input input_after out
     out_after err err_after status =
@@ -45,7 +46,7 @@ IsTyped given out_taken out_failures err_taken err_failures gives lacks w input 
     × (out_after ≡ out) × (status ≡ 2) × IsTold err_taken err_failures err err_after (fault_line t))
 
 abbrev pub IsDebuggedBy : {I O E : Type 0} → (I → List ℕ) → (O → List ℕ) → (O → ℕ) → (E → List ℕ)
-    → (E → ℕ) → (List ℕ → List ℕ → Type 0) → (List ℕ → Type 0)
+    → (E → ℕ) → (List ℕ → List ℕ → Type 0) → Lacks
     → SetupWords → Option (List ℕ) → I → I → O → O → E → E → ℕ → Type 0
 IsDebuggedBy given out_taken out_failures err_taken err_failures gives lacks w None input
     input_after out out_after err err_after status =
@@ -60,7 +61,7 @@ IsDebuggedBy given out_taken out_failures err_taken err_failures gives lacks w (
 -- the debugging of these words: the text of the run by the script was printed; without a script,
 -- lines were answered
 abbrev pub IsDebugged : {I O E : Type 0} → (I → List ℕ) → (O → List ℕ) → (O → ℕ) → (E → List ℕ)
-    → (E → ℕ) → (List ℕ → List ℕ → Type 0) → (List ℕ → Type 0)
+    → (E → ℕ) → (List ℕ → List ℕ → Type 0) → Lacks
     → DebugWords → I → I → O → O → E → E → ℕ → Type 0
 IsDebugged given out_taken out_failures err_taken err_failures gives lacks w =
     IsDebuggedBy given out_taken out_failures err_taken err_failures gives lacks w.setup
@@ -68,7 +69,7 @@ IsDebugged given out_taken out_failures err_taken err_failures gives lacks w =
 
 -- the check of these words: a definition was passed and `ok` was printed
 abbrev pub IsChecked : {O E : Type 0} → (O → List ℕ) → (O → ℕ) → (E → List ℕ) → (E → ℕ)
-    → (List ℕ → List ℕ → Type 0) → (List ℕ → Type 0)
+    → (List ℕ → List ℕ → Type 0) → Lacks
     → DefinitionWords → O → O → E → E → ℕ → Type 0
 IsChecked out_taken out_failures err_taken err_failures gives lacks w =
     IsDone out_taken out_failures err_taken err_failures
@@ -77,7 +78,7 @@ IsChecked out_taken out_failures err_taken err_failures gives lacks w =
 
 -- the print of these words: a canonical form was printed
 abbrev pub IsFormPrinted : {O E : Type 0} → (O → List ℕ) → (O → ℕ) → (E → List ℕ) → (E → ℕ)
-    → (List ℕ → List ℕ → Type 0) → (List ℕ → Type 0)
+    → (List ℕ → List ℕ → Type 0) → Lacks
     → DefinitionWords → O → O → E → E → ℕ → Type 0
 IsFormPrinted out_taken out_failures err_taken err_failures gives lacks w =
     IsDone out_taken out_failures err_taken err_failures
@@ -86,7 +87,7 @@ IsFormPrinted out_taken out_failures err_taken err_failures gives lacks w =
 
 -- the upgrade of these words: a canonical form in the newer spelling was printed
 abbrev pub IsUpgraded : {O E : Type 0} → (O → List ℕ) → (O → ℕ) → (E → List ℕ) → (E → ℕ)
-    → (List ℕ → List ℕ → Type 0) → (List ℕ → Type 0)
+    → (List ℕ → List ℕ → Type 0) → Lacks
     → DefinitionWords → O → O → E → E → ℕ → Type 0
 IsUpgraded out_taken out_failures err_taken err_failures gives lacks w =
     IsDone out_taken out_failures err_taken err_failures

@@ -8,6 +8,7 @@ use Rattle.asl_explore.specs.declared.found.Explored.{Explored}
 use Rattle.asl_explore.specs.Orders.{IsWhole}
 use Rattle.asl_explore.specs.Searches.{Shows, AreDistinct, outcomes_of}
 use Rattle.asl_explore.specs.Reports.{explored_text, is_good}
+use Rattle.asl_host.specs.Reading.{Lacks}
 use Rattle.asl_host.specs.declared.words.ExploreWords.{ExploreWords}
 use Rattle.asl_host.specs.Outcomes.{status_of, fault_line, IsPrinted, IsTold}
 use Rattle.asl_cli.specs.declared.fault.CommandFault.{CommandFault}
@@ -65,7 +66,7 @@ IsShown out_taken out_failures err_taken err_failures x (Some n) out out_after e
 
 -- the exploration for these words: what was found was printed; or nothing was tried, which was told
 abbrev pub IsExplored : {O E : Type 0} → (O → List ℕ) → (O → ℕ) → (E → List ℕ) → (E → ℕ)
-    → (List ℕ → List ℕ → Type 0) → (List ℕ → Type 0)
+    → (List ℕ → List ℕ → Type 0) → Lacks
     → ExploreWords → O → O → E → E → ℕ → Type 0
 IsExplored out_taken out_failures err_taken err_failures gives lacks w out out_after err err_after
     status =

@@ -18,10 +18,13 @@ use Rattle.asl_setup.specs.Texts.{Unless, refusal_line}
 use Rattle.asl_session.specs.declared.script_file.ScriptFault.{ScriptFault}
 use Rattle.asl_session.specs.declared.script_file.ScriptFault.TheVariants as script
 use Rattle.asl_session.specs.Scripts.{IsScriptRun, IsScriptFault, script_refusal}
+use Rattle.asl_terminal.specs.Harmless.{harmless}
 use Rattle.asl_cli.specs.Formats.{format_of, IsRunIn}
 use Rattle.asl_cli.specs.declared.fault.CommandFault.{CommandFault}
 use Rattle.asl_cli.specs.declared.fault.CommandFault.TheVariants.{File, Definition, Emulation, Script, Expectations, OutOfMemory}
 use Rattle.asl_cli.specs.declared.reading.SetupTexts.{SetupTexts}
+use Rattle.asl_host.specs.Reading.{Lacks, unreadable_words}
+use Rattle.asl_host.specs.declared.files.Unreadable.{Unreadable}
 use Rattle.asl_host.specs.declared.words.DefinitionWords.{DefinitionWords}
 use Rattle.asl_host.specs.declared.words.SetupWords.{SetupWords}
 use Rattle.asl_host.specs.declared.words.RunWords.{RunWords}
@@ -30,8 +33,8 @@ use Rattle.asl_host.specs.declared.words.DebugWords.{DebugWords}
 -- ---- a file
 
 -- a file that can't be read is the one of this name, and may be lacking
-abbrev pub IsUnread : (List ℕ → Type 0) → List ℕ → CommandFault → Type 0
-IsUnread lacks wanted (File name) = (name.now ≡ wanted) × lacks name.now
+abbrev pub IsUnread : Lacks → List ℕ → CommandFault → Type 0
+IsUnread lacks wanted (File name why) = (name.now ≡ wanted) × lacks name.now why
 IsUnread lacks wanted OutOfMemory = ⊤
 IsUnread lacks wanted _ = ⊥
 
@@ -39,17 +42,17 @@ IsUnread lacks wanted _ = ⊥
 
 -- of files that are read one after another this is the first that can't be: it may be lacking, and
 -- each before it may give something
-abbrev pub IsFirstUnread : (List ℕ → List ℕ → Type 0) → (List ℕ → Type 0) → List (List ℕ) → List ℕ
+abbrev pub IsFirstUnread : (List ℕ → List ℕ → Type 0) → Lacks → List (List ℕ) → List ℕ → Unreadable
     → Type 0
-IsFirstUnread gives lacks [] name = ⊥
-IsFirstUnread gives lacks (wanted ∷ names) name =
-    ((name ≡ wanted) × lacks name)
-    ⊎ (((b : List ℕ) × gives wanted b) × IsFirstUnread gives lacks names name)
+IsFirstUnread gives lacks [] name why = ⊥
+IsFirstUnread gives lacks (wanted ∷ names) name why =
+    ((name ≡ wanted) × lacks name why)
+    ⊎ (((b : List ℕ) × gives wanted b) × IsFirstUnread gives lacks names name why)
 
 -- why they aren't read: the first that can't be, or memory ran out
-abbrev pub AreUnread : (List ℕ → List ℕ → Type 0) → (List ℕ → Type 0) → List (List ℕ)
+abbrev pub AreUnread : (List ℕ → List ℕ → Type 0) → Lacks → List (List ℕ)
     → CommandFault → Type 0
-AreUnread gives lacks names (File name) = IsFirstUnread gives lacks names name.now
+AreUnread gives lacks names (File name why) = IsFirstUnread gives lacks names name.now why
 AreUnread gives lacks names OutOfMemory = ⊤
 AreUnread gives lacks names _ = ⊥
 
@@ -100,10 +103,10 @@ pub record IsRefusedRun (gives : List ℕ → List ℕ → Type 0) (w : SetupWor
 
 -- why nothing is run: a file that the words name can't be read, what was read is refused, or memory
 -- ran out
-abbrev pub IsRunReason : (List ℕ → List ℕ → Type 0) → (List ℕ → Type 0) → SetupWords
+abbrev pub IsRunReason : (List ℕ → List ℕ → Type 0) → Lacks → SetupWords
     → Option (List ℕ) → CommandFault → Type 0
-IsRunReason gives lacks w steps (File name) =
-    IsFirstUnread gives lacks (names_in w steps) name.now
+IsRunReason gives lacks w steps (File name why) =
+    IsFirstUnread gives lacks (names_in w steps) name.now why
 IsRunReason gives lacks w steps (Definition fault) = ⊥
 IsRunReason gives lacks w steps (Emulation fault) = IsRefusedRun gives w steps fault
 IsRunReason gives lacks w steps (Script fault) = ⊥
@@ -171,10 +174,10 @@ pub record IsBadScript (gives : List ℕ → List ℕ → Type 0) (w : SetupWord
 
 -- why nothing is debugged by this script: it or a file that the words name can't be read, what was
 -- read is refused, or memory ran out
-abbrev pub IsDebugReason : (List ℕ → List ℕ → Type 0) → (List ℕ → Type 0) → SetupWords → List ℕ
+abbrev pub IsDebugReason : (List ℕ → List ℕ → Type 0) → Lacks → SetupWords → List ℕ
     → CommandFault → Type 0
-IsDebugReason gives lacks w script (File name) =
-    IsFirstUnread gives lacks (names_in w (Some script)) name.now
+IsDebugReason gives lacks w script (File name why) =
+    IsFirstUnread gives lacks (names_in w (Some script)) name.now why
 IsDebugReason gives lacks w script (Definition fault) = ⊥
 IsDebugReason gives lacks w script (Emulation fault) = IsRefusedRun gives w None fault
 IsDebugReason gives lacks w script (Script fault) = IsBadScript gives w script fault
@@ -224,9 +227,10 @@ pub record IsFaulty (gives : List ℕ → List ℕ → Type 0) (w : DefinitionWo
 
 -- why no definition is accepted: the file may be lacking, what was read is no definition, or memory
 -- ran out
-abbrev pub IsDefinitionReason : (List ℕ → List ℕ → Type 0) → (List ℕ → Type 0) → DefinitionWords
+abbrev pub IsDefinitionReason : (List ℕ → List ℕ → Type 0) → Lacks → DefinitionWords
     → CommandFault → Type 0
-IsDefinitionReason gives lacks w (File name) = (name.now ≡ w.definition.now) × lacks name.now
+IsDefinitionReason gives lacks w (File name why) =
+    (name.now ≡ w.definition.now) × lacks name.now why
 IsDefinitionReason gives lacks w (Definition f) = IsFaulty gives w f
 IsDefinitionReason gives lacks w (Emulation f) = ⊥
 IsDefinitionReason gives lacks w (Script f) = ⊥
@@ -237,13 +241,14 @@ IsDefinitionReason gives lacks w OutOfMemory = ⊤
 
 -- the text of a refusal
 abbrev pub reason_text : CommandFault → List ℕ
-reason_text (File name) = codes "file " ++ name.now
+reason_text (File name why) = codes "file " ++ (name.now ++ unreadable_words why)
 reason_text (Definition fault) = codes "definition: " ++ definition_fault_line fault
 reason_text (Emulation fault) = refusal_line fault
 reason_text (Script fault) = script_refusal fault
 reason_text (Expectations fault) = codes "expectations: " ++ expect_line fault
 reason_text OutOfMemory = codes "OutOfMemory"
 
--- the text that is told, where memory may run out before it is made
+-- the text that is told, in which no character is one that a terminal obeys, where memory may run
+-- out before it is made
 abbrev pub Tells : CommandFault → List ℕ → Type 0
-Tells r text = (text ≡ reason_text r) ⊎ (text ≡ codes "OutOfMemory")
+Tells r text = (text ≡ harmless (reason_text r)) ⊎ (text ≡ codes "OutOfMemory")

@@ -4,6 +4,7 @@ use Rattle.asl_json.specs.Data.{Data}
 use Rattle.asl_graph.specs.declared.language.Language.{Language}
 use Rattle.asl_graph.specs.declared.language.Language.TheVariants.{Mermaid, Dot}
 use Rattle.asl_graph.specs.Graphs.{graph_text}
+use Rattle.asl_host.specs.Reading.{Lacks}
 use Rattle.asl_host.specs.declared.words.GraphFormat.{GraphFormat}
 use Rattle.asl_host.specs.declared.words.GraphFormat.TheVariants as format
 use Rattle.asl_host.specs.declared.words.GraphWords.{GraphWords}
@@ -23,7 +24,7 @@ pub record IsGraph (gives : List ℕ → List ℕ → Type 0) (w : GraphWords) (
 
 -- the graph of these words: it was printed
 abbrev pub IsDrawn : {O E : Type 0} → (O → List ℕ) → (O → ℕ) → (E → List ℕ) → (E → ℕ)
-    → (List ℕ → List ℕ → Type 0) → (List ℕ → Type 0)
+    → (List ℕ → List ℕ → Type 0) → Lacks
     → GraphWords → O → O → E → E → ℕ → Type 0
 IsDrawn out_taken out_failures err_taken err_failures gives lacks w =
     IsDone out_taken out_failures err_taken err_failures

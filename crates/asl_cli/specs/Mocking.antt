@@ -2,6 +2,7 @@
 use Rattle.std.specs.Prelude.{ℕ, List, ◌≡◌}
 use Rattle.asl_json.specs.Data.{Data}
 use Rattle.asl_sample.specs.Files.{sample_text}
+use Rattle.asl_host.specs.Reading.{Lacks}
 use Rattle.asl_host.specs.declared.words.MocksWords.{MocksWords}
 use Rattle.asl_cli.specs.Faults.{IsAccepted, IsDefinitionReason}
 use Rattle.asl_cli.specs.Answers.{IsDone}
@@ -15,7 +16,7 @@ pub record IsSample (gives : List ℕ → List ℕ → Type 0) (w : MocksWords) 
 
 -- the mock file of these words: it was printed
 abbrev pub IsSampled : {O E : Type 0} → (O → List ℕ) → (O → ℕ) → (E → List ℕ) → (E → ℕ)
-    → (List ℕ → List ℕ → Type 0) → (List ℕ → Type 0)
+    → (List ℕ → List ℕ → Type 0) → Lacks
     → MocksWords → O → O → E → E → ℕ → Type 0
 IsSampled out_taken out_failures err_taken err_failures gives lacks w =
     IsDone out_taken out_failures err_taken err_failures

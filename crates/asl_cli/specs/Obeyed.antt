@@ -1,5 +1,6 @@
 -- What the program does for the words that it has read.
 use Rattle.std.specs.Prelude.{ℕ, List}
+use Rattle.asl_host.specs.Reading.{Lacks}
 use Rattle.asl_host.specs.declared.words.Words.{Words}
 use Rattle.asl_host.specs.declared.words.Words.TheVariants.{Check, Print, Upgrade, Graph, Mocks, Run, Debug, Test, Explore}
 use Rattle.asl_cli.specs.Answers.{IsRan, IsDebugged, IsChecked, IsFormPrinted, IsUpgraded}
@@ -12,7 +13,7 @@ use Rattle.asl_cli.specs.Exploring.{IsExplored}
 -- drawn, a mock file was made for it, an execution was run or debugged, every order of its branches was
 -- tried, or the tests of a suite were run
 abbrev pub IsObeyed : {I O E : Type 0} → (I → List ℕ) → (O → List ℕ) → (O → ℕ) → (E → List ℕ)
-    → (E → ℕ) → (List ℕ → List ℕ → Type 0) → (List ℕ → Type 0)
+    → (E → ℕ) → (List ℕ → List ℕ → Type 0) → Lacks
     → Words → I → I → O → O → E → E → ℕ → Type 0
 IsObeyed given out_taken out_failures err_taken err_failures gives lacks (Check w) input
     input_after out out_after err err_after status =

@@ -18,6 +18,7 @@ use Rattle.asl_suite.specs.Cases.{reports_of}
 use Rattle.asl_suite.specs.Reports.{is_passed, report_text}
 use Rattle.asl_suite.specs.declared.suite.Suite.{Suite}
 use Rattle.asl_suite.specs.declared.case_report.CaseReport.{CaseReport}
+use Rattle.asl_host.specs.Reading.{Lacks}
 use Rattle.asl_host.specs.declared.words.TestWords.{TestWords}
 use Rattle.asl_host.specs.declared.words.Shard.{Shard}
 use Rattle.asl_host.specs.declared.words.ReportFormat.{ReportFormat}
@@ -96,7 +97,7 @@ AreMocks b = (ms : Machines) × IsMockFile b ms
 
 -- why texts spell no suite: the first of them that has a fault, with its fault; or memory ran out
 abbrev pub IsSuiteTextReason : List ℕ → List ℕ → List ℕ → CommandFault → Type 0
-IsSuiteTextReason definition mocks expectations (File name) = ⊥
+IsSuiteTextReason definition mocks expectations (File name why) = ⊥
 IsSuiteTextReason definition mocks expectations (Definition f) = IsDefinitionFault definition f
 IsSuiteTextReason definition mocks expectations (Emulation f) =
     IsDefinition definition × IsMocksFault mocks f
@@ -115,7 +116,7 @@ pub record IsNoSuite (gives : List ℕ → List ℕ → Type 0) (w : TestWords) 
   pub reason : IsSuiteTextReason definition mocks expectations r
 
 -- why nothing is tested: a file that the words name can't be read, or what was read is no suite
-abbrev pub IsSuiteReason : (List ℕ → List ℕ → Type 0) → (List ℕ → Type 0) → TestWords
+abbrev pub IsSuiteReason : (List ℕ → List ℕ → Type 0) → Lacks → TestWords
     → CommandFault → Type 0
 IsSuiteReason gives lacks w r = AreUnread gives lacks (suite_names w) r ⊎ IsNoSuite gives w r
 
@@ -157,7 +158,7 @@ pub record IsReported (gives : List ℕ → List ℕ → Type 0) (w : TestWords)
 -- and the status says whether all tests are `ok`, and cover what they are to; or a fault was told,
 -- and the status is 2
 abbrev pub IsTested : {O E : Type 0} → (O → List ℕ) → (O → ℕ) → (E → List ℕ) → (E → ℕ)
-    → (List ℕ → List ℕ → Type 0) → (List ℕ → Type 0)
+    → (List ℕ → List ℕ → Type 0) → Lacks
     → TestWords → O → O → E → E → ℕ → Type 0
 IsTested out_taken out_failures err_taken err_failures gives lacks w out out_after err err_after
     status =

@@ -1,14 +1,16 @@
 // Why a command isn't done, and the line that tells it.
 ghost use Rattle.std.specs.Prelude.{◌≡◌, List, ℕ, IfOk, string_bytes};
 ghost use Rattle.asl_host.specs.Outcomes.{fault_line, IsTold};
+ghost use Rattle.asl_terminal.specs.Harmless.{harmless};
 ghost use Rattle.asl_cli.specs.Faults.{reason_text, Tells};
 
 use asl_check::Fault;
 use asl_expect::ExpectFault;
 use asl_history::Sink;
-use asl_host::tell_fault;
+use asl_host::{Unreadable, tell_fault};
 use asl_session::ScriptFault;
 use asl_setup::EmulateFault;
+use asl_terminal::put_harmless;
 use std::alloc::{AllocError, Global};
 use std::error::Error;
 use std::fmt;
@@ -17,7 +19,7 @@ use std::fmt;
 #[derive(Debug, Drop)]
 pub enum CommandFault<'a> {
     /// The file of this name can't be read.
-    File(&'a str),
+    File(&'a str, Unreadable),
     /// What was read is no definition.
     Definition(Fault),
     /// What an execution was to begin with, its file of steps, or the mock file of a suite, is refused.
@@ -41,11 +43,14 @@ impl<'a> CommandFault<'a> {
         }
     }
 
-    /// What stands behind `fault: `.
+    /// What stands behind `fault: `, on one line whatever the names are.
     fn text(&self, alloc: Global) -> Result<String, AllocError>
-        ensures { IfOk result (λ t. string_bytes t ≡ reason_text self.now) }
+        ensures { IfOk result (λ t. string_bytes t ≡ harmless (reason_text self.now)) }
     {
-        self.to_string(alloc)
+        let reason = self.to_string(alloc)?;
+        let mut text = String::new(alloc);
+        put_harmless(&mut text, reason.as_str())?;
+        Ok(text)
     }
 }
 
@@ -56,7 +61,7 @@ impl fmt::Display for CommandFault<'_> {
 
     fn fmt<W: fmt::Write>(&self, f: &mut fmt::Formatter<W>) -> fmt::Result {
         match self {
-            CommandFault::File(name) => write!(f, "file {name}"),
+            CommandFault::File(name, why) => write!(f, "file {name}{}", why.words()),
             CommandFault::Definition(fault) => write!(f, "definition: {fault}"),
             CommandFault::Emulation(fault) => write!(f, "{fault}"),
             CommandFault::Script(fault) => write!(f, "{fault}"),

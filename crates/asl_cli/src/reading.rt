@@ -1,6 +1,7 @@
 // What a command reads: the files that its words name.
 ghost use Rattle.std.specs.Prelude.{◌≡◌, List, ℕ, None, option_map, IfOk, IfErr};
 ghost use Rattle.asl_setup.specs.Views.{texts_of};
+ghost use Rattle.asl_host.specs.declared.files.Unreadable.{Unreadable};
 ghost use Rattle.asl_cli.specs.Faults.{IsUnread, IsGiven, AreUnread, AreGiven, named, names_in, read_texts};
 
 use crate::fault::CommandFault;
@@ -16,12 +17,13 @@ pub(crate) fn read_file<'a, F: Files>(
 ) -> Result<Vec<u8>, CommandFault<'a>>
     ensures given { IfOk result (λ r. F.gives files.old name.now r.items) }
     ensures kept { (n b : List ℕ) → F.gives files.new n b → F.gives files.old n b }
-    ensures lacking { (n : List ℕ) → F.lacks files.new n → F.lacks files.old n }
+    ensures lacking { (n : List ℕ) (u : Unreadable) → F.lacks files.new n u
+        → F.lacks files.old n u }
     ensures unread { IfErr result (λ r. IsUnread (F.lacks files.old) name.now r) }
 {
     match files.read(alloc, name) {
         Ok(bytes) => Ok(bytes),
-        Err(ReadFault::Unreadable) => Err(CommandFault::File(name)),
+        Err(ReadFault::Unreadable(why)) => Err(CommandFault::File(name, why)),
         Err(ReadFault::OutOfMemory) => Err(CommandFault::OutOfMemory),
     }
 }
@@ -77,7 +79,8 @@ pub(crate) fn read_texts<'a, F: Files>(
     ensures given { IfOk result (λ t. AreGiven (F.gives files.old) words.now None
         (read_texts t words.now.chosen.now None)) }
     ensures kept { (n b : List ℕ) → F.gives files.new n b → F.gives files.old n b }
-    ensures lacking { (n : List ℕ) → F.lacks files.new n → F.lacks files.old n }
+    ensures lacking { (n : List ℕ) (u : Unreadable) → F.lacks files.new n u
+        → F.lacks files.old n u }
     ensures unread { IfErr result
         (AreUnread (F.gives files.old) (F.lacks files.old) (names_in words.now None)) }
 {

@@ -111,7 +111,7 @@ pub(crate) fn converse<I: Input, O: Sink, E: Sink>(
     match talk(alloc, &mut console, input, out) {
         Ok(()) => print_end(alloc, &console, out, err),
         Err(TalkFault::Sink) => REFUSED,
-        Err(TalkFault::Input(ReadFault::Unreadable)) => {
+        Err(TalkFault::Input(ReadFault::Unreadable(_))) => {
             tell_fault(err, "file standard input");
             REFUSED
         }

@@ -1,3 +1,4 @@
 pub mod Limits
 pub mod Outcomes
 pub mod Typing
+pub mod Reading

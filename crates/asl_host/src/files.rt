@@ -1,6 +1,7 @@
 // What files give.
 ghost use Rattle.std.specs.Prelude.{◌≡◌, ◌≤◌, ◌++◌, length, ⊤, IfOk, IfErr, OnOk, IfSome};
 ghost use Rattle.asl_host.specs.Limits.{most_bytes};
+ghost use Rattle.asl_host.specs.Reading.{unreadable_words};
 
 use std::alloc::Global;
 use std::io::{ErrorKind, Read};
@@ -10,12 +11,47 @@ use thiserror::Error;
 /// How many bytes a file may have, and in how many reads it is read at most.
 pub const MOST_BYTES: usize = 16_777_216;
 
+/// The name of standard input.
+const INPUT: &str = "-";
+
+/// Why a file can't be read.
+#[derive(Clone, Copy, Debug, PartialEq, Eq)]
+pub enum Unreadable {
+    /// There is none of this name.
+    Missing,
+    /// It is a folder.
+    Folder,
+    /// Leave to read it is lacking.
+    Forbidden,
+    /// It has more than 16,777,216 bytes.
+    TooLong,
+    /// It is standard input, which was read before.
+    Spent,
+    /// A read failed for another reason.
+    Failed,
+}
+
+impl Unreadable {
+    /// What is told of it behind the file's name: nothing where there is no such file.
+    pub fn words(self) -> &'static str
+        ensures { result.now ≡ unreadable_words self }
+    {
+        match self {
+            Unreadable::Missing => "",
+            Unreadable::Folder => ": it is a folder",
+            Unreadable::Forbidden => ": permission denied",
+            Unreadable::TooLong => ": it has more than 16777216 bytes",
+            Unreadable::Spent => ": standard input was read before",
+            Unreadable::Failed => ": a read failed",
+        }
+    }
+}
+
 /// Why a file wasn't read.
 #[derive(Clone, Copy, Debug, PartialEq, Eq, Error)]
 pub enum ReadFault {
-    /// It isn't there, can't be read, or is too long.
     #[error("the file can't be read")]
-    Unreadable,
+    Unreadable(Unreadable),
     #[error("OutOfMemory")]
     OutOfMemory,
 }
@@ -23,43 +59,63 @@ pub enum ReadFault {
 /// Files that are read by their names, as the machine's, or some in memory.
 pub trait Files {
     ghost use Rattle.std.specs.Prelude.{List, ℕ};
+    ghost use Rattle.asl_host.specs.declared.files.Unreadable.{Unreadable};
 
     // Whether the file of a name may give these bytes.
     ghost gives: { Self → List ℕ → List ℕ → Type 0 };
 
-    // Whether the file of a name may be one that isn't there, can't be read, or is too long.
-    ghost lacks: { Self → List ℕ → Type 0 };
+    // Whether the file of a name may be one that can't be read, for this reason.
+    ghost lacks: { Self → List ℕ → Unreadable → Type 0 };
 
-    /// Reads the whole of a file, of at most 16,777,216 bytes.
+    /// Reads the whole of a file, of at most 16,777,216 bytes. The name `-` is that of standard input, which is read once.
     fn read(&mut self, alloc: Global, name: &str) -> Result<Vec<u8>, ReadFault>
         ensures given { IfOk result (λ r. gives self.old name.now r.items) }
         ensures bound { IfOk result (λ r. length r.items ≤ most_bytes) }
         ensures unreadable { IfErr result
-            (λ e. e ≡ ReadFault.Unreadable → lacks self.old name.now) }
+            (λ e. (u : Unreadable) → e ≡ ReadFault.Unreadable u → lacks self.old name.now u) }
         ensures kept { (n b : List ℕ) → gives self.new n b → gives self.old n b }
-        ensures lacking { (n : List ℕ) → lacks self.new n → lacks self.old n };
+        ensures lacking { (n : List ℕ) (u : Unreadable) → lacks self.new n u
+            → lacks self.old n u };
 }
 
-/// The machine's files.
+/// The machine's files, and its standard input.
 #[derive(Drop)]
-pub struct HostFiles<'a, R> {
+pub struct HostFiles<'a, R, I> {
     rt: &'a R,
+    /// None where it was read.
+    input: Option<I>,
 }
 
-impl<'a, R: rt::Files> HostFiles<'a, R> {
-    /// The files that a runtime opens.
-    pub fn new(rt: &'a R) -> HostFiles<'a, R> {
-        HostFiles { rt }
+impl<'a, R: rt::Files, I: Read + Drop> HostFiles<'a, R, I> {
+    /// The files that a runtime opens, and standard input.
+    pub fn new(rt: &'a R, input: I) -> HostFiles<'a, R, I> {
+        HostFiles {
+            rt,
+            input: Some(input),
+        }
+    }
+
+    /// Reads the whole of standard input.
+    fn read_input(&mut self, alloc: Global) -> Result<Vec<u8>, ReadFault>
+        ensures bound { IfOk result (λ r. length r.items ≤ most_bytes) }
+    {
+        match self.input.take() {
+            Some(mut input) => read_whole(alloc, &mut input),
+            None => Err(ReadFault::Unreadable(Unreadable::Spent)),
+        }
     }
 }
 
-impl<'a, R: rt::Files> Files for HostFiles<'a, R> {
+impl<'a, R: rt::Files, I: Read + Drop> Files for HostFiles<'a, R, I> {
     // Nothing is known of what the machine's files give, and any may be lacking.
     ghost gives = { λ _ _ _. ⊤ };
 
-    ghost lacks = { λ _ _. ⊤ };
+    ghost lacks = { λ _ _ _. ⊤ };
 
     fn read(&mut self, alloc: Global, name: &str) -> Result<Vec<u8>, ReadFault> {
+        if name == INPUT {
+            return self.read_input(alloc);
+        }
         match fs::open(self.rt, name) {
             Ok(mut file) => read_whole(alloc, &mut file),
             Err(error) => Err(fault_of(&error)),
@@ -83,7 +139,7 @@ pub fn read_whole<R: Read>(alloc: Global, reader: &mut R) -> Result<Vec<u8>, Rea
             Err(error) => return Err(fault_of(&error)),
         }
     }
-    Err(ReadFault::Unreadable)
+    Err(ReadFault::Unreadable(Unreadable::TooLong))
 }
 
 /// Adds a piece to what was read. The fault is that it grows too long, or that memory ran out.
@@ -93,7 +149,7 @@ pub(crate) fn add(bytes: &mut Vec<u8>, piece: &[u8]) -> Result<(), ReadFault>
     ensures bound { OnOk result (length bytes.new.items ≤ most_bytes) }
 {
     if MOST_BYTES - bytes.len() < piece.len() {
-        return Err(ReadFault::Unreadable);
+        return Err(ReadFault::Unreadable(Unreadable::TooLong));
     }
     match bytes.extend_from_slice(piece) {
         Ok(()) => Ok(()),
@@ -104,6 +160,9 @@ pub(crate) fn add(bytes: &mut Vec<u8>, piece: &[u8]) -> Result<(), ReadFault>
 pub(crate) fn fault_of(error: &io::Error) -> ReadFault {
     match error.kind() {
         ErrorKind::OutOfMemory => ReadFault::OutOfMemory,
-        _ => ReadFault::Unreadable,
+        ErrorKind::NotFound => ReadFault::Unreadable(Unreadable::Missing),
+        ErrorKind::IsADirectory => ReadFault::Unreadable(Unreadable::Folder),
+        ErrorKind::PermissionDenied => ReadFault::Unreadable(Unreadable::Forbidden),
+        _ => ReadFault::Unreadable(Unreadable::Failed),
     }
 }

@@ -3,7 +3,7 @@ ghost use Rattle.std.specs.Prelude.{◌≡◌, ◌≤◌, ◌++◌, [], length, 
 ghost use Rattle.asl_host.specs.Limits.{most_bytes};
 ghost use Rattle.asl_host.specs.Typing.{line_given};
 
-use crate::files::{MOST_BYTES, ReadFault, add, fault_of};
+use crate::files::{MOST_BYTES, ReadFault, Unreadable, add, fault_of};
 use crate::taken::Taken;
 use std::alloc::Global;
 use std::io::{BufRead, ErrorKind, Write};
@@ -82,7 +82,7 @@ fn read_line<R: BufRead>(alloc: Global, reader: &mut R) -> Result<Option<Vec<u8>
             Piece::End => return Ok(Some(line)),
         }
     }
-    Err(ReadFault::Unreadable)
+    Err(ReadFault::Unreadable(Unreadable::TooLong))
 }
 
 /// What a read came to.

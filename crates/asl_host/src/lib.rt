@@ -13,7 +13,7 @@ mod taken;
 mod telling;
 mod words;
 
-pub use files::{Files, HostFiles, MOST_BYTES, ReadFault, read_whole};
+pub use files::{Files, HostFiles, MOST_BYTES, ReadFault, Unreadable, read_whole};
 pub use input::{Input, Typed};
 pub use streams::Stream;
 pub use telling::{tell_fault, write_piece};

@@ -224,7 +224,7 @@ fn words_of<'a>(matches: &ArgMatches<'a>) -> Option<Words<'a>> {
     if let Some(matches) = matches.subcommand_matches("debug") {
         return Some(Words::Debug(DebugWords {
             setup: setup_words_of(matches)?,
-            script: matches.get_str("SCRIPT"),
+            script: word_or_option(matches, "SCRIPT", "script"),
         }));
     }
     if let Some(matches) = matches.subcommand_matches("explore") {
@@ -279,10 +279,18 @@ fn definition_words_of<'a>(matches: &ArgMatches<'a>) -> Option<DefinitionWords<'
 fn setup_words_of<'a>(matches: &ArgMatches<'a>) -> Option<SetupWords<'a>> {
     Some(SetupWords {
         definition: matches.get_str("DEF")?,
-        mocks: matches.get_str("MOCKS")?,
-        chosen: matches.get_str("CHOSEN")?,
-        input: matches.get_str("INPUT")?,
+        mocks: word_or_option(matches, "MOCKS", "mocks")?,
+        chosen: word_or_option(matches, "CHOSEN", "case")?,
+        input: word_or_option(matches, "INPUT", "input")?,
     })
+}
+
+/// What a word says, or the option that may stand for it.
+fn word_or_option<'a>(matches: &ArgMatches<'a>, word: &str, option: &str) -> Option<&'a str> {
+    match matches.get_str(word) {
+        Some(said) => Some(said),
+        None => matches.get_str(option),
+    }
 }
 
 /// The words of `test`; none where the shard isn't `I/N`.
@@ -418,13 +426,16 @@ fn run_command<'a>(alloc: Global) -> Result<Command<'a>, AllocError> {
 }
 
 fn debug_command<'a>(alloc: Global) -> Result<Command<'a>, AllocError> {
-    let script = Arg::new(alloc, "SCRIPT").help(
-        "The file of the commands to carry out; without it, lines are read from standard input and answered at once",
-    );
+    let script = Arg::new(alloc, "SCRIPT")
+        .help(
+            "The file of the commands to carry out; without it, lines are read from standard input and answered at once",
+        )
+        .conflicts_with("script")?;
+    let option = option(alloc, "script", "FILE", "Stands for the word SCRIPT");
     let debug = Command::new(alloc, "debug").about(
         "Debugs an execution and prints its replies, its history and its status",
     );
-    with_setup_words(alloc, debug)?.arg(script)
+    with_setup_words(alloc, debug)?.arg(script)?.arg(option)
 }
 
 fn test_command<'a>(alloc: Global) -> Result<Command<'a>, AllocError> {
@@ -487,25 +498,46 @@ fn explore_command<'a>(alloc: Global) -> Result<Command<'a>, AllocError> {
     with_setup_words(alloc, explore)?.arg(limit)?.arg(witness)
 }
 
-/// The words for what an execution begins with.
+/// The words for what an execution begins with, and the options that may stand for them.
 fn with_setup_words<'a>(alloc: Global, command: Command<'a>) -> Result<Command<'a>, AllocError> {
+    let mocks = Arg::new(alloc, "MOCKS").help("The file of the mocked tasks");
+    let chosen = Arg::new(alloc, "CHOSEN").help(
+        "The machine's name, or the machine's and a case's as Machine#Case",
+    );
+    let input = Arg::new(alloc, "INPUT").help("The file of the execution's input");
     command
         .arg(definition_word(alloc))?
-        .arg(word(alloc, "MOCKS", "The file of the mocked tasks"))?
-        .arg(word(
-            alloc,
-            "CHOSEN",
-            "The machine's name, or the machine's and a case's as Machine#Case",
-        ))?
-        .arg(word(alloc, "INPUT", "The file of the execution's input"))
+        .arg(unless_option(mocks, "mocks")?)?
+        .arg(unless_option(chosen, "case")?)?
+        .arg(unless_option(input, "input")?)?
+        .arg(option(alloc, "mocks", "FILE", "Stands for the word MOCKS"))?
+        .arg(option(alloc, "case", "CHOSEN", "Stands for the word CHOSEN"))?
+        .arg(option(alloc, "input", "FILE", "Stands for the word INPUT"))
+}
+
+/// A word that has to be there where an option that may stand for it isn't, and may not where it is.
+fn unless_option<'a>(word: Arg<'a>, option: &'a str) -> Result<Arg<'a>, AllocError> {
+    word.required_unless_present(option)?.conflicts_with(option)
 }
 
 /// The name of a definition's file.
 fn definition_word<'a>(alloc: Global) -> Arg<'a> {
-    word(alloc, "DEF", "The file of the state machine's definition")
+    word(
+        alloc,
+        "DEF",
+        "The file of the state machine's definition; - is standard input, as for each file",
+    )
 }
 
 /// An argument that is required.
 fn word<'a>(alloc: Global, name: &'a str, help: &'a str) -> Arg<'a> {
     Arg::new(alloc, name).required(true).help(help)
+}
+
+/// An option that takes a value.
+fn option<'a>(alloc: Global, name: &'a str, value: &'a str, help: &'a str) -> Arg<'a> {
+    Arg::new(alloc, name)
+        .long(name)
+        .value_name(value)
+        .help(help)
 }
