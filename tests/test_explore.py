@@ -205,6 +205,43 @@ class Exploring(ProgramTest):
         told = self.complete(parallel([*fails, waits]), chosen="M")
         self.assertEqual(sorted((one.outcome[-3], one.late) for one in told.found), [("A", False), ("B", False), ("C", True)])
 
+    def prompt(self, definition, given="{}", mocks="{}", chosen="M#c"):
+        """What a search found of the orders in which no branch is late. It says that it tried no others, and marks none."""
+        ran = self.explore(definition, given, mocks, chosen, "--prompt")
+        told = explored(ran.stdout)
+        self.assertEqual((ran.stderr, told.search, told.notes[0]), ("", "search complete", "note only orders in which no branch is late: one steps only where none may step earlier"))
+        self.assertEqual([one.late for one in told.found], len(told.found) * [False])
+        return told
+
+    def test_prompt_orders_have_the_outcomes_that_are_not_late(self):
+        def fails(name, seconds):
+            return f'{{"StartAt":"W{name}","States":{{"W{name}":{{"Type":"Wait","Seconds":{seconds},"Next":"F{name}"}},"F{name}":{{"Type":"Fail","Error":"{name}"}}}}}}'
+
+        at_once = ['{"StartAt":"%s","States":{"%s":{"Type":"Fail","Error":"%s"}}}' % (name, name, name) for name in "DE"]
+        retried = '{"StartAt":"T","States":{"T":{"Type":"Task","Resource":"r","Retry":[{"ErrorEquals":["Busy"],"IntervalSeconds":2}],"Next":"G"},"G":{"Type":"Fail","Error":"G"}}}'
+        busy = mocked({"T": '"0":{"Throw":{"Error":"Busy"}},"1-9999":{"Return":1}'})
+        for branches, mocks, chosen in [
+            ([fails("A", 1), fails("B", 2)], "{}", "M"),
+            ([fails("A", 2), fails("B", 2)], "{}", "M"),
+            ([fails("A", 1), fails("B", 2), *at_once], "{}", "M"),
+            ([fails("A", 1), retried, fails("B", 3)], busy, "M#c"),
+            ([fails("A", 3), retried, fails("B", 2)], busy, "M#c"),
+        ]:
+            definition = parallel(branches)
+            every = self.complete(definition, "{}", mocks, chosen)
+            told = self.prompt(definition, "{}", mocks, chosen)
+            self.assertEqual(sorted(told.outcomes), sorted(one.outcome for one in every.found if not one.late), definition)
+            self.assertLessEqual(told.worlds, every.worlds)
+
+    def test_a_prompt_search_lists_the_outcome_of_each_example(self):
+        for folder, chosen, given, stored in example_cases():
+            words = [f"{folder}/definition.json", f"{folder}/mocks.json", chosen, given]
+            told = explored(run_program("explore", *words, "--prompt").stdout)
+            every = explored(run_program("explore", *words).stdout)
+            self.assertEqual(sorted(told.outcomes), sorted(one.outcome for one in every.found if not one.late), chosen)
+            with open(stored, encoding="utf-8") as file:
+                self.assertIn(file.read().splitlines()[-1].removeprefix("status "), told.outcomes)
+
     def test_a_branch_that_waits_beyond_the_time_limit(self):
         definition = '{"StartAt":"W","TimeoutSeconds":5,"States":{"W":{"Type":"Wait","Seconds":10,"End":true}}}'
         told = self.complete(definition, chosen="M")

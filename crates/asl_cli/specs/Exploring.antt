@@ -1,12 +1,14 @@
 -- What the command `explore` finds, prints and tells.
-use Rattle.std.specs.Prelude.{ℕ, zero, suc, true, List, Option, Some, None, ◌≡◌, ◌⊎◌, slice_get, codes}
+use Rattle.std.specs.Prelude.{ℕ, zero, suc, Bool, true, false, List, Option, Some, None, ◌≡◌, ◌⊎◌, slice_get, codes}
 use Rattle.std.specs.List.{All}
 use Rattle.asl_setup.specs.declared.setup.Setup.{Setup}
 use Rattle.asl_setup.specs.StepsFile.{steps_file}
 use Rattle.asl_explore.specs.declared.found.Found.{Found}
 use Rattle.asl_explore.specs.declared.found.Explored.{Explored}
 use Rattle.asl_explore.specs.Orders.{IsWhole}
-use Rattle.asl_explore.specs.Searches.{Shows, AreDistinct, outcomes_of}
+use Rattle.asl_explore.specs.Searches.{Shows, AreDistinct, AreLate, outcomes_of}
+use Rattle.asl_explore.specs.declared.orders.Orders.{Orders}
+use Rattle.asl_explore.specs.declared.orders.Orders.TheVariants.{Every, Prompt}
 use Rattle.asl_explore.specs.Reports.{explored_text, is_good}
 use Rattle.asl_host.specs.Reading.{Lacks}
 use Rattle.asl_host.specs.declared.words.ExploreWords.{ExploreWords}
@@ -16,15 +18,22 @@ use Rattle.asl_cli.specs.Faults.{IsBegun, IsRunReason, Tells}
 
 -- ---- what is found
 
+abbrev pub orders_for : Bool → Orders
+orders_for true = Prompt
+orders_for false = Every
+
 -- what a search may find for the setup that the files may give: each outcome with steps that end in
--- it, none twice, and, where nothing was left out, the outcome of every order
+-- it, none twice, and, where nothing was left out, the outcome of every order that is tried; those
+-- that are called late come in no order in which no branch is
 pub record IsFoundFor (gives : List ℕ → List ℕ → Type 0) (w : ExploreWords) (x : Explored) : Type 0
   where
     pub setup : Setup
     pub begins : IsBegun gives w.setup setup
     pub shown : All (Shows setup) x.found.items
     pub once : AreDistinct (outcomes_of x.found.items)
-    pub whole : x.complete ≡ true → IsWhole setup (outcomes_of x.found.items)
+    pub orders : x.orders ≡ orders_for w.prompt
+    pub whole : x.complete ≡ true → IsWhole x.orders setup (outcomes_of x.found.items)
+    pub late : AreLate setup x.found.items x.late.items
 
 -- the outcome of a number, from 1
 abbrev pub numbered : List Found → ℕ → Option Found

@@ -4,14 +4,14 @@ ghost use Rattle.std.specs.Option.{option_copied};
 ghost use Rattle.asl_setup.specs.StepsFile.{steps_file};
 ghost use Rattle.asl_explore.specs.Reports.{explored_text};
 ghost use Rattle.asl_host.specs.Outcomes.{status_of, IsPrinted, IsTold};
-ghost use Rattle.asl_cli.specs.Exploring.{IsExplored, IsFoundFor, IsShown, AreAllShown, IsOneShown, numbered};
+ghost use Rattle.asl_cli.specs.Exploring.{IsExplored, IsFoundFor, IsShown, AreAllShown, IsOneShown, numbered, orders_for};
 ghost use Rattle.asl_cli.specs.Faults.{IsRunReason};
 
 use crate::command::{FAILED, GOOD, REFUSED, print_good, tell_error};
 use crate::debugging::setup_of;
 use crate::fault::CommandFault;
 use crate::reading::read_texts;
-use asl_explore::{Explored, Found, Watch, explore as search, is_good, put_explored};
+use asl_explore::{Explored, Found, Orders, Watch, explore as search, is_good, put_explored};
 use asl_history::Sink;
 use asl_host::{ExploreWords, Files, missing_outcome, tell_fault, write_piece};
 use asl_setup::put_steps;
@@ -39,7 +39,18 @@ pub fn explore<W: Watch, F: Files, O: Sink, E: Sink>(
     }
 }
 
-/// Reads the files, in the order of the words, and tries every order.
+/// The orders that are tried: those in which no branch is late, if only these are wanted.
+fn orders_for(prompt: bool) -> Orders
+    ensures { result ≡ orders_for prompt }
+{
+    if prompt {
+        Orders::Prompt
+    } else {
+        Orders::Every
+    }
+}
+
+/// Reads the files, in the order of the words, and tries the orders.
 fn explore_files<'a, W: Watch, F: Files>(
     watch: &W,
     alloc: Global,
@@ -52,7 +63,7 @@ fn explore_files<'a, W: Watch, F: Files>(
 {
     let texts = read_texts(alloc, files, &words.setup)?;
     let setup = setup_of(alloc, &words.setup, &texts)?;
-    match search(alloc, setup, words.limit, watch) {
+    match search(alloc, setup, orders_for(words.prompt), words.limit, watch) {
         Ok(explored) => Ok(explored),
         Err(AllocError) => Err(CommandFault::OutOfMemory),
     }

@@ -10,6 +10,8 @@ use Rattle.asl_run.specs.Lines.{is_success}
 use Rattle.asl_run.specs.declared.outcome.Outcome.{Outcome}
 use Rattle.asl_run.specs.declared.outcome.Outcome.TheVariants.{Running, Succeeded, Failed, TimedOut}
 use Rattle.asl_setup.specs.declared.step_at.StepAt.{StepAt}
+use Rattle.asl_explore.specs.declared.orders.Orders.{Orders}
+use Rattle.asl_explore.specs.declared.orders.Orders.TheVariants.{Every, Prompt}
 use Rattle.asl_explore.specs.declared.found.Found.{Found}
 use Rattle.asl_explore.specs.declared.found.Explored.{Explored}
 
@@ -73,11 +75,21 @@ unfoldable pub clock_note : List ℕ
 clock_note =
     codes "note the definition may read the clock: each step is taken at its earliest moment only\n"
 
--- what else may come where steps are taken at other moments
+-- only these orders were tried
+unfoldable pub prompt_note : List ℕ
+prompt_note =
+    codes "note only orders in which no branch is late: one steps only where none may step earlier\n"
+
+abbrev pub is_prompt : Orders → Bool
+is_prompt Every = false
+is_prompt Prompt = true
+
+-- which orders were tried, and what else may come where steps are taken at other moments
 abbrev pub notes_text : Explored → List ℕ
 notes_text x =
-    note_text (x.limited || x.clocked) gap
-    ++ (note_text x.limited time_limit_note ++ note_text x.clocked clock_note)
+    note_text (is_prompt x.orders || (x.limited || x.clocked)) gap
+    ++ (note_text (is_prompt x.orders) prompt_note
+    ++ (note_text x.limited time_limit_note ++ note_text x.clocked clock_note))
 
 -- what a search found
 abbrev pub explored_text : Explored → List ℕ

@@ -5,9 +5,10 @@ ghost use Rattle.std.specs.List.{list_any};
 ghost use Rattle.asl_json.specs.View.{data_of};
 ghost use Rattle.asl_json.specs.Compact.{compact};
 ghost use Rattle.asl_steps.specs.Rows.{error_output};
-ghost use Rattle.asl_explore.specs.Reports.{ended_text, place_word, order_line, outcome_line, found_text, late_line, founds_text, number_line, note_text, gap, time_limit_note, clock_note, notes_text, searched_text, explored_text, are_good, is_good};
+ghost use Rattle.asl_explore.specs.Reports.{ended_text, place_word, order_line, outcome_line, found_text, late_line, founds_text, number_line, note_text, gap, prompt_note, is_prompt, time_limit_note, clock_note, notes_text, searched_text, explored_text, are_good, is_good};
 
 use crate::found::{Explored, Found};
+use crate::orders::Orders;
 use asl_exec::Outcome;
 use asl_json::{Json, put};
 use asl_run::is_success;
@@ -168,11 +169,22 @@ fn put_searched(out: &mut String, explored: &Explored) -> Result<(), AllocError>
     }
 }
 
+/// Whether only orders were tried in which no branch is late.
+fn is_prompt(orders: Orders) -> bool
+    ensures { result ≡ is_prompt orders }
+{
+    match orders {
+        Orders::Every => false,
+        Orders::Prompt => true,
+    }
+}
+
 /// Whether anything is noted.
 fn has_notes(explored: &Explored) -> bool
-    ensures { result ≡ (explored.now.limited || explored.now.clocked) }
+    ensures { result
+        ≡ (is_prompt explored.now.orders || (explored.now.limited || explored.now.clocked)) }
 {
-    explored.limited || explored.clocked
+    is_prompt(explored.orders) || explored.limited || explored.clocked
 }
 
 /// Appends an empty line, where it is wanted. The error is that memory ran out.
@@ -181,6 +193,20 @@ fn put_gap(out: &mut String, wanted: bool) -> Result<(), AllocError>
 {
     if wanted {
         return out.push('\n');
+    }
+    Ok(())
+}
+
+/// Appends the note on the orders, where it is wanted. The error is that memory ran out.
+#[tactic(auto, unfolding(crate::specs::Reports::prompt_note))]
+fn put_prompt(out: &mut String, wanted: bool) -> Result<(), AllocError>
+    ensures { OnOk result (string_bytes out.new
+        ≡ string_bytes out.old ++ note_text wanted prompt_note) }
+{
+    if wanted {
+        return out.push_str(
+            "note only orders in which no branch is late: one steps only where none may step earlier\n",
+        );
     }
     Ok(())
 }
@@ -213,11 +239,12 @@ fn put_clock(out: &mut String, wanted: bool) -> Result<(), AllocError>
     Ok(())
 }
 
-/// Appends the lines of what else may come at other moments. The error is that memory ran out.
+/// Appends the lines of which orders were tried, and of what else may come at other moments. The error is that memory ran out.
 fn put_notes(out: &mut String, explored: &Explored) -> Result<(), AllocError>
     ensures { OnOk result (string_bytes out.new ≡ string_bytes out.old ++ notes_text explored.now) }
 {
     put_gap(out, has_notes(explored))?;
+    put_prompt(out, is_prompt(explored.orders))?;
     put_time_limit(out, explored.limited)?;
     put_clock(out, explored.clocked)
 }

@@ -206,7 +206,13 @@ fn late_in(
         → AreLate (setup_of execution.old) searched.now.found.items v.items) }
 {
     match orders {
-        Orders::Every => late_among(execution, alloc, &searched.met.nodes, &searched.found, limit),
+        Orders::Every => late_among(
+            execution,
+            alloc,
+            &searched.met.nodes,
+            &searched.found,
+            limit,
+        ),
         Orders::Prompt => Ok(Vec::new(alloc)),
     }
 }

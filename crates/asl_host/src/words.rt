@@ -149,6 +149,8 @@ pub struct ExploreWords<'a> {
     pub setup: SetupWords<'a>,
     /// So many worlds, from 1 to 1,000,000, are tried at most.
     pub limit: u32,
+    /// Whether only orders are tried in which no branch is late.
+    pub prompt: bool,
     /// The number, from 1, of the outcome whose steps are to be printed; none where all outcomes are.
     pub witness: Option<u32>,
 }
@@ -231,6 +233,7 @@ fn words_of<'a>(matches: &ArgMatches<'a>) -> Option<Words<'a>> {
         return Some(Words::Explore(ExploreWords {
             setup: setup_words_of(matches)?,
             limit: matches.get_one::<u32>("limit").unwrap_or(WORLDS),
+            prompt: matches.get_flag("prompt"),
             witness: matches.get_one::<u32>("witness"),
         }));
     }
@@ -487,6 +490,12 @@ fn explore_command<'a>(alloc: Global) -> Result<Command<'a>, AllocError> {
         .value_parser(ValueParser::unsigned(1, 1_000_000))
         .default_value("100000")
         .help("How many worlds are tried at most, from 1 to 1000000");
+    let prompt = Arg::new(alloc, "prompt")
+        .long("prompt")
+        .action(ArgAction::SetTrue)
+        .help(
+            "Tries only orders in which no branch is late: one steps only where none may step earlier",
+        );
     let witness = Arg::new(alloc, "witness")
         .long("witness")
         .value_name("I")
@@ -495,7 +504,10 @@ fn explore_command<'a>(alloc: Global) -> Result<Command<'a>, AllocError> {
     let explore = Command::new(alloc, "explore").about(
         "Tries every order of an execution's branches and prints each outcome with an order that ends in it",
     );
-    with_setup_words(alloc, explore)?.arg(limit)?.arg(witness)
+    with_setup_words(alloc, explore)?
+        .arg(limit)?
+        .arg(prompt)?
+        .arg(witness)
 }
 
 /// The words for what an execution begins with, and the options that may stand for them.

@@ -18,20 +18,20 @@ returns-in_default-clause-later c = later-same (worlds_of c.args.met.now.nodes.i
 pub loop-index-init : goal.loop-index-init
 loop-index-init c = record {
   later = later-same (worlds_of c.args.met.now.nodes.items) (outcomes_of c.args.found.now.items);
-  setup = refl;
+  setup = c.in_ok-bound.ensures.setup;
   shown = λ h. h;
   once = λ h. h;
   met = λ w k d z lt. absurd (omega arith);
 }
 
-pub visit-requires-clause-there : goal.visit-requires-clause-there
-visit-requires-clause-there c =
+pub take-requires-clause-there : goal.take-requires-clause-there
+take-requires-clause-there c =
     let ns = c.args.met.now.nodes.items in
     let ms = c.loop-index.met.nodes.items in
     omega (arith, c.requires, later-length (worlds_of ns) (worlds_of ms) (outcomes_of c.args.found.now.items) (outcomes_of c.loop-index.found.items) c.loop-index.invariant.later, length-map ns (λ (n : Node). bare n.world), length-map ms (λ (n : Node). bare n.world))
 
-pub visit-requires-clause-runs : goal.visit-requires-clause-runs
-visit-requires-clause-runs c d =
+pub take-requires-clause-runs : goal.take-requires-clause-runs
+take-requires-clause-runs c d =
     let ns = c.args.met.now.nodes.items in
     let ms = c.loop-index.met.nodes.items in
     let lt : c.args.number < length (worlds_of ns) = omega (arith, c.requires, length-map ns (λ (n : Node). bare n.world)) in
@@ -39,34 +39,34 @@ visit-requires-clause-runs c d =
     (node-at ns c.args.number c.index.result.now d c.requires c.index.ensures) (rw c.in-Some.is at c.in_ok-turns.ensures.runs)
 
 pub returns-in_err-is_met-clause-shown : goal.returns-in_err-is_met-clause-shown
-returns-in_err-is_met-clause-shown c h = shown-as (setup_of c.loop-index.execution) (setup_of c.args.execution.now) c.loop-index.found.items c.visit.new.found.items c.loop-index.invariant.setup c.visit.ensures.shown (c.loop-index.invariant.shown h)
+returns-in_err-is_met-clause-shown c h = shown-as (setup_of c.loop-index.execution) (setup_of c.args.execution.now) c.loop-index.found.items c.take.new.found.items c.loop-index.invariant.setup c.take.ensures.shown (c.loop-index.invariant.shown h)
 
 pub returns-in_err-is_met-clause-once : goal.returns-in_err-is_met-clause-once
-returns-in_err-is_met-clause-once c h = c.visit.ensures.once (c.loop-index.invariant.once h)
+returns-in_err-is_met-clause-once c h = c.take.ensures.once (c.loop-index.invariant.once h)
 
 pub loop-index-preserved : goal.loop-index-preserved
 loop-index-preserved c =
     let s = setup_of c.args.execution.now in
     let ws = worlds_of c.args.met.now.nodes.items in
     let vs = worlds_of c.loop-index.met.nodes.items in
-    let xs = worlds_of c.visit.new.met.nodes.items in
+    let xs = worlds_of c.take.new.met.nodes.items in
     let os = outcomes_of c.args.found.now.items in
     let us = outcomes_of c.loop-index.found.items in
-    let ys = outcomes_of c.visit.new.found.items in
+    let ys = outcomes_of c.take.new.found.items in
     let i = c.loop-index.index in
     let turns = c.in-Some.turns.items in
     let inv = c.loop-index.invariant in
     let lt : c.args.number < length ws = omega (arith, c.requires, length-map c.args.met.now.nodes.items (λ (n : Node). bare n.world)) in
     let li : i < length turns = omega (arith, c.in-Some.turns.ok.0, c.loop-index-test.true, c.len-index-end.ensures) in
     record {
-      later = later-then ws vs xs os us ys inv.later c.visit.ensures.later;
-      setup = c.visit.ensures.setup ∙ inv.setup;
-      shown = λ h. shown-as (setup_of c.loop-index.execution) s c.loop-index.found.items c.visit.new.found.items inv.setup c.visit.ensures.shown (inv.shown h);
-      once = λ h. c.visit.ensures.once (inv.once h);
+      later = later-then ws vs xs os us ys inv.later c.take.ensures.later;
+      setup = c.take.ensures.setup ∙ inv.setup;
+      shown = λ h. shown-as (setup_of c.loop-index.execution) s c.loop-index.found.items c.take.new.found.items inv.setup c.take.ensures.shown (inv.shown h);
+      once = λ h. c.take.ensures.once (inv.once h);
       met = λ w.
           let both : (c.loop-index.whole ≡ true) × (c.in_ok-is_met.is_met ≡ true) = elim c.if-whole.branch [ then-whole b ↦ (b.if-whole.true, sym b.whole-is ∙ w) | else-whole b ↦ let e : true ≡ false = sym w ∙ b.whole-is ∙ b.if-whole.false in absurd (cc) ] in
-          met-more s ws vs xs us ys c.args.number turns i c.visit.ensures.later (inv.met both.0)
-          (met-at s (setup_of c.loop-index.execution) ws vs xs os us ys c.args.number turns i c.index-turn.result.now c.in_ok-try_clone.field-0 inv.setup inv.later lt li c.index-turn.ensures c.in_ok-try_clone.ensures (c.in_ok-is_met.ensures.met both.1));
+          met-more s ws vs xs us ys c.args.number c.in_ok-bound.bound turns i c.take.ensures.later (inv.met both.0)
+          (met-at s (setup_of c.loop-index.execution) ws vs xs os us ys c.args.number c.in_ok-bound.bound turns i c.index-turn.result.now inv.setup inv.later lt li c.index-turn.ensures (c.in_ok-is_met.ensures.met both.1));
     }
 
 pub returns-clause-expanded : goal.returns-clause-expanded
@@ -81,5 +81,5 @@ returns-clause-expanded c t =
     let lt : c.args.number < length (worlds_of ns) = omega (arith, c.requires, length-map ns (λ (n : Node). bare n.world)) in
     let more = later-length (worlds_of ns) (worlds_of ms) os us inv.later in
     let le : length turns ≤ c.loop-index.index = omega (arith, c.in-Some.turns.ok.0, c.loop-index-test.false, c.len-index-end.ensures) in
-    expanded-all s (worlds_of ns) (worlds_of ms) os us c.args.number c.index.result.now.world turns c.loop-index.index inv.later lt (omega (arith, lt, more)) (λ d. node-at ns c.args.number c.index.result.now d c.requires c.index.ensures)
-    (rw c.in-Some.is at c.in_ok-turns.ensures.runs) (rw c.in-Some.is at c.in_ok-turns.ensures.root) (rw c.in-Some.is at c.in_ok-turns.ensures.turns) le (inv.met t)
+    expanded-all c.args.orders s (worlds_of ns) (worlds_of ms) os us c.args.number c.index.result.now.world c.in_ok-bound.bound turns c.loop-index.index inv.later lt (omega (arith, lt, more)) (λ d. node-at ns c.args.number c.index.result.now d c.requires c.index.ensures)
+    (rw c.in-Some.is at c.in_ok-turns.ensures.runs) (rw c.in-Some.is at c.in_ok-turns.ensures.root) (rw c.in-Some.is at c.in_ok-turns.ensures.turns) le c.in_ok-bound.ensures.bound (inv.met t)

@@ -3,17 +3,17 @@ use Rattle.std.specs.List.{All, AllWithin}
 use Rattle.asl_exec.specs.Steps.{opening}
 use Rattle.asl_exec.specs.Views.{setup_of}
 use Rattle.asl_explore.specs.Searches.{IsMet, IsExpanded, Shows, AreDistinct, worlds_of, outcomes_of}
-use Rattle.asl_explore.proofs.search.explore.Given as goal
+use Rattle.asl_explore.proofs.search.search.Given as goal
 
 -- the first worlds are expanded, unless one was left out
 abbrev pub invariant-loop-number : goal.invariant-loop-number
 invariant-loop-number g l = record {
-  setup : setup_of l.execution ≡ l.fn.setup;
-  shown : All (Shows l.fn.setup) l.found.items;
+  setup : setup_of l.execution ≡ setup_of l.fn.execution;
+  shown : All (Shows (setup_of l.fn.execution)) l.found.items;
   once : AreDistinct (outcomes_of l.found.items);
-  begins : IsMet (worlds_of l.met.nodes.items) (outcomes_of l.found.items) (opening l.fn.setup);
+  begins : IsMet (worlds_of l.met.nodes.items) (outcomes_of l.found.items) (opening (setup_of l.fn.execution));
   within : l.number ≤ length (worlds_of l.met.nodes.items);
-  expanded : l.whole ≡ true → AllWithin (IsExpanded l.fn.setup (worlds_of l.met.nodes.items) (outcomes_of l.found.items)) (worlds_of l.met.nodes.items) 0 l.number;
+  expanded : l.whole ≡ true → AllWithin (IsExpanded l.orders (setup_of l.fn.execution) (worlds_of l.met.nodes.items) (outcomes_of l.found.items)) (worlds_of l.met.nodes.items) 0 l.number;
 }
 
 abbrev pub decreases-loop-number : goal.decreases-loop-number

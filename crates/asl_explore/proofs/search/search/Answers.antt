@@ -7,8 +7,8 @@ use Rattle.asl_explore.specs.declared.met.Node.{Node}
 use Rattle.asl_explore.specs.Searches.{worlds_of, outcomes_of}
 use Rattle.asl_explore.proofs.Growing.{met-later, later-length}
 use Rattle.asl_explore.proofs.Expanding.{shown-as, within-more, all-whole}
-use Rattle.asl_explore.proofs.search.explore.Goals as goal
-use Rattle.asl_explore.proofs.search.explore.Goals.{then-whole, else-whole}
+use Rattle.asl_explore.proofs.search.search.Goals as goal
+use Rattle.asl_explore.proofs.search.search.Goals.{then-whole, else-whole}
 
 pub returns-clause-whole : goal.returns-clause-whole
 returns-clause-whole g c t =
@@ -16,11 +16,11 @@ returns-clause-whole g c t =
     let inv = c.loop-number.invariant in
     let all = c.is_complete-complete.ensures t in
     let le : length (worlds_of ns) ≤ c.loop-number.number = omega (arith, length-map ns (λ (n : Node). bare n.world), c.loop-number.met.nodes.ok.0, all.1, c.len-worlds.ensures) in
-    all-whole c.args.setup (worlds_of ns) (outcomes_of c.loop-number.found.items) c.loop-number.number le inv.begins (inv.expanded all.0)
+    all-whole c.args.orders (setup_of c.args.execution.now) (worlds_of ns) (outcomes_of c.loop-number.found.items) c.loop-number.number le inv.begins (inv.expanded all.0)
 
 pub loop-number-preserved : goal.loop-number-preserved
 loop-number-preserved g c =
-    let s = c.args.setup in
+    let s = setup_of c.args.execution.now in
     let z = setup_of c.loop-number.execution in
     let ns = c.loop-number.met.nodes.items in
     let ms = c.expand.new.met.nodes.items in
@@ -38,5 +38,5 @@ loop-number-preserved g c =
       within = omega (arith, lt, more);
       expanded = λ w.
           let both : (c.loop-number.whole ≡ true) × (c.in_ok-is_expanded.is_expanded ≡ true) = elim c.if-whole.branch [ then-whole b ↦ (b.if-whole.true, sym b.whole-is ∙ w) | else-whole b ↦ let e : true ≡ false = sym w ∙ b.whole-is ∙ b.if-whole.false in absurd (cc) ] in
-          within-more s z (worlds_of ns) (worlds_of ms) os us i inv.setup c.expand.ensures.later inv.within (inv.expanded both.0) (c.in_ok-is_expanded.ensures.expanded both.1);
+          within-more c.args.orders s z (worlds_of ns) (worlds_of ms) os us i inv.setup c.expand.ensures.later inv.within (inv.expanded both.0) (c.in_ok-is_expanded.ensures.expanded both.1);
     }
