@@ -341,14 +341,6 @@ class CommandTest(ProgramTest):
         longer = self.file("longer", 16_777_217 * " ")
         self.assert_ran(["check", longer], 2, "", f"fault: file {longer}: it has more than 16777216 bytes\n")
 
-    def test_reads_may_be_short_and_interrupted_but_not_fail(self):
-        library = os.path.join(self.room, "reads.so")
-        subprocess.run([os.environ.get("CC", "cc"), "-shared", "-fPIC", "-o", library, f"{TOP}/tests/reads.c"], check=True)
-        words = [PROGRAM, "run", *self.files, *self.steps]
-        for more, wanted in [({}, (0, STEPPED, "")), ({"READ_FAILS": "9"}, (2, "", f"fault: file {self.files[0]}: a read failed\n"))]:
-            ran = subprocess.run(words, env={**os.environ, "LD_PRELOAD": library, **more}, capture_output=True, encoding="utf-8", timeout=60)
-            self.assertEqual((ran.returncode, ran.stdout, ran.stderr), wanted)
-
     def written(self, room, stream, words):
         """The status of a command one of whose streams is a file that has room for so many bytes; and what the file has then."""
 

@@ -4,3 +4,4 @@ pub mod Growing
 pub mod Finding
 pub mod Expanding
 pub mod Timing
+pub mod Lateness

@@ -46,8 +46,8 @@ fn bound_in(
 }
 
 /// Whether a step at this moment is later than one that may be taken.
-fn is_beyond(bound: Option<Moment>, moment: Moment) -> bool
-    ensures { result ≡ is_beyond bound moment }
+fn is_beyond(bound: &Option<Moment>, moment: Moment) -> bool
+    ensures { result ≡ is_beyond bound.now moment }
 {
     match bound {
         Some(least) => least.millis() < moment.millis(),
@@ -64,12 +64,12 @@ fn take(
     found: &mut Vec<Found>,
     number: usize,
     turn: &Earliest,
-    bound: Option<Moment>,
+    bound: &Option<Moment>,
 ) -> Result<bool, AllocError>
     requires there { number < length met.old.nodes.items }
     requires runs { (d : World)
         → is_over (slice_index_or (worlds_of met.old.nodes.items) number d).outcome ≡ false }
-    ensures met { IfOk result (λ b. b ≡ true → is_beyond bound turn.now.moment ≡ false → (d : World)
+    ensures met { IfOk result (λ b. b ≡ true → is_beyond bound.now turn.now.moment ≡ false → (d : World)
         → IsMet (worlds_of met.new.nodes.items) (outcomes_of found.new.items)
         (step (setup_of execution.old) (slice_index_or (worlds_of met.old.nodes.items) number d)
         turn.now.place turn.now.moment)) }
@@ -121,7 +121,7 @@ fn expand(
     let mut whole = true;
     for index in 0..turns.len() {
         let turn = &turns[index];
-        let is_met = take(execution, alloc, met, found, number, turn, bound)?;
+        let is_met = take(execution, alloc, met, found, number, turn, &bound)?;
         whole = whole && is_met;
     }
     Ok(whole)

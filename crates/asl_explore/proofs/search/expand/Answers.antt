@@ -1,9 +1,10 @@
-use Rattle.std.proofs.Common.{◌<◌, ◌≤◌, ◌≡◌, true, false, sym, ◌∙◌, refl, arith, length}
+use Rattle.std.proofs.Common.{◌<◌, ◌≤◌, ◌≡◌, true, false, sym, ◌∙◌, subst, arith, length}
 use Rattle.std.proofs.lemmas.List.{length-map}
+use Rattle.asl_run.specs.World.{World}
 use Rattle.asl_run.specs.Bare.{bare}
 use Rattle.asl_exec.specs.Views.{setup_of}
 use Rattle.asl_explore.specs.declared.met.Node.{Node}
-use Rattle.asl_explore.specs.Searches.{worlds_of, outcomes_of}
+use Rattle.asl_explore.specs.Searches.{worlds_of, outcomes_of, IsBound}
 use Rattle.asl_explore.proofs.Growing.{later-same, later-then, later-length}
 use Rattle.asl_explore.proofs.Expanding.{node-at, shown-as, runs-still, met-at, met-more, expanded-all}
 use Rattle.asl_explore.proofs.search.expand.Goals as goal
@@ -14,6 +15,9 @@ returns-in_err-turns-clause-later c = later-same (worlds_of c.args.met.now.nodes
 
 pub returns-in_default-clause-later : goal.returns-in_default-clause-later
 returns-in_default-clause-later c = later-same (worlds_of c.args.met.now.nodes.items) (outcomes_of c.args.found.now.items)
+
+pub returns-in_err-bound-clause-later : goal.returns-in_err-bound-clause-later
+returns-in_err-bound-clause-later c = later-same (worlds_of c.args.met.now.nodes.items) (outcomes_of c.args.found.now.items)
 
 pub loop-index-init : goal.loop-index-init
 loop-index-init c = record {
@@ -81,5 +85,7 @@ returns-clause-expanded c t =
     let lt : c.args.number < length (worlds_of ns) = omega (arith, c.requires, length-map ns (λ (n : Node). bare n.world)) in
     let more = later-length (worlds_of ns) (worlds_of ms) os us inv.later in
     let le : length turns ≤ c.loop-index.index = omega (arith, c.in-Some.turns.ok.0, c.loop-index-test.false, c.len-index-end.ensures) in
+    let w : World = c.index.result.now.world in
+    let same : bare c.index-2.result.now.world ≡ bare w = sym (node-at ns c.args.number c.index-2.result.now w c.requires c.index-2.ensures) ∙ node-at ns c.args.number c.index.result.now w c.requires c.index.ensures in
     expanded-all c.args.orders s (worlds_of ns) (worlds_of ms) os us c.args.number c.index.result.now.world c.in_ok-bound.bound turns c.loop-index.index inv.later lt (omega (arith, lt, more)) (λ d. node-at ns c.args.number c.index.result.now d c.requires c.index.ensures)
-    (rw c.in-Some.is at c.in_ok-turns.ensures.runs) (rw c.in-Some.is at c.in_ok-turns.ensures.root) (rw c.in-Some.is at c.in_ok-turns.ensures.turns) le c.in_ok-bound.ensures.bound (inv.met t)
+    (rw c.in-Some.is at c.in_ok-turns.ensures.runs) (rw c.in-Some.is at c.in_ok-turns.ensures.root) (rw c.in-Some.is at c.in_ok-turns.ensures.turns) le (subst (λ (w : World). IsBound c.args.orders s w c.in_ok-bound.bound) same c.in_ok-bound.ensures.bound) (inv.met t)

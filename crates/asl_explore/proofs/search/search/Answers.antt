@@ -15,7 +15,7 @@ returns-clause-whole g c t =
     let ns = c.loop-number.met.nodes.items in
     let inv = c.loop-number.invariant in
     let all = c.is_complete-complete.ensures t in
-    let le : length (worlds_of ns) ≤ c.loop-number.number = omega (arith, length-map ns (λ (n : Node). bare n.world), c.loop-number.met.nodes.ok.0, all.1, c.len-worlds.ensures) in
+    let le : length (worlds_of ns) ≤ c.loop-number.number = omega (arith, length-map ns (λ (n : Node). bare n.world), c.loop-number.met.nodes.ok.0, all.1, c.len-2.ensures) in
     all-whole c.args.orders (setup_of c.args.execution.now) (worlds_of ns) (outcomes_of c.loop-number.found.items) c.loop-number.number le inv.begins (inv.expanded all.0)
 
 pub loop-number-preserved : goal.loop-number-preserved

@@ -1,0 +1,8 @@
+use Rattle.std.proofs.Common.{IfSome}
+use Rattle.asl_exec.specs.Views.{setup_of, world_of}
+use Rattle.asl_explore.specs.Searches.{IsOpenAt}
+use Rattle.asl_explore.proofs.order.soonest.Given as goal
+
+-- a branch may step at the least moment so far
+abbrev pub invariant-loop-turn : goal.invariant-loop-turn
+invariant-loop-turn l = IfSome l.least (IsOpenAt (setup_of l.execution) (world_of l.execution))
