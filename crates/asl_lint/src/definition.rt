@@ -4,10 +4,12 @@ use crate::near::EFFORT;
 use crate::rule::Rule;
 use crate::standing::standing_at;
 use crate::states::States;
+use crate::suspicions::put_warning;
 use crate::words::put_fault;
 use asl_findings::every_fault;
 use asl_json::Json;
 use asl_schema::{Fault, FaultKind, Step};
+use asl_warnings::{Warning, WarningKind, every_warning};
 use std::alloc::{AllocError, Global};
 
 /// Which part of what stands at its place a fault is of.
@@ -71,7 +73,57 @@ fn found_of(
     })
 }
 
-/// What is found in a definition with these states: each of its faults. The error is that memory ran out.
+/// Whether a warning is of the way through the states, which the faults of a definition may break.
+fn is_of_ways(kind: WarningKind) -> bool {
+    matches!(kind, WarningKind::UnreachableState | WarningKind::NoEnd)
+}
+
+/// Which part of what stands at its place a warning is of.
+fn part_of_warning(kind: WarningKind) -> Part {
+    match kind {
+        WarningKind::UnreachableState
+        | WarningKind::NoEnd
+        | WarningKind::NoDefault
+        | WarningKind::EndlessWait => Part::Key,
+        _ => Part::Value,
+    }
+}
+
+fn found_of_warning(
+    alloc: Global,
+    definition: &Json,
+    warning: &Warning,
+    effort: &mut usize,
+) -> Result<Found, AllocError> {
+    let steps = warning.steps_back();
+    let standing = standing_at(definition, steps);
+    let mut message = String::new(alloc);
+    put_warning(alloc, &mut message, warning.kind(), &standing, effort)?;
+    Ok(Found {
+        rule: Rule::Warning(warning.kind()),
+        place: place_of(alloc, steps)?,
+        part: part_of_warning(warning.kind()),
+        message,
+    })
+}
+
+/// Adds each warning. Of a definition with faults none of the way through its states: the faults may be why.
+fn add_warnings(
+    alloc: Global,
+    definition: &Json,
+    found: &mut Vec<Found>,
+    effort: &mut usize,
+) -> Result<(), AllocError> {
+    let is_faulty = !found.is_empty();
+    for warning in &every_warning(alloc, definition)? {
+        if !(is_faulty && is_of_ways(warning.kind())) {
+            found.push(found_of_warning(alloc, definition, warning, effort)?)?;
+        }
+    }
+    Ok(())
+}
+
+/// What is found in a definition with these states: each of its faults, and its warnings. The error is that memory ran out.
 pub(crate) fn found_in(
     alloc: Global,
     definition: &Json,
@@ -84,5 +136,6 @@ pub(crate) fn found_in(
         let number = number_of(&faults[..i], fault);
         found.push(found_of(alloc, definition, states, fault, number, &mut effort)?)?;
     }
+    add_warnings(alloc, definition, &mut found, &mut effort)?;
     Ok(found)
 }

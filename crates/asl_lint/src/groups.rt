@@ -131,15 +131,16 @@ pub(crate) fn put_neither(
     number: usize,
 ) -> Result<(), AllocError> {
     let members = standing.members();
-    if standing.sort == Sort::State {
-        out.push_str("the state ")?;
-        put_name(out, standing.key)?;
-        out.push_str(" can't go on: ")?;
-    }
     out.push_str(noun(standing.sort, members))?;
     let shape = shape_in(standing.sort, members);
     match undecided(shape.groups, members, number) {
-        Some(group) => put_choice(out, group),
-        None => out.push_str(" lacks a member"),
+        Some(group) => put_choice(out, group)?,
+        None => out.push_str(" lacks a member")?,
     }
+    if standing.sort != Sort::State {
+        return out.push_str(", and this one has none");
+    }
+    out.push_str(", and ")?;
+    put_name(out, standing.key)?;
+    out.push_str(" has none")
 }

@@ -2,7 +2,7 @@
 //!
 //! Modules in reading order: `rule` and `finding` are what is told; `quoting` writes names into messages, `near` looks for names that are
 //! alike; `standing` is what stands at the place of a fault, `nouns` what it is called; `words` says of each fault what is wrong, with
-//! `groups`, `types`, `ranges` and `texts` for some of them, and `unread` of a text that is no JSON; `placing` finds lines and columns;
+//! `groups`, `types`, `ranges` and `texts` for some of them, `suspicions` says the same of warnings, and `unread` of a text that is no JSON; `placing` finds lines and columns;
 //! `states` has the states of a definition by their names; `definition` has the findings of a definition, `mock_faults` and `mocks` those of a
 //! mock file, `beside` what doesn't fit between the two, and `linting` all; `lines`, `json_lines` and `sarif` are the formats.
 #![tactic(auto)]
@@ -25,6 +25,7 @@ mod rule;
 mod sarif;
 mod standing;
 mod states;
+mod suspicions;
 mod texts;
 mod types;
 mod unread;

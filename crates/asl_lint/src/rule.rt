@@ -1,5 +1,6 @@
 // What a finding is of.
 use asl_schema::FaultKind;
+use asl_warnings::WarningKind;
 
 /// How bad a finding is.
 #[derive(Clone, Copy, Debug, PartialEq, Eq)]
@@ -54,6 +55,8 @@ pub enum Rule {
     Json,
     /// F2 to F15: a fault of the definition.
     Fault(FaultKind),
+    /// Something suspicious of the definition.
+    Warning(WarningKind),
     /// Something of the mock file.
     Mock(MockRule),
 }
@@ -63,6 +66,7 @@ impl Rule {
     pub fn severity(self) -> Severity {
         match self {
             Rule::Json | Rule::Fault(_) => Severity::Error,
+            Rule::Warning(_) => Severity::Warning,
             Rule::Mock(rule) => severity_of(rule),
         }
     }
@@ -72,6 +76,7 @@ impl Rule {
         match self {
             Rule::Json => "F1",
             Rule::Fault(kind) => fault_name(kind),
+            Rule::Warning(kind) => kind.name(),
             Rule::Mock(rule) => mock_name(rule),
         }
     }
@@ -81,6 +86,7 @@ impl Rule {
         match self {
             Rule::Json => "The definition is no JSON text.",
             Rule::Fault(kind) => fault_sentence(kind),
+            Rule::Warning(kind) => warning_sentence(kind),
             Rule::Mock(rule) => mock_sentence(rule),
         }
     }
@@ -130,6 +136,20 @@ fn fault_sentence(kind: FaultKind) -> &'static str {
         FaultKind::Path => "A text isn't a path of the supported kind.",
         FaultKind::Expression => "A text isn't a call of an intrinsic function.",
         FaultKind::Nesting => "A machine is inside 16 others.",
+    }
+}
+
+fn warning_sentence(kind: WarningKind) -> &'static str {
+    match kind {
+        WarningKind::UnreachableState => "Nothing leads to a state.",
+        WarningKind::NoEnd => "From a state no end can be reached.",
+        WarningKind::NoDefault => "A Choice has no Default.",
+        WarningKind::EndlessWait => "A Task that waits for a token has no time limit.",
+        WarningKind::HeartbeatNotShorter => "A heartbeat isn't shorter than the time limit.",
+        WarningKind::UnaskedHandler => "Retriers or catchers before it are for all that this one names.",
+        WarningKind::UnknownError => "No error of the language has this name.",
+        WarningKind::ForgottenDollar => "A text of a template looks like a path and is none.",
+        WarningKind::UnknownContextMember => "The Context Object never has what a path names.",
     }
 }
 

@@ -3,6 +3,7 @@ use crate::finding::{Finding, Report};
 use crate::rule::{MockRule, Rule};
 use asl_json::put_quoted;
 use asl_schema::FaultKind;
+use asl_warnings::WarningKind;
 use std::alloc::{AllocError, Global};
 
 /// What stands before the rules.
@@ -12,7 +13,7 @@ const HEAD: &str = "{\"$schema\":\"https://json.schemastore.org/sarif-2.1.0.json
 const MIDDLE: &str = "]}},\"columnKind\":\"unicodeCodePoints\",\"results\":[";
 
 /// All rules.
-const RULES: [Rule; 26] = [
+const RULES: [Rule; 35] = [
     Rule::Json,
     Rule::Fault(FaultKind::NotObject),
     Rule::Fault(FaultKind::Missing),
@@ -28,6 +29,15 @@ const RULES: [Rule; 26] = [
     Rule::Fault(FaultKind::Path),
     Rule::Fault(FaultKind::Expression),
     Rule::Fault(FaultKind::Nesting),
+    Rule::Warning(WarningKind::UnreachableState),
+    Rule::Warning(WarningKind::NoEnd),
+    Rule::Warning(WarningKind::NoDefault),
+    Rule::Warning(WarningKind::EndlessWait),
+    Rule::Warning(WarningKind::HeartbeatNotShorter),
+    Rule::Warning(WarningKind::UnaskedHandler),
+    Rule::Warning(WarningKind::UnknownError),
+    Rule::Warning(WarningKind::ForgottenDollar),
+    Rule::Warning(WarningKind::UnknownContextMember),
     Rule::Mock(MockRule::Json),
     Rule::Mock(MockRule::Shape),
     Rule::Mock(MockRule::Key),

@@ -170,8 +170,10 @@ fn put_unknown(alloc: Global, out: &mut String, name: &str) -> Result<(), AllocE
     for function in FUNCTIONS {
         search.add(function.name(), &mut effort)?;
     }
-    if search.has_found() {
-        return search.put(out);
+    if let Some(function) = search.best() {
+        out.push_str("; did you mean States.")?;
+        out.push_str(function)?;
+        return out.push('?');
     }
     out.push_str("; there are ")?;
     for (number, function) in FUNCTIONS.iter().enumerate() {

@@ -75,7 +75,7 @@ fn put_unknown(
             search.add(row.name(), &mut effort)?;
         }
     }
-    if search.has_found() {
+    if search.best().is_some() {
         return search.put(out);
     }
     if standing.object_sort == Sort::State {
@@ -128,6 +128,9 @@ fn put_no_target(
     out.push_str(", and no state of this machine has that name")?;
     if states.find(name).is_some() {
         return out.push_str("; a state of another machine has it, and no transition leads from one machine into another");
+    }
+    if name == "End" {
+        return out.push_str("; a state that ends has \"End\": true in the place of Next");
     }
     let mut search = Search::new(alloc, name);
     for state in standing.states {
