@@ -415,9 +415,12 @@ fn check_command<'a>(alloc: Global) -> Result<Command<'a>, AllocError> {
 }
 
 fn lint_command<'a>(alloc: Global) -> Result<Command<'a>, AllocError> {
-    let mocks = Arg::new(alloc, "MOCKS").help("The file of the mocked tasks, to be judged beside it");
-    let machine = Arg::new(alloc, "MACHINE")
-        .help("The machine's name in the mock file, where that has more than one");
+    let mocks = Arg::new(alloc, "MOCKS").help(
+        "The file of the mocked tasks, to be judged beside it",
+    );
+    let machine = Arg::new(alloc, "MACHINE").help(
+        "The machine's name in the mock file, where that has more than one",
+    );
     let format = Arg::new(alloc, "format")
         .long("format")
         .value_name("FORMAT")

@@ -209,8 +209,10 @@ pub(crate) fn add_unanswered(
 ) -> Result<(), AllocError> {
     for (number, state) in states.list.iter().enumerate() {
         if state.kind == Some(Kind::Task) && !answered.contains(&number) {
-            let mut message =
-                String::from_str(alloc, "no case of the mock file has an answer for the Task ")?;
+            let mut message = String::from_str(
+                alloc,
+                "no case of the mock file has an answer for the Task ",
+            )?;
             put_name(&mut message, state.name)?;
             found.push(Found {
                 rule: Rule::Mock(MockRule::UnansweredTask),

@@ -64,7 +64,15 @@ fn found_of(
     let steps = fault.steps_back();
     let standing = standing_at(definition, steps);
     let mut message = String::new(alloc);
-    put_fault(alloc, &mut message, fault.kind(), &standing, number, states, effort)?;
+    put_fault(
+        alloc,
+        &mut message,
+        fault.kind(),
+        &standing,
+        number,
+        states,
+        effort,
+    )?;
     Ok(Found {
         rule: Rule::Fault(fault.kind()),
         place: place_of(alloc, steps)?,

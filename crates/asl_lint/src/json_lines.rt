@@ -16,7 +16,11 @@ fn put_finding(out: &mut String, file: &str, finding: &Finding) -> Result<(), Al
     out.push('{')?;
     put_text(out, "file", file)?;
     write!(out, ",\"line\":{line},\"column\":{column}")?;
-    write!(out, ",\"begin\":{},\"end\":{},", finding.span.begin, finding.span.end)?;
+    write!(
+        out,
+        ",\"begin\":{},\"end\":{},",
+        finding.span.begin, finding.span.end
+    )?;
     put_text(out, "severity", finding.rule.severity().word())?;
     out.push(',')?;
     put_text(out, "name", finding.rule.name())?;

@@ -41,7 +41,12 @@ impl Walk {
     }
 
     /// Tells something of where the walk is.
-    pub(crate) fn tell(&mut self, rule: MockRule, part: Part, message: String) -> Result<(), AllocError> {
+    pub(crate) fn tell(
+        &mut self,
+        rule: MockRule,
+        part: Part,
+        message: String,
+    ) -> Result<(), AllocError> {
         self.found.push(Found {
             rule: Rule::Mock(rule),
             place: Vec::from_slice(self.alloc, &self.place)?,
@@ -53,7 +58,7 @@ impl Walk {
 
     /// Tells that the value where the walk is has to be something else.
     fn misfit(&mut self, wanted: &str) -> Result<(), AllocError> {
-        let mut message = String::from_str(self.alloc, "it has to be ")?;
+        let mut message = String::from_str(self.alloc, "this has to be ")?;
         message.push_str(wanted)?;
         self.tell(MockRule::Shape, Part::Value, message)
     }
@@ -93,7 +98,11 @@ pub(crate) fn response_names(alloc: Global, file: &Json) -> Result<HashSet<Strin
     Ok(names)
 }
 
-fn walk_machines(walk: &mut Walk, names: &HashSet<String>, machines: &Json) -> Result<(), AllocError> {
+fn walk_machines(
+    walk: &mut Walk,
+    names: &HashSet<String>,
+    machines: &Json,
+) -> Result<(), AllocError> {
     if !is_object(machines) {
         return walk.misfit("an object: machines by their names");
     }
@@ -105,7 +114,11 @@ fn walk_machines(walk: &mut Walk, names: &HashSet<String>, machines: &Json) -> R
     Ok(())
 }
 
-fn walk_machine(walk: &mut Walk, names: &HashSet<String>, machine: &Json) -> Result<(), AllocError> {
+fn walk_machine(
+    walk: &mut Walk,
+    names: &HashSet<String>,
+    machine: &Json,
+) -> Result<(), AllocError> {
     if machine.get("TestCases").is_none() {
         return walk.misfit("an object with TestCases");
     }

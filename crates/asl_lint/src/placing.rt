@@ -40,7 +40,11 @@ fn span_of(outline: &Outline, found: &Found) -> Span {
     }
 }
 
-fn with_spans(alloc: Global, outline: &Outline, found: Vec<Found>) -> Result<Vec<Spanned>, AllocError> {
+fn with_spans(
+    alloc: Global,
+    outline: &Outline,
+    found: Vec<Found>,
+) -> Result<Vec<Spanned>, AllocError> {
     let mut all = Vec::with_capacity(alloc, found.len())?;
     for found in found {
         let span = span_of(outline, &found);

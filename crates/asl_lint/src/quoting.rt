@@ -83,7 +83,11 @@ pub(crate) fn put_key(out: &mut String, key: &str) -> Result<(), AllocError> {
 }
 
 /// Appends what stands between two names in a list of so many, before that of this number.
-pub(crate) fn put_separator(out: &mut String, number: usize, count: usize) -> Result<(), AllocError> {
+pub(crate) fn put_separator(
+    out: &mut String,
+    number: usize,
+    count: usize,
+) -> Result<(), AllocError> {
     if number == 0 {
         Ok(())
     } else if number.saturating_add(1) == count {

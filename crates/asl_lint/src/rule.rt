@@ -146,7 +146,8 @@ fn warning_sentence(kind: WarningKind) -> &'static str {
         WarningKind::NoDefault => "A Choice has no Default.",
         WarningKind::EndlessWait => "A Task that waits for a token has no time limit.",
         WarningKind::HeartbeatNotShorter => "A heartbeat isn't shorter than the time limit.",
-        WarningKind::UnaskedHandler => "Retriers or catchers before it are for all that this one names.",
+        WarningKind::UnaskedHandler =>
+            "Retriers or catchers before it are for all that this one names.",
         WarningKind::UnknownError => "No error of the language has this name.",
         WarningKind::ForgottenDollar => "A text of a template looks like a path and is none.",
         WarningKind::UnknownContextMember => "The Context Object never has what a path names.",

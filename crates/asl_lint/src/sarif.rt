@@ -7,7 +7,8 @@ use asl_warnings::WarningKind;
 use std::alloc::{AllocError, Global};
 
 /// What stands before the rules.
-const HEAD: &str = "{\"$schema\":\"https://json.schemastore.org/sarif-2.1.0.json\",\"version\":\"2.1.0\",\"runs\":[{\"tool\":{\"driver\":{\"name\":\"asl\",\"version\":\"0.1.0\",\"rules\":[";
+const HEAD: &str =
+    "{\"$schema\":\"https://json.schemastore.org/sarif-2.1.0.json\",\"version\":\"2.1.0\",\"runs\":[{\"tool\":{\"driver\":{\"name\":\"asl\",\"version\":\"0.1.0\",\"rules\":[";
 
 /// What stands between the rules and the results.
 const MIDDLE: &str = "]}},\"columnKind\":\"unicodeCodePoints\",\"results\":[";
@@ -109,10 +110,18 @@ fn put_result(out: &mut String, file: &str, finding: &Finding) -> Result<(), All
     put_quoted(out, finding.message.as_str())?;
     out.push_str("},\"locations\":[{\"physicalLocation\":{\"artifactLocation\":{\"uri\":")?;
     put_uri(out, file)?;
-    write!(out, "}},\"region\":{{\"startLine\":{line},\"startColumn\":{column}}}}}}}]}}")
+    write!(
+        out,
+        "}},\"region\":{{\"startLine\":{line},\"startColumn\":{column}}}}}}}]}}"
+    )
 }
 
-fn put_results(out: &mut String, definition: &str, mocks: &str, report: &Report) -> Result<(), AllocError> {
+fn put_results(
+    out: &mut String,
+    definition: &str,
+    mocks: &str,
+    report: &Report,
+) -> Result<(), AllocError> {
     let before = report.definition.len();
     for (number, finding) in report.definition.iter().enumerate() {
         separate(out, number)?;

@@ -41,10 +41,7 @@ pub(crate) fn items_in(value: &Json) -> &[Json] {
 
 /// Whether values of this sort are machines.
 pub(crate) fn is_machine(sort: Sort) -> bool {
-    matches!(
-        sort,
-        Sort::Definition | Sort::Machine | Sort::ItemProcessor
-    )
+    matches!(sort, Sort::Definition | Sort::Machine | Sort::ItemProcessor)
 }
 
 /// The states of a machine.

@@ -69,7 +69,13 @@ impl<'a> States<'a> {
         self.list.get(number)?.kind
     }
 
-    fn add(&mut self, alloc: Global, name: &'a str, value: &'a Json, place: &[usize]) -> Result<(), AllocError> {
+    fn add(
+        &mut self,
+        alloc: Global,
+        name: &'a str,
+        value: &'a Json,
+        place: &[usize],
+    ) -> Result<(), AllocError> {
         let number = self.list.len();
         self.list.push(State {
             name,
@@ -132,7 +138,13 @@ fn add_members<'a>(
         if sort == Sort::States {
             states.add(alloc, key, &member.value, place)?;
         }
-        add_value(alloc, states, place, member_sort(sort, pairs, key), &member.value)?;
+        add_value(
+            alloc,
+            states,
+            place,
+            member_sort(sort, pairs, key),
+            &member.value,
+        )?;
         let _ = place.pop();
     }
     Ok(())

@@ -17,9 +17,19 @@ pub(crate) fn put_warning(
 ) -> Result<(), AllocError> {
     match kind {
         WarningKind::UnreachableState => {
-            put_state(out, "nothing leads to the state ", standing.key, " from StartAt")
+            put_state(
+                out,
+                "nothing leads to the state ",
+                standing.key,
+                " from StartAt",
+            )
         }
-        WarningKind::NoEnd => put_state(out, "no way leads from the state ", standing.key, " to an end"),
+        WarningKind::NoEnd => put_state(
+            out,
+            "no way leads from the state ",
+            standing.key,
+            " to an end",
+        ),
         WarningKind::NoDefault => put_state(
             out,
             "the Choice state ",
@@ -37,7 +47,14 @@ pub(crate) fn put_warning(
         ),
         WarningKind::UnaskedHandler => out.push_str(unasked(standing.sort)),
         WarningKind::UnknownError => {
-            put_near_name(alloc, out, "no error is named ", standing.text(), ERRORS, effort)
+            put_near_name(
+                alloc,
+                out,
+                "no error is named ",
+                standing.text(),
+                ERRORS,
+                effort,
+            )
         }
         WarningKind::ForgottenDollar => put_forgotten(alloc, out, standing),
         WarningKind::UnknownContextMember => put_near_name(
@@ -59,7 +76,8 @@ fn put_state(out: &mut String, before: &str, name: &str, behind: &str) -> Result
 
 fn unasked(sort: Sort) -> &'static str {
     match sort {
-        Sort::Catcher => "this catcher is never asked: those before it are for each error that it names",
+        Sort::Catcher =>
+            "this catcher is never asked: those before it are for each error that it names",
         _ => "this retrier is never asked: those before it are for each error that it names",
     }
 }
@@ -83,7 +101,11 @@ fn put_near_name(
 }
 
 /// Appends that a text stays as it is.
-fn put_forgotten(alloc: Global, out: &mut String, standing: &Standing<'_>) -> Result<(), AllocError> {
+fn put_forgotten(
+    alloc: Global,
+    out: &mut String,
+    standing: &Standing<'_>,
+) -> Result<(), AllocError> {
     put_subject(out, standing)?;
     out.push_str(" stays the text ")?;
     put_name(out, standing.text())?;

@@ -71,9 +71,11 @@ fn instead(key: &str) -> &'static str {
     match key {
         "Assign" => ": it sets a variable; ResultPath keeps a result in the state's output",
         "Arguments" => ": it belongs to JSONata; Parameters is for JSONPath",
-        "Output" => ": it belongs to JSONata; ResultSelector, ResultPath and OutputPath are for JSONPath",
+        "Output" =>
+            ": it belongs to JSONata; ResultSelector, ResultPath and OutputPath are for JSONPath",
         "Items" => ": it belongs to JSONata; ItemsPath is for JSONPath",
-        "Condition" => ": it belongs to JSONata; for JSONPath a rule has Variable and a test, as StringEquals",
+        "Condition" =>
+            ": it belongs to JSONata; for JSONPath a rule has Variable and a test, as StringEquals",
         "MaxConcurrencyPath" => "; MaxConcurrency is",
         _ => ": it belongs to Map states in distributed mode; inline mode is supported",
     }
@@ -108,7 +110,9 @@ pub(crate) fn put_path(
     out.push_str(" is no path: ")?;
     put_name(out, text)?;
     match RefPath::read(alloc, text) {
-        Ok(_) => out.push_str(" leads into the Context Object, and a result can only be put into the input"),
+        Ok(_) => out.push_str(
+            " leads into the Context Object, and a result can only be put into the input",
+        ),
         Err(PathFault::PathProfile(from)) => put_path_fault(out, text, from),
         Err(PathFault::OutOfMemory) => Err(AllocError),
     }
@@ -119,7 +123,9 @@ fn put_path_fault(out: &mut String, text: &str, from: usize) -> Result<(), Alloc
         return out.push_str(" doesn't begin with \"$\"");
     }
     put_wrong_from(out, text, from)?;
-    out.push_str("; supported are steps as $.name, $['a name'] and $[0]; wildcards, slices, filters and \"..\" are not supported")
+    out.push_str(
+        "; supported are steps as $.name, $['a name'] and $[0]; wildcards, slices, filters and \"..\" are not supported",
+    )
 }
 
 /// Appends what is wrong with a call of an intrinsic function.
@@ -131,7 +137,9 @@ pub(crate) fn put_call(
     let text = standing.text();
     put_subject(out, standing)?;
     if !text.starts_with("States.") {
-        out.push_str(" is neither a path, which begins with \"$\", nor a call of an intrinsic function, as States.Format('{}', $.a): ")?;
+        out.push_str(
+            " is neither a path, which begins with \"$\", nor a call of an intrinsic function, as States.Format('{}', $.a): ",
+        )?;
         put_name(out, text)?;
         return put_dollar(out, standing);
     }
@@ -142,9 +150,7 @@ pub(crate) fn put_call(
         Err(CallFault::Syntax(from)) => put_wrong_from(out, text, from),
         Err(CallFault::Unknown(name)) => put_unknown(alloc, out, name.as_str()),
         Err(CallFault::Depth) => out.push_str(" has a call inside ten others"),
-        Err(CallFault::Arity) => {
-            out.push_str(" gives a function too many arguments or too few")
-        }
+        Err(CallFault::Arity) => { out.push_str(" gives a function too many arguments or too few") }
         Err(CallFault::OutOfMemory) => Err(AllocError),
     }
 }

@@ -48,7 +48,8 @@ fn syntax_words(text: &[u8], at: usize) -> &'static str {
         b'"' | b'{' | b'[' if ends_value(before) => "a comma or a colon is missing before it",
         b'\\' => "half of a pair of surrogates can't be escaped alone",
         0xef if at == 0 => "a text of JSON has no byte order mark before it",
-        0..=31 => "a line feed, a tab or another control can't stand in a text; it is escaped, as \\n",
+        0..=31 =>
+            "a line feed, a tab or another control can't stand in a text; it is escaped, as \\n",
         _ => "no JSON: this can't stand here",
     }
 }

@@ -59,11 +59,7 @@ fn put_missing(out: &mut String, standing: &Standing<'_>) -> Result<(), AllocErr
 }
 
 /// Appends that an object may not have a member, and which it may mean.
-fn put_unknown(
-    alloc: Global,
-    out: &mut String,
-    standing: &Standing<'_>,
-) -> Result<(), AllocError> {
+fn put_unknown(alloc: Global, out: &mut String, standing: &Standing<'_>) -> Result<(), AllocError> {
     out.push_str(noun(standing.object_sort, standing.object))?;
     out.push_str(" has no member ")?;
     put_name(out, standing.key)?;
@@ -127,7 +123,9 @@ fn put_no_target(
     put_name(out, name)?;
     out.push_str(", and no state of this machine has that name")?;
     if states.find(name).is_some() {
-        return out.push_str("; a state of another machine has it, and no transition leads from one machine into another");
+        return out.push_str(
+            "; a state of another machine has it, and no transition leads from one machine into another",
+        );
     }
     if name == "End" {
         return out.push_str("; a state that ends has \"End\": true in the place of Next");
