@@ -6,7 +6,7 @@ use crate::mock_faults::{Walk, walk_file};
 use crate::placing::placed;
 use crate::rule::{MockRule, Rule};
 use crate::states::States;
-use crate::unread::unread;
+use crate::json_faults::unread;
 use asl_json::{Json, JsonFault, read};
 use std::alloc::{AllocError, Global};
 
