@@ -1,6 +1,6 @@
 -- The walk over the parts of a value, one behind another.
 use Rattle.std.proofs.Common.{◌≡◌, ℕ, zero, suc, ◌+◌, ◌<◌, ◌≤◌, Bool, true, false, ◌||◌, not, List, [], ◌∷◌, ◌++◌, length, get_or, take, drop, refl, sym, subst, ◌∙◌, ap, add-one, arith, append_assoc, inl, inr}
-use Rattle.std.specs.Prelude.{Option, Some, None, is_some, map, nat_eq, if◌then◌else◌}
+use Rattle.std.specs.Prelude.{Option, Some, None, map, option_to_list, if◌then◌else◌}
 use Rattle.std.specs.Fmt.{decimal}
 use Rattle.std.proofs.lemmas.List.{drop_more, drop_all, take_more, map-append, append-nil}
 use Rattle.asl_json.specs.Data.{Data, chain, Pairs, pairs}
@@ -18,12 +18,13 @@ use Rattle.asl_schema.specs.Members.{Row, Group, Shape, sort_at}
 use Rattle.asl_schema.specs.Demands.{Demand, there, decided}
 use Rattle.asl_schema.specs.private.Code.{row_of, rows_of, group_of, groups_of}
 use Rattle.asl_schema.specs.Claims.{Claim, Spot, under, step, here, heres, is_nonempty, at_item, at_member, claims, item_claims, member_claims, row_claims, is_needed, group_demands, any_in, any_counts, counts}
-use Rattle.asl_schema.specs.First.{Found, under_step, unless}
+use Rattle.asl_schema.specs.First.{Found, Answers}
+use Rattle.asl_judge.specs.private.Firsts.{under_step, unless}
 use Rattle.asl_judge.proofs.Answering.{decided_judged}
 use Rattle.asl_judge.proofs.Walking.{any_in-counts, count_is}
 use Rattle.asl_findings.specs.Told.{AreTold}
 use Rattle.asl_findings.specs.private.Parts.{listed}
-use Rattle.asl_findings.proofs.Telling.{told_append, told_under, told_then, one_told}
+use Rattle.asl_findings.proofs.Telling.{told_append, told_under, told_then, one_told, none_told}
 
 -- what is told of all, once the rest is told
 abbrev pub Goes : List Claim → List Claim → List Found → Type 0
@@ -111,19 +112,16 @@ rows_step ms at all best new f rs i dr lt so_far h is =
 pub rows_end : (ms : Pairs) (at : ℕ) (all : List Claim) (best : List Found) (rs : List CodeRow) (i : ℕ) → length rs ≤ i → Goes (row_claims (at + i) (rows_of (drop i rs)) ms) all best → AreTold all best
 rows_end ms at all best rs i past so_far = goes-end all best (subst (λ (xs : List CodeRow). Goes (row_claims (at + i) (rows_of xs) ms) all best) (drop_all i rs past) so_far)
 
--- a row that isn't needed, one that is there, and one that is missing
-pub row_unneeded : (i : ℕ) (r : Row) (ms : Pairs) → is_needed r ms ≡ false → AreTold (row_claims i (r ∷ []) ms) []
-row_unneeded i r ms e = rw e refl
-
-pub row_there : (i : ℕ) (r : Row) (ms : Pairs) → is_some (value_at r.name ms) ≡ true → AreTold (row_claims i (r ∷ []) ms) []
-row_there i r ms e = by (is_needed r ms)
+-- what is answered of one row is told
+pub row_answered : (i : ℕ) (r : Row) (ms : Pairs) (f : Option Found) → Answers (row_claims i (r ∷ []) ms) f → AreTold (row_claims i (r ∷ []) ms) (option_to_list f)
+row_answered i r ms f h = by (is_needed r ms) h
   where
-    by : (b : Bool) → AreTold ((if b then (there (value_at r.name ms), step i r.name ∷ []) ∷ [] else []) ++ []) []
-    by true = inl (e, refl)
-    by false = refl
+    one : Claim
+    one = (there (value_at r.name ms), step i r.name ∷ [])
 
-pub row_missing : (i : ℕ) (r : Row) (ms : Pairs) → is_needed r ms ≡ true → is_some (value_at r.name ms) ≡ false → AreTold (row_claims i (r ∷ []) ms) ((kind.Missing, step i r.name ∷ []) ∷ [])
-row_missing i r ms n e = rw n (inr (record { others = []; broken = λ h. absurd (let x = sym e ∙ h in cc); parts = refl; others_are = refl }))
+    by : (b : Bool) → Answers ((if b then one ∷ [] else []) ++ []) f → AreTold ((if b then one ∷ [] else []) ++ []) (option_to_list f)
+    by true k = one_told one f k
+    by false k = none_told f k
 
 pub rows_more : (ms : List Member) (all : List Claim) (best new f : List Found) (rs : List CodeRow) (i : ℕ) (dr : CodeRow) → i < length rs
     → Goes (row_claims (count (pairs (members_of ms)) + i) (rows_of (drop i rs)) (pairs (members_of ms))) all best
@@ -132,10 +130,6 @@ pub rows_more : (ms : List Member) (all : List Claim) (best new f : List Found) 
     → Goes (row_claims (count (pairs (members_of ms)) + (i + 1)) (rows_of (drop (i + 1) rs)) (pairs (members_of ms))) all new
 rows_more ms all best new f rs i dr lt so_far h is =
     rows_step (pairs (members_of ms)) (count (pairs (members_of ms))) all best new f rs i dr lt so_far (subst (λ (n : ℕ). AreTold (row_claims (n + i) (row_of (get_or rs i dr) ∷ []) (pairs (members_of ms))) f) (sym (count_is ms)) h) is
-
--- what is missing, told
-pub row_told : (i : ℕ) (r : Row) (ms : Pairs) (f : Found) (name : List ℕ) → is_needed r ms ≡ true → is_some (value_at r.name ms) ≡ false → name ≡ r.name → f ≡ (kind.Missing, step i name ∷ []) → AreTold (row_claims i (r ∷ []) ms) (f ∷ [])
-row_told i r ms f name n e same is = subst (λ (g : Found). AreTold (row_claims i (r ∷ []) ms) (g ∷ [])) (sym (is ∙ ap (λ (k : List ℕ). (kind.Missing, step i k ∷ [])) same)) (row_missing i r ms n e)
 
 -- groups
 

@@ -3,7 +3,7 @@ use Rattle.std.proofs.Common.{◌≡◌, ◌<◌, ◌≤◌, inl, inr, List, [],
 use Rattle.std.specs.Prelude.{Option, Some, None}
 use Rattle.asl_schema.specs.Demands.{fault_of}
 use Rattle.asl_schema.specs.Claims.{Claim}
-use Rattle.asl_schema.specs.First.{Hold, IsBroken, Each, Found, number, IsFirst, Answers, better}
+use Rattle.asl_schema.specs.First.{Hold, IsBroken, Each, Found, number, IsFirst, Answers}
 use Rattle.asl_judge.proofs.Answering.{answers-append, one_broken}
 use Rattle.asl_findings.specs.Told.{AreTold, least}
 

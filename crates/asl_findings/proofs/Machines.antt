@@ -1,24 +1,18 @@
 -- Machines are judged alike, whatever they are called.
-use Rattle.std.proofs.Common.{◌≡◌, ℕ, List, [], ◌∷◌, Bool, ◌⊎◌, inl, inr, refl, sym, ap, ◌∙◌, subst}
-use Rattle.std.specs.Prelude.{Result, IfOk, nat_lt}
+use Rattle.std.proofs.Common.{◌≡◌, ℕ, List, [], Bool, ◌⊎◌, inl, inr, refl, sym, ap, ◌∙◌, subst}
+use Rattle.std.specs.Prelude.{Result, IfOk}
 use Rattle.asl_json.specs.Data.{Pairs}
 use Rattle.asl_schema.specs.declared.sort.Sort.{Sort}
 use Rattle.asl_schema.specs.declared.sort.Sort.TheVariants as sort
 use Rattle.asl_schema.specs.Members.{Shape}
-use Rattle.asl_schema.specs.Demands.{Demand, within}
-use Rattle.asl_schema.specs.Claims.{Spot, spot_demands, max_machines, inside, one_deeper, names_in, member_claims}
+use Rattle.asl_schema.specs.Claims.{Spot, inside, one_deeper, names_in, member_claims}
 use Rattle.asl_schema.specs.First.{Found}
 use Rattle.asl_findings.specs.Told.{AreTold}
-
--- of how many machines one stands in
-pub machine_spot : (p : Spot) (s : Sort) → (s ≡ sort.Machine) ⊎ (s ≡ sort.ItemProcessor) → spot_demands p s ≡ within (nat_lt p.level max_machines) ∷ []
-machine_spot p s (inl e) = ap (spot_demands p) e
-machine_spot p s (inr e) = ap (spot_demands p) e
 
 abbrev inner : Spot → (List ℕ → Bool) → ℕ → Spot
 inner p names level = record { names = names; level = level; ends = p.ends; key = p.key; doubled = p.doubled }
 
--- of what targets may name in it
+-- what targets may name in it
 inside_machine : (p : Spot) (s : Sort) (ms : Pairs) → (s ≡ sort.Definition) ⊎ ((s ≡ sort.Machine) ⊎ (s ≡ sort.ItemProcessor)) → inside p s ms ≡ inner p (names_in ms) (one_deeper p.level)
 inside_machine p s ms (inl e) = ap (λ (x : Sort). inside p x ms) e
 inside_machine p s ms (inr (inl e)) = ap (λ (x : Sort). inside p x ms) e

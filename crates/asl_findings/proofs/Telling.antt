@@ -9,7 +9,8 @@ use Rattle.asl_schema.specs.declared.sort.Sort.{Sort}
 use Rattle.asl_schema.specs.declared.sort.Sort.TheVariants as sort
 use Rattle.asl_schema.specs.Demands.{Demand, fault_of}
 use Rattle.asl_schema.specs.Claims.{Claim, Spot, under, here, heres, spot_demands, form_demand, text_demands, number_demands, list_demands, value_demands, demands}
-use Rattle.asl_schema.specs.First.{Hold, IsBroken, Each, Found, IsFirst, Answers, Judges, under_step, at_root}
+use Rattle.asl_schema.specs.First.{Hold, IsBroken, Each, Found, IsFirst, Answers}
+use Rattle.asl_judge.specs.private.Firsts.{Judges, under_step, at_root}
 use Rattle.asl_findings.specs.Told.{IsTold, AreTold}
 use Rattle.asl_findings.specs.private.Parts.{count_demands, last_demands, listed}
 
@@ -37,6 +38,10 @@ one_told c None h = inl (h.0, refl)
 one_told c (Some f) h =
     let same = only_one c h.claim h.before h.after h.parts in
     inr (record { others = []; broken = subst IsBroken (sym same) h.broken; parts = ap (λ (g : Found). g ∷ []) (h.fault ∙ ap (λ (x : Claim). (fault_of x.0, x.1)) (sym same)); others_are = refl })
+
+pub none_told : (o : Option Found) → Answers [] o → AreTold [] (option_to_list o)
+none_told None h = refl
+none_told (Some f) h = absurd (nothing h.claim h.before h.after h.parts)
 
 listed_is : (o : Option FaultKind) → option_to_list (option_map at_root o) ≡ listed o
 listed_is None = refl

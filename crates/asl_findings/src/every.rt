@@ -6,7 +6,7 @@ ghost use Rattle.asl_schema.specs.States.{Has};
 ghost use Rattle.asl_findings.specs.Told.{AreTold};
 
 use crate::states::{doubled, states_in};
-use crate::telling::joined;
+use crate::joining::joined;
 use crate::walk::check;
 use asl_json::Json;
 use asl_judge::spot::Spot;

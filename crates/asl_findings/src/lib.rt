@@ -1,6 +1,6 @@
 //! All faults of a definition, where `asl_judge` finds the first.
 //!
-//! Modules in reading order: `telling` has faults one behind another; `value` judges a value by itself, `walk` a definition,
+//! Modules in reading order: `joining` has faults one behind another; `value` judges a value by itself, `walk` a definition,
 //! `states` the names of its states, and `every` all of it; `laws` says what the first fault is among all. What is demanded of
 //! one value or one object is asked of `asl_judge`.
 #![tactic(auto)]
@@ -8,7 +8,7 @@
 mod every;
 mod laws;
 mod states;
-mod telling;
+mod joining;
 mod value;
 mod walk;
 

@@ -9,7 +9,7 @@ ghost use Rattle.asl_schema.specs.Members.{sort_at};
 ghost use Rattle.asl_schema.specs.States.{Has, further, own_name, states_in, item_states, member_states, unique_claims};
 ghost use Rattle.asl_findings.specs.Told.{AreTold};
 
-use crate::telling::add;
+use crate::joining::add;
 use asl_json::{Items, Json, Member, Members, Txt};
 use asl_judge::value::{is_list, is_object};
 use asl_schema::{Fault, FaultKind, Shape, Sort, Step, item_sort, shape_in, sort_at};

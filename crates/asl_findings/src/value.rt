@@ -9,7 +9,7 @@ ghost use Rattle.asl_judge.specs.private.Firsts.{Judges};
 ghost use Rattle.asl_findings.specs.Told.{AreTold};
 ghost use Rattle.asl_findings.specs.private.Parts.{count_demands, last_demands};
 
-use crate::telling::tell;
+use crate::joining::tell;
 use asl_json::{Items, Json};
 use asl_judge::spot::Spot;
 use asl_judge::value::{

@@ -10,7 +10,7 @@ ghost use Rattle.asl_schema.specs.Members.{sort_at};
 ghost use Rattle.asl_schema.specs.Claims.{heres, group_demands, row_claims, inside, at_member, claims, item_claims, member_claims, object_claims};
 ghost use Rattle.asl_findings.specs.Told.{AreTold};
 
-use crate::telling::{add, joined, tell, under_index, under_name};
+use crate::joining::{add, joined, tell, under_index, under_name};
 use crate::value::own_faults;
 use asl_json::{Items, Json, Keys, Member, Members};
 use asl_judge::spot::{Spot, at_item, one_deeper};

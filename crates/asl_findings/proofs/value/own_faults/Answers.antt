@@ -2,7 +2,7 @@ use Rattle.std.proofs.Common.{refl, not}
 use Rattle.asl_json.specs.View.{data_of}
 use Rattle.asl_schema.specs.Demands.{alone}
 use Rattle.asl_judge.proofs.Answering.{alone_judged}
-use Rattle.asl_findings.specs.private.Spots.{spot_of}
+use Rattle.asl_judge.specs.private.Spots.{spot_of}
 use Rattle.asl_findings.proofs.Telling.{own_told}
 use Rattle.asl_findings.proofs.value.own_faults.Goals as goal
 

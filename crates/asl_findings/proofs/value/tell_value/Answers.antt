@@ -1,7 +1,7 @@
 use Rattle.std.proofs.Common.{ap, refl}
 use Rattle.asl_json.specs.Data.{chain}
 use Rattle.asl_json.specs.View.{data_of}
-use Rattle.asl_findings.specs.private.Spots.{spot_of}
+use Rattle.asl_judge.specs.private.Spots.{spot_of}
 use Rattle.asl_findings.proofs.Telling.{text_told, number_told, list_told}
 use Rattle.asl_findings.proofs.value.tell_value.Goals as goal
 

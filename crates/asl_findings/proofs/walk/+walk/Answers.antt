@@ -7,10 +7,11 @@ use Rattle.asl_json.specs.View.{data_of, members_of}
 use Rattle.asl_json.proofs.Sounding.{item_depth, member_depth}
 use Rattle.asl_schema.specs.private.Code.{shape_seen}
 use Rattle.asl_schema.specs.Claims.{claims, item_claims, member_claims, step}
-use Rattle.asl_schema.specs.First.{Found, under_step}
+use Rattle.asl_schema.specs.First.{Found}
+use Rattle.asl_judge.specs.private.Firsts.{under_step}
 use Rattle.asl_judge.proofs.Walking.{last_item, members_more}
 use Rattle.asl_findings.specs.Told.{AreTold}
-use Rattle.asl_findings.specs.private.Spots.{spot_of}
+use Rattle.asl_judge.specs.private.Spots.{spot_of}
 use Rattle.asl_findings.proofs.Going.{goes-start, items_step, items_end, members_step, members_end}
 use Rattle.asl_findings.proofs.Wholes.{list_whole, list_only, object_whole, object_only, parts_told}
 use Rattle.asl_findings.proofs.Machines.{machine_inside}

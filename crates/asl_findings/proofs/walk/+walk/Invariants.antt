@@ -3,7 +3,7 @@ use Rattle.asl_json.specs.Data.{pairs, chain, depth, members_depth, items_depth}
 use Rattle.asl_json.specs.View.{data_of, items_of, members_of}
 use Rattle.asl_json.specs.Keys.{Knows}
 use Rattle.asl_schema.specs.private.Code.{shape_seen}
-use Rattle.asl_findings.specs.private.Spots.{spot_of}
+use Rattle.asl_judge.specs.private.Spots.{spot_of}
 use Rattle.asl_schema.specs.Claims.{item_claims, member_claims}
 use Rattle.asl_findings.proofs.Going.{Goes}
 use Rattle.asl_findings.proofs.walk.+walk.Given as goal
