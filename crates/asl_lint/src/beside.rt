@@ -1,12 +1,8 @@
 // What doesn't fit between a definition and a mock file.
 use crate::finding::{Found, Part};
 use crate::mock_faults::Walk;
-use crate::near::{EFFORT, Search};
-use crate::nouns::kind_word;
-use crate::quoting::{put_name, put_separator};
 use crate::rule::{MockRule, Rule};
-use crate::standing::members_in;
-use crate::states::States;
+use asl_advice::{EFFORT, Search, States, kind_word, members_in, put_name, put_separator};
 use asl_json::{Json, Member};
 use asl_schema::Kind;
 use std::alloc::{AllocError, Global};

@@ -1,11 +1,7 @@
 // What is found in a definition.
 use crate::finding::{Found, Part};
-use crate::near::EFFORT;
 use crate::rule::Rule;
-use crate::standing::standing_at;
-use crate::states::States;
-use crate::suspicions::put_warning;
-use crate::words::put_fault;
+use asl_advice::{EFFORT, States, put_fault, put_warning, standing_at};
 use asl_findings::every_fault;
 use asl_json::Json;
 use asl_schema::{Fault, FaultKind, Step};

@@ -1,7 +1,7 @@
 // Texts that are no JSON.
 use crate::finding::Finding;
-use crate::quoting::put_name;
 use crate::rule::Rule;
+use asl_advice::put_name;
 use asl_json::JsonFault;
 use asl_outline::{Position, Span};
 use std::alloc::{AllocError, Global};

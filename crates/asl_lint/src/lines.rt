@@ -1,7 +1,7 @@
 // Findings as lines for people.
 use crate::finding::{Finding, Report};
-use crate::quoting::put_file;
 use crate::rule::Severity;
+use asl_advice::put_file;
 use std::alloc::{AllocError, Global};
 
 /// Appends a finding on a line: `FILE:LINE:COLUMN: error F10: ..`.

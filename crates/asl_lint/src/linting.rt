@@ -2,11 +2,11 @@
 use crate::beside::{add_unanswered, walk_beside, walk_unused};
 use crate::definition::found_in;
 use crate::finding::{Finding, Found, Report};
+use crate::json_faults::unread;
 use crate::mock_faults::{Walk, walk_file};
 use crate::placing::placed;
 use crate::rule::{MockRule, Rule};
-use crate::states::States;
-use crate::json_faults::unread;
+use asl_advice::States;
 use asl_json::{Json, JsonFault, read};
 use std::alloc::{AllocError, Global};
 

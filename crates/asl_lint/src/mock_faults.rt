@@ -1,10 +1,8 @@
 // The faults of a mock file by itself.
 use crate::finding::{Found, Part};
 use crate::mocks::walk_response;
-use crate::near::EFFORT;
-use crate::quoting::put_name;
 use crate::rule::{MockRule, Rule};
-use crate::standing::members_in;
+use asl_advice::{EFFORT, members_in, put_name};
 use asl_json::{Json, Member};
 use std::alloc::{AllocError, Global};
 use std::collections::HashSet;

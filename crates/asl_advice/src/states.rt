@@ -7,16 +7,16 @@ use std::collections::HashMap;
 
 /// A state, and the numbers on the way to it, from the outermost in.
 #[derive(Drop)]
-pub(crate) struct State<'a> {
-    pub(crate) name: &'a str,
-    pub(crate) kind: Option<Kind>,
-    pub(crate) place: Vec<usize>,
+pub struct State<'a> {
+    pub name: &'a str,
+    pub kind: Option<Kind>,
+    pub place: Vec<usize>,
 }
 
 /// The states of a definition, those inside others too, in document order.
 #[derive(Drop)]
-pub(crate) struct States<'a> {
-    pub(crate) list: Vec<State<'a>>,
+pub struct States<'a> {
+    pub list: Vec<State<'a>>,
     numbers: HashMap<String, usize>,
 }
 
@@ -35,7 +35,7 @@ fn has_states(sort: Sort) -> bool {
 
 impl<'a> States<'a> {
     /// No states.
-    pub(crate) fn new(alloc: Global) -> States<'a> {
+    pub fn new(alloc: Global) -> States<'a> {
         States {
             list: Vec::new(alloc),
             numbers: HashMap::new(alloc),
@@ -43,7 +43,7 @@ impl<'a> States<'a> {
     }
 
     /// The states of a definition. The error is that memory ran out.
-    pub(crate) fn of(alloc: Global, definition: &'a Json) -> Result<States<'a>, AllocError> {
+    pub fn of(alloc: Global, definition: &'a Json) -> Result<States<'a>, AllocError> {
         let mut states = States::new(alloc);
         let mut place = Vec::new(alloc);
         add_value(alloc, &mut states, &mut place, Sort::Definition, definition)?;
@@ -51,13 +51,13 @@ impl<'a> States<'a> {
     }
 
     /// The state of this name: of several the first.
-    pub(crate) fn find(&self, name: &str) -> Option<&State<'a>> {
+    pub fn find(&self, name: &str) -> Option<&State<'a>> {
         let number = self.number(name)?;
         self.list.get(number)
     }
 
     /// The number of the state of this name.
-    pub(crate) fn number(&self, name: &str) -> Option<usize> {
+    pub fn number(&self, name: &str) -> Option<usize> {
         match self.numbers.get(name) {
             Some(number) => Some(*number),
             None => None,
@@ -65,7 +65,7 @@ impl<'a> States<'a> {
     }
 
     /// The type of the state of this number.
-    pub(crate) fn kind(&self, number: usize) -> Option<Kind> {
+    pub fn kind(&self, number: usize) -> Option<Kind> {
         self.list.get(number)?.kind
     }
 

@@ -16,7 +16,7 @@ use std::alloc::{AllocError, Global};
 const TOLD: usize = 8;
 
 /// Appends what is wrong at a place. Of several faults of the same kind there, `number` says which, from 0. The error is that memory ran out.
-pub(crate) fn put_fault(
+pub fn put_fault(
     alloc: Global,
     out: &mut String,
     kind: FaultKind,

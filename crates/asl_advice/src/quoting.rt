@@ -43,7 +43,7 @@ fn put_plain(out: &mut String, character: char) -> Result<(), AllocError> {
 }
 
 /// Appends a text in quotes on one line; of a long one the beginning.
-pub(crate) fn put_name(out: &mut String, text: &str) -> Result<(), AllocError> {
+pub fn put_name(out: &mut String, text: &str) -> Result<(), AllocError> {
     out.push('"')?;
     for (number, character) in text.chars().enumerate() {
         if number >= SHOWN {
@@ -56,7 +56,7 @@ pub(crate) fn put_name(out: &mut String, text: &str) -> Result<(), AllocError> {
 }
 
 /// Appends the name of a file, on one line.
-pub(crate) fn put_file(out: &mut String, name: &str) -> Result<(), AllocError> {
+pub fn put_file(out: &mut String, name: &str) -> Result<(), AllocError> {
     for character in name.chars() {
         put_plain(out, character)?;
     }
@@ -83,11 +83,7 @@ pub(crate) fn put_key(out: &mut String, key: &str) -> Result<(), AllocError> {
 }
 
 /// Appends what stands between two names in a list of so many, before that of this number.
-pub(crate) fn put_separator(
-    out: &mut String,
-    number: usize,
-    count: usize,
-) -> Result<(), AllocError> {
+pub fn put_separator(out: &mut String, number: usize, count: usize) -> Result<(), AllocError> {
     if number == 0 {
         Ok(())
     } else if number.saturating_add(1) == count {

@@ -8,7 +8,7 @@ use asl_warnings::{ERRORS, PARTS, WarningKind};
 use std::alloc::{AllocError, Global};
 
 /// Appends what is suspicious at a place. The error is that memory ran out.
-pub(crate) fn put_warning(
+pub fn put_warning(
     alloc: Global,
     out: &mut String,
     kind: WarningKind,

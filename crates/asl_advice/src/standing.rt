@@ -4,7 +4,7 @@ use asl_schema::{Sort, Step, find, item_sort, shape_in, sort_at};
 
 /// What stands at a place of a definition, and around it.
 #[derive(Clone, Copy)]
-pub(crate) struct Standing<'a> {
+pub struct Standing<'a> {
     /// The value; none where a member is missing.
     pub(crate) value: Option<&'a Json>,
     /// What it is to be.
@@ -24,7 +24,7 @@ pub(crate) struct Standing<'a> {
 }
 
 /// The members of an object; any other value has none.
-pub(crate) fn members_in(value: &Json) -> &[Member] {
+pub fn members_in(value: &Json) -> &[Member] {
     match value {
         Json::Dict(members) => members.members(),
         _ => &[],
@@ -138,7 +138,7 @@ impl<'a> Standing<'a> {
 }
 
 /// What stands at the place of these steps, of which the innermost is the first.
-pub(crate) fn standing_at<'a>(definition: &'a Json, steps: &'a [Step]) -> Standing<'a> {
+pub fn standing_at<'a>(definition: &'a Json, steps: &'a [Step]) -> Standing<'a> {
     let mut here = Standing::whole(definition);
     for step in steps.iter().rev() {
         here = here.inside(step);

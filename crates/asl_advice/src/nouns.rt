@@ -11,7 +11,7 @@ pub(crate) const KINDS: [&str; 8] = [
 ];
 
 /// The word for a type of states.
-pub(crate) fn kind_word(kind: Kind) -> &'static str {
+pub fn kind_word(kind: Kind) -> &'static str {
     match kind {
         Kind::Task => "Task",
         Kind::Pass => "Pass",
