@@ -1,4 +1,8 @@
 // What is told.
+ghost use Rattle.std.specs.Prelude.{◌≡◌};
+ghost use Rattle.std.specs.List.{list_any};
+ghost use Rattle.asl_lint.specs.Reports.{counts, is_good};
+
 use crate::rule::{Rule, Severity};
 use asl_outline::{Position, Span};
 
@@ -53,6 +57,18 @@ fn count_in(findings: &[Finding], severity: Severity) -> usize {
     count
 }
 
+/// Whether one of these counts as an error.
+fn has_any(findings: &[Finding], strict: bool) -> bool
+    ensures { result ≡ list_any (counts strict) findings.now }
+{
+    for finding in findings {
+        if strict || finding.rule.is_error() {
+            return true;
+        }
+    }
+    false
+}
+
 impl Report {
     /// How many findings are so bad.
     pub fn count(&self, severity: Severity) -> usize {
@@ -60,7 +76,9 @@ impl Report {
     }
 
     /// Whether nothing is wrong: no error and, where warnings count as errors, no warning.
-    pub fn is_good(&self, strict: bool) -> bool {
-        self.count(Severity::Error) == 0 && (!strict || self.count(Severity::Warning) == 0)
+    pub fn is_good(&self, strict: bool) -> bool
+        ensures { result ≡ is_good strict self.now }
+    {
+        !has_any(&self.definition, strict) && !has_any(&self.mocks, strict)
     }
 }

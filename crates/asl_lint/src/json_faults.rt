@@ -1,9 +1,14 @@
 // Texts that are no JSON.
+ghost use Rattle.std.specs.Prelude.{IfOk};
+ghost use Rattle.std.specs.List.{All};
+ghost use Rattle.asl_lint.specs.Places.{IsAt};
+
 use crate::finding::Finding;
+use crate::placing::position_of;
 use crate::rule::Rule;
 use asl_advice::put_name;
 use asl_json::JsonFault;
-use asl_outline::{Position, Span};
+use asl_outline::Span;
 use std::alloc::{AllocError, Global};
 
 /// The byte at which a text is no JSON.
@@ -97,7 +102,9 @@ pub(crate) fn unread(
     rule: Rule,
     text: &[u8],
     fault: JsonFault,
-) -> Result<Vec<Finding>, AllocError> {
+) -> Result<Vec<Finding>, AllocError>
+    ensures { IfOk result (λ fs. All (IsAt text.now) fs.items) }
+{
     let at = byte_of(fault);
     let mut message = String::new(alloc);
     put_unread(&mut message, text, fault)?;
@@ -105,7 +112,7 @@ pub(crate) fn unread(
     findings.push(Finding {
         rule,
         span: Span { begin: at, end: at },
-        position: Position::start().forward(text, at),
+        position: position_of(text, at),
         message,
     })?;
     Ok(findings)

@@ -1,4 +1,8 @@
 // Everything that is found in some texts.
+ghost use Rattle.std.specs.Prelude.{option_map, IfOk, IfErr};
+ghost use Rattle.std.specs.List.{All};
+ghost use Rattle.asl_lint.specs.Places.{IsAt, AreIn};
+
 use crate::beside::{add_unanswered, walk_beside, walk_unused};
 use crate::definition::found_in;
 use crate::finding::{Finding, Found, Report};
@@ -24,7 +28,9 @@ fn value_of(
     alloc: Global,
     rule: Rule,
     text: &[u8],
-) -> Result<Result<Json, Vec<Finding>>, AllocError> {
+) -> Result<Result<Json, Vec<Finding>>, AllocError>
+    ensures { IfOk result (λ r. IfErr r (λ fs. All (IsAt text.now) fs.items)) }
+{
     match read(alloc, text) {
         Ok(value) => Ok(Ok(value)),
         Err(JsonFault::OutOfMemory) => Err(AllocError),
@@ -34,7 +40,10 @@ fn value_of(
 
 /// Everything that is wrong or suspicious in a definition and in the mock file beside it, in the order of their places. The error is that
 /// memory ran out.
-pub fn lint(alloc: Global, source: &Source<'_>) -> Result<Report, AllocError> {
+pub fn lint(alloc: Global, source: &Source<'_>) -> Result<Report, AllocError>
+    ensures definition { IfOk result (λ r. All (IsAt source.now.definition.now) r.definition.items) }
+    ensures mocks { IfOk result (λ r. AreIn (option_map (λ b. b.now) source.now.mocks) r.mocks.items) }
+{
     match value_of(alloc, Rule::Json, source.definition)? {
         Ok(definition) => lint_definition(alloc, source, &definition),
         Err(findings) => Ok(Report {
@@ -45,7 +54,9 @@ pub fn lint(alloc: Global, source: &Source<'_>) -> Result<Report, AllocError> {
 }
 
 /// What is wrong with a mock file by itself.
-fn lint_mocks(alloc: Global, mocks: Option<&[u8]>) -> Result<Vec<Finding>, AllocError> {
+fn lint_mocks(alloc: Global, mocks: Option<&[u8]>) -> Result<Vec<Finding>, AllocError>
+    ensures { IfOk result (λ fs. AreIn (option_map (λ b. b.now) mocks.entry) fs.items) }
+{
     let Some(text) = mocks else {
         return Ok(Vec::new(alloc));
     };
@@ -64,7 +75,10 @@ fn lint_definition(
     alloc: Global,
     source: &Source<'_>,
     definition: &Json,
-) -> Result<Report, AllocError> {
+) -> Result<Report, AllocError>
+    ensures definition { IfOk result (λ r. All (IsAt source.now.definition.now) r.definition.items) }
+    ensures mocks { IfOk result (λ r. AreIn (option_map (λ b. b.now) source.now.mocks) r.mocks.items) }
+{
     let states = States::of(alloc, definition)?;
     let mut found = found_in(alloc, definition, &states)?;
     let mocks = match source.mocks {
@@ -85,7 +99,9 @@ fn lint_beside(
     states: &States<'_>,
     found: &mut Vec<Found>,
     text: &[u8],
-) -> Result<Vec<Finding>, AllocError> {
+) -> Result<Vec<Finding>, AllocError>
+    ensures { IfOk result (λ fs. All (IsAt text.now) fs.items) }
+{
     match value_of(alloc, Rule::Mock(MockRule::Json), text)? {
         Ok(file) => {
             let mut walk = Walk::new(alloc);

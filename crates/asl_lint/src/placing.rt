@@ -1,4 +1,9 @@
 // Where findings stand in their text.
+ghost use Rattle.std.specs.Prelude.{◌≡◌, ◌≤◌, length, take, IfOk};
+ghost use Rattle.std.specs.List.{All};
+ghost use Rattle.asl_outline.specs.Position.{IsPosition};
+ghost use Rattle.asl_lint.specs.Places.{IsAt};
+
 use crate::finding::{Finding, Found, Part};
 use asl_json::Json;
 use asl_outline::{Node, Outline, Position, Span, outline};
@@ -53,13 +58,35 @@ fn with_spans(
     Ok(all)
 }
 
-/// The findings at their lines and columns, in one pass over the text.
-fn positioned(alloc: Global, text: &[u8], all: Vec<Spanned>) -> Result<Vec<Finding>, AllocError> {
+/// The line and the column of a byte, from those of another.
+fn reached(text: &[u8], here: Position, to: usize) -> Position
+    requires { IsPosition (take here.at text.now) here.lines here.characters }
+    ensures at { to ≤ length text.now → result.at ≡ to }
+    ensures position { IsPosition (take result.at text.now) result.lines result.characters }
+{
+    if to < here.at {
+        return position_of(text, to);
+    }
+    here.forward(text, to)
+}
+
+/// The line and the column of a byte.
+pub(crate) fn position_of(text: &[u8], to: usize) -> Position
+    ensures at { to ≤ length text.now → result.at ≡ to }
+    ensures position { IsPosition (take result.at text.now) result.lines result.characters }
+{
+    Position::start().forward(text, to)
+}
+
+/// The findings at their lines and columns, in one pass over the text where they stand in its order.
+fn positioned(alloc: Global, text: &[u8], all: Vec<Spanned>) -> Result<Vec<Finding>, AllocError>
+    ensures { IfOk result (λ fs. All (IsAt text.now) fs.items) }
+{
     let mut findings = Vec::with_capacity(alloc, all.len())?;
     let mut here = Position::start();
     for spanned in all {
         let Spanned { span, found } = spanned;
-        here = here.forward(text, span.begin);
+        here = reached(text, here, span.begin);
         findings.push(Finding {
             rule: found.rule,
             span,
@@ -77,7 +104,9 @@ pub(crate) fn placed(
     text: &[u8],
     value: &Json,
     found: Vec<Found>,
-) -> Result<Vec<Finding>, AllocError> {
+) -> Result<Vec<Finding>, AllocError>
+    ensures { IfOk result (λ fs. All (IsAt text.now) fs.items) }
+{
     if found.is_empty() {
         return Ok(Vec::new(alloc));
     }

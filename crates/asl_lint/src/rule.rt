@@ -1,4 +1,7 @@
 // What a finding is of.
+ghost use Rattle.std.specs.Prelude.{◌≡◌, if◌then◌else◌};
+ghost use Rattle.asl_lint.specs.Reports.{is_mock_error, is_error};
+
 use asl_schema::FaultKind;
 use asl_warnings::WarningKind;
 
@@ -62,12 +65,25 @@ pub enum Rule {
 }
 
 impl Rule {
-    /// How bad it is.
-    pub fn severity(self) -> Severity {
+    /// Whether it is an error.
+    pub fn is_error(self) -> bool
+        ensures { result ≡ is_error self }
+    {
         match self {
-            Rule::Json | Rule::Fault(_) => Severity::Error,
-            Rule::Warning(_) => Severity::Warning,
-            Rule::Mock(rule) => severity_of(rule),
+            Rule::Json | Rule::Fault(_) => true,
+            Rule::Warning(_) => false,
+            Rule::Mock(rule) => is_mock_error(rule),
+        }
+    }
+
+    /// How bad it is.
+    pub fn severity(self) -> Severity
+        ensures { result ≡ (if is_error self then Severity.Error else Severity.Warning) }
+    {
+        if self.is_error() {
+            Severity::Error
+        } else {
+            Severity::Warning
         }
     }
 
@@ -92,12 +108,19 @@ impl Rule {
     }
 }
 
-fn severity_of(rule: MockRule) -> Severity {
+fn is_mock_error(rule: MockRule) -> bool
+    ensures { result ≡ is_mock_error rule }
+{
     match rule {
-        MockRule::UnansweredTask | MockRule::UnusedResponse | MockRule::MissingAnswer => {
-            Severity::Warning
-        }
-        _ => Severity::Error,
+        MockRule::Json
+        | MockRule::Shape
+        | MockRule::Key
+        | MockRule::Overlap
+        | MockRule::NoResponse
+        | MockRule::NoMachine
+        | MockRule::UnknownState
+        | MockRule::NotTask => true,
+        MockRule::UnansweredTask | MockRule::UnusedResponse | MockRule::MissingAnswer => false,
     }
 }
 
