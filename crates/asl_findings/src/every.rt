@@ -31,5 +31,6 @@ pub fn every_fault(alloc: Global, definition: &Json) -> Result<Vec<Fault>, Alloc
     let walked = check(alloc, spot, Sort::Definition, definition)?;
     let states = states_in(alloc, Sort::Definition, definition)?;
     let again = doubled(alloc, states)?;
-    joined(walked, again)
+    let told = joined(walked, again)?;
+    Ok(told)
 }
