@@ -1,9 +1,9 @@
 -- The walk over the parts of a value, one behind another.
-use Rattle.std.proofs.Common.{◌≡◌, ℕ, zero, suc, ◌+◌, ◌<◌, ◌≤◌, Bool, true, false, ◌||◌, not, List, [], ◌∷◌, ◌++◌, length, get_or, take, drop, refl, sym, subst, ◌∙◌, ap, add-one, arith, append_assoc, inl, inr}
-use Rattle.std.specs.Prelude.{Option, Some, None, map, option_to_list, if◌then◌else◌}
+use Rattle.std.proofs.Common.{◌≡◌, ℕ, suc, ◌+◌, ◌<◌, ◌≤◌, Bool, true, false, ◌||◌, not, List, [], ◌∷◌, ◌++◌, length, get_or, take, drop, refl, sym, subst, ◌∙◌, ap, add-one, arith, append_assoc}
+use Rattle.std.specs.Prelude.{Option, map, option_to_list, if◌then◌else◌}
 use Rattle.std.specs.Fmt.{decimal}
 use Rattle.std.proofs.lemmas.List.{drop_more, drop_all, take_more, map-append, append-nil}
-use Rattle.asl_json.specs.Data.{Data, chain, Pairs, pairs}
+use Rattle.asl_json.specs.Data.{chain, Pairs, pairs}
 use Rattle.asl_json.specs.Distinct.{Members}
 use Rattle.asl_json.specs.Meaning.{value_at, count}
 use Rattle.asl_json.specs.View.{data_of, items_of, members_of, member_of}
@@ -14,10 +14,10 @@ use Rattle.asl_schema.specs.declared.fault.FaultKind.TheVariants as kind
 use Rattle.asl_schema.specs.declared.sort.Sort.{Sort}
 use Rattle.asl_schema.specs.declared.rows.Row.{Row as CodeRow}
 use Rattle.asl_schema.specs.declared.rows.Group.{Group as CodeGroup}
-use Rattle.asl_schema.specs.Members.{Row, Group, Shape, sort_at}
-use Rattle.asl_schema.specs.Demands.{Demand, there, decided}
+use Rattle.asl_schema.specs.Members.{Row, Shape, sort_at}
+use Rattle.asl_schema.specs.Demands.{there, decided}
 use Rattle.asl_schema.specs.private.Code.{row_of, rows_of, group_of, groups_of}
-use Rattle.asl_schema.specs.Claims.{Claim, Spot, under, step, here, heres, is_nonempty, at_item, at_member, claims, item_claims, member_claims, row_claims, is_needed, group_demands, any_in, any_counts, counts}
+use Rattle.asl_schema.specs.Claims.{Claim, Spot, under, step, heres, is_nonempty, at_item, at_member, claims, item_claims, member_claims, row_claims, is_needed, group_demands, any_in, any_counts}
 use Rattle.asl_schema.specs.First.{Found, Answers}
 use Rattle.asl_judge.specs.private.Firsts.{under_step, unless}
 use Rattle.asl_judge.proofs.Answering.{decided_judged}

@@ -7,7 +7,7 @@ use Rattle.std.specs.HashSet.{HashSet, contains_text, Updates}
 use Rattle.std.specs.String.{string_eq, string_bytes}
 use Rattle.std.proofs.lemmas.Map.Text.{hash_set_updates_text}
 use Rattle.std.proofs.lemmas.List.{drop_all, append-nil}
-use Rattle.asl_json.specs.Data.{Data, chain, pairs}
+use Rattle.asl_json.specs.Data.{chain, pairs}
 use Rattle.asl_json.specs.Same.{bytes_eq}
 use Rattle.asl_json.specs.View.{data_of, items_of, members_of}
 use Rattle.asl_json.specs.declared.value.Json.{Json}

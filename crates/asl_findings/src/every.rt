@@ -4,8 +4,8 @@ ghost use Rattle.asl_json.specs.View.{data_of};
 ghost use Rattle.asl_schema.specs.Faults.{claims_of};
 ghost use Rattle.asl_findings.specs.Told.{AreTold};
 
-use crate::states::{doubled, no_names, states_in};
 use crate::joining::joined;
+use crate::states::{doubled, no_names, states_in};
 use crate::walk::check;
 use asl_json::Json;
 use asl_judge::spot::Spot;

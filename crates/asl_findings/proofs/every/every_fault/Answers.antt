@@ -1,10 +1,9 @@
-use Rattle.std.proofs.Common.{◌≡◌, ◌++◌, subst, sym, [], List, ℕ, Bool, false, true}
+use Rattle.std.proofs.Common.{◌≡◌, subst, sym, [], List, ℕ, Bool, false, true}
 use Rattle.std.specs.HashSet.{contains_text}
 use Rattle.asl_json.specs.View.{data_of}
 use Rattle.asl_schema.specs.declared.sort.Sort.TheVariants.{Definition}
 use Rattle.asl_schema.specs.Claims.{claims, outside}
 use Rattle.asl_schema.specs.Faults.{claims_of}
-use Rattle.asl_schema.specs.First.{Found}
 use Rattle.asl_schema.specs.States.{Named, states_in, unique_claims}
 use Rattle.asl_findings.specs.Told.{AreTold}
 use Rattle.asl_findings.proofs.Telling.{told_append}

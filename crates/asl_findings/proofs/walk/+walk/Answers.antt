@@ -13,7 +13,7 @@ use Rattle.asl_judge.proofs.Walking.{last_item, members_more}
 use Rattle.asl_findings.specs.Told.{AreTold}
 use Rattle.asl_judge.specs.private.Spots.{spot_of}
 use Rattle.asl_findings.proofs.Going.{goes-start, items_step, items_end, members_step, members_end}
-use Rattle.asl_findings.proofs.Wholes.{list_whole, list_only, object_whole, object_only, parts_told, plain_whole}
+use Rattle.asl_findings.proofs.Wholes.{list_whole, list_only, object_whole, parts_told, plain_whole}
 use Rattle.asl_findings.proofs.Machines.{machine_inside}
 use Rattle.asl_findings.proofs.walk.+walk.Goals as goal
 
