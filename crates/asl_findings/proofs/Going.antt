@@ -1,9 +1,9 @@
 -- The walk over the parts of a value, one behind another.
-use Rattle.std.proofs.Common.{◌≡◌, ℕ, zero, suc, ◌+◌, ◌<◌, ◌≤◌, Bool, true, false, ◌||◌, not, List, [], ◌∷◌, ◌++◌, length, get_or, take, drop, refl, sym, subst, ◌∙◌, ap, add-one, arith, append_assoc, inl, inr}
-use Rattle.std.specs.Prelude.{Option, Some, None, map, option_to_list, if◌then◌else◌}
+use Rattle.std.proofs.Common.{◌≡◌, ℕ, suc, ◌+◌, ◌<◌, ◌≤◌, Bool, true, false, ◌||◌, not, List, [], ◌∷◌, ◌++◌, length, get_or, take, drop, refl, sym, subst, ◌∙◌, ap, add-one, arith, append_assoc}
+use Rattle.std.specs.Prelude.{Option, map, option_to_list, if◌then◌else◌}
 use Rattle.std.specs.Fmt.{decimal}
 use Rattle.std.proofs.lemmas.List.{drop_more, drop_all, take_more, map-append, append-nil}
-use Rattle.asl_json.specs.Data.{Data, chain, Pairs, pairs}
+use Rattle.asl_json.specs.Data.{chain, Pairs, pairs}
 use Rattle.asl_json.specs.Distinct.{Members}
 use Rattle.asl_json.specs.Meaning.{value_at, count}
 use Rattle.asl_json.specs.View.{data_of, items_of, members_of, member_of}
@@ -14,10 +14,10 @@ use Rattle.asl_schema.specs.declared.fault.FaultKind.TheVariants as kind
 use Rattle.asl_schema.specs.declared.sort.Sort.{Sort}
 use Rattle.asl_schema.specs.declared.rows.Row.{Row as CodeRow}
 use Rattle.asl_schema.specs.declared.rows.Group.{Group as CodeGroup}
-use Rattle.asl_schema.specs.Members.{Row, Group, Shape, sort_at}
-use Rattle.asl_schema.specs.Demands.{Demand, there, decided}
+use Rattle.asl_schema.specs.Members.{Row, Shape, sort_at}
+use Rattle.asl_schema.specs.Demands.{there, decided}
 use Rattle.asl_schema.specs.private.Code.{row_of, rows_of, group_of, groups_of}
-use Rattle.asl_schema.specs.Claims.{Claim, Spot, under, step, here, heres, is_nonempty, at_item, at_member, claims, item_claims, member_claims, row_claims, is_needed, group_demands, any_in, any_counts, counts}
+use Rattle.asl_schema.specs.Claims.{Claim, Spot, under, step, heres, is_nonempty, at_item, at_member, claims, item_claims, member_claims, row_claims, is_needed, group_demands, any_in, any_counts}
 use Rattle.asl_schema.specs.First.{Found, Answers}
 use Rattle.asl_judge.specs.private.Firsts.{under_step, unless}
 use Rattle.asl_judge.proofs.Answering.{decided_judged}
@@ -95,7 +95,7 @@ single_row i r rs ms = by (is_needed r ms)
     by true = refl
     by false = refl
 
-pub rows_step : (ms : Pairs) (at : ℕ) (all : List Claim) (best new f : List Found) (rs : List CodeRow) (i : ℕ) (dr : CodeRow) → i < length rs
+rows_step : (ms : Pairs) (at : ℕ) (all : List Claim) (best new f : List Found) (rs : List CodeRow) (i : ℕ) (dr : CodeRow) → i < length rs
     → Goes (row_claims (at + i) (rows_of (drop i rs)) ms) all best
     → AreTold (row_claims (at + i) (row_of (get_or rs i dr) ∷ []) ms) f
     → new ≡ best ++ f
@@ -113,7 +113,7 @@ pub rows_end : (ms : Pairs) (at : ℕ) (all : List Claim) (best : List Found) (r
 rows_end ms at all best rs i past so_far = goes-end all best (subst (λ (xs : List CodeRow). Goes (row_claims (at + i) (rows_of xs) ms) all best) (drop_all i rs past) so_far)
 
 -- what is answered of one row is told
-pub row_answered : (i : ℕ) (r : Row) (ms : Pairs) (f : Option Found) → Answers (row_claims i (r ∷ []) ms) f → AreTold (row_claims i (r ∷ []) ms) (option_to_list f)
+row_answered : (i : ℕ) (r : Row) (ms : Pairs) (f : Option Found) → Answers (row_claims i (r ∷ []) ms) f → AreTold (row_claims i (r ∷ []) ms) (option_to_list f)
 row_answered i r ms f h = by (is_needed r ms) h
   where
     one : Claim
@@ -123,13 +123,16 @@ row_answered i r ms f h = by (is_needed r ms) h
     by true k = one_told one f k
     by false k = none_told f k
 
-pub rows_more : (ms : List Member) (all : List Claim) (best new f : List Found) (rs : List CodeRow) (i : ℕ) (dr : CodeRow) → i < length rs
+pub rows_more : (ms : List Member) (all : List Claim) (best new : List Found) (f : Option Found) (rs : List CodeRow) (i : ℕ) (dr : CodeRow) → i < length rs
     → Goes (row_claims (count (pairs (members_of ms)) + i) (rows_of (drop i rs)) (pairs (members_of ms))) all best
-    → AreTold (row_claims (length ms + i) (row_of (get_or rs i dr) ∷ []) (pairs (members_of ms))) f
-    → new ≡ best ++ f
+    → Answers (row_claims (length ms + i) (row_of (get_or rs i dr) ∷ []) (pairs (members_of ms))) f
+    → new ≡ best ++ option_to_list f
     → Goes (row_claims (count (pairs (members_of ms)) + (i + 1)) (rows_of (drop (i + 1) rs)) (pairs (members_of ms))) all new
 rows_more ms all best new f rs i dr lt so_far h is =
-    rows_step (pairs (members_of ms)) (count (pairs (members_of ms))) all best new f rs i dr lt so_far (subst (λ (n : ℕ). AreTold (row_claims (n + i) (row_of (get_or rs i dr) ∷ []) (pairs (members_of ms))) f) (sym (count_is ms)) h) is
+    let xs = pairs (members_of ms) in
+    let r = row_of (get_or rs i dr) in
+    let at : Answers (row_claims (count xs + i) (r ∷ []) xs) f = subst (λ (n : ℕ). Answers (row_claims (n + i) (r ∷ []) xs) f) (sym (count_is ms)) h in
+    rows_step xs (count xs) all best new (option_to_list f) rs i dr lt so_far (row_answered (count xs + i) r xs f at) is
 
 -- groups
 

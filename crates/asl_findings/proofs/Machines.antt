@@ -1,5 +1,5 @@
 -- Machines are judged alike, whatever they are called.
-use Rattle.std.proofs.Common.{◌≡◌, ℕ, List, [], Bool, ◌⊎◌, inl, inr, refl, sym, ap, ◌∙◌, subst}
+use Rattle.std.proofs.Common.{◌≡◌, ℕ, List, [], Bool, ◌⊎◌, inl, inr, sym, ap, ◌∙◌, subst}
 use Rattle.std.specs.Prelude.{Result, IfOk}
 use Rattle.asl_json.specs.Data.{Pairs}
 use Rattle.asl_schema.specs.declared.sort.Sort.{Sort}

@@ -7,7 +7,7 @@ use Rattle.std.specs.HashSet.{HashSet, contains_text, Updates}
 use Rattle.std.specs.String.{string_eq, string_bytes}
 use Rattle.std.proofs.lemmas.Map.Text.{hash_set_updates_text}
 use Rattle.std.proofs.lemmas.List.{drop_all, append-nil}
-use Rattle.asl_json.specs.Data.{Data, chain, pairs}
+use Rattle.asl_json.specs.Data.{chain, pairs}
 use Rattle.asl_json.specs.Same.{bytes_eq}
 use Rattle.asl_json.specs.View.{data_of, items_of, members_of}
 use Rattle.asl_json.specs.declared.value.Json.{Json}
@@ -56,11 +56,12 @@ pub record Continues {Y S : Type 0} (s : HashSet (String Y) S) (rest all : List 
   has : Has s so_far
   goes : Goes (unique_claims so_far rest) (unique_claims [] all) told
 
-pub continues-start : {Y S : Type 0} (s : HashSet (String Y) S) (all : List Named) (none : List Found) → Has s [] → none ≡ [] → Continues s all all none
-continues-start s all none h e = record { so_far = []; has = h; goes = goes-start (unique_claims [] all) none e }
+pub continues-start : {Y S : Type 0} (s : HashSet (String Y) S) (rest all : List Named) (none : List Found) → Has s [] → rest ≡ all → none ≡ [] → Continues s rest all none
+continues-start s rest all none h is e = record { so_far = []; has = h; goes = subst (λ (ns : List Named). Goes (unique_claims [] ns) (unique_claims [] all) none) (sym is) (goes-start (unique_claims [] all) none e) }
 
-pub continues-end : {Y S : Type 0} (s : HashSet (String Y) S) (rest all : List Named) (told : List Found) → rest ≡ [] → Continues s rest all told → AreTold (unique_claims [] all) told
-continues-end s rest all told e w = goes-end (unique_claims [] all) told (subst (λ (ns : List Named). Goes (unique_claims w.so_far ns) (unique_claims [] all) told) e w.goes)
+pub continues-end : {Y S : Type 0} (s : HashSet (String Y) S) (rest all : List Named) (told : List Found) → length rest ≡ 0 → Continues s rest all told → AreTold (unique_claims [] all) told
+continues-end s [] all told e w = goes-end (unique_claims [] all) told w.goes
+continues-end s (n ∷ rest) all told e w = absurd (omega (arith, e))
 
 name_kept : {Y S : Type 0} (ks : List (List ℕ)) (k : List ℕ) (s n : HashSet (String Y) S) → Has s ks → (key : String Y) → string_bytes key ≡ k → Updates string_eq s n key true → Has n (ks ++ k ∷ [])
 name_kept ks k s n has key bytes updates = λ l. hash_set_updates_text (string_bytes key) s n true updates l ∙ ap (λ (m : List ℕ). cond (bytes_eq m l) true (contains_text s l)) bytes ∙ chosen (bytes_eq k l) (contains_text s l) ∙ (λ i. has l i || bytes_eq-flip k l i) ∙ among_push l ks k
@@ -92,7 +93,7 @@ pub name_passed : {Y S : Type 0} (s new : HashSet (String Y) S) (n : Named) (old
 name_passed s new n old rest all told more b fault w split is key bytes updates is_fault is_more =
     let ks = w.so_far in
     let goes = subst (λ (ns : List Named). Goes (unique_claims ks ns) (unique_claims [] all) told) split w.goes in
-    let claim = (unique (not (is_among n.0 ks)), n.1) in
+    let claim : Claim = (unique (not (is_among n.0 ks)), n.1) in
     let known : is_among n.0 ks ≡ b = sym (w.has n.0) ∙ sym is in
     let one = one_name n b claim (ap (λ (x : Bool). (unique (not x), n.1)) known) in
     record {

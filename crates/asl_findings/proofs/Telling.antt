@@ -1,17 +1,17 @@
 -- Faults that are told one behind another.
-use Rattle.std.proofs.Common.{◌≡◌, ◌≤◌, ◌⊎◌, inl, inr, ℕ, List, [], ◌∷◌, ◌++◌, length, refl, sym, ap, subst, ◌∙◌, append_assoc, arith}
+use Rattle.std.proofs.Common.{◌≡◌, ◌≤◌, inl, inr, ℕ, List, [], ◌∷◌, ◌++◌, length, refl, sym, ap, subst, ◌∙◌, append_assoc, arith}
 use Rattle.std.specs.Prelude.{Option, Some, None, map, option_map, option_to_list}
 use Rattle.std.proofs.lemmas.List.{map-append, append-nil, length-append}
-use Rattle.asl_json.specs.Data.{Data, null, boolean, number, text, list, dict, Chain}
+use Rattle.asl_json.specs.Data.{Data, number, text, list, Chain}
 use Rattle.asl_schema.specs.declared.fault.FaultKind.{FaultKind}
 use Rattle.asl_schema.specs.declared.fault.Step.{Step}
 use Rattle.asl_schema.specs.declared.sort.Sort.{Sort}
 use Rattle.asl_schema.specs.declared.sort.Sort.TheVariants as sort
 use Rattle.asl_schema.specs.Demands.{Demand, fault_of}
-use Rattle.asl_schema.specs.Claims.{Claim, Spot, under, here, heres, spot_demands, form_demand, text_demands, number_demands, list_demands, value_demands, demands}
-use Rattle.asl_schema.specs.First.{Hold, IsBroken, Each, Found, IsFirst, Answers}
+use Rattle.asl_schema.specs.Claims.{Claim, Spot, under, here, heres, spot_demands, form_demand, text_demands, number_demands, list_demands, value_demands}
+use Rattle.asl_schema.specs.First.{IsBroken, Found, Answers}
 use Rattle.asl_judge.specs.private.Firsts.{Judges, under_step, at_root}
-use Rattle.asl_findings.specs.Told.{IsTold, AreTold}
+use Rattle.asl_findings.specs.Told.{AreTold}
 use Rattle.asl_findings.specs.private.Parts.{count_demands, last_demands, listed}
 
 pub told_append : (xs ys : List Claim) (fs gs : List Found) → AreTold xs fs → AreTold ys gs → AreTold (xs ++ ys) (fs ++ gs)

@@ -1,7 +1,11 @@
 -- What is told of a list or an object that is searched, and of one that isn't.
-use Rattle.std.proofs.Common.{◌≡◌, Bool, true, false, List, [], ◌++◌, sym, subst, ◌∙◌}
+use Rattle.std.proofs.Common.{◌≡◌, Bool, true, false, List, [], ◌++◌, refl, sym, subst, ◌∙◌}
 use Rattle.std.proofs.lemmas.List.{append-nil}
 use Rattle.asl_json.specs.Data.{Data, Chain, Pairs, list, dict}
+use Rattle.asl_json.specs.Distinct.{Members}
+use Rattle.asl_json.specs.View.{data_of}
+use Rattle.asl_json.specs.declared.value.Json.{Json}
+use Rattle.asl_json.specs.declared.value.Json.TheVariants.{Null, Bool as Truth, Num, Text, List as JsonList, Dict}
 use Rattle.asl_json.specs.Meaning.{count}
 use Rattle.asl_schema.specs.declared.sort.Sort.{Sort}
 use Rattle.asl_schema.specs.Members.{Shape, shape_in, item_sort}
@@ -52,3 +56,15 @@ parts_told p s sh xs ms groups members rows both result same shape g m r is_both
     let ct : AreTold (row_claims (count ms) (shape_in s ms).rows ms) rows = subst (λ (ys : Pairs). AreTold (row_claims (count ys) (shape_in s ys).rows ys) rows) same (subst (λ (h : Shape). AreTold (row_claims (count xs) h.rows xs) rows) shape r) in
     let two : AreTold (member_claims (inside p s ms) (shape_in s ms) [] 0 ms ++ row_claims (count ms) (shape_in s ms).rows ms) both = subst (AreTold _) (sym is_both) (told_append _ _ members rows bt ct) in
     subst (AreTold (object_claims p s ms)) (sym is) (told_append _ _ groups both at two)
+
+-- a value that is neither has no more
+plain_claims : (p : Spot) (s : Sort) (v : Json) → ((ds : List Data) → v ≡ JsonList ds → ⊥) → ((ms : Members) → v ≡ Dict ms → ⊥) → claims p s (data_of v) ≡ heres (demands p s (data_of v))
+plain_claims p s Null no_list no_dict = refl
+plain_claims p s (Truth b) no_list no_dict = refl
+plain_claims p s (Num n) no_list no_dict = refl
+plain_claims p s (Text t) no_list no_dict = refl
+plain_claims p s (JsonList ds) no_list no_dict = absurd (no_list ds refl)
+plain_claims p s (Dict ms) no_list no_dict = absurd (no_dict ms refl)
+
+pub plain_whole : (p : Spot) (s : Sort) (v : Json) (own : List Found) → ((ds : List Data) → v ≡ JsonList ds → ⊥) → ((ms : Members) → v ≡ Dict ms → ⊥) → AreTold (heres (demands p s (data_of v))) own → AreTold (claims p s (data_of v)) own
+plain_whole p s v own no_list no_dict h = subst (λ (cs : List Claim). AreTold cs own) (sym (plain_claims p s v no_list no_dict)) h

@@ -1,24 +1,16 @@
 // All faults of a definition.
-ghost use Rattle.std.specs.Prelude.{IfOk, []};
+ghost use Rattle.std.specs.Prelude.{IfOk};
 ghost use Rattle.asl_json.specs.View.{data_of};
 ghost use Rattle.asl_schema.specs.Faults.{claims_of};
-ghost use Rattle.asl_schema.specs.States.{Has};
 ghost use Rattle.asl_findings.specs.Told.{AreTold};
 
-use crate::states::{doubled, states_in};
 use crate::joining::joined;
+use crate::states::{doubled, no_names, states_in};
 use crate::walk::check;
 use asl_json::Json;
 use asl_judge::spot::Spot;
 use asl_schema::{Fault, Sort};
 use std::alloc::{AllocError, Global};
-use std::collections::HashSet;
-
-fn no_names(alloc: Global) -> HashSet<String>
-    ensures { Has result [] }
-{
-    HashSet::new(alloc)
-}
 
 /// Every fault of a definition, in document order: each claim on it that is broken, once, and no other. A missing member comes
 /// behind the members of its object that are there. Names that a state before has come last.
@@ -39,5 +31,6 @@ pub fn every_fault(alloc: Global, definition: &Json) -> Result<Vec<Fault>, Alloc
     let walked = check(alloc, spot, Sort::Definition, definition)?;
     let states = states_in(alloc, Sort::Definition, definition)?;
     let again = doubled(alloc, states)?;
-    joined(walked, again)
+    let told = joined(walked, again)?;
+    Ok(told)
 }

@@ -6,9 +6,9 @@
 #![tactic(auto)]
 
 mod every;
+mod joining;
 mod laws;
 mod states;
-mod joining;
 mod value;
 mod walk;
 

@@ -70,6 +70,9 @@ fn under_name(
 fn under_index(alloc: Global, names: Vec<Named>, at: usize) -> Result<Vec<Named>, AllocError>
     ensures { IfOk result (λ all. all.items ≡ map (further (step at (decimal at))) names.items) }
 {
+    if names.is_empty() {
+        return Ok(names);
+    }
     let mut name = String::new(alloc);
     write!(name, "{at}")?;
     under_name(alloc, names, at, name.as_str())
@@ -87,13 +90,6 @@ fn own_name(alloc: Global, sort: Sort, name: &str) -> Result<Vec<Named>, AllocEr
         })?;
     }
     Ok(all)
-}
-
-fn joined(mut first: Vec<Named>, mut rest: Vec<Named>) -> Result<Vec<Named>, AllocError>
-    ensures { IfOk result (λ all. all.items ≡ first.items ++ rest.items) }
-{
-    first.append(&mut rest)?;
-    Ok(first)
 }
 
 /// The states in a value, in document order.
@@ -127,8 +123,8 @@ fn item_states(alloc: Global, sort: Sort, items: &Items) -> Result<Vec<Named>, A
     let mut all = Vec::new(alloc);
     for (i, value) in values.iter().enumerate() {
         let inside = states_in(alloc, sort, value)?;
-        let states = under_index(alloc, inside, i)?;
-        all = joined(all, states)?;
+        let mut states = under_index(alloc, inside, i)?;
+        all.append(&mut states)?;
     }
     Ok(all)
 }
@@ -142,8 +138,8 @@ fn member_states(alloc: Global, shape: Shape, members: &Members) -> Result<Vec<N
     let mut all = Vec::new(alloc);
     for (i, member) in pairs.iter().enumerate() {
         let inside = states_at(alloc, shape, member)?;
-        let states = under_name(alloc, inside, i, member.key.as_str())?;
-        all = joined(all, states)?;
+        let mut states = under_name(alloc, inside, i, member.key.as_str())?;
+        all.append(&mut states)?;
     }
     Ok(all)
 }
@@ -157,12 +153,14 @@ fn states_at(alloc: Global, shape: Shape, member: &Member) -> Result<Vec<Named>,
 {
     let key = member.key.as_str();
     let sort = sort_at(shape, key);
-    let own = own_name(alloc, sort, key)?;
-    let inside = states_in(alloc, sort, &member.value)?;
-    joined(own, inside)
+    let mut states = own_name(alloc, sort, key)?;
+    let mut inside = states_in(alloc, sort, &member.value)?;
+    states.append(&mut inside)?;
+    Ok(states)
 }
 
-fn no_names(alloc: Global) -> HashSet<String>
+/// No names, before the first state.
+pub(crate) fn no_names(alloc: Global) -> HashSet<String>
     ensures { Has result [] }
 {
     HashSet::new(alloc)

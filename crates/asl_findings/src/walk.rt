@@ -68,14 +68,16 @@ pub(crate) fn check(
                 return Ok(own);
             }
             let inside = check_items(alloc, spot, item_sort(sort), items)?;
-            joined(own, inside)
+            let told = joined(own, inside)?;
+            Ok(told)
         }
         Json::Dict(members) => {
             if !is_object(sort) {
                 return Ok(own);
             }
             let inside = check_object(alloc, spot, sort, members)?;
-            joined(own, inside)
+            let told = joined(own, inside)?;
+            Ok(told)
         }
         _ => Ok(own),
     }
@@ -117,7 +119,8 @@ fn check_object(
     let inside = check_inside(alloc, spot, sort, shape, members)?;
     let lacking = missing(alloc, shape.rows, pairs)?;
     let behind = joined(inside, lacking)?;
-    joined(undecided, behind)
+    let told = joined(undecided, behind)?;
+    Ok(told)
 }
 
 /// A machine has target names of its own.

@@ -2,7 +2,6 @@
 use Rattle.std.specs.Prelude.{List, [], ◌∷◌, ◌&&◌, nat_le, Option, Some, None}
 use Rattle.asl_json.specs.Data.{Chain}
 use Rattle.asl_schema.specs.declared.fault.FaultKind.{FaultKind}
-use Rattle.asl_schema.specs.declared.fault.Step.{Step}
 use Rattle.asl_schema.specs.declared.sort.Sort.{Sort}
 use Rattle.asl_schema.specs.declared.sort.Sort.TheVariants as sort
 use Rattle.asl_schema.specs.Demands.{Demand, in_range, last}

@@ -13,20 +13,23 @@ use Rattle.asl_judge.proofs.Walking.{last_item, members_more}
 use Rattle.asl_findings.specs.Told.{AreTold}
 use Rattle.asl_judge.specs.private.Spots.{spot_of}
 use Rattle.asl_findings.proofs.Going.{goes-start, items_step, items_end, members_step, members_end}
-use Rattle.asl_findings.proofs.Wholes.{list_whole, list_only, object_whole, object_only, parts_told}
+use Rattle.asl_findings.proofs.Wholes.{list_whole, list_only, object_whole, parts_told, plain_whole}
 use Rattle.asl_findings.proofs.Machines.{machine_inside}
 use Rattle.asl_findings.proofs.walk.+walk.Goals as goal
 
 pub check-returns-then-not-is_list : goal.check-returns-then-not-is_list
 check-returns-then-not-is_list t c = list_only (spot_of c.args.spot) c.args.sort (data_of c.args.value.now) (chain c.in-List.items) c.in_ok-own.own.items c.is_list.result (ap data_of c.in-List.is) c.is_list.ensures c.if-not-is_list.true c.in_ok-own.ensures
 
-pub check-returns-in_ok-inside-in-List : goal.check-returns-in_ok-inside-in-List
-check-returns-in_ok-inside-in-List t c =
-    list_whole (spot_of c.args.spot) c.args.sort c.item_sort.result (data_of c.args.value.now) (chain c.in-List.items) c.in_ok-own.own.items c.in_ok-inside-in-List.inside.items _ c.is_list.result (ap data_of c.in-List.is) c.is_list.ensures c.if-not-is_list.false c.in_ok-own.ensures c.item_sort.ensures c.in_ok-inside-in-List.ensures c.joined.ensures
+pub check-returns-in_ok-told-in-List : goal.check-returns-in_ok-told-in-List
+check-returns-in_ok-told-in-List t c =
+    list_whole (spot_of c.args.spot) c.args.sort c.item_sort.result (data_of c.args.value.now) (chain c.in-List.items) c.in_ok-own.own.items c.in_ok-inside-in-List.inside.items _ c.is_list.result (ap data_of c.in-List.is) c.is_list.ensures c.if-not-is_list.false c.in_ok-own.ensures c.item_sort.ensures c.in_ok-inside-in-List.ensures c.in_ok-told-in-List.ensures
 
-pub check-returns-in_ok-inside-in-Dict : goal.check-returns-in_ok-inside-in-Dict
-check-returns-in_ok-inside-in-Dict t c =
-    object_whole (spot_of c.args.spot) c.args.sort (data_of c.args.value.now) (pairs c.in-Dict.members) c.in_ok-own.own.items c.in_ok-inside-in-Dict.inside.items _ c.is_object.result (ap data_of c.in-Dict.is) c.is_object.ensures c.if-not-is_object.false c.in_ok-own.ensures c.in_ok-inside-in-Dict.ensures c.joined-in-Dict.ensures
+pub check-returns-in_ok-told-in-Dict : goal.check-returns-in_ok-told-in-Dict
+check-returns-in_ok-told-in-Dict t c =
+    object_whole (spot_of c.args.spot) c.args.sort (data_of c.args.value.now) (pairs c.in-Dict.members) c.in_ok-own.own.items c.in_ok-inside-in-Dict.inside.items _ c.is_object.result (ap data_of c.in-Dict.is) c.is_object.ensures c.if-not-is_object.false c.in_ok-own.ensures c.in_ok-inside-in-Dict.ensures c.in_ok-told-in-Dict.ensures
+
+pub check-returns-in_default : goal.check-returns-in_default
+check-returns-in_default t c = plain_whole (spot_of c.args.spot) c.args.sort c.args.value.now c.in_ok-own.own.items c.in_default.not-List c.in_default.not-Dict c.in_ok-own.ensures
 
 pub check_items-loop-i-init : goal.check_items-loop-i-init
 check_items-loop-i-init t c = goes-start _ _ c.new-told.ensures.items
@@ -41,7 +44,7 @@ check_items-loop-i-preserved t c =
     let v = c.index-values-i.result in
     items_step p c.args.sort _ c.loop-i.told.items _ c.in_ok-inside.inside.items vs c.loop-i.i v (nat_eq (c.loop-i.i + 1) (length vs)) c.loop-i-test.true c.index-values-i.is (last_item vs c.loop-i.i c.loop-i-test.true) c.loop-i.invariant
     (subst (λ q. AreTold (claims q c.args.sort (data_of v)) c.in_ok-inside.inside.items) c.at_item.ensures c.in_ok-inside.ensures)
-    (c.in_ok-joined.ensures ∙ ap (λ (fs : List Found). c.loop-i.told.items ++ fs) c.in_ok-faults.ensures)
+    (c.in_ok-told.ensures ∙ ap (λ (fs : List Found). c.loop-i.told.items ++ fs) c.in_ok-faults.ensures)
 
 pub check_items-returns : goal.check_items-returns
 check_items-returns t c =
@@ -57,7 +60,7 @@ check_members-loop-i-preserved t c =
     let ms = c.members-pairs.result.now in
     let so_far = members_of (take c.loop-i.i ms) in (
       members_step (spot_of c.args.spot) (shape_seen c.args.shape) _ c.loop-i.told.items _ c.in_ok-inside.inside.items ms c.loop-i.i m c.loop-i-test.true c.index-pairs-i.is c.loop-i.invariant.0 c.in_ok-inside.ensures
-          (c.in_ok-joined.ensures ∙ ap (λ (fs : List Found). c.loop-i.told.items ++ fs) (c.in_ok-faults.ensures ∙ ap (λ (k : List ℕ). map (under_step (step c.loop-i.i k)) c.in_ok-inside.inside.items) c.as_str-key.ensures)),
+          (c.in_ok-told.ensures ∙ ap (λ (fs : List Found). c.loop-i.told.items ++ fs) (c.in_ok-faults.ensures ∙ ap (λ (k : List ℕ). map (under_step (step c.loop-i.i k)) c.in_ok-inside.inside.items) c.as_str-key.ensures)),
       subst (Knows c.add.new.self) (ap (λ k. so_far ++ (k, data_of m.value) ∷ []) c.as_str-key.ensures ∙ sym (members_more ms c.loop-i.i m c.loop-i-test.true c.index-pairs-i.is)) (c.in_ok-add.ensures.ok (data_of m.value)),
     )
 
@@ -72,4 +75,8 @@ check_object-returns t c =
     let p = spot_of c.args.spot in
     let xs = pairs (members_of c.members-pairs.result.now) in
     let sh = shape_seen c.shape_in-shape.result in
-    parts_told p c.args.sort sh xs (pairs c.args.members.now) c.in_ok-undecided.undecided.items c.in_ok-inside.inside.items c.in_ok-lacking.lacking.items c.in_ok-behind.behind.items _ (ap pairs c.members-pairs.ensures.members) c.shape_in-shape.ensures c.in_ok-undecided.ensures c.in_ok-inside.ensures c.in_ok-lacking.ensures c.in_ok-behind.ensures c.joined.ensures
+    parts_told p c.args.sort sh xs (pairs c.args.members.now) c.in_ok-undecided.undecided.items c.in_ok-inside.inside.items c.in_ok-lacking.lacking.items c.in_ok-behind.behind.items _ (ap pairs c.members-pairs.ensures.members) c.shape_in-shape.ensures c.in_ok-undecided.ensures c.in_ok-inside.ensures c.in_ok-lacking.ensures c.in_ok-behind.ensures c.in_ok-told.ensures
+
+pub check_inside-returns-in_ok-names-in-Definition : goal.check_inside-returns-in_ok-names-in-Definition
+check_inside-returns-in_ok-names-in-Definition t c =
+    machine_inside (λ told. told.items) c.check_members.result (spot_of c.args.spot) (contains_text c.in_ok-names-in-Definition.names) c.one_deeper.result c.args.sort (shape_seen c.args.shape) (pairs c.args.members.now) (pairs (members_of c.members.result.now)) c.in-Definition.is (ap pairs c.members.ensures.members) c.in_ok-names-in-Definition.ensures c.one_deeper.ensures c.check_members.ensures
