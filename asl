@@ -12,6 +12,7 @@ answer_help() { # the words; fails where no help is stored for them
   case "$# $*" in
     '1 --help' | '1 -h' | '1 help') cat "$help/asl.txt" ;;
     '2 check --help' | '2 check -h' | '2 help check') cat "$help/check.txt" ;;
+    '2 lint --help' | '2 lint -h' | '2 help lint') cat "$help/lint.txt" ;;
     '2 print --help' | '2 print -h' | '2 help print') cat "$help/print.txt" ;;
     '2 upgrade --help' | '2 upgrade -h' | '2 help upgrade') cat "$help/upgrade.txt" ;;
     '2 graph --help' | '2 graph -h' | '2 help graph') cat "$help/graph.txt" ;;

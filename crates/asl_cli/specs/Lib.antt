@@ -7,3 +7,4 @@ pub mod Obeyed
 pub mod Talking
 pub mod Graphing
 pub mod Mocking
+pub mod Linting

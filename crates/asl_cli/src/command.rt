@@ -13,6 +13,7 @@ use crate::exploring::explore;
 use crate::fault::CommandFault;
 use crate::formatting::emulate_in;
 use crate::graphing::graph;
+use crate::linting::lint;
 use crate::mocking::mocks;
 use crate::printing::print;
 use crate::reading::{read_named, read_texts};
@@ -92,6 +93,7 @@ pub fn obey<R: Threads + Wait + Sync, G: Gate + Watch + Sync, F: Files, I: Input
 {
     match words {
         Words::Check(words) => check(alloc, words, files, out, err),
+        Words::Lint(words) => lint(alloc, words, files, out, err),
         Words::Print(words) => print(alloc, words, files, out, err),
         Words::Upgrade(words) => upgrade(alloc, words, files, out, err),
         Words::Graph(words) => graph(alloc, words, files, out, err),

@@ -18,7 +18,7 @@ pub use input::{Input, Typed};
 pub use streams::Stream;
 pub use telling::{tell_fault, write_piece};
 pub use words::{
-    DebugWords, DefinitionWords, ExploreWords, GivenFault, GraphFormat, GraphWords, MocksWords,
-    ReportFormat, RunFormat, RunWords, SetupWords, Shard, TestWords, Words, given, malformed_word,
-    missing_outcome, read_words,
+    DebugWords, DefinitionWords, ExploreWords, GivenFault, GraphFormat, GraphWords, LintFormat,
+    LintWords, MocksWords, ReportFormat, RunFormat, RunWords, SetupWords, Shard, TestWords, Words,
+    given, malformed_word, missing_outcome, read_words,
 };

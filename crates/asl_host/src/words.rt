@@ -16,6 +16,9 @@ const RUN_FORMATS: [&str; 4] = ["text", "json", "aws", "steps"];
 /// The words for the languages of graphs.
 const LANGUAGES: [&str; 2] = ["mermaid", "dot"];
 
+/// The words for the formats of findings.
+const LINT_FORMATS: [&str; 3] = ["text", "json", "sarif"];
+
 /// So many worlds are tried where no word says how many.
 const WORLDS: u32 = 100_000;
 
@@ -24,6 +27,8 @@ const WORLDS: u32 = 100_000;
 pub enum Words<'a> {
     /// A definition is to be judged.
     Check(DefinitionWords<'a>),
+    /// All that is wrong with a definition and its mock file is to be told.
+    Lint(LintWords<'a>),
     /// A definition is to be printed in its canonical form.
     Print(DefinitionWords<'a>),
     /// A definition is to be printed in the newer spelling of Map states.
@@ -46,6 +51,30 @@ pub enum Words<'a> {
 #[derive(Clone, Copy)]
 pub struct DefinitionWords<'a> {
     pub definition: &'a str,
+}
+
+/// How findings are printed.
+#[derive(Clone, Copy, Debug, PartialEq, Eq)]
+pub enum LintFormat {
+    /// A line a finding, and how many there are.
+    Text,
+    /// A JSON object a finding, each on a line.
+    Json,
+    /// One JSON text in SARIF 2.1.0.
+    Sarif,
+}
+
+/// The words of `lint`.
+#[derive(Clone, Copy)]
+pub struct LintWords<'a> {
+    pub definition: &'a str,
+    /// The name of a file, where the mocked tasks are judged too.
+    pub mocks: Option<&'a str>,
+    /// The name that the machine has in the mock file; none where that has only one.
+    pub machine: Option<&'a str>,
+    pub format: LintFormat,
+    /// Whether warnings count as errors.
+    pub strict: bool,
 }
 
 /// The language in which a graph is printed.
@@ -223,6 +252,9 @@ fn words_of<'a>(matches: &ArgMatches<'a>) -> Option<Words<'a>> {
     if let Some(matches) = matches.subcommand_matches("upgrade") {
         return Some(Words::Upgrade(definition_words_of(matches)?));
     }
+    if let Some(matches) = matches.subcommand_matches("lint") {
+        return Some(Words::Lint(lint_words_of(matches)?));
+    }
     if let Some(matches) = matches.subcommand_matches("debug") {
         return Some(Words::Debug(DebugWords {
             setup: setup_words_of(matches)?,
@@ -255,6 +287,24 @@ fn words_of<'a>(matches: &ArgMatches<'a>) -> Option<Words<'a>> {
         steps: matches.get_str("steps"),
         format: run_format_of(matches.get_str("format")),
     }))
+}
+
+fn lint_words_of<'a>(matches: &ArgMatches<'a>) -> Option<LintWords<'a>> {
+    Some(LintWords {
+        definition: matches.get_str("DEF")?,
+        mocks: matches.get_str("MOCKS"),
+        machine: matches.get_str("MACHINE"),
+        format: lint_format_of(matches.get_str("format")),
+        strict: matches.get_flag("strict"),
+    })
+}
+
+fn lint_format_of(word: Option<&str>) -> LintFormat {
+    match word {
+        Some("json") => LintFormat::Json,
+        Some("sarif") => LintFormat::Sarif,
+        _ => LintFormat::Text,
+    }
 }
 
 fn graph_format_of(word: Option<&str>) -> GraphFormat {
@@ -358,6 +408,7 @@ fn asl_command<'a>(alloc: Global) -> Result<Command<'a>, AllocError> {
         .version("0.1.0")
         .subcommand_required(true);
     asl.subcommand(check_command(alloc)?)?
+        .subcommand(lint_command(alloc)?)?
         .subcommand(print_command(alloc)?)?
         .subcommand(upgrade_command(alloc)?)?
         .subcommand(graph_command(alloc)?)?
@@ -372,6 +423,32 @@ fn check_command<'a>(alloc: Global) -> Result<Command<'a>, AllocError> {
     Command::new(alloc, "check")
         .about("Judges a state machine's definition: prints ok, or tells its first fault")
         .arg(definition_word(alloc))
+}
+
+fn lint_command<'a>(alloc: Global) -> Result<Command<'a>, AllocError> {
+    let mocks = Arg::new(alloc, "MOCKS").help(
+        "The file of the mocked tasks, to be judged beside it",
+    );
+    let machine = Arg::new(alloc, "MACHINE").help(
+        "The machine's name in the mock file, where that has more than one",
+    );
+    let format = Arg::new(alloc, "format")
+        .long("format")
+        .value_name("FORMAT")
+        .value_parser(LINT_FORMATS.as_slice())
+        .default_value("text")
+        .help("How the findings are printed");
+    let strict = Arg::new(alloc, "strict")
+        .long("strict")
+        .action(ArgAction::SetTrue)
+        .help("Counts warnings as errors");
+    Command::new(alloc, "lint")
+        .about("Tells everything that is wrong or suspicious in a definition, and where it stands")
+        .arg(definition_word(alloc))?
+        .arg(mocks)?
+        .arg(machine)?
+        .arg(format)?
+        .arg(strict)
 }
 
 fn print_command<'a>(alloc: Global) -> Result<Command<'a>, AllocError> {

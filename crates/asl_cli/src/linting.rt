@@ -1,0 +1,100 @@
+// The command `lint`.
+ghost use Rattle.std.specs.Prelude.{◌∷◌, option_map, IfOk, IfErr, string_bytes};
+ghost use Rattle.asl_host.specs.Outcomes.{status_of, IsPrinted};
+ghost use Rattle.asl_cli.specs.Linting.{mocks_name, IsJudged, IsLintOf, IsLinted};
+ghost use Rattle.asl_cli.specs.Faults.{AreUnread, named};
+
+use crate::command::{FAILED, GOOD, REFUSED};
+use crate::fault::CommandFault;
+use crate::reading::{read_file, read_named};
+use asl_history::Sink;
+use asl_host::{Files, LintFormat, LintWords, write_piece};
+use asl_lint::{Report, Source, json, sarif, text};
+use std::alloc::{AllocError, Global};
+
+/// What is printed, and whether nothing is wrong.
+#[derive(Drop)]
+pub struct Linted {
+    pub text: String,
+    pub good: bool,
+}
+
+/// The command `lint`: prints everything that is wrong or suspicious in a definition and in the mock file beside it.
+pub fn lint<F: Files, O: Sink, E: Sink>(
+    alloc: Global,
+    words: &LintWords<'_>,
+    files: &mut F,
+    out: &mut O,
+    err: &mut E,
+) -> u8
+    ensures { IsLinted O.taken O.failures E.taken E.failures (F.gives files.old)
+        (F.lacks files.old) words.now out.old out.new err.old err.new result }
+{
+    match lint_files(alloc, words, files) {
+        Ok(linted) => print_linted(&linted, out),
+        Err(refusal) => {
+            refusal.write(alloc, err);
+            REFUSED
+        }
+    }
+}
+
+/// Reads the files, in the order of the words, and judges what they hold.
+fn lint_files<'a, F: Files>(
+    alloc: Global,
+    words: &LintWords<'a>,
+    files: &mut F,
+) -> Result<Linted, CommandFault<'a>>
+    ensures linted { IfOk result (IsLintOf (F.gives files.old) words.now) }
+    ensures unread { IfErr result (AreUnread (F.gives files.old) (F.lacks files.old)
+        (words.now.definition.now ∷ named (mocks_name words.now))) }
+{
+    let definition = read_file(alloc, files, words.definition)?;
+    let mocks = read_named(alloc, files, words.mocks)?;
+    let source = Source {
+        definition: definition.as_slice(),
+        mocks: mocks.as_deref(),
+        machine: words.machine,
+    };
+    match lint_texts(alloc, words, &source) {
+        Ok(linted) => Ok(linted),
+        Err(AllocError) => Err(CommandFault::OutOfMemory),
+    }
+}
+
+/// Judges texts.
+fn lint_texts(
+    alloc: Global,
+    words: &LintWords<'_>,
+    source: &Source<'_>,
+) -> Result<Linted, AllocError>
+    ensures { IfOk result (IsJudged source.now.definition.now
+        (option_map (λ b. b.now) source.now.mocks) words.now.strict) }
+{
+    let report = asl_lint::lint(alloc, source)?;
+    let good = report.is_good(words.strict);
+    let text = text_of(alloc, words, &report)?;
+    Ok(Linted { text, good })
+}
+
+/// The findings in the format that is asked for.
+fn text_of(alloc: Global, words: &LintWords<'_>, report: &Report) -> Result<String, AllocError> {
+    let mocks = words.mocks.unwrap_or("");
+    match words.format {
+        LintFormat::Text => text(alloc, words.definition, mocks, report),
+        LintFormat::Json => json(alloc, words.definition, mocks, report),
+        LintFormat::Sarif => sarif(alloc, words.definition, mocks, report),
+    }
+}
+
+/// Prints what was found, and tells whether nothing is wrong.
+fn print_linted<O: Sink>(linted: &Linted, out: &mut O) -> u8
+    ensures { IsPrinted O.taken O.failures out.old out.new (string_bytes linted.now.text)
+        (status_of linted.now.good) result }
+{
+    match write_piece(out, linted.text.as_str()) {
+        Ok(()) if linted.good => GOOD,
+        Ok(()) => FAILED,
+        Err(_) => REFUSED,
+    }
+}

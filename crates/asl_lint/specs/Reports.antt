@@ -1,0 +1,40 @@
+-- Whether anything is wrong.
+use Rattle.std.specs.Prelude.{List, Bool, true, false, ◌||◌, not}
+use Rattle.std.specs.List.{list_any}
+use Rattle.asl_lint.specs.declared.rule.Rule.{Rule}
+use Rattle.asl_lint.specs.declared.rule.Rule.TheVariants as rule
+use Rattle.asl_lint.specs.declared.rule.MockRule.{MockRule}
+use Rattle.asl_lint.specs.declared.rule.MockRule.TheVariants as mock
+use Rattle.asl_lint.specs.declared.finding.Finding.{Finding}
+use Rattle.asl_lint.specs.declared.finding.Report.{Report}
+
+-- of a mock file
+
+abbrev pub is_mock_error : MockRule → Bool
+is_mock_error mock.Json = true
+is_mock_error mock.Shape = true
+is_mock_error mock.Key = true
+is_mock_error mock.Overlap = true
+is_mock_error mock.NoResponse = true
+is_mock_error mock.NoMachine = true
+is_mock_error mock.UnknownState = true
+is_mock_error mock.NotTask = true
+is_mock_error mock.UnansweredTask = false
+is_mock_error mock.UnusedResponse = false
+is_mock_error mock.MissingAnswer = false
+
+-- an error is refused; a warning is accepted, and surely isn't meant
+abbrev pub is_error : Rule → Bool
+is_error rule.Json = true
+is_error (rule.Fault k) = true
+is_error (rule.Warning k) = false
+is_error (rule.Mock r) = is_mock_error r
+
+-- where warnings count as errors, each finding counts
+abbrev pub counts : Bool → Finding → Bool
+counts strict f = strict || is_error f.rule
+
+-- whether nothing is wrong
+abbrev pub is_good : Bool → Report → Bool
+is_good strict r =
+    not (list_any (counts strict) r.definition.items || list_any (counts strict) r.mocks.items)

@@ -1,0 +1,26 @@
+//! Everything that is wrong or suspicious in a definition and in the mock file beside it, where it stands, and how it is mended.
+//!
+//! Modules in reading order: `rule` and `finding` are what is told; `json_faults` says what is wrong with a text that is no JSON; `placing` finds
+//! lines and columns; `definition` has the findings of a definition, `mock_faults` and `mocks` those of a mock file, `beside` what doesn't fit
+//! between the two, and `linting` all; `lines`, `json_lines` and `sarif_log` are the formats.
+#![tactic(auto)]
+
+mod beside;
+mod definition;
+mod finding;
+mod json_faults;
+mod json_lines;
+mod lines;
+mod linting;
+mod mock_faults;
+mod mocks;
+mod placing;
+mod rule;
+mod sarif_log;
+
+pub use finding::{Finding, Report};
+pub use json_lines::json;
+pub use lines::text;
+pub use linting::{Source, lint};
+pub use rule::{MockRule, Rule, Severity};
+pub use sarif_log::sarif;

@@ -1,0 +1,210 @@
+// What a finding is of.
+ghost use Rattle.std.specs.Prelude.{◌≡◌, if◌then◌else◌};
+ghost use Rattle.asl_lint.specs.Reports.{is_mock_error, is_error};
+
+use asl_schema::FaultKind;
+use asl_warnings::WarningKind;
+
+/// How bad a finding is.
+#[derive(Clone, Copy, Debug, PartialEq, Eq)]
+pub enum Severity {
+    /// It is refused.
+    Error,
+    /// It is accepted, and surely isn't meant.
+    Warning,
+}
+
+impl Severity {
+    /// The word for it.
+    pub fn word(self) -> &'static str {
+        match self {
+            Severity::Error => "error",
+            Severity::Warning => "warning",
+        }
+    }
+}
+
+/// What can be wrong with a mock file, by itself and beside a definition.
+#[derive(Clone, Copy, Debug, PartialEq, Eq)]
+pub enum MockRule {
+    /// M1: it is no JSON text.
+    Json,
+    /// M2: a value doesn't fit.
+    Shape,
+    /// M3: a key of an answer is neither `N` nor `low-high`.
+    Key,
+    /// M4: an answer has a number of one before it.
+    Overlap,
+    /// M5: a case names a response that isn't there.
+    NoResponse,
+    /// M7: no machine has the name that was chosen, or it isn't said which of several is meant.
+    NoMachine,
+    /// A case has an answer for what is no state of the definition.
+    UnknownState,
+    /// A case has an answer for a state that is no Task.
+    NotTask,
+    /// No case has an answer for a Task.
+    UnansweredTask,
+    /// No case names a response.
+    UnusedResponse,
+    /// A response leaves out a number below its last one.
+    MissingAnswer,
+}
+
+/// What a finding is of.
+#[derive(Clone, Copy, Debug, PartialEq, Eq)]
+pub enum Rule {
+    /// F1: the definition is no JSON text.
+    Json,
+    /// F2 to F15: a fault of the definition.
+    Fault(FaultKind),
+    /// Something suspicious of the definition.
+    Warning(WarningKind),
+    /// Something of the mock file.
+    Mock(MockRule),
+}
+
+impl Rule {
+    /// Whether it is an error.
+    pub fn is_error(self) -> bool
+        ensures { result ≡ is_error self }
+    {
+        match self {
+            Rule::Json | Rule::Fault(_) => true,
+            Rule::Warning(_) => false,
+            Rule::Mock(rule) => is_mock_error(rule),
+        }
+    }
+
+    /// How bad it is.
+    pub fn severity(self) -> Severity
+        ensures { result ≡ (if is_error self then Severity.Error else Severity.Warning) }
+    {
+        if self.is_error() {
+            Severity::Error
+        } else {
+            Severity::Warning
+        }
+    }
+
+    /// Its name: a number or words.
+    pub fn name(self) -> &'static str {
+        match self {
+            Rule::Json => "F1",
+            Rule::Fault(kind) => fault_name(kind),
+            Rule::Warning(kind) => kind.name(),
+            Rule::Mock(rule) => mock_name(rule),
+        }
+    }
+
+    /// What is wrong, in one sentence.
+    pub fn sentence(self) -> &'static str {
+        match self {
+            Rule::Json => "The definition is no JSON text.",
+            Rule::Fault(kind) => fault_sentence(kind),
+            Rule::Warning(kind) => warning_sentence(kind),
+            Rule::Mock(rule) => mock_sentence(rule),
+        }
+    }
+}
+
+fn is_mock_error(rule: MockRule) -> bool
+    ensures { result ≡ is_mock_error rule }
+{
+    match rule {
+        MockRule::Json
+        | MockRule::Shape
+        | MockRule::Key
+        | MockRule::Overlap
+        | MockRule::NoResponse
+        | MockRule::NoMachine
+        | MockRule::UnknownState
+        | MockRule::NotTask => true,
+        MockRule::UnansweredTask | MockRule::UnusedResponse | MockRule::MissingAnswer => false,
+    }
+}
+
+fn fault_name(kind: FaultKind) -> &'static str {
+    match kind {
+        FaultKind::NotObject => "F2",
+        FaultKind::Missing => "F3",
+        FaultKind::UnknownField => "F4",
+        FaultKind::Unsupported => "F5",
+        FaultKind::WrongType => "F6",
+        FaultKind::Range => "F7",
+        FaultKind::Both => "F8",
+        FaultKind::Neither => "F9",
+        FaultKind::NoTarget => "F10",
+        FaultKind::DuplicateState => "F11",
+        FaultKind::AllNotLast => "F12",
+        FaultKind::Path => "F13",
+        FaultKind::Expression => "F14",
+        FaultKind::Nesting => "F15",
+    }
+}
+
+fn fault_sentence(kind: FaultKind) -> &'static str {
+    match kind {
+        FaultKind::NotObject => "The definition isn't an object.",
+        FaultKind::Missing => "A required member is missing.",
+        FaultKind::UnknownField => "The object may not have this member.",
+        FaultKind::Unsupported => "Something of the language isn't supported.",
+        FaultKind::WrongType => "A value is of a wrong type.",
+        FaultKind::Range => "A value is outside its range.",
+        FaultKind::Both => "Two members are there that exclude each other.",
+        FaultKind::Neither => "None of the members is there of which one has to be.",
+        FaultKind::NoTarget => "No state of the same machine has this name.",
+        FaultKind::DuplicateState => "An earlier state of the definition has this name.",
+        FaultKind::AllNotLast => "States.ALL isn't alone, or isn't in the last retrier or catcher.",
+        FaultKind::Path => "A text isn't a path of the supported kind.",
+        FaultKind::Expression => "A text isn't a call of an intrinsic function.",
+        FaultKind::Nesting => "A machine is inside 16 others.",
+    }
+}
+
+fn warning_sentence(kind: WarningKind) -> &'static str {
+    match kind {
+        WarningKind::UnreachableState => "Nothing leads to a state.",
+        WarningKind::NoEnd => "From a state no end can be reached.",
+        WarningKind::NoDefault => "A Choice has no Default.",
+        WarningKind::EndlessWait => "A Task that waits for a token has no time limit.",
+        WarningKind::HeartbeatNotShorter => "A heartbeat isn't shorter than the time limit.",
+        WarningKind::UnaskedHandler =>
+            "Retriers or catchers before it are for all that this one names.",
+        WarningKind::UnknownError => "No error of the language has this name.",
+        WarningKind::ForgottenDollar => "A text of a template looks like a path and is none.",
+        WarningKind::UnknownContextMember => "The Context Object never has what a path names.",
+    }
+}
+
+fn mock_name(rule: MockRule) -> &'static str {
+    match rule {
+        MockRule::Json => "M1",
+        MockRule::Shape => "M2",
+        MockRule::Key => "M3",
+        MockRule::Overlap => "M4",
+        MockRule::NoResponse => "M5",
+        MockRule::NoMachine => "M7",
+        MockRule::UnknownState => "unknown-state",
+        MockRule::NotTask => "not-a-task",
+        MockRule::UnansweredTask => "unanswered-task",
+        MockRule::UnusedResponse => "unused-response",
+        MockRule::MissingAnswer => "missing-answer",
+    }
+}
+
+fn mock_sentence(rule: MockRule) -> &'static str {
+    match rule {
+        MockRule::Json => "The mock file is no JSON text.",
+        MockRule::Shape => "A value of the mock file doesn't fit.",
+        MockRule::Key => "The key of an answer is neither a number nor a range of numbers.",
+        MockRule::Overlap => "An answer has a number of an earlier one.",
+        MockRule::NoResponse => "A case names a response that isn't there.",
+        MockRule::NoMachine => "It isn't clear which machine of the mock file the definition is.",
+        MockRule::UnknownState => "A case has an answer for what is no state of the definition.",
+        MockRule::NotTask => "A case has an answer for a state that is no Task.",
+        MockRule::UnansweredTask => "No case of the mock file has an answer for this Task.",
+        MockRule::UnusedResponse => "No case names this response.",
+        MockRule::MissingAnswer => "A response leaves out a number below its last one.",
+    }
+}

@@ -1,0 +1,7 @@
+pub mod Kinds
+pub mod Texts
+pub mod Handlers
+pub mod Graphs
+pub mod States
+pub mod Warnings
+pub mod private

@@ -1,0 +1,20 @@
+//! What in a definition is suspicious, though the language allows it.
+//!
+//! Modules in reading order: `warning` is a warning at its place, `trail` the steps to a value; `naming` judges texts, `handling`
+//! retriers and catchers, `resting` one state; `search` finds what a walk along edges reaches, `leading` where a state leads, and
+//! `standing` which states of a machine are reached and which reach an end; `walk` tells all warnings of a definition.
+#![tactic(auto)]
+
+mod handling;
+mod leading;
+mod naming;
+mod resting;
+mod search;
+mod standing;
+mod trail;
+mod walk;
+mod warning;
+
+pub use naming::{ERRORS, PARTS};
+pub use walk::every_warning;
+pub use warning::{Warning, WarningKind};

@@ -1,0 +1,5 @@
+//! The warnings on a definition, each sentence shown both ways.
+#![tactic(auto)]
+
+#[cfg(test)]
+mod told;

@@ -1,0 +1,229 @@
+"""The command lint: what it finds, where, in which words and formats, and its status."""
+import json
+import os
+import tempfile
+
+from program import TOP, ProgramTest, run_program
+
+# A definition without faults, and mocks for it.
+GOOD = """\
+{
+  "StartAt": "Charge card",
+  "States": {
+    "Charge card": {
+      "Type": "Task",
+      "Resource": "arn:aws:states:::lambda:invoke",
+      "Parameters": { "id.$": "$.id" },
+      "Retry": [{ "ErrorEquals": ["States.Timeout"], "MaxAttempts": 2 }],
+      "Next": "Paid?"
+    },
+    "Paid?": {
+      "Type": "Choice",
+      "Choices": [{ "Variable": "$.paid", "BooleanEquals": true, "Next": "Ship" }],
+      "Default": "Ship"
+    },
+    "Ship": { "Type": "Pass", "End": true }
+  }
+}
+"""
+
+MOCKS = """\
+{
+  "StateMachines": {
+    "orders": {
+      "TestCases": {
+        "shipped": { "Charge card": "Charged" }
+      }
+    }
+  },
+  "MockedResponses": {
+    "Charged": { "0": { "Return": { "paid": true } } }
+  }
+}
+"""
+
+# Typical mistakes: a text of the good definition, what stands in its place, where it is told and in which words.
+MISTAKES = [
+    ('"Next": "Ship"', '"Next": "Shipp"', "13:74", 'error F10: Next names "Shipp", and no state of this machine has that name; did you mean "Ship"?'),
+    ('"StartAt": "Charge card"', '"StartAt": "Charge crad"', "2:14", 'error F10: StartAt names "Charge crad", and no state of this machine has that name; did you mean "Charge card"?'),
+    ('"Type": "Task"', '"Type": "Taks"', "5:15", 'error F5: Type "Taks" is not supported; the types of states are Task, Pass, Choice, Wait, Parallel, Map, Succeed and Fail; did you mean "Task"?'),
+    ('"Resource"', '"Resorce"', "6:7", 'error F4: a Task state has no member "Resorce"; did you mean "Resource"?'),
+    ('"Default"', '"default"', "14:7", 'error F4: a Choice state has no member "default"; did you mean "Default"?'),
+    ('      "Resource": "arn:aws:states:::lambda:invoke",\n', "", "9:5", "error F3: Resource is missing: a Task state needs it"),
+    ('"End": true', '"End": "true"', "16:38", 'error F6: End is the text "true"; it has to be true or false, without quotes'),
+    ('"MaxAttempts": 2', '"MaxAttempts": -1', "8:69", "error F7: MaxAttempts is the number -1; it has to be a whole number from 0 to 99999999"),
+    ('"Type": "Pass", "End": true', '"Type": "Pass"', "16:13", 'error F9: a Pass state needs one of Next and "End": true, and "Ship" has none'),
+    ('"End": true', '"Next": "Paid?", "End": true', "16:48", "error F8: End can't stand beside Next: a Pass state has one of them at most"),
+    ('"End": true', '"Next": "End"', "16:39", 'error F10: Next names "End", and no state of this machine has that name; a state that ends has "End": true in the place of Next'),
+    ('"$.paid"', '"$.paid[*]"', "13:33", 'error F13: Variable is no path: "$.paid[*]" is wrong from "*]" on, byte 7 of it; supported are steps as $.name, $[\'a name\'] and $[0]; wildcards, slices, filters and ".." are not supported'),
+    ('"$.id"', '"States.Fomat(\'{}\', $.id)"', "7:31", "error F14: \"id.$\" is no call of an intrinsic function: \"States.Fomat('{}', $.id)\"; States.Fomat is not supported; did you mean States.Format?"),
+    ('"$.id"', '"id"', "7:31", 'error F14: "id.$" is neither a path, which begins with "$", nor a call of an intrinsic function, as States.Format(\'{}\', $.a): "id"; a text that is meant as it stands has the key "id"'),
+    ('["States.Timeout"]', '["States.ALL", "E"]', "8:34", "error F12: States.ALL has to stand alone in its ErrorEquals"),
+    ('"Type": "Pass"', '"Type": "Pass", "Retry": []', "16:31", 'error F4: a Pass state has no member "Retry"; it is for states of type Task, Parallel, Map'),
+    ('"Type": "Pass"', '"Type": "Pass", "Assign": {}', "16:41", "error F5: Assign is not supported: it sets a variable; ResultPath keeps a result in the state's output"),
+    ('"BooleanEquals": true, ', "", "13:19", "error F9: a rule of a Choice state needs a test, as StringEquals, or one of And, Or and Not, and this one has none"),
+    # no JSON
+    ('"End": true }', '"End": true, }', "16:44", "error F1: no comma can stand before a closing brace or bracket"),
+    ('"States": {', "// the states\n  \"States\": {", "3:3", "error F1: JSON has no comments; Comment is a member for one"),
+    ('"Type": "Task",', '"Type": "Task"', "6:7", "error F1: a comma or a colon is missing before it"),
+    ('"Type": "Task"', "'Type': 'Task'", "5:7", "error F1: texts and keys stand in double quotes"),
+    ('"Type": "Task"', '"Type": "Task", "Type": "Task"', "5:23", 'error F1: this object has the key "Type" already'),
+    # suspicious
+    ('"States.Timeout"', '"States.Timout"', "8:35", 'warning unknown-error: no error is named "States.Timout"; did you mean "States.Timeout"?'),
+    ('"id.$": "$.id"', '"id": "$.id"', "7:29", 'warning forgotten-dollar: id stays the text "$.id"; the value at this path has the key "id.$"'),
+    (',\n      "Default": "Ship"', "", "11:5", 'warning no-default: the Choice state "Paid?" has no Default: where no rule holds, the execution fails with States.NoChoiceMatched'),
+    ('"Next": "Paid?"', '"Next": "Ship"', "11:5", 'warning unreachable-state: nothing leads to the state "Paid?" from StartAt'),
+]
+
+# The same of mock files.
+MOCK_MISTAKES = [
+    ('"Charge card"', '"Charge crad"', "5:22", 'error unknown-state: case "shipped" has an answer for "Charge crad", and no Task has that name; did you mean "Charge card"?'),
+    ('"Charge card"', '"Charge card": "Charged", "Ship"', "5:48", 'error not-a-task: case "shipped" has an answer for "Ship", which is a Pass state and no Task'),
+    ('"Charge card": "Charged"', '"Charge card": "Chargd"', "5:37", 'error M5: no response has the name "Chargd"'),
+    ('"0"', '"1-"', "10:18", 'error M3: "1-" is neither a number nor a range of numbers, as 0 or 1-3'),
+    ('"0": {', '"0-2": { "Return": 1 }, "1": {', "10:42", 'error M4: "1" has a number of an answer before it'),
+    ('"0": {', '"0": { "Return": 1 }, "2-3": {', "10:5", 'warning missing-answer: the response "Charged" has no answer 1, and one of a higher number'),
+    ('"0"', '"1"', "10:5", 'warning missing-answer: the response "Charged" has no answer 0, and one of a higher number'),
+    ('"MockedResponses": {', '"MockedResponses": { "Lost": {},', "9:24", 'warning unused-response: no case names the response "Lost"'),
+    ('"TestCases"', '"TestCase"', "3:15", "error M2: this has to be an object with TestCases"),
+    ('"Return"', '"Retrun"', "10:23", "error M2: this has to be an object with either Return or Throw"),
+]
+
+
+class LintTest(ProgramTest):
+    def lint(self, definition, *words, mocks=None):
+        """What lint does for texts. The files are called d.json and m.json."""
+        with tempfile.TemporaryDirectory(prefix="asl-test-") as room:
+            names = []
+            for name, text in [("d.json", definition), ("m.json", mocks)]:
+                if text is not None:
+                    names.append(os.path.join(room, name))
+                    with open(names[-1], "wb") as file:
+                        file.write(text if isinstance(text, bytes) else text.encode())
+            ran = run_program("lint", *names, *words)
+            ran.stdout = ran.stdout.replace(room + "/", "")
+        return ran
+
+    def findings(self, definition, mocks=None, words=()):
+        """The findings as lines of JSON."""
+        ran = self.lint(definition, *words, "--format", "json", mocks=mocks)
+        self.assertEqual(ran.stderr, "")
+        found = [json.loads(line) for line in ran.stdout.splitlines()]
+        self.assertEqual(ran.returncode, 1 if any(it["severity"] == "error" for it in found) else 0)
+        return found
+
+    def test_nothing_is_wrong(self):
+        for mocks in [None, MOCKS]:
+            ran = self.lint(GOOD, "--strict", mocks=mocks)
+            self.assertEqual((ran.returncode, ran.stdout, ran.stderr), (0, "no findings\n", ""))
+
+    def test_typical_mistakes(self):
+        for old, new, place, words in MISTAKES:
+            with self.subTest(new):
+                self.assertIn(old, GOOD)
+                ran = self.lint(GOOD.replace(old, new, 1))
+                self.assertIn(f"d.json:{place}: {words}", ran.stdout.splitlines())
+                self.assertEqual(ran.returncode, 1 if ": error " in ran.stdout else 0)
+
+    def test_typical_mistakes_of_mock_files(self):
+        for old, new, place, words in MOCK_MISTAKES:
+            with self.subTest(new):
+                self.assertIn(old, MOCKS)
+                ran = self.lint(GOOD, mocks=MOCKS.replace(old, new, 1))
+                self.assertIn(f"m.json:{place}: {words}", ran.stdout.splitlines())
+
+    def test_a_task_that_no_case_answers(self):
+        ran = self.lint(GOOD, mocks=MOCKS.replace('{ "Charge card": "Charged" }', "{}"))
+        self.assertEqual(
+            ran.stdout.splitlines(),
+            [
+                'd.json:4:5: warning unanswered-task: no case of the mock file has an answer for the Task "Charge card"',
+                'm.json:10:5: warning unused-response: no case names the response "Charged"',
+                "0 errors, 2 warnings",
+            ],
+        )
+        self.assertEqual(ran.returncode, 0)
+
+    def test_the_machine_that_is_meant(self):
+        two = MOCKS.replace('"orders": {', '"other": { "TestCases": { "c": {} } }, "orders": {')
+        self.assertEqual([it["name"] for it in self.findings(GOOD, two)], ["M7"])
+        self.assertEqual(self.findings(GOOD, two, ["orders"]), [])
+        self.assertEqual([it["name"] for it in self.findings(GOOD, two, ["other"])], ["unanswered-task"])
+        found = self.findings(GOOD, MOCKS, ["order"])
+        self.assertEqual([it["message"] for it in found], ['no machine of the mock file has the name "order"; did you mean "orders"?'])
+        self.assertEqual([it["name"] for it in self.findings(GOOD, "{}")], ["unanswered-task"])
+
+    def test_strict(self):
+        suspicious = GOOD.replace("States.Timeout", "States.Timout")
+        self.assertEqual(self.lint(suspicious).returncode, 0)
+        self.assertEqual(self.lint(suspicious, "--strict").returncode, 1)
+        self.assertEqual(self.lint(suspicious).stdout.splitlines()[-1], "0 errors, 1 warning")
+
+    def test_all_faults_in_the_order_of_their_places(self):
+        states = {f"S{i}": {"Type": "Pass", "Next": "?" if i % 2 else f"S{i + 1}"} for i in range(0, 40)}
+        text = json.dumps({"States": states, "StartAt": "S0"}, indent=1)
+        found = self.findings(text.replace('"S38"', '"S38"'))
+        self.assertEqual(len(found), 20)
+        self.assertEqual([it["begin"] for it in found], sorted(it["begin"] for it in found))
+        for it in found:
+            self.assertEqual(text.splitlines()[it["line"] - 1][it["column"] - 1 :].strip(), '"?"')
+
+    def test_lines_and_columns(self):
+        # characters of 1 to 4 bytes before it in its line, a tab, line feeds behind carriage returns
+        for name, width in [("a", 1), ("é", 2), ("€", 3), ("😀", 4), ("\t", None)]:
+            for feed in ["\n", "\r\n"]:
+                before = f"{name}{name}{name}"
+                if width is None:
+                    text = '{"StartAt":"A",' + feed + '"States":{"A":\t\t\t{"Type":"Pass","Next":"?"}}}'
+                    column = text.split(feed)[1].index('"?"') + 1
+                else:
+                    text = '{"StartAt":"A",' + feed + '"States":{"A":{"Comment":"' + before + '","Type":"Pass","Next":"?"}}}'
+                    column = text.split(feed)[1].index('"?"') + 1
+                found = self.findings(text)
+                self.assertEqual([(it["line"], it["column"], it["begin"]) for it in found], [(2, column, text.encode().index(b'"?"'))])
+
+    def test_a_file_without_a_line_feed(self):
+        ran = self.lint('{"States":{}}')
+        self.assertEqual(ran.stdout, "d.json:1:13: error F3: StartAt is missing: the definition needs it\n1 error, 0 warnings\n")
+        ran = self.lint("")
+        self.assertEqual(ran.stdout, "d.json:1:1: error F1: the text ends too early: a quote, a bracket or a brace isn't closed\n1 error, 0 warnings\n")
+
+    def test_ten_thousand_faults(self):
+        text = json.dumps({"StartAt": "S0", "States": {f"S{i}": {"Type": "Nope"} for i in range(10_000)}})
+        ran = self.lint(text)
+        self.assertEqual(ran.stdout.splitlines()[-1], "10000 errors, 0 warnings")
+        self.assertEqual(len(ran.stdout.splitlines()), 10_001)
+
+    def test_one_finding_is_one_line(self):
+        for name in ["a\nb", "a\rb", "\u202egpj", "\u200f", "\u2028", "\x7f", "\x85", "\ufeff", "a\tb"]:
+            text = json.dumps({"StartAt": name, "States": {"A": {"Type": "Succeed"}}}, ensure_ascii=False)
+            ran = self.lint(text)
+            self.assertEqual(len(ran.stdout.splitlines()), 2, ran.stdout)
+            self.assertTrue(all(c.isprintable() or c == "\n" for c in ran.stdout), ran.stdout)
+
+    def test_sarif(self):
+        ran = self.lint(GOOD.replace('"Next": "Ship"', '"Next": "Shipp"'), "--format", "sarif", mocks=MOCKS.replace('"0"', '"1"'))
+        log = json.loads(ran.stdout)
+        self.assertEqual((log["version"], len(log["runs"]), ran.returncode), ("2.1.0", 1, 1))
+        run = log["runs"][0]
+        rules = {rule["id"]: rule for rule in run["tool"]["driver"]["rules"]}
+        results = run["results"]
+        self.assertEqual([(it["ruleId"], it["level"]) for it in results], [("F10", "error"), ("missing-answer", "warning")])
+        for it in results:
+            self.assertIn(it["ruleId"], rules)
+            self.assertEqual(rules[it["ruleId"]]["defaultConfiguration"]["level"], it["level"])
+        places = [it["locations"][0]["physicalLocation"] for it in results]
+        self.assertEqual([place["region"] for place in places], [{"startLine": 13, "startColumn": 74}, {"startLine": 10, "startColumn": 5}])
+        self.assertTrue(places[0]["artifactLocation"]["uri"].endswith("d.json"))
+
+    def test_the_first_fault_of_check_is_among_them(self):
+        ran = run_program("check", f"{TOP}/examples/refused.json")
+        self.assertEqual(ran.stderr, "fault: definition: F10 NoTarget /States/A/Next\n")
+        ran = run_program("lint", f"{TOP}/examples/refused.json")
+        self.assertTrue(ran.stdout.splitlines()[0].endswith('refused.json:4:36: error F10: Next names "B", and no state of this machine has that name'))
+
+    def test_words_that_are_wrong(self):
+        for words in [(), ("nowhere.json",), (f"{TOP}/examples/refused.json", "nowhere.json"), (f"{TOP}/examples/refused.json", "--format", "xml")]:
+            ran = run_program("lint", *words)
+            self.assertEqual((ran.returncode, ran.stdout), (2, ""), words)
+        self.assertEqual(run_program("lint", "nowhere.json").stderr, "fault: file nowhere.json\n")
