@@ -106,7 +106,7 @@ class TreeTest(ProgramTest):
 
     def test_errors_of_data(self):
         """An error that no event tells is told too."""
-        task = {"Type": "Task", "Resource": "r", "InputPath": "$.none", "Catch": [{"ErrorEquals": ["States.ALL"], "Next": "B"}], "End": True}
+        task = {"Type": "Task", "Resource": "r", "Parameters": {"a.$": "$.none"}, "Catch": [{"ErrorEquals": ["States.ALL"], "Next": "B"}], "End": True}
         told = self.tree(machine({"A": task, "B": {"Type": "Succeed"}}))
         self.assertIn(" failed States.ParameterPathFailure catcher 0 -> B", told[0])
 
