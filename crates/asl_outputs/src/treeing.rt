@@ -27,11 +27,7 @@ fn tell_next(tree: &mut Tree, execution: &mut Execution) -> Result<Option<StepAt
 }
 
 /// Takes the steps that come next, at most so many, and tells of them. The error is that memory ran out.
-fn tell_driven(
-    tree: &mut Tree,
-    execution: &mut Execution,
-    limit: u32,
-) -> Result<(), AllocError>
+fn tell_driven(tree: &mut Tree, execution: &mut Execution, limit: u32) -> Result<(), AllocError>
     ensures { OnOk result (world_of execution.new
         ≡ driven limit (setup_of execution.old) (world_of execution.old)) }
 {

@@ -103,11 +103,7 @@ impl Tree {
 
     /// What the branch at a place is doing before it steps, and what decides; the lines of the branches that the step stops. None where no
     /// branch runs there.
-    fn before(
-        &mut self,
-        execution: &Execution,
-        at: &StepAt,
-    ) -> Result<Option<Before>, AllocError> {
+    fn before(&mut self, execution: &Execution, at: &StepAt) -> Result<Option<Before>, AllocError> {
         let alloc = self.alloc;
         let Some(frame) = execution.world().frame_at(&at.place) else {
             return Ok(None);

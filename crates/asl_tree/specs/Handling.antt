@@ -1,5 +1,5 @@
 -- What became of an error that a state raised: which retrier or catcher decided.
-use Rattle.std.specs.Prelude.{ℕ, zero, suc, ◌+◌, ◌-◌, Bool, ◌||◌, List, [], ◌∷◌, ◌++◌, Option, Some, None, if◌then◌else◌, codes}
+use Rattle.std.specs.Prelude.{ℕ, zero, suc, ◌+◌, ◌-◌, Bool, true, false, not, ◌||◌, List, [], ◌∷◌, ◌++◌, Option, Some, None, if◌then◌else◌, codes}
 use Rattle.std.specs.Str.{bytes_eq}
 use Rattle.std.specs.Fmt.{decimal}
 use Rattle.asl_json.specs.Data.{Data, Chain, no_items, item}
@@ -36,26 +36,39 @@ number_of c (item d ds) = if equal d c then 0 else suc (number_of c ds)
 
 -- ---- texts
 
+-- the number of a retrier, and how often it is used now
+abbrev pub use_text : Seen → ℕ → List ℕ
+use_text v i =
+    codes "retrier " ++ (decimal i ++ (codes ", use " ++ decimal (used (uses_in v.before) i + 1)))
+
+-- how often it may be used
+abbrev pub attempts_text : Seen → ℕ → List ℕ
+attempts_text v i = codes " of " ++ decimal (attempts_at i (handlers_in v.retry))
+
 abbrev pub retried_text : Seen → ℕ → ℕ → List ℕ
 retried_text v i until =
-    codes "retrier " ++ (decimal i ++ (codes ", use " ++ (decimal (used (uses_in v.before) i + 1)
-    ++ (codes " of " ++ (decimal (attempts_at i (handlers_in v.retry))
-    ++ (codes ": again at " ++ elapsed (until - v.start)))))))
+    use_text v i ++ (attempts_text v i ++ (codes ": again at " ++ elapsed (until - v.start)))
 
--- that a retrier is for the error, of one that isn't retried
-abbrev pub spent_text : List ℕ → Handling → List ℕ
-spent_text otherwise (again i until) =
-    codes "retrier " ++ (decimal i ++ codes " is used up, ")
-spent_text otherwise (caught c) = otherwise
-spent_text otherwise unhandled = otherwise
+-- the number of the retrier by which the state is retried
+abbrev pub retrier_in : Handling → Option ℕ
+retrier_in (again i until) = Some i
+retrier_in (caught c) = None
+retrier_in unhandled = None
 
-abbrev pub caught_text : Seen → Data → List ℕ
-caught_text v c = codes "catcher " ++ decimal (number_of c (handlers_in v.catch))
+-- that the retrier is used up that is for the error, where there is one
+abbrev pub spent_text : List ℕ → Option ℕ → List ℕ
+spent_text otherwise None = otherwise
+spent_text otherwise (Some i) = codes "retrier " ++ (decimal i ++ codes " is used up, ")
+
+abbrev pub caught_text : Seen → ErrorOut → Data → List ℕ
+caught_text v e c =
+    spent_text [] (retrier_in (first_decision_on v e))
+    ++ (codes "catcher " ++ decimal (number_of c (handlers_in v.catch)))
 
 -- what decided on an error; nothing where none of both did
 abbrev pub decided_text : Seen → ErrorOut → Handling → List ℕ
 decided_text v e (again i until) = retried_text v i until
-decided_text v e (caught c) = spent_text [] (first_decision_on v e) ++ caught_text v c
+decided_text v e (caught c) = caught_text v e c
 decided_text v e unhandled = []
 
 -- the types of states that may have Retry and Catch
@@ -68,13 +81,17 @@ abbrev pub failure_text : List ℕ → List ℕ
 failure_text [] = codes "the execution fails"
 failure_text (i ∷ p) = codes "the branch fails"
 
+abbrev pub is_unhandled : Handling → Bool
+is_unhandled (again i until) = false
+is_unhandled (caught c) = false
+is_unhandled unhandled = true
+
 -- why nothing handled an error, where the state may have Retry and Catch
-abbrev pub unhandled_text : Seen → ErrorOut → Handling → List ℕ
-unhandled_text v e (again i until) = []
-unhandled_text v e (caught c) = []
-unhandled_text v e unhandled =
-    if handles v.kind then (spent_text (codes "no retrier, ") (first_decision_on v e) ++ codes "no catcher: ")
-    else []
+abbrev pub unhandled_text : Seen → ErrorOut → List ℕ
+unhandled_text v e =
+    if not (handles v.kind) || not (is_unhandled (decision_on v e)) then []
+    else (spent_text (codes "no retrier, ") (retrier_in (first_decision_on v e))
+    ++ codes "no catcher: ")
 
 abbrev pub failed_text : Seen → ErrorOut → List ℕ
-failed_text v e = unhandled_text v e (decision_on v e) ++ failure_text v.place
+failed_text v e = unhandled_text v e ++ failure_text v.place
