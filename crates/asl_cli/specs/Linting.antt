@@ -6,6 +6,7 @@ use Rattle.asl_lint.specs.Places.{IsAt, AreIn}
 use Rattle.asl_lint.specs.Reports.{is_good}
 use Rattle.asl_host.specs.declared.words.LintWords.{LintWords}
 use Rattle.asl_host.specs.Outcomes.{status_of}
+use Rattle.asl_host.specs.Reading.{Lacks}
 use Rattle.asl_cli.specs.declared.linting.Linted.{Linted}
 use Rattle.asl_cli.specs.Answers.{IsDone}
 use Rattle.asl_cli.specs.Faults.{IsGiven, AreUnread, named}
@@ -34,7 +35,7 @@ pub record IsLintOf (gives : List ℕ → List ℕ → Type 0) (w : LintWords) (
 -- the lint of these words: what was found was printed, and the status is 0 just where nothing is
 -- wrong; or a file can't be read
 abbrev pub IsLinted : {O E : Type 0} → (O → List ℕ) → (O → ℕ) → (E → List ℕ) → (E → ℕ)
-    → (List ℕ → List ℕ → Type 0) → (List ℕ → Type 0)
+    → (List ℕ → List ℕ → Type 0) → Lacks
     → LintWords → O → O → E → E → ℕ → Type 0
 IsLinted out_taken out_failures err_taken err_failures gives lacks w =
     IsDone out_taken out_failures err_taken err_failures
