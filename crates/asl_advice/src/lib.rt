@@ -19,7 +19,7 @@ mod words;
 
 pub use near::{EFFORT, Search};
 pub use nouns::kind_word;
-pub use quoting::{put_file, put_name, put_separator};
+pub use quoting::{put_name, put_separator};
 pub use standing::{Standing, members_in, standing_at};
 pub use states::{State, States};
 pub use suspicions::put_warning;

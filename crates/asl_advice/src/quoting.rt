@@ -1,24 +1,9 @@
 // Names and other texts in messages.
+use asl_terminal::put_shown_char;
 use std::alloc::AllocError;
 
 /// The longest text that is shown whole, in characters.
 const SHOWN: usize = 80;
-
-/// Whether a character would break a line, or turn the order in which it is shown. (Unicode, "Bidirectional Algorithm".)
-fn is_hidden(character: char) -> bool {
-    matches!(
-        character,
-        '\u{0}'..='\u{1f}'
-            | '\u{7f}'..='\u{9f}'
-            | '\u{ad}'
-            | '\u{61c}'
-            | '\u{200b}'..='\u{200f}'
-            | '\u{2028}'..='\u{202e}'
-            | '\u{2060}'..='\u{206f}'
-            | '\u{feff}'
-            | '\u{fff9}'..='\u{fffb}'
-    )
-}
 
 /// Appends a character; one that isn't seen by its number, as `\u200f`.
 fn put_character(out: &mut String, character: char) -> Result<(), AllocError> {
@@ -28,17 +13,7 @@ fn put_character(out: &mut String, character: char) -> Result<(), AllocError> {
         '\n' => out.push_str("\\n"),
         '\r' => out.push_str("\\r"),
         '\t' => out.push_str("\\t"),
-        other => put_plain(out, other),
-    }
-}
-
-/// Appends a character that is neither a quote nor a backslash.
-fn put_plain(out: &mut String, character: char) -> Result<(), AllocError> {
-    if is_hidden(character) {
-        let code = character as u32;
-        write!(out, "\\u{code:04x}")
-    } else {
-        out.push(character)
+        other => put_shown_char(out, other),
     }
 }
 
@@ -53,14 +28,6 @@ pub fn put_name(out: &mut String, text: &str) -> Result<(), AllocError> {
         put_character(out, character)?;
     }
     out.push('"')
-}
-
-/// Appends the name of a file, on one line.
-pub fn put_file(out: &mut String, name: &str) -> Result<(), AllocError> {
-    for character in name.chars() {
-        put_plain(out, character)?;
-    }
-    Ok(())
 }
 
 /// Whether a key is seen as one word without quotes.

@@ -18,7 +18,7 @@ use Rattle.asl_setup.specs.Texts.{Unless, refusal_line}
 use Rattle.asl_session.specs.declared.script_file.ScriptFault.{ScriptFault}
 use Rattle.asl_session.specs.declared.script_file.ScriptFault.TheVariants as script
 use Rattle.asl_session.specs.Scripts.{IsScriptRun, IsScriptFault, script_refusal}
-use Rattle.asl_terminal.specs.Harmless.{harmless}
+use Rattle.asl_terminal.specs.Shown.{shown}
 use Rattle.asl_cli.specs.Formats.{format_of, IsRunIn}
 use Rattle.asl_cli.specs.declared.fault.CommandFault.{CommandFault}
 use Rattle.asl_cli.specs.declared.fault.CommandFault.TheVariants.{File, Definition, Emulation, Script, Expectations, OutOfMemory}
@@ -248,7 +248,6 @@ reason_text (Script fault) = script_refusal fault
 reason_text (Expectations fault) = codes "expectations: " ++ expect_line fault
 reason_text OutOfMemory = codes "OutOfMemory"
 
--- the text that is told, in which no character is one that a terminal obeys, where memory may run
--- out before it is made
+-- the text that is told, of which every character shows, where memory may run out before it is made
 abbrev pub Tells : CommandFault → List ℕ → Type 0
-Tells r text = (text ≡ harmless (reason_text r)) ⊎ (text ≡ codes "OutOfMemory")
+Tells r text = (text ≡ shown (reason_text r)) ⊎ (text ≡ codes "OutOfMemory")

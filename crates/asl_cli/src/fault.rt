@@ -1,7 +1,7 @@
 // Why a command isn't done, and the line that tells it.
 ghost use Rattle.std.specs.Prelude.{◌≡◌, List, ℕ, IfOk, string_bytes};
 ghost use Rattle.asl_host.specs.Outcomes.{fault_line, IsTold};
-ghost use Rattle.asl_terminal.specs.Harmless.{harmless};
+ghost use Rattle.asl_terminal.specs.Shown.{shown};
 ghost use Rattle.asl_cli.specs.Faults.{reason_text, Tells};
 
 use asl_check::Fault;
@@ -10,7 +10,7 @@ use asl_history::Sink;
 use asl_host::{Unreadable, tell_fault};
 use asl_session::ScriptFault;
 use asl_setup::EmulateFault;
-use asl_terminal::put_harmless;
+use asl_terminal::put_shown;
 use std::alloc::{AllocError, Global};
 use std::error::Error;
 use std::fmt;
@@ -45,11 +45,11 @@ impl<'a> CommandFault<'a> {
 
     /// What stands behind `fault: `, on one line whatever the names are.
     fn text(&self, alloc: Global) -> Result<String, AllocError>
-        ensures { IfOk result (λ t. string_bytes t ≡ harmless (reason_text self.now)) }
+        ensures { IfOk result (λ t. string_bytes t ≡ shown (reason_text self.now)) }
     {
         let reason = self.to_string(alloc)?;
         let mut text = String::new(alloc);
-        put_harmless(&mut text, reason.as_str())?;
+        put_shown(&mut text, reason.as_str())?;
         Ok(text)
     }
 }

@@ -4,19 +4,8 @@ use Rattle.std.specs.Prelude.{map, ◌||◌, nat_lt, codes}
 use Rattle.std.specs.List.{flat_map, list_any}
 use Rattle.std.proofs.lemmas.List.{append-nil, length-append}
 use Rattle.std.proofs.lemmas.Bool.{lt-ltb, le-ltb}
-use Rattle.asl_json.proofs.Pointing.{one_more}
-use Rattle.asl_diff.specs.Shown.{shown_char, first_chars}
-
-map_same : (xs : List ℕ) → map (λ c. c) xs ≡ xs
-map_same [] = refl
-map_same (x ∷ xs) = ap (λ (ys : List ℕ). x ∷ ys) (map_same xs)
-
--- those gone through are all
-pub whole : (ys cs : List ℕ) → map (λ c. c) ys ≡ cs → ys ≡ cs
-whole ys cs e = sym (map_same ys) ∙ e
-
-pub step : (f : ℕ → List ℕ) (start old new ys : List ℕ) (c : ℕ) → old ≡ start ++ flat_map f ys → new ≡ old ++ f c → new ≡ start ++ flat_map f (ys ++ c ∷ [])
-step f start old new ys c so_far is = is ∙ ap (λ (x : List ℕ). x ++ f c) so_far ∙ append_assoc start (flat_map f ys) (f c) ∙ ap (λ (x : List ℕ). start ++ x) (sym (one_more f ys c))
+use Rattle.asl_terminal.specs.Shown.{shown_char}
+use Rattle.asl_diff.specs.Shown.{first_chars}
 
 or_nothing : (a : Bool) → (a || false) ≡ a
 or_nothing true = refl

@@ -7,7 +7,8 @@ use Rattle.asl_json.specs.Data.{Data, list, dict, Chain, no_items, item, Pairs, 
 use Rattle.asl_json.specs.Same.{equal}
 use Rattle.asl_json.specs.Meaning.{value_at}
 use Rattle.asl_json.specs.Pointers.{name_part, index_part}
-use Rattle.asl_diff.specs.Shown.{shown, short}
+use Rattle.asl_terminal.specs.Shown.{shown}
+use Rattle.asl_diff.specs.Shown.{short}
 
 -- ---- lines. Each begins with the same lead
 

@@ -1,38 +1,10 @@
 -- Names and values as a person reads them: on one line, short, and every character shows.
-use Rattle.std.specs.Prelude.{ℕ, zero, suc, Bool, List, [], ◌∷◌, ◌++◌, ◌||◌, ◌&&◌, not, ◌==◌, ◌/◌, ◌%◌, nat_le, nat_lt, if◌then◌else◌, codes}
-use Rattle.std.specs.List.{flat_map, list_any}
+use Rattle.std.specs.Prelude.{ℕ, zero, suc, Bool, List, [], ◌∷◌, ◌++◌, ◌||◌, not, ◌==◌, if◌then◌else◌, codes}
+use Rattle.std.specs.List.{list_any}
 use Rattle.std.specs.Str.{chars}
-use Rattle.std.specs.Char.{encode_utf8, digit_char}
 use Rattle.asl_json.specs.Data.{Data}
 use Rattle.asl_json.specs.Compact.{compact, quoted}
-
--- ---- characters
-
-abbrev pub is_within : ℕ → ℕ → ℕ → Bool
-is_within low high c = nat_le low c && nat_le c high
-
--- controls; and what shows as nothing, breaks a line or changes the direction of what follows it
--- (Unicode, "Bidi_Control", "Default_Ignorable_Code_Point", "Line_Break")
-abbrev pub is_hidden : ℕ → Bool
-is_hidden c =
-    nat_lt c 32
-    || (is_within 127 159 c
-    || ((c == 173)
-    || ((c == 1564)
-    || (is_within 8203 8207 c
-    || (is_within 8232 8238 c || (is_within 8288 8303 c || (c == 65279)))))))
-
--- as in a JSON text: a backslash, `u` and four digits
-abbrev pub escape : ℕ → List ℕ
-escape c =
-    92 ∷ 117 ∷ digit_char (c / 4096) ∷ digit_char (c / 256 % 16) ∷ digit_char (c / 16 % 16)
-    ∷ digit_char (c % 16) ∷ []
-
-abbrev pub shown_char : ℕ → List ℕ
-shown_char c = if is_hidden c then escape c else encode_utf8 c
-
-abbrev pub shown : List ℕ → List ℕ
-shown t = flat_map shown_char (chars t)
+use Rattle.asl_terminal.specs.Shown.{is_hidden, shown_char, shown}
 
 -- ---- names
 

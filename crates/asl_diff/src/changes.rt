@@ -6,8 +6,9 @@ ghost use Rattle.asl_json.specs.Same.{equal};
 ghost use Rattle.asl_json.specs.Pointers.{name_part, index_part};
 ghost use Rattle.asl_diff.specs.Changes.{at_place, added, removed, replaced, items_added, added_unless, members_added, changes, part_change, item_changes, member_changes};
 
-use crate::showing::{put_short, put_shown};
+use crate::showing::put_short;
 use asl_json::{Items, Json, Member, Members, Pointer};
+use asl_terminal::put_shown;
 use std::alloc::{AllocError, Global};
 
 /// Appends a mark and a place.

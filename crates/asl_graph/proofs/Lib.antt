@@ -1,2 +1,1 @@
-pub mod Letters
 pub mod Depths

@@ -1,14 +1,14 @@
 // Findings as lines for people.
 use crate::finding::{Finding, Report};
 use crate::rule::Severity;
-use asl_advice::put_file;
+use asl_terminal::put_shown;
 use std::alloc::{AllocError, Global};
 
 /// Appends a finding on a line: `FILE:LINE:COLUMN: error F10: ..`.
 fn put_finding(out: &mut String, file: &str, finding: &Finding) -> Result<(), AllocError> {
     let line = finding.position.lines.saturating_add(1);
     let column = finding.position.characters.saturating_add(1);
-    put_file(out, file)?;
+    put_shown(out, file)?;
     write!(out, ":{line}:{column}: ")?;
     out.push_str(finding.rule.severity().word())?;
     out.push(' ')?;

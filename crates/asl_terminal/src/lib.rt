@@ -2,6 +2,6 @@
 //! begin a line.
 #![tactic(auto)]
 
-mod harmless;
+mod shown;
 
-pub use harmless::put_harmless;
+pub use shown::{is_hidden, put_shown, put_shown_char};

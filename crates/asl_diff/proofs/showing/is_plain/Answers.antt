@@ -5,7 +5,7 @@ use Rattle.std.specs.Prelude.{not}
 use Rattle.std.specs.List.{list_any}
 use Rattle.std.specs.Str.{chars}
 use Rattle.asl_diff.specs.Shown.{is_out_of_place}
-use Rattle.asl_diff.proofs.Letters.{whole}
+use Rattle.asl_terminal.proofs.Letters.{whole}
 use Rattle.asl_diff.proofs.showing.is_plain.Goals as goal
 
 pub returns : goal.returns

@@ -2,9 +2,9 @@ use Rattle.std.proofs.Common.{string_bytes}
 use Rattle.std.proofs.lemmas.Iterator.{YieldsList-from_chars}
 use Rattle.std.proofs.lemmas.Iterator.Consumers.{YieldsList-end}
 use Rattle.std.specs.Str.{chars}
-use Rattle.asl_terminal.specs.Harmless.{shown_char}
+use Rattle.asl_terminal.specs.Shown.{shown_char}
 use Rattle.asl_terminal.proofs.Letters.{end}
-use Rattle.asl_terminal.proofs.harmless.put_harmless.Goals as goal
+use Rattle.asl_terminal.proofs.shown.put_shown.Goals as goal
 
 pub returns : goal.returns
 returns c =
