@@ -84,7 +84,7 @@ context_fronts =
 abbrev pub is_unknown_part : List ℕ → Bool
 is_unknown_part t =
     begins t (codes "$$.")
-    && (not (is_among t context_parts) && not (begins_any t context_fronts))
+    && not (is_among t context_parts) && not (begins_any t context_fronts)
 
 -- a text that stays as it is looks like a path
 abbrev pub is_forgotten : List ℕ → Bool
