@@ -1,9 +1,9 @@
 -- Marking nodes one after another.
-use Rattle.std.proofs.Common.{◌≡◌, ◌⊎◌, inl, inr, ◌≢◌, ◌<◌, ◌≤◌, ◌+◌, ◌*◌, ℕ, zero, suc, List, [], ◌∷◌, ◌++◌, Bool, true, false, length, get_or, set, refl, sym, ap, subst, ◌∙◌, arith, get_or-set_same, get_or-set_other}
+use Rattle.std.proofs.Common.{◌≡◌, ◌⊎◌, inl, inr, ◌≢◌, ◌<◌, ℕ, zero, suc, List, [], ◌∷◌, ◌++◌, Bool, true, false, length, set, refl, sym, ap, subst, ◌∙◌, arith, get_or-set_same, get_or-set_other}
 use Rattle.std.proofs.lemmas.List.{length-set}
 use Rattle.asl_warnings.specs.Ways.{IsIn}
 use Rattle.asl_warnings.specs.private.Marks.{is_marked}
-use Rattle.asl_warnings.specs.private.Growths.{unmarked, weight, Grown}
+use Rattle.asl_warnings.specs.private.Growths.{unmarked, Grown}
 
 pub in_left : (xs ys : List ℕ) (i : ℕ) → IsIn xs i → IsIn (xs ++ ys) i
 in_left [] ys i h = absurd h

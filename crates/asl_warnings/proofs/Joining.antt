@@ -1,9 +1,9 @@
 -- Ways along edges: by their steps, and by the nodes that they pass through.
-use Rattle.std.proofs.Common.{◌≡◌, ◌⊎◌, inl, inr, ◌<◌, ◌≤◌, ◌+◌, ℕ, zero, suc, List, [], ◌∷◌, Bool, true, false, ◌||◌, ◌&&◌, length, get_or, refl, sym, ap, subst, ◌∙◌, arith}
-use Rattle.std.specs.Prelude.{◌↔◌, ◌==◌, nat_lt}
+use Rattle.std.proofs.Common.{◌≡◌, ◌⊎◌, inl, inr, ◌<◌, ◌≤◌, ℕ, zero, suc, List, [], ◌∷◌, Bool, true, false, ◌||◌, ◌&&◌, length, get_or, refl, sym, ap, subst, arith}
+use Rattle.std.specs.Prelude.{◌==◌}
 use Rattle.std.specs.List.{list_any}
-use Rattle.std.proofs.lemmas.Bool.{eqb-true, eq-eqb, ltb-true, lt-ltb}
-use Rattle.asl_warnings.specs.Ways.{IsIn, Edge, Arrives, Reaches}
+use Rattle.std.proofs.lemmas.Bool.{eqb-true, eq-eqb}
+use Rattle.asl_warnings.specs.Ways.{IsIn, Arrives, Reaches}
 use Rattle.asl_warnings.specs.Graphs.{is_in, leads, joins}
 use Rattle.asl_warnings.specs.private.Places.{AreTurned}
 use Rattle.asl_warnings.proofs.Searching.{edge_from}

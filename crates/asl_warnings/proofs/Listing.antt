@@ -1,5 +1,5 @@
 -- A set of names that grows.
-use Rattle.std.proofs.Common.{◌≡◌, ◌∙◌, ap, sym, refl, cond, List, ℕ, Bool, true, false, ◌||◌}
+use Rattle.std.proofs.Common.{◌≡◌, ◌∙◌, ap, refl, cond, List, ℕ, Bool, true, false, ◌||◌}
 use Rattle.std.specs.String.{string_eq, string_bytes}
 use Rattle.std.specs.declared.string.String.{String}
 use Rattle.std.specs.HashSet.{HashSet, UpdatesBy, contains_text}

@@ -1,5 +1,5 @@
 -- The numbers of states by their names, state by state; and nodes without edges.
-use Rattle.std.proofs.Common.{◌≡◌, ◌<◌, ◌+◌, ◌∷◌, ◌++◌, ◌∙◌, [], List, ℕ, zero, suc, length, get_or, drop, Option, Some, Bool, cond, refl, sym, ap, add-one}
+use Rattle.std.proofs.Common.{◌≡◌, ◌<◌, ◌+◌, ◌∷◌, ◌++◌, ◌∙◌, [], List, ℕ, zero, suc, length, get_or, drop, Option, Some, cond, refl, sym, ap, add-one}
 use Rattle.std.specs.Str.{bytes_eq}
 use Rattle.std.proofs.lemmas.List.{drop_more}
 use Rattle.asl_json.specs.Data.{pairs}

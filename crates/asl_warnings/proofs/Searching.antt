@@ -1,5 +1,5 @@
 -- What holds while nodes are open, and once none is.
-use Rattle.std.proofs.Common.{◌≡◌, ◌⊎◌, inl, inr, ◌<◌, ◌≤◌, ◌+◌, ℕ, zero, suc, List, [], ◌∷◌, ◌++◌, Bool, true, false, length, get_or, refl, sym, ap, subst, ◌∙◌, arith, replicate}
+use Rattle.std.proofs.Common.{◌≡◌, ◌⊎◌, inl, inr, ◌<◌, ◌+◌, ℕ, zero, suc, List, [], ◌∷◌, ◌++◌, Bool, true, false, length, get_or, refl, sym, subst, ◌∙◌, arith, replicate}
 use Rattle.std.specs.Prelude.{◌↔◌, Option, Some, None, MatchOption}
 use Rattle.asl_warnings.specs.Ways.{IsIn, Edge, Arrives, Reaches}
 use Rattle.asl_warnings.specs.private.Marks.{is_marked}

@@ -4,5 +4,6 @@ pub mod Handlers
 pub mod Graphs
 pub mod Ways
 pub mod States
+pub mod Laws
 pub mod Warnings
 pub mod private

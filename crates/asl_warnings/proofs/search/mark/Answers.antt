@@ -1,4 +1,4 @@
-use Rattle.std.proofs.Common.{◌≡◌, ◌<◌, ◌++◌, ◌∷◌, ◌∙◌, [], false, true, set, length, sym, subst, List, ℕ, arith}
+use Rattle.std.proofs.Common.{◌≡◌, ◌<◌, ◌∷◌, ◌∙◌, [], false, true, set, length, sym, subst, List, ℕ, arith}
 use Rattle.std.proofs.lemmas.List.{get_or_read}
 use Rattle.asl_warnings.specs.private.Marks.{is_marked}
 use Rattle.asl_warnings.specs.private.Growths.{Grown}

@@ -1,4 +1,4 @@
-use Rattle.std.proofs.Common.{take, ◌∷◌, [], sym, subst, List, ℕ}
+use Rattle.std.proofs.Common.{take, sym, subst, List, ℕ}
 use Rattle.std.proofs.lemmas.List.{take_more}
 use Rattle.asl_warnings.specs.private.Growths.{Grown}
 use Rattle.asl_warnings.proofs.Growing.{more}

@@ -1,4 +1,4 @@
-use Rattle.std.proofs.Common.{◌≡◌, [], ◌++◌, ◌<◌, map, List, ℕ, Vec, Global, sym, subst, get_or, length}
+use Rattle.std.proofs.Common.{[], ◌<◌, map, List, ℕ, Vec, Global, sym, subst}
 use Rattle.std.proofs.lemmas.List.{length-map}
 use Rattle.asl_warnings.specs.private.Growths.{Grown}
 use Rattle.asl_warnings.proofs.Searching.{Searched, go_on, finish, emptied}

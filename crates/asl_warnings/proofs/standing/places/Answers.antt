@@ -1,4 +1,4 @@
-use Rattle.std.proofs.Common.{◌≡◌, ◌∙◌, ap, cond, List, ℕ, Some}
+use Rattle.std.proofs.Common.{◌∙◌, ap, cond, List, ℕ, Some}
 use Rattle.std.specs.Str.{bytes_eq}
 use Rattle.std.proofs.lemmas.Map.Text.{hash_map_updates_str}
 use Rattle.asl_warnings.specs.private.Places.{place_by}

@@ -1,4 +1,4 @@
-use Rattle.std.proofs.Common.{◌≡◌, ◌∙◌, map, List, ℕ, Vec, Global, ap, sym, subst, length}
+use Rattle.std.proofs.Common.{◌∙◌, map, List, ℕ, Vec, Global, ap, sym, subst, length}
 use Rattle.std.specs.Prelude.{option_map}
 use Rattle.std.proofs.lemmas.List.{length-map}
 use Rattle.asl_json.specs.Data.{pairs}

@@ -1,4 +1,4 @@
-use Rattle.std.proofs.Common.{◌≡◌, ◌∷◌, [], ◌∙◌, map, List, ℕ, Vec, Global, sym, subst, take, length}
+use Rattle.std.proofs.Common.{◌≡◌, ◌∙◌, map, List, ℕ, Vec, Global, sym, subst, take, length}
 use Rattle.std.proofs.lemmas.List.{length-map, take_more}
 use Rattle.asl_warnings.specs.private.Places.{HasTurned}
 use Rattle.asl_warnings.proofs.Turning.{edges_more}

@@ -1,4 +1,4 @@
-use Rattle.std.proofs.Common.{◌≡◌, ◌++◌, ◌∷◌, ◌∙◌, ap, sym, List, ℕ, arith}
+use Rattle.std.proofs.Common.{◌++◌, ◌∷◌, ◌∙◌, ap, List, ℕ, arith}
 use Rattle.std.specs.Fmt.{decimal}
 use Rattle.std.specs.HashSet.{contains_text}
 use Rattle.asl_json.specs.Data.{Data, pairs, chain, members_depth, items_depth}
@@ -8,7 +8,7 @@ use Rattle.asl_schema.specs.declared.sort.Sort.{Sort}
 use Rattle.asl_schema.specs.Members.{sort_at}
 use Rattle.asl_schema.specs.private.Code.{shape_seen}
 use Rattle.asl_schema.specs.Claims.{step}
-use Rattle.asl_warnings.specs.Kinds.{Noted, noted}
+use Rattle.asl_warnings.specs.Kinds.{noted}
 use Rattle.asl_warnings.specs.Warnings.{further, warnings}
 use Rattle.asl_warnings.specs.private.Spots.{spot_of}
 use Rattle.asl_warnings.proofs.Telling.{items_step, members_step}
