@@ -17,7 +17,7 @@ mod trail;
 mod walk;
 mod warning;
 
-pub use naming::{ERRORS, PARTS};
 pub use laws::ways_are_walked;
+pub use naming::{ERRORS, PARTS};
 pub use walk::every_warning;
 pub use warning::{Warning, WarningKind};
