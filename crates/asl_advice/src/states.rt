@@ -115,7 +115,8 @@ fn add_items<'a>(
     sort: Sort,
     items: &'a Items,
 ) -> Result<(), AllocError> {
-    for (number, item) in items.values().iter().enumerate() {
+    let values = items.values();
+    for (number, item) in values.iter().enumerate() {
         place.push(number)?;
         add_value(alloc, states, place, item_sort(sort), item)?;
         let _ = place.pop();

@@ -96,14 +96,23 @@ fn may_have(alloc: Global, kind: &str, key: &str) -> Result<bool, AllocError> {
     Ok(shape.rows.iter().any(|row| row.name() == key))
 }
 
+/// What stands before a type of states.
+fn lead(is_first: bool) -> &'static str {
+    if is_first {
+        "; it is for states of type "
+    } else {
+        ", "
+    }
+}
+
 /// Appends which types of states have a member, where some have.
 fn put_kinds_with(alloc: Global, out: &mut String, key: &str) -> Result<(), AllocError> {
-    let mut before = "; it is for states of type ";
+    let mut is_first = true;
     for kind in KINDS {
         if may_have(alloc, kind, key)? {
-            out.push_str(before)?;
+            out.push_str(lead(is_first))?;
             out.push_str(kind)?;
-            before = ", ";
+            is_first = false;
         }
     }
     Ok(())

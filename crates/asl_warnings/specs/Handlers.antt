@@ -1,6 +1,6 @@
 -- What the items of a list are warned of: errors that there aren't, retriers and catchers that no
 -- error reaches.
-use Rattle.std.specs.Prelude.{ℕ, List, [], ◌∷◌, Bool, true, false, ◌||◌, ◌&&◌, not, Option, Some, None, codes}
+use Rattle.std.specs.Prelude.{ℕ, List, Bool, true, false, ◌||◌, ◌&&◌, not, Option, Some, None, codes}
 use Rattle.asl_json.specs.Data.{Data, text, list, Chain, no_items, item}
 use Rattle.asl_json.specs.Same.{bytes_eq}
 use Rattle.asl_json.specs.Meaning.{value_in}
@@ -29,38 +29,37 @@ abbrev pub has_text : List ℕ → Chain → Bool
 has_text n no_items = false
 has_text n (item d ds) = is_text n d || has_text n ds
 
--- one of these handlers lists this name
-abbrev pub is_listed : List Data → List ℕ → Bool
-is_listed [] n = false
-is_listed (d ∷ ds) n = has_text n (names_in d) || is_listed ds n
+-- each error that a name stands for, some of the listed names stand for
+abbrev pub is_taken : (List ℕ → Bool) → List ℕ → Bool
+is_taken listed n =
+    is_beyond n || listed n || listed (codes "States.ALL")
+    || (listed (codes "States.TaskFailed")
+    && not (bytes_eq n (codes "States.Timeout"))
+    && (not (bytes_eq n (codes "States.ALL")) || listed (codes "States.Timeout")))
 
--- each error that a name stands for, these handlers are for
-abbrev pub is_taken : List Data → List ℕ → Bool
-is_taken hs n =
-    is_beyond n || (is_listed hs n || (is_listed hs (codes "States.ALL")
-    || (is_listed hs (codes "States.TaskFailed")
-    && (not (bytes_eq n (codes "States.Timeout"))
-    && (not (bytes_eq n (codes "States.ALL")) || is_listed hs (codes "States.Timeout"))))))
+abbrev pub is_taken_name : (List ℕ → Bool) → Data → Bool
+is_taken_name listed (text n) = is_taken listed n
+is_taken_name listed d = false
 
-abbrev pub is_taken_name : List Data → Data → Bool
-is_taken_name hs (text n) = is_taken hs n
-is_taken_name hs d = false
+abbrev pub are_taken : (List ℕ → Bool) → Chain → Bool
+are_taken listed no_items = true
+are_taken listed (item d ds) = is_taken_name listed d && are_taken listed ds
 
-abbrev pub are_taken : List Data → Chain → Bool
-are_taken hs no_items = true
-are_taken hs (item d ds) = is_taken_name hs d && are_taken hs ds
+-- there are names, and each is taken
+abbrev pub are_all_taken : (List ℕ → Bool) → Chain → Bool
+are_all_taken listed ds = is_nonempty ds && are_taken listed ds
 
--- no error reaches a handler that stands behind these
-abbrev pub is_unasked : List Data → Data → Bool
-is_unasked hs d = is_nonempty (names_in d) && are_taken hs (names_in d)
+-- no error reaches a handler behind those that list these names
+abbrev pub is_unasked : (List ℕ → Bool) → Data → Bool
+is_unasked listed d = are_all_taken listed (names_in d)
 
 abbrev pub is_unknown_name : Data → Bool
 is_unknown_name (text t) = is_unknown_error t
 is_unknown_name d = false
 
--- of an item of a list of this sort, behind these
-abbrev pub item_kind : Sort → List Data → Data → Option WarningKind
-item_kind sort.ErrorNames hs d = kind_if (is_unknown_name d) kind.UnknownError
-item_kind sort.Retriers hs d = kind_if (is_unasked hs d) kind.UnaskedHandler
-item_kind sort.Catchers hs d = kind_if (is_unasked hs d) kind.UnaskedHandler
-item_kind s hs d = None
+-- of an item of a list of this sort, behind those that list these names
+abbrev pub item_kind : Sort → (List ℕ → Bool) → Data → Option WarningKind
+item_kind sort.ErrorNames listed d = kind_if (is_unknown_name d) kind.UnknownError
+item_kind sort.Retriers listed d = kind_if (is_unasked listed d) kind.UnaskedHandler
+item_kind sort.Catchers listed d = kind_if (is_unasked listed d) kind.UnaskedHandler
+item_kind s listed d = None

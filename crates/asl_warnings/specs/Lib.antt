@@ -2,6 +2,8 @@ pub mod Kinds
 pub mod Texts
 pub mod Handlers
 pub mod Graphs
+pub mod Ways
 pub mod States
+pub mod Laws
 pub mod Warnings
 pub mod private

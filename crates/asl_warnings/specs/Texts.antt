@@ -1,5 +1,5 @@
 -- What a text is warned of.
-use Rattle.std.specs.Prelude.{ℕ, List, [], ◌∷◌, Bool, true, false, ◌||◌, ◌&&◌, not, Option, Some, None, codes, nat_eq}
+use Rattle.std.specs.Prelude.{ℕ, List, [], ◌∷◌, Bool, false, ◌||◌, ◌&&◌, not, Option, None, codes, nat_eq}
 use Rattle.std.specs.List.{starts_with}
 use Rattle.asl_schema.specs.declared.sort.Sort.{Sort}
 use Rattle.asl_schema.specs.declared.sort.Sort.TheVariants as sort
@@ -84,7 +84,7 @@ context_fronts =
 abbrev pub is_unknown_part : List ℕ → Bool
 is_unknown_part t =
     begins t (codes "$$.")
-    && (not (is_among t context_parts) && not (begins_any t context_fronts))
+    && not (is_among t context_parts) && not (begins_any t context_fronts)
 
 -- a text that stays as it is looks like a path
 abbrev pub is_forgotten : List ℕ → Bool

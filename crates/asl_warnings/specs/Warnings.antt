@@ -1,5 +1,5 @@
 -- The warnings of a definition, in document order.
-use Rattle.std.specs.Prelude.{ℕ, suc, List, [], ◌∷◌, ◌++◌, Bool, false, not, Option, Some, None, if◌then◌else◌}
+use Rattle.std.specs.Prelude.{ℕ, suc, List, [], ◌∷◌, ◌++◌, Bool, false, not, ◌||◌, Option, None, if◌then◌else◌}
 use Rattle.std.specs.Fmt.{decimal}
 use Rattle.asl_json.specs.Data.{Data, null, boolean, number, text, list, dict, Chain, no_items, item, Pairs, no_members, member}
 use Rattle.asl_schema.specs.declared.fault.Step.{Step}
@@ -11,7 +11,7 @@ use Rattle.asl_warnings.specs.declared.warning.WarningKind.{WarningKind}
 use Rattle.asl_warnings.specs.declared.warning.WarningKind.TheVariants as kind
 use Rattle.asl_warnings.specs.Kinds.{Noted, noted, kind_if}
 use Rattle.asl_warnings.specs.Texts.{text_kind}
-use Rattle.asl_warnings.specs.Handlers.{item_kind}
+use Rattle.asl_warnings.specs.Handlers.{names_in, has_text, item_kind}
 use Rattle.asl_warnings.specs.States.{state_kind, member_kind}
 use Rattle.asl_warnings.specs.Graphs.{is_reached, is_ending}
 
@@ -63,19 +63,19 @@ abbrev mutual
   warnings p s (boolean b) = []
   warnings p s (number n) = []
   warnings p s (text t) = noted p.place (text_kind s t)
-  warnings p s (list ds) = if is_list s then item_warnings p s [] 0 ds else []
+  warnings p s (list ds) = if is_list s then item_warnings p s (λ n. false) 0 ds else []
   warnings p s (dict ms) =
       noted p.place (object_kind s ms)
       ++ (if is_object s
       then member_warnings (inside p s ms) s (shape_in s ms) ms 0 ms else [])
 
-  -- behind other items of the list
-  pub item_warnings : Spot → Sort → List Data → ℕ → Chain → List Noted
-  item_warnings p s before i no_items = []
-  item_warnings p s before i (item d ds) =
-      noted (step i (decimal i) ∷ p.place) (item_kind s before d)
+  -- behind other items of the list, which list these names
+  pub item_warnings : Spot → Sort → (List ℕ → Bool) → ℕ → Chain → List Noted
+  item_warnings p s listed i no_items = []
+  item_warnings p s listed i (item d ds) =
+      noted (step i (decimal i) ∷ p.place) (item_kind s listed d)
       ++ (warnings (further p (step i (decimal i))) (item_sort s) d
-      ++ item_warnings p s (before ++ d ∷ []) (suc i) ds)
+      ++ item_warnings p s (λ n. listed n || has_text n (names_in d)) (suc i) ds)
 
   -- of an object of all these members
   pub member_warnings : Spot → Sort → Shape → Pairs → ℕ → Pairs → List Noted
@@ -84,6 +84,9 @@ abbrev mutual
       beside (further p (step i k)) s all i k d
       ++ (warnings (further p (step i k)) (sort_at sh k) d
       ++ member_warnings p s sh all (suc i) ms)
+
+abbrev pub object_warnings : Spot → Sort → Pairs → List Noted
+object_warnings p s ms = member_warnings (inside p s ms) s (shape_in s ms) ms 0 ms
 
 abbrev pub outside : Spot
 outside = record { place = []; reached = λ i. false; ending = λ i. false }

@@ -1,5 +1,6 @@
 // Texts that name what isn't there.
 ghost use Rattle.std.specs.Prelude.{◌≡◌, map};
+ghost use Rattle.asl_schema.specs.Members.{is_among};
 ghost use Rattle.asl_warnings.specs.Texts.{begins, begins_any, error_names, is_unknown_error, context_parts, context_fronts, is_unknown_part, is_forgotten, text_kind};
 
 use crate::warning::{WarningKind, kind_if};
@@ -88,12 +89,25 @@ pub(crate) fn is_unknown_error(name: &str) -> bool
     begins(name, "States.") && !is_among(name, ERRORS)
 }
 
+#[tactic(auto, unfolding(crate::specs::Texts::context_parts))]
+fn is_part(text: &str) -> bool
+    ensures { result ≡ is_among text.now context_parts }
+{
+    is_among(text, PARTS)
+}
+
+#[tactic(auto, unfolding(crate::specs::Texts::context_fronts))]
+fn has_front(text: &str) -> bool
+    ensures { result ≡ begins_any text.now context_fronts }
+{
+    begins_any(text, FRONTS)
+}
+
 /// Whether a path on the Context Object names a part that it never has.
-#[tactic(auto, unfolding(crate::specs::Texts::context_parts, crate::specs::Texts::context_fronts))]
 fn is_unknown_part(text: &str) -> bool
     ensures { result ≡ is_unknown_part text.now }
 {
-    begins(text, "$$.") && !is_among(text, PARTS) && !begins_any(text, FRONTS)
+    begins(text, "$$.") && !is_part(text) && !has_front(text)
 }
 
 /// Whether a text that stays as it is looks like a path.

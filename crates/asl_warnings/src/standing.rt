@@ -1,4 +1,13 @@
 // Which states of a machine are reached, and which reach an end.
+ghost use Rattle.std.specs.Prelude.{◌≡◌, ◌<◌, ◌↔◌, ◌++◌, ℕ, List, Bool, false, if◌then◌else◌, IfOk, OnOk, option_map, map, length, get_or, [], ◌∷◌};
+ghost use Rattle.asl_json.specs.Data.{pairs};
+ghost use Rattle.asl_json.specs.Meaning.{count};
+ghost use Rattle.asl_json.specs.View.{data_of, members_of};
+ghost use Rattle.asl_warnings.specs.Ways.{IsIn, Edge};
+ghost use Rattle.asl_warnings.specs.private.Marks.{is_marked};
+ghost use Rattle.asl_warnings.specs.private.Places.{place_by, AreTurned, HasTurned};
+ghost use Rattle.asl_warnings.specs.Graphs.{place_of, states_of, numbers_of, edges_from, numbers_below, this_or_all, place_named, leads_astray, is_empty, is_end, ends_from, is_reached, is_ending};
+
 use crate::leading::{is_last, targets};
 use crate::search::reached;
 use asl_json::{Json, Member};
@@ -16,7 +25,10 @@ pub(crate) struct Standing {
 }
 
 /// The numbers of the states by their names.
-fn places<'a>(alloc: Global, states: &'a [Member]) -> Result<HashMap<&'a str, usize>, AllocError> {
+fn places<'a>(alloc: Global, states: &'a [Member]) -> Result<HashMap<&'a str, usize>, AllocError>
+    ensures { IfOk result (λ places. (k : List ℕ)
+        → place_by places k ≡ place_of (pairs (members_of states.now)) k) }
+{
     let mut places = HashMap::new(alloc);
     for (i, state) in states.iter().enumerate() {
         places.insert(state.key.as_str(), i)?;
@@ -25,34 +37,58 @@ fn places<'a>(alloc: Global, states: &'a [Member]) -> Result<HashMap<&'a str, us
 }
 
 /// The states of a machine.
-fn states_in(machine: &[Member]) -> &[Member] {
+fn states_in(machine: &[Member]) -> &[Member]
+    ensures { pairs (members_of result.now) ≡ states_of (pairs (members_of machine.now)) }
+{
     match find(machine, "States") {
         Some(Json::Dict(states)) => states.members(),
         _ => &[],
     }
 }
 
-/// The numbers of those of these names that states have.
-fn numbers(
+/// Adds the number of the state of this name, where there is one.
+fn add_number<'a>(
+    numbers: &mut Vec<usize>,
+    places: &HashMap<&'a str, usize>,
+    name: &'a str,
+) -> Result<(), AllocError>
+    ensures { OnOk result (numbers.new.items
+        ≡ numbers.old.items ++ numbers_of (place_by places.now) (name.now ∷ [])) }
+{
+    match places.get(name) {
+        Some(number) => {
+            numbers.push(*number)?;
+            Ok(())
+        }
+        None => Ok(()),
+    }
+}
+
+/// The numbers of the states of these names.
+fn numbers<'a>(
     alloc: Global,
-    places: &HashMap<&str, usize>,
-    names: &[&str],
-) -> Result<Vec<usize>, AllocError> {
+    places: &HashMap<&'a str, usize>,
+    names: &[&'a str],
+) -> Result<Vec<usize>, AllocError>
+    ensures { IfOk result (λ numbers. numbers.items
+        ≡ numbers_of (place_by places.now) (map (λ l. l.now) names.now)) }
+{
     let mut numbers = Vec::new(alloc);
     for name in names {
-        if let Some(number) = places.get(name) {
-            numbers.push(*number)?;
-        }
+        add_number(&mut numbers, places, name)?;
     }
     Ok(numbers)
 }
 
 /// The edges from each state to those that it leads to.
-fn edges(
+fn edges<'a>(
     alloc: Global,
-    places: &HashMap<&str, usize>,
-    states: &[Member],
-) -> Result<Vec<Vec<usize>>, AllocError> {
+    places: &HashMap<&'a str, usize>,
+    states: &'a [Member],
+) -> Result<Vec<Vec<usize>>, AllocError>
+    ensures { IfOk result (λ edges. map (λ v. v.items) edges.items
+        ≡ edges_from (place_by places.now) (pairs (members_of states.now))) }
+{
     let mut edges = Vec::new(alloc);
     for state in states {
         let names = targets(alloc, &state.value)?;
@@ -61,29 +97,60 @@ fn edges(
     Ok(edges)
 }
 
-/// The edges turned round.
-fn turned(alloc: Global, edges: &[Vec<usize>]) -> Result<Vec<Vec<usize>>, AllocError> {
-    let mut turned = Vec::new(alloc);
-    for _ in edges {
-        turned.push(Vec::new(alloc))?;
+/// So many nodes without edges.
+fn bare(alloc: Global, count: usize) -> Result<Vec<Vec<usize>>, AllocError>
+    ensures size { IfOk result (λ edges. length edges.items ≡ count) }
+    ensures edges { IfOk result (λ edges. (i : ℕ)
+        → get_or (map (λ v. v.items) edges.items) i [] ≡ []) }
+{
+    let mut edges = Vec::new(alloc);
+    for _ in 0..count {
+        edges.push(Vec::new(alloc))?;
     }
+    Ok(edges)
+}
+
+/// Adds an edge from the one to the other, turned round.
+fn turn_one(turned: &mut Vec<Vec<usize>>, from: usize, to: usize) -> Result<(), AllocError>
+    ensures size { OnOk result (length turned.new.items ≡ length turned.old.items) }
+    ensures edges { OnOk result (HasTurned (map (λ v. v.items) turned.old.items) from (to ∷ [])
+        (map (λ v. v.items) turned.new.items)) }
+{
+    if to >= turned.len() {
+        return Ok(());
+    }
+    turned[to].push(from)?;
+    Ok(())
+}
+
+/// Adds the edges from a node to these, turned round.
+fn turn(turned: &mut Vec<Vec<usize>>, from: usize, targets: &[usize]) -> Result<(), AllocError>
+    ensures size { OnOk result (length turned.new.items ≡ length turned.old.items) }
+    ensures edges { OnOk result (HasTurned (map (λ v. v.items) turned.old.items) from targets.now
+        (map (λ v. v.items) turned.new.items)) }
+{
+    for to in targets {
+        turn_one(turned, from, *to)?;
+    }
+    Ok(())
+}
+
+/// The edges turned round.
+fn turned(alloc: Global, edges: &[Vec<usize>]) -> Result<Vec<Vec<usize>>, AllocError>
+    ensures { IfOk result (λ turned. AreTurned (map (λ v. v.items) edges.now)
+        (map (λ v. v.items) turned.items)) }
+{
+    let mut turned = bare(alloc, edges.len())?;
     for (from, targets) in edges.iter().enumerate() {
         turn(&mut turned, from, targets)?;
     }
     Ok(turned)
 }
 
-fn turn(turned: &mut Vec<Vec<usize>>, from: usize, targets: &[usize]) -> Result<(), AllocError> {
-    for to in targets {
-        if *to < turned.len() {
-            turned[*to].push(from)?;
-        }
-    }
-    Ok(())
-}
-
 /// Whether a name is no state's.
-fn leads_astray(places: &HashMap<&str, usize>, names: &[&str]) -> bool {
+fn leads_astray<'a>(places: &HashMap<&'a str, usize>, names: &[&'a str]) -> bool
+    ensures { result ≡ leads_astray (place_by places.now) (map (λ l. l.now) names.now) }
+{
     for name in names {
         if places.get(name).is_none() {
             return true;
@@ -92,18 +159,33 @@ fn leads_astray(places: &HashMap<&str, usize>, names: &[&str]) -> bool {
     false
 }
 
+fn is_empty(names: &[&str]) -> bool
+    ensures { result ≡ is_empty (map (λ l. l.now) names.now) }
+{
+    names.is_empty()
+}
+
 /// Whether a machine can end with a state: it has `"End": true`, leads nowhere, or leads to what is no state, which is a fault.
-fn is_end(alloc: Global, places: &HashMap<&str, usize>, state: &Json) -> Result<bool, AllocError> {
+fn is_end<'a>(
+    alloc: Global,
+    places: &HashMap<&'a str, usize>,
+    state: &'a Json,
+) -> Result<bool, AllocError>
+    ensures { IfOk result (λ b. b ≡ is_end (place_by places.now) (data_of state.now)) }
+{
     let names = targets(alloc, state)?;
-    Ok(is_last(state) || names.is_empty() || leads_astray(places, &names))
+    Ok(is_last(state.get("End")) || is_empty(&names) || leads_astray(places, &names))
 }
 
 /// The numbers of the states with which a machine can end.
-fn ends(
+fn ends<'a>(
     alloc: Global,
-    places: &HashMap<&str, usize>,
-    states: &[Member],
-) -> Result<Vec<usize>, AllocError> {
+    places: &HashMap<&'a str, usize>,
+    states: &'a [Member],
+) -> Result<Vec<usize>, AllocError>
+    ensures { IfOk result (λ ends. ends.items
+        ≡ ends_from (place_by places.now) 0 (pairs (members_of states.now))) }
+{
     let mut ends = Vec::new(alloc);
     for (i, state) in states.iter().enumerate() {
         if is_end(alloc, places, &state.value)? {
@@ -114,7 +196,9 @@ fn ends(
 }
 
 /// All numbers below this one.
-fn all(alloc: Global, count: usize) -> Result<Vec<usize>, AllocError> {
+fn numbers_below(alloc: Global, count: usize) -> Result<Vec<usize>, AllocError>
+    ensures { IfOk result (λ all. all.items ≡ numbers_below count) }
+{
     let mut all = Vec::new(alloc);
     for i in 0..count {
         all.push(i)?;
@@ -122,29 +206,43 @@ fn all(alloc: Global, count: usize) -> Result<Vec<usize>, AllocError> {
     Ok(all)
 }
 
-/// The numbers of the states that a machine can begin with: the one of this name; all, where no state has it, which is a fault.
-fn starts(
-    alloc: Global,
-    places: &HashMap<&str, usize>,
-    count: usize,
-    start: Option<&Json>,
-) -> Result<Vec<usize>, AllocError> {
-    if let Some(Json::Text(name)) = start {
-        if let Some(number) = places.get(name.as_str()) {
-            let mut starts = Vec::new(alloc);
-            starts.push(*number)?;
-            return Ok(starts);
-        }
+/// The number of the state that a value names.
+fn place_named<'a>(places: &HashMap<&'a str, usize>, name: Option<&'a Json>) -> Option<usize>
+    ensures { result ≡ place_named (place_by places.now)
+        (option_map (λ v. data_of v.now) name.entry) }
+{
+    match name {
+        Some(Json::Text(name)) => places.get(name.as_str()).copied(),
+        _ => None,
     }
-    all(alloc, count)
+}
+
+/// This number, or all.
+fn this_or_all(alloc: Global, count: usize, number: Option<usize>) -> Result<Vec<usize>, AllocError>
+    ensures { IfOk result (λ starts. starts.items ≡ this_or_all count number) }
+{
+    match number {
+        Some(number) => {
+            let mut starts = Vec::new(alloc);
+            starts.push(number)?;
+            Ok(starts)
+        }
+        None => numbers_below(alloc, count),
+    }
 }
 
 /// How the states of a machine of these members stand.
-pub(crate) fn standing_of(alloc: Global, machine: &[Member]) -> Result<Standing, AllocError> {
+pub(crate) fn standing_of(alloc: Global, machine: &[Member]) -> Result<Standing, AllocError>
+    ensures reached { IfOk result (λ s. (i : ℕ)
+        → is_marked s.reached.items i ≡ is_reached (pairs (members_of machine.now)) i) }
+    ensures ending { IfOk result (λ s. (i : ℕ)
+        → is_marked s.ending.items i ≡ is_ending (pairs (members_of machine.now)) i) }
+{
     let states = states_in(machine);
     let places = places(alloc, states)?;
     let edges = edges(alloc, &places, states)?;
-    let starts = starts(alloc, &places, states.len(), find(machine, "StartAt"))?;
+    let start = place_named(&places, find(machine, "StartAt"));
+    let starts = this_or_all(alloc, states.len(), start)?;
     let ends = ends(alloc, &places, states)?;
     let turned = turned(alloc, &edges)?;
     Ok(Standing {
@@ -155,7 +253,10 @@ pub(crate) fn standing_of(alloc: Global, machine: &[Member]) -> Result<Standing,
 
 impl Standing {
     /// Outside of a machine.
-    pub(crate) fn none(alloc: Global) -> Standing {
+    pub(crate) fn none(alloc: Global) -> Standing
+        ensures reached { (i : ℕ) → is_marked result.reached.items i ≡ false }
+        ensures ending { (i : ℕ) → is_marked result.ending.items i ≡ false }
+    {
         Standing {
             reached: Vec::new(alloc),
             ending: Vec::new(alloc),
@@ -163,7 +264,9 @@ impl Standing {
     }
 
     /// Whether something leads to the state of this number.
-    pub(crate) fn is_reached(&self, state: usize) -> bool {
+    pub(crate) fn is_reached(&self, state: usize) -> bool
+        ensures { result ≡ is_marked self.now.reached.items state }
+    {
         match self.reached.get(state) {
             Some(reached) => *reached,
             None => false,
@@ -171,7 +274,9 @@ impl Standing {
     }
 
     /// Whether the state of this number leads to an end.
-    pub(crate) fn is_ending(&self, state: usize) -> bool {
+    pub(crate) fn is_ending(&self, state: usize) -> bool
+        ensures { result ≡ is_marked self.now.ending.items state }
+    {
         match self.ending.get(state) {
             Some(ending) => *ending,
             None => false,

@@ -1,10 +1,17 @@
 // One walk over a definition for all its warnings.
-use crate::handling::{item_kind, take_names};
+ghost use Rattle.std.specs.Prelude.{◌≡◌, ◌++◌, false, IfOk, OnOk};
+ghost use Rattle.asl_json.specs.Data.{pairs, chain};
+ghost use Rattle.asl_json.specs.View.{data_of, members_of};
+ghost use Rattle.asl_schema.specs.Members.{shape_in};
+ghost use Rattle.asl_warnings.specs.private.Spots.{spot_of};
+ghost use Rattle.asl_warnings.specs.Warnings.{object_kind, own_kind, standing, beside, inside, warnings, item_warnings, member_warnings, object_warnings, warnings_of};
+
+use crate::handling::{item_kind, list_names};
 use crate::naming::text_kind;
 use crate::resting::{member_kind, state_kind};
 use crate::standing::{Standing, standing_of};
 use crate::trail::{Trail, tell};
-use crate::warning::{Warning, WarningKind};
+use crate::warning::{Warning, WarningKind, kind_if};
 use asl_json::{Items, Json, Member, Members};
 use asl_judge::value::{is_list, is_object};
 use asl_schema::{Shape, Sort, item_sort, shape_in, sort_at};
@@ -19,7 +26,9 @@ pub(crate) struct Spot<'a> {
 }
 
 /// What an object of this sort is warned of by itself.
-fn object_kind(sort: Sort, members: &[Member]) -> Option<WarningKind> {
+fn object_kind(sort: Sort, members: &[Member]) -> Option<WarningKind>
+    ensures { result ≡ object_kind sort (pairs (members_of members.now)) }
+{
     match sort {
         Sort::State => state_kind(members),
         _ => None,
@@ -27,19 +36,14 @@ fn object_kind(sort: Sort, members: &[Member]) -> Option<WarningKind> {
 }
 
 /// What a value of this sort is warned of by itself.
-fn own_kind(sort: Sort, value: &Json) -> Option<WarningKind> {
+fn own_kind(sort: Sort, value: &Json) -> Option<WarningKind>
+    ensures { result ≡ own_kind sort (data_of value.now) }
+{
     match value {
         Json::Text(text) => text_kind(sort, text.as_str()),
         Json::Dict(members) => object_kind(sort, members.members()),
         _ => None,
     }
-}
-
-fn unless(holds: bool, kind: WarningKind) -> Option<WarningKind> {
-    if holds {
-        return None;
-    }
-    Some(kind)
 }
 
 /// Tells how the state of this number stands in its machine.
@@ -48,10 +52,12 @@ fn tell_standing(
     told: &mut Vec<Warning>,
     spot: Spot,
     at: usize,
-) -> Result<(), AllocError> {
-    let unreached = unless(spot.standing.is_reached(at), WarningKind::UnreachableState);
+) -> Result<(), AllocError>
+    ensures { OnOk result (told.new.items ≡ told.old.items ++ standing (spot_of spot.entry) at) }
+{
+    let unreached = kind_if(!spot.standing.is_reached(at), WarningKind::UnreachableState);
     tell(alloc, told, spot.trail, unreached)?;
-    let endless = unless(spot.standing.is_ending(at), WarningKind::NoEnd);
+    let endless = kind_if(!spot.standing.is_ending(at), WarningKind::NoEnd);
     tell(alloc, told, spot.trail, endless)
 }
 
@@ -64,7 +70,11 @@ fn tell_beside(
     members: &[Member],
     at: usize,
     member: &Member,
-) -> Result<(), AllocError> {
+) -> Result<(), AllocError>
+    ensures { OnOk result (told.new.items ≡ told.old.items
+        ++ beside (spot_of spot.entry) sort (pairs (members_of members.now)) at member.now.key
+        (data_of member.now.value)) }
+{
     match sort {
         Sort::States => tell_standing(alloc, told, spot, at),
         Sort::State => {
@@ -83,7 +93,10 @@ fn tell_value(
     spot: Spot,
     sort: Sort,
     value: &Json,
-) -> Result<(), AllocError> {
+) -> Result<(), AllocError>
+    ensures { OnOk result (told.new.items
+        ≡ told.old.items ++ warnings (spot_of spot.entry) sort (data_of value.now)) }
+{
     tell(alloc, told, spot.trail, own_kind(sort, value))?;
     match value {
         Json::List(items) => {
@@ -109,17 +122,21 @@ fn tell_items(
     spot: Spot,
     sort: Sort,
     items: &Items,
-) -> Result<(), AllocError> {
-    let mut taken = HashSet::new(alloc);
-    for (i, item) in items.values().iter().enumerate() {
+) -> Result<(), AllocError>
+    ensures { OnOk result (told.new.items ≡ told.old.items
+        ++ item_warnings (spot_of spot.entry) sort (λ n. false) 0 (chain items.now)) }
+{
+    let mut listed = HashSet::new(alloc);
+    let values = items.values();
+    for (i, item) in values.iter().enumerate() {
         let trail = Trail::Item(i, spot.trail);
         let inner = Spot {
             trail: &trail,
             standing: spot.standing,
         };
-        tell(alloc, told, inner.trail, item_kind(sort, &taken, item))?;
+        tell(alloc, told, inner.trail, item_kind(sort, &listed, item))?;
         tell_value(alloc, told, inner, item_sort(sort), item)?;
-        take_names(alloc, &mut taken, item)?;
+        list_names(alloc, &mut listed, item)?;
     }
     Ok(())
 }
@@ -132,7 +149,10 @@ fn tell_object(
     spot: Spot,
     sort: Sort,
     members: &Members,
-) -> Result<(), AllocError> {
+) -> Result<(), AllocError>
+    ensures { OnOk result (told.new.items ≡ told.old.items
+        ++ object_warnings (spot_of spot.entry) sort (pairs members.now)) }
+{
     match sort {
         Sort::Definition | Sort::Machine | Sort::ItemProcessor => {
             let standing = standing_of(alloc, members.members())?;
@@ -153,7 +173,11 @@ fn tell_members(
     spot: Spot,
     sort: Sort,
     members: &Members,
-) -> Result<(), AllocError> {
+) -> Result<(), AllocError>
+    ensures { OnOk result (told.new.items ≡ told.old.items
+        ++ member_warnings (spot_of spot.entry) sort (shape_in sort (pairs members.now))
+        (pairs members.now) 0 (pairs members.now)) }
+{
     let pairs = members.members();
     let shape = shape_in(sort, pairs);
     for (i, member) in pairs.iter().enumerate() {
@@ -171,7 +195,9 @@ fn tell_members(
 
 /// The warnings of a definition, in document order. A value with faults has warnings too; what isn't of the right shape has none. The
 /// error is that memory ran out.
-pub fn every_warning(alloc: Global, definition: &Json) -> Result<Vec<Warning>, AllocError> {
+pub fn every_warning(alloc: Global, definition: &Json) -> Result<Vec<Warning>, AllocError>
+    ensures { IfOk result (λ told. told.items ≡ warnings_of (data_of definition.now)) }
+{
     let mut told = Vec::new(alloc);
     let standing = Standing::none(alloc);
     let trail = Trail::Root;
