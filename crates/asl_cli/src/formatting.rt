@@ -20,6 +20,7 @@ fn format_of(format: RunFormat) -> Option<Format>
         RunFormat::Json => Some(Format::Json),
         RunFormat::Aws => Some(Format::Aws),
         RunFormat::Steps => Some(Format::Steps),
+        RunFormat::Tree => Some(Format::Tree),
     }
 }
 

@@ -8,10 +8,10 @@ use crate::observing::Sight;
 use crate::plan::Plan;
 use crate::point::Point;
 use crate::reporting::{percent_of, text_of};
-use crate::twin::twin_of;
 use asl_def::Machine;
 use asl_exec::Setup;
 use asl_json::Json;
+use asl_trace::twin_of;
 use std::alloc::{AllocError, Global};
 use std::marker::Model;
 

@@ -2,13 +2,11 @@
 //! retriers and catchers that decide, and the answers that are given.
 //!
 //! Modules in reading order: `point` is something that can be covered, and `plan` finds the numbers of points by names; `texts` says what
-//! a point is, and `listing` lists those of a definition and a mock file. `twin` is the machine without what handles errors; with it
-//! `deciding` says what decides in a step before it is taken, and `observing` goes through an execution. `marking` covers points,
+//! a point is, and `listing` lists those of a definition and a mock file. `observing` goes through an execution. `marking` covers points,
 //! `reporting` tells of them, and `coverage` is the whole.
 #![tactic(auto)]
 
 mod coverage;
-mod deciding;
 mod listing;
 mod marking;
 mod observing;
@@ -16,7 +14,6 @@ mod plan;
 mod point;
 mod reporting;
 mod texts;
-mod twin;
 
 pub use coverage::Coverage;
 pub use point::Point;

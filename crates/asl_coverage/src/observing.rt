@@ -1,11 +1,11 @@
 // What an execution covers.
-use crate::deciding::{Deciding, decided_at};
 use crate::plan::{Plan, Spots};
 use asl_def::Machine;
 use asl_exec::{Execution, Refusal, Setup, StepAt};
 use asl_history::{Event, EventKind};
 use asl_json::{Json, Name};
 use asl_steps::{Context, Facts};
+use asl_trace::{Deciding, decided_at};
 use std::alloc::{AllocError, Global};
 
 /// At most so many steps are taken, as in the run of a test.
@@ -137,7 +137,7 @@ impl<'a> Sight<'a> {
             state,
             count,
             told: execution.history().len(),
-            deciding: decided_at(alloc, execution, self.twin, context, at)?,
+            deciding: decided_at(alloc, execution, self.twin, context, at)?.deciding,
         })
     }
 

@@ -11,7 +11,7 @@ use std::{env, io};
 const FORMATS: [&str; 3] = ["text", "junit", "json"];
 
 /// The words for the formats of runs.
-const RUN_FORMATS: [&str; 4] = ["text", "json", "aws", "steps"];
+const RUN_FORMATS: [&str; 5] = ["text", "json", "aws", "steps", "tree"];
 
 /// The words for the languages of graphs.
 const LANGUAGES: [&str; 2] = ["mermaid", "dot"];
@@ -92,6 +92,8 @@ pub enum RunFormat {
     Aws,
     /// The steps that it took, as a file of steps.
     Steps,
+    /// What happened at each state, for a person.
+    Tree,
 }
 
 /// The words of `run`.
@@ -266,6 +268,7 @@ fn run_format_of(word: Option<&str>) -> RunFormat {
         Some("json") => RunFormat::Json,
         Some("aws") => RunFormat::Aws,
         Some("steps") => RunFormat::Steps,
+        Some("tree") => RunFormat::Tree,
         _ => RunFormat::Text,
     }
 }

@@ -1,5 +1,5 @@
 -- What a run prints in a format.
-use Rattle.std.specs.Prelude.{◌≡◌, List, ℕ, Bool, Option}
+use Rattle.std.specs.Prelude.{◌≡◌, ⊤, List, ℕ, Bool, Option}
 use Rattle.asl_setup.specs.declared.setup.Setup.{Setup}
 use Rattle.asl_setup.specs.declared.step_at.StepAt.{StepAt}
 use Rattle.asl_setup.specs.Emulations.{Texts, Accepts}
@@ -10,15 +10,17 @@ use Rattle.asl_exec.specs.Steps.{opening}
 use Rattle.asl_formats.specs.JsonLines.{json_lines_text}
 use Rattle.asl_formats.specs.Aws.{aws_text}
 use Rattle.asl_outputs.specs.declared.format.Format.{Format}
-use Rattle.asl_outputs.specs.declared.format.Format.TheVariants.{Json, Aws, Steps}
+use Rattle.asl_outputs.specs.declared.format.Format.TheVariants.{Json, Aws, Steps, Tree}
 use Rattle.asl_setup.specs.StepsFile.{steps_file}
 use Rattle.asl_outputs.specs.Taken.{taken_by}
 
--- an execution that took these steps to this world
-abbrev pub told : Format → List StepAt → World → List ℕ
-told Json ss w = json_lines_text w.events
-told Aws ss w = aws_text w.events
-told Steps ss w = steps_file ss
+-- this text, of an execution that took these steps to this world. Of the tree nothing is said here: its
+-- lines of a step are what asl_tree's definitions say
+abbrev pub Tells : Format → List StepAt → World → List ℕ → Type 0
+Tells Json ss w text = text ≡ json_lines_text w.events
+Tells Aws ss w text = text ≡ aws_text w.events
+Tells Steps ss w text = text ≡ steps_file ss
+Tells Tree ss w text = ⊤
 
 -- the text is what the run that the texts spell prints, and says whether the execution has succeeded
 -- then; where no file names steps, those that come next are taken, at most so many
@@ -27,7 +29,6 @@ pub record IsToldRunOf (format : Format) (t : Texts) (limit : ℕ) (text : List 
   pub setup : Setup
   pub steps : Option (List StepAt)
   pub accepted : Accepts t setup steps
-  pub text_is : text
-      ≡ told format (taken_by limit setup (opening setup) steps)
-      (world_by limit setup (opening setup) steps)
+  pub text_is : Tells format (taken_by limit setup (opening setup) steps)
+      (world_by limit setup (opening setup) steps) text
   pub good_is : good ≡ is_success (world_by limit setup (opening setup) steps).outcome

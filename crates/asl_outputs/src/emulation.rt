@@ -7,10 +7,9 @@ ghost use Rattle.asl_run.specs.Lines.{is_success};
 ghost use Rattle.asl_exec.specs.RunText.{world_by};
 ghost use Rattle.asl_exec.specs.Steps.{opening};
 ghost use Rattle.asl_outputs.specs.Taken.{taken_by};
-ghost use Rattle.asl_outputs.specs.Told.{told, IsToldRunOf};
+ghost use Rattle.asl_outputs.specs.Told.{Tells, IsToldRunOf};
 
-use crate::driving::take_by;
-use crate::format::{Format, told};
+use crate::format::{Format, printed};
 use asl_exec::{Emulated, Execution};
 use asl_run::is_success;
 use asl_setup::{EmulateFault, Emulation, RunTexts, Setup, StepAt};
@@ -25,15 +24,14 @@ fn run_as(
     steps: Option<Vec<StepAt>>,
     limit: u32,
 ) -> Result<(String, bool), AllocError>
-    ensures text { IfOk result (λ r. string_bytes r.0
-        ≡ told format (taken_by limit setup (opening setup) (steps_in steps))
-        (world_by limit setup (opening setup) (steps_in steps))) }
+    ensures text { IfOk result (λ r. Tells format
+        (taken_by limit setup (opening setup) (steps_in steps))
+        (world_by limit setup (opening setup) (steps_in steps)) (string_bytes r.0)) }
     ensures good { IfOk result (λ r. r.1
         ≡ is_success (world_by limit setup (opening setup) (steps_in steps)).outcome) }
 {
     let mut execution = Execution::open(alloc, setup)?;
-    let steps = take_by(alloc, &mut execution, steps, limit)?;
-    let text = told(alloc, format, &steps, &execution)?;
+    let text = printed(alloc, format, &mut execution, steps, limit)?;
     Ok((text, is_success(execution.outcome())))
 }
 

@@ -1,8 +1,13 @@
 // How a run is printed.
-ghost use Rattle.std.specs.Prelude.{◌≡◌, IfOk, string_bytes};
-ghost use Rattle.asl_exec.specs.Views.{world_of};
-ghost use Rattle.asl_outputs.specs.Told.{told};
+ghost use Rattle.std.specs.Prelude.{◌≡◌, IfOk, OnOk, string_bytes};
+ghost use Rattle.asl_setup.specs.Views.{steps_in};
+ghost use Rattle.asl_exec.specs.RunText.{world_by};
+ghost use Rattle.asl_exec.specs.Views.{setup_of, world_of};
+ghost use Rattle.asl_outputs.specs.Taken.{taken_by};
+ghost use Rattle.asl_outputs.specs.Told.{Tells};
 
+use crate::driving::take_by;
+use crate::treeing::tree_by;
 use asl_exec::{Execution, StepAt};
 use asl_formats::{aws_json, lines_of_json};
 use asl_setup::put_steps;
@@ -17,24 +22,41 @@ pub enum Format {
     Aws,
     /// The steps that it took, as a file of steps.
     Steps,
+    /// What happened at each state, for a person.
+    Tree,
 }
 
-/// What an execution that took these steps prints. The error is that memory ran out.
-pub(crate) fn told(
+/// Takes the steps of a list in order, and without a list those that come next, at most so many; what the run prints. The error is that
+/// memory ran out.
+pub(crate) fn printed(
     alloc: Global,
     format: Format,
-    steps: &[StepAt],
-    execution: &Execution,
+    execution: &mut Execution,
+    steps: Option<Vec<StepAt>>,
+    limit: u32,
 ) -> Result<String, AllocError>
-    ensures { IfOk result (λ t. string_bytes t ≡ told format steps.now (world_of execution.now)) }
+    ensures text { IfOk result (λ t. Tells format
+        (taken_by limit (setup_of execution.old) (world_of execution.old) (steps_in steps))
+        (world_by limit (setup_of execution.old) (world_of execution.old) (steps_in steps))
+        (string_bytes t)) }
+    ensures world { OnOk result (world_of execution.new
+        ≡ world_by limit (setup_of execution.old) (world_of execution.old) (steps_in steps)) }
 {
     match format {
-        Format::Json => lines_of_json(alloc, execution.history().events()),
-        Format::Aws => aws_json(alloc, execution.history().events()),
+        Format::Json => {
+            take_by(alloc, execution, steps, limit)?;
+            lines_of_json(alloc, execution.history().events())
+        }
+        Format::Aws => {
+            take_by(alloc, execution, steps, limit)?;
+            aws_json(alloc, execution.history().events())
+        }
         Format::Steps => {
+            let steps = take_by(alloc, execution, steps, limit)?;
             let mut out = String::new(alloc);
-            put_steps(&mut out, steps)?;
+            put_steps(&mut out, &steps)?;
             Ok(out)
         }
+        Format::Tree => tree_by(alloc, execution, steps, limit),
     }
 }

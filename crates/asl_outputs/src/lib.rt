@@ -8,6 +8,7 @@ mod driving;
 mod emulation;
 mod format;
 mod laws;
+mod treeing;
 
 pub use driving::take_by;
 pub use emulation::emulate_as;

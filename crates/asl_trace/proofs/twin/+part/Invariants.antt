@@ -1,5 +1,5 @@
 use Rattle.std.proofs.Common.{◌*◌, ◌+◌}
-use Rattle.asl_coverage.proofs.twin.+part.Given as goal
+use Rattle.asl_trace.proofs.twin.+part.Given as goal
 
 abbrev pub decreases-put_part : goal.decreases-put_part
 decreases-put_part l = 2 * l.levels

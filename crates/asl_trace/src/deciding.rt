@@ -11,7 +11,7 @@ use std::alloc::{AllocError, Global};
 
 /// What decides in a step what becomes of the branch. Numbers count from 0.
 #[derive(Clone, Copy)]
-pub(crate) enum Deciding {
+pub enum Deciding {
     /// Nothing of the definition.
     Nothing,
     /// `Next`, if the step leaves the state.
@@ -26,25 +26,40 @@ pub(crate) enum Deciding {
     Catcher(usize),
 }
 
+/// What decides in a step, and the error that the state raises in it, where it may have retriers and catchers.
+#[derive(Drop)]
+pub struct Decided {
+    pub deciding: Deciding,
+    pub raised: Option<ErrorOut>,
+}
+
+/// That this decides in a step in which no error is raised.
+fn without_error(deciding: Deciding) -> Decided {
+    Decided {
+        deciding,
+        raised: None,
+    }
+}
+
 /// What decides in a step of the branch that is at the place. The twin is the execution's machine without what handles errors, and the
 /// context is the execution's; it is written over. The error is that memory ran out.
-pub(crate) fn decided_at(
+pub fn decided_at(
     alloc: Global,
     execution: &Execution,
     twin: &Machine,
     context: &mut Context,
     at: &StepAt,
-) -> Result<Deciding, AllocError> {
+) -> Result<Decided, AllocError> {
     let world = execution.world();
     if world.is_late(at.moment) {
-        return Ok(Deciding::Nothing);
+        return Ok(without_error(Deciding::Nothing));
     }
     let Some(frame) = world.frame_at(&at.place) else {
-        return Ok(Deciding::Nothing);
+        return Ok(without_error(Deciding::Nothing));
     };
     let current = frame.held();
     let Some((number, state)) = execution.setup().machine.find(current.name()) else {
-        return Ok(Deciding::Nothing);
+        return Ok(without_error(Deciding::Nothing));
     };
     let children = frame.child_records(alloc)?;
     let visit = Visit {
@@ -68,7 +83,7 @@ fn by_state(
     twin: &Machine,
     visit: &Visit,
     context: &mut Context,
-) -> Result<Deciding, AllocError> {
+) -> Result<Decided, AllocError> {
     match state {
         State::Choice(choice) => by_rules(alloc, choice, visit, context),
         State::Task(task) => by_handlers(alloc, task.completion(), twin, visit, context),
@@ -80,7 +95,7 @@ fn by_state(
             context,
         ),
         State::Map(map) => by_handlers(alloc, map.completion(), twin, visit, context),
-        _ => Ok(Deciding::Next),
+        _ => Ok(without_error(Deciding::Next)),
     }
 }
 
@@ -90,9 +105,9 @@ fn by_rules(
     choice: &Choice,
     visit: &Visit,
     context: &mut Context,
-) -> Result<Deciding, AllocError> {
+) -> Result<Decided, AllocError> {
     let Some(input) = visit.current.entering() else {
-        return Ok(Deciding::Nothing);
+        return Ok(without_error(Deciding::Nothing));
     };
     let value = match taken(
         alloc,
@@ -103,18 +118,18 @@ fn by_rules(
         context,
     ) {
         Ok(value) => value,
-        Err(Fault::Raised(_)) => return Ok(Deciding::Nothing),
+        Err(Fault::Raised(_)) => return Ok(without_error(Deciding::Nothing)),
         Err(Fault::Memory) => return Err(AllocError),
     };
     context.show(alloc, visit)?;
     for (number, rule) in choice.choices().as_slice().iter().enumerate() {
         match rule.rule.holds(value.get(), context.shown()) {
-            Ok(true) => return Ok(Deciding::Rule(number)),
+            Ok(true) => return Ok(without_error(Deciding::Rule(number))),
             Ok(false) => {}
-            Err(_) => return Ok(Deciding::Nothing),
+            Err(_) => return Ok(without_error(Deciding::Nothing)),
         }
     }
-    Ok(Deciding::Default)
+    Ok(without_error(Deciding::Default))
 }
 
 /// `Next`, or what handles the error that the state raises: that with which it fails in the twin.
@@ -124,14 +139,17 @@ fn by_handlers(
     twin: &Machine,
     visit: &Visit,
     context: &mut Context,
-) -> Result<Deciding, AllocError> {
+) -> Result<Decided, AllocError> {
     let Some((_, state)) = twin.find(visit.current.name()) else {
-        return Ok(Deciding::Nothing);
+        return Ok(without_error(Deciding::Nothing));
     };
     let effect = state.visit(alloc, visit, context)?;
     match &effect.after {
-        Record::Failed(error) => Ok(handler_of(error, completion, visit)),
-        _ => Ok(Deciding::Next),
+        Record::Failed(error) => Ok(Decided {
+            deciding: handler_of(error, completion, visit),
+            raised: Some(error.try_clone(alloc)?),
+        }),
+        _ => Ok(without_error(Deciding::Next)),
     }
 }
 

@@ -91,11 +91,7 @@ fn put_machines(out: &mut String, machines: &[Json], levels: u32) -> Result<(), 
 
 /// The machine of a definition in canonical form, of which no state has `Retry` or `Catch`: so a state that raises an error fails with it.
 /// The error is that memory ran out.
-pub(crate) fn twin_of(
-    alloc: Global,
-    machine: &Machine,
-    definition: &Json,
-) -> Result<Machine, AllocError> {
+pub fn twin_of(alloc: Global, machine: &Machine, definition: &Json) -> Result<Machine, AllocError> {
     let mut text = String::new(alloc);
     put_part(&mut text, Part::Machine, definition, MOST_LEVELS)?;
     match accept(alloc, text.as_str().as_bytes()) {
