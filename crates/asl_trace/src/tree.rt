@@ -122,11 +122,11 @@ impl Tree {
     }
 
     /// Appends the lines of a step that was taken.
-    fn put_taken(
+    fn put_taken<'x>(
         &mut self,
-        execution: &Execution,
-        at: &StepAt,
-        before: &Before,
+        execution: &'x Execution,
+        at: &'x StepAt,
+        before: &'x Before,
     ) -> Result<(), AllocError> {
         let setup = execution.setup();
         let Some(frame) = execution.world().frame_at(&at.place) else {

@@ -53,16 +53,16 @@ attempts_missing rs ds i e le = attempts_behind rs i le ∙ ap (λ (xs : List Da
 
 pub it_is : (d : Catcher) (cs : List Catcher) (ds : List Data) (i : ℕ) (x : Catcher) (b : Bool) → catcher_objects cs ≡ ds → i < length cs → x ≡ get_or cs i x → b ≡ (catcher.ghosts).eq x d → b ≡ true
     → number_of (catcher_object d) (chain (catcher_objects cs)) ≡ i + number_of (catcher_object d) (chain (catcher_objects (drop i cs))) → i ≡ number_of (catcher_object d) (chain ds)
-it_is d cs ds i x b e lt at eq yes so_far =
-    let none = number_here (catcher_object d) cs i x lt at (catcher_alike x d ∙ sym eq ∙ yes) in
+it_is d cs ds i x b e lt at eq equals so_far =
+    let none = number_here (catcher_object d) cs i x lt at (catcher_alike x d ∙ sym eq ∙ equals) in
     let here : i ≡ number_of (catcher_object d) (chain (catcher_objects cs)) = omega (arith, so_far, none) in
     here ∙ ap (λ (xs : List Data). number_of (catcher_object d) (chain xs)) e
 
 pub it_is_not : (d : Catcher) (cs : List Catcher) (i : ℕ) (x : Catcher) (b : Bool) → i < length cs → x ≡ get_or cs i x → b ≡ (catcher.ghosts).eq x d → b ≡ false
     → number_of (catcher_object d) (chain (catcher_objects cs)) ≡ i + number_of (catcher_object d) (chain (catcher_objects (drop i cs)))
     → number_of (catcher_object d) (chain (catcher_objects cs)) ≡ (i + 1) + number_of (catcher_object d) (chain (catcher_objects (drop (i + 1) cs)))
-it_is_not d cs i x b lt at eq no so_far =
-    let next = number_next (catcher_object d) cs i x lt at (catcher_alike x d ∙ sym eq ∙ no) in
+it_is_not d cs i x b lt at eq differs so_far =
+    let next = number_next (catcher_object d) cs i x lt at (catcher_alike x d ∙ sym eq ∙ differs) in
     omega (arith, so_far, next)
 
 pub none_is : (d : Catcher) (cs : List Catcher) (ds : List Data) (i n : ℕ) → catcher_objects cs ≡ ds → length cs ≤ i → i ≤ length cs → n ≡ length cs

@@ -1,5 +1,5 @@
 -- What became of an error that a state raised: which retrier or catcher decided.
-use Rattle.std.specs.Prelude.{ℕ, zero, suc, ◌+◌, ◌-◌, Bool, true, false, not, ◌||◌, List, [], ◌∷◌, ◌++◌, Option, Some, None, if◌then◌else◌, codes}
+use Rattle.std.specs.Prelude.{ℕ, zero, suc, ◌+◌, ◌-◌, Bool, true, false, ◌&&◌, ◌||◌, List, [], ◌∷◌, ◌++◌, Option, Some, None, if◌then◌else◌, codes}
 use Rattle.std.specs.Str.{bytes_eq}
 use Rattle.std.specs.Fmt.{decimal}
 use Rattle.asl_json.specs.Data.{Data, Chain, no_items, item}
@@ -86,12 +86,17 @@ is_unhandled (again i until) = false
 is_unhandled (caught c) = false
 is_unhandled unhandled = true
 
--- why nothing handled an error, where the state may have Retry and Catch
+-- of an error that this retrier is for, where one is
+unfoldable pub why_text : Option ℕ → List ℕ
+why_text retrier = spent_text (codes "no retrier, ") retrier ++ codes "no catcher: "
+
+-- whether it is told why nothing handled an error: the state may have Retry and Catch
+abbrev pub tells_why : Seen → ErrorOut → Bool
+tells_why v e = handles v.kind && is_unhandled (decision_on v e)
+
 abbrev pub unhandled_text : Seen → ErrorOut → List ℕ
 unhandled_text v e =
-    if not (handles v.kind) || not (is_unhandled (decision_on v e)) then []
-    else (spent_text (codes "no retrier, ") (retrier_in (first_decision_on v e))
-    ++ codes "no catcher: ")
+    if tells_why v e then why_text (retrier_in (first_decision_on v e)) else []
 
 abbrev pub failed_text : Seen → ErrorOut → List ℕ
 failed_text v e = unhandled_text v e ++ failure_text v.place

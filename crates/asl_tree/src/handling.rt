@@ -4,7 +4,7 @@ ghost use Rattle.asl_json.specs.Data.{chain};
 ghost use Rattle.asl_parts.specs.Parts.{catcher_object};
 ghost use Rattle.asl_handle.specs.Decisions.{handlers_in, used};
 ghost use Rattle.asl_handle.specs.Seen.{seen as decision_seen, retry_of, catch_of};
-ghost use Rattle.asl_tree.specs.Handling.{error_name, decision_on, first_decision_on, attempts_at, number_of, use_text, attempts_text, retried_text, retrier_in, spent_text, caught_text, decided_text, handles, failure_text, is_unhandled, unhandled_text, failed_text};
+ghost use Rattle.asl_tree.specs.Handling.{error_name, decision_on, first_decision_on, attempts_at, number_of, use_text, attempts_text, retried_text, retrier_in, spent_text, caught_text, decided_text, handles, failure_text, is_unhandled, why_text, tells_why, unhandled_text, failed_text};
 ghost use Rattle.asl_tree.specs.Views.{seen_in};
 
 use crate::columns::put_since;
@@ -216,16 +216,31 @@ fn is_unhandled(step: &Happening, error: &ErrorOut) -> bool
     }
 }
 
-/// Appends why nothing handled an error.
+/// Whether it is told why nothing handled an error.
+fn tells_why(step: &Happening, error: &ErrorOut) -> bool
+    ensures { result ≡ tells_why (seen_in step.now) error.now }
+{
+    handles(step.kind) && is_unhandled(step, error)
+}
+
+/// Appends why nothing handled an error that this retrier is for, where one is.
+#[tactic(auto, unfolding(crate::specs::Handling::why_text))]
+fn put_why(out: &mut String, retrier: Option<usize>) -> Result<(), AllocError>
+    ensures { OnOk result (string_bytes out.new ≡ string_bytes out.old ++ why_text retrier) }
+{
+    put_spent(out, "no retrier, ", retrier)?;
+    out.push_str("no catcher: ")
+}
+
+/// Appends why nothing handled an error, where that is told.
 fn put_unhandled(out: &mut String, step: &Happening, error: &ErrorOut) -> Result<(), AllocError>
     ensures { OnOk result (string_bytes out.new
         ≡ string_bytes out.old ++ unhandled_text (seen_in step.now) error.now) }
 {
-    if !handles(step.kind) || !is_unhandled(step, error) {
-        return Ok(());
+    if tells_why(step, error) {
+        return put_why(out, retrier_for(step, error));
     }
-    put_spent(out, "no retrier, ", retrier_for(step, error))?;
-    out.push_str("no catcher: ")
+    Ok(())
 }
 
 /// Appends that a branch failed with an error.

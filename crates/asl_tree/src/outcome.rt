@@ -62,7 +62,11 @@ fn put_forked(out: &mut String, step: &Happening) -> Result<(), AllocError>
 }
 
 /// Appends what became of the state.
-pub(crate) fn put_outcome(alloc: Global, out: &mut String, step: &Happening) -> Result<(), AllocError>
+pub(crate) fn put_outcome(
+    alloc: Global,
+    out: &mut String,
+    step: &Happening,
+) -> Result<(), AllocError>
     ensures { OnOk result (string_bytes out.new
         ≡ string_bytes out.old ++ outcome_text (seen_in step.now)) }
 {
@@ -78,7 +82,12 @@ pub(crate) fn put_outcome(alloc: Global, out: &mut String, step: &Happening) -> 
 }
 
 /// Appends where a branch goes on that has left its state, and what decided on an error.
-fn put_onward(alloc: Global, out: &mut String, step: &Happening, next: &str) -> Result<(), AllocError>
+fn put_onward(
+    alloc: Global,
+    out: &mut String,
+    step: &Happening,
+    next: &str,
+) -> Result<(), AllocError>
     ensures { OnOk result (string_bytes out.new ≡ string_bytes out.old
         ++ handled_text (seen_in step.now) (seen_in step.now).raised (onward next.now)) }
 {
@@ -106,8 +115,12 @@ pub(crate) fn put_goes(alloc: Global, out: &mut String, step: &Happening) -> Res
         ≡ string_bytes out.old ++ goes_text (seen_in step.now)) }
 {
     match step.after {
-        Record::New { state, .. } | Record::Ready { state, .. } =>
-            put_onward(alloc, out, step, state.as_str()),
+        Record::New { state, .. } | Record::Ready { state, .. } => put_onward(
+            alloc,
+            out,
+            step,
+            state.as_str(),
+        ),
         Record::Pausing { until, .. } => {
             out.push_str("until ")?;
             put_since(out, step.start, *until)
