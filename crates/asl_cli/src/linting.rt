@@ -1,5 +1,5 @@
 // The command `lint`.
-ghost use Rattle.std.specs.Prelude.{◌∷◌, option_map, IfOk, IfErr, string_bytes};
+ghost use Rattle.std.specs.Prelude.{◌≡◌, ◌∷◌, option_map, IfOk, IfErr, string_bytes};
 ghost use Rattle.asl_host.specs.Outcomes.{status_of, IsPrinted};
 ghost use Rattle.asl_cli.specs.Linting.{mocks_name, IsJudged, IsLintOf, IsLinted};
 ghost use Rattle.asl_cli.specs.Faults.{AreUnread, named};
@@ -51,14 +51,27 @@ fn lint_files<'a, F: Files>(
 {
     let definition = read_file(alloc, files, words.definition)?;
     let mocks = read_named(alloc, files, words.mocks)?;
-    let source = Source {
-        definition: definition.as_slice(),
-        mocks: mocks.as_deref(),
-        machine: words.machine,
-    };
+    let source = source_of(definition.as_slice(), mocks.as_deref(), words.machine);
     match lint_texts(alloc, words, &source) {
         Ok(linted) => Ok(linted),
         Err(AllocError) => Err(CommandFault::OutOfMemory),
+    }
+}
+
+/// What is judged.
+fn source_of<'a>(
+    definition: &'a [u8],
+    mocks: Option<&'a [u8]>,
+    machine: Option<&'a str>,
+) -> Source<'a>
+    ensures definition { result.definition.now ≡ definition.now }
+    ensures mocks { option_map (λ b. b.now) result.mocks
+        ≡ option_map (λ b. b.now) mocks.entry }
+{
+    Source {
+        definition,
+        mocks,
+        machine,
     }
 }
 

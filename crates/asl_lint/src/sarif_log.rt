@@ -80,7 +80,7 @@ fn digit(value: u8) -> char {
     if value < 10 {
         (b'0' + value) as char
     } else {
-        (b'A' + (value % 16 - 10)) as char
+        (b'A' + (value % 16).saturating_sub(10)) as char
     }
 }
 
