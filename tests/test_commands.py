@@ -131,8 +131,8 @@ HELPS = [
     (["print", "--help"], "Usage: asl print <DEF>"),
     (["upgrade", "--help"], "Usage: asl upgrade <DEF>"),
     (["help"], "Usage: asl <COMMAND>"),
-    (["run", "--help"], "Usage: asl run [OPTIONS] <DEF> <MOCKS> <CHOSEN> <INPUT>"),
-    (["debug", "--help"], "Usage: asl debug <DEF> <MOCKS> <CHOSEN> <INPUT> [SCRIPT]"),
+    (["run", "--help"], "Usage: asl run [OPTIONS] <DEF> [MOCKS] [CHOSEN] [INPUT]"),
+    (["debug", "--help"], "Usage: asl debug [OPTIONS] <DEF> [MOCKS] [CHOSEN] [INPUT] [SCRIPT]"),
     (["--version"], "asl 0.1.0"),
 ]
 
@@ -305,7 +305,7 @@ class CommandTest(ProgramTest):
         self.assert_ran(["run", definition, mocks, chosen, *options[4:], *self.steps], *wanted)
         self.assert_ran(["debug", definition, *options, "--script", self.script], 0, DEBUGGED, "")
         explored = run_program("explore", *self.files)
-        self.assertEqual(run_program("explore", definition, *options), explored)
+        self.assert_ran(["explore", definition, *options], explored.returncode, explored.stdout, "")
         for lacking in range(0, 6, 2):
             ran = run_program("run", definition, *options[:lacking], *options[lacking + 2 :])
             self.assertEqual((ran.returncode, ran.stdout), (2, ""))

@@ -22,7 +22,7 @@ def nested(depth):
     """The text of so many machines in one another."""
     text = '{"StartAt":"S0","States":{"S0":{"Type":"Pass","End":true}}}'
     for level in range(1, depth):
-        text = '{"StartAt":"S%d","States":{"S%d":{"Type":"Parallel","Branches":[%s],"End":true}}}' % (level, level, text)
+        text = '{"StartAt":"S%d","States":{"S%d":{"Type":"Map","ItemProcessor":%s,"End":true}}}' % (level, level, text)
     return text
 
 
@@ -48,15 +48,18 @@ def result(text):
     return machine('"Type":"Pass","Result":%s,"End":true' % text)
 
 
+# The byte at which the value of such a definition begins.
+AT = result("").index(',"End"')
+
 # A limit, the definition at it, the one past it, and the fault of that.
 LIMITS = [
     ("bytes of a text", padded(1_048_576), padded(1_048_577), "F1 Json J5 Size"),
-    ("depth of a text", result(61 * "[" + 61 * "]"), result(62 * "[" + 62 * "]"), "F1 Json J3 Depth 108"),
-    ("bytes of a number", result("1." + 38 * "0"), result("1." + 39 * "0"), "F1 Json J4 Number 56"),
-    ("amount of a number", result("999999999999999999"), result("1000000000000000000"), "F1 Json J4 Number 56"),
-    ("decimals of a number", result("0.000000001"), result("0.0000000001"), "F1 Json J4 Number 56"),
+    ("depth of a text", result(61 * "[" + 61 * "]"), result(62 * "[" + 62 * "]"), f"F1 Json J3 Depth {AT + 61}"),
+    ("bytes of a number", result("1." + 38 * "0"), result("1." + 39 * "0"), f"F1 Json J4 Number {AT}"),
+    ("amount of a number", result("999999999999999999"), result("1000000000000000000"), f"F1 Json J4 Number {AT}"),
+    ("decimals of a number", result("0.000000001"), result("0.0000000001"), f"F1 Json J4 Number {AT}"),
     ("characters of a name", named(80 * "\U0001f600"), named(81 * "\U0001f600"), f"F7 Range /States/{81 * chr(0x1f600)}"),
-    ("machines in machines", nested(16), nested(17), "F15 Nesting" + "".join(f"/States/S{level}/Branches/0" for level in range(16, 0, -1)).replace("/States", " /States", 1)),
+    ("machines in machines", nested(16), nested(17), "F15 Nesting " + "".join(f"/States/S{level}/ItemProcessor" for level in range(16, 0, -1))),
     ("calls in calls", calls(10), calls(11), "F14 Expression /States/S/Parameters/a.$"),
     ("seconds of a Wait", machine('"Type":"Wait","Seconds":99999999,"End":true'), machine('"Type":"Wait","Seconds":100000000,"End":true'), "F7 Range /States/S/Seconds"),
     ("attempts", retried('"MaxAttempts":99999999'), retried('"MaxAttempts":100000000'), "F7 Range /States/S/Retry/0/MaxAttempts"),
@@ -123,9 +126,6 @@ class Limits(ProgramTest):
     def test_a_step_is_taken_with_at_most_24992_events(self):
         # A loop of a Pass tells an event when the execution starts and two a step.
         loop = machine('"Type":"Pass","Next":"S"')
-        told = self.told(loop).splitlines()
-        self.assertEqual(len(told) - 1, 24993)
-        self.assertEqual(told[-1], "status RUNNING")
         steps = 12497 * "/ 2024-01-01T00:00:00Z\n"
         told = self.told(loop, steps=steps).splitlines()
         self.assertEqual(told[12495:12497], ["step / ok", "step / S8 HistoryFull"])
