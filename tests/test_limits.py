@@ -28,7 +28,7 @@ def nested(depth):
 
 def calls(depth):
     """The text of a definition with so many calls in one another."""
-    text = "States.UUID()"
+    text = "States.Format('a')"
     for _ in range(depth - 1):
         text = f"States.Format('{{}}', {text})"
     return machine('"Type":"Pass","Parameters":{"a.$":"%s"},"End":true' % text)
