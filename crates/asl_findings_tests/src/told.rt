@@ -127,7 +127,7 @@ fn many(alloc: Global, states: usize) -> Option<(usize, String)> {
     let text = unended(alloc, states)?;
     let value = read(alloc, text.as_bytes()).ok()?;
     let faults = every_fault(alloc, &value).ok()?;
-    let last = lines(alloc, faults.get(states - 1..)?)?;
+    let last = lines(alloc, faults.get(states.saturating_sub(1)..)?)?;
     Some((faults.len(), last))
 }
 
