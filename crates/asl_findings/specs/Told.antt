@@ -2,8 +2,7 @@
 use Rattle.std.specs.Prelude.{◌≡◌, ◌⊎◌, List, [], ◌∷◌, Option, Some, None}
 use Rattle.asl_schema.specs.Demands.{fault_of}
 use Rattle.asl_schema.specs.Claims.{Claim}
-use Rattle.asl_schema.specs.First.{Hold, IsBroken, Found}
-use Rattle.asl_judge.specs.private.Firsts.{better}
+use Rattle.asl_schema.specs.First.{Hold, IsBroken, Found, better}
 
 -- of some claims the first is broken, and is told first
 pub record IsTold (c : Claim) (Others : List Found → Type 0) (fs : List Found) : Type 0 where

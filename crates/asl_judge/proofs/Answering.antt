@@ -8,8 +8,8 @@ use Rattle.asl_schema.specs.declared.fault.Step.{Step}
 use Rattle.asl_schema.specs.declared.fault.FaultKind.TheVariants as kind
 use Rattle.asl_schema.specs.Demands.{Demand, supported, in_range, alone, decided, named, unique, last, within, Holds, fault_of, number_of}
 use Rattle.asl_schema.specs.Claims.{Claim, under, here, heres}
-use Rattle.asl_schema.specs.First.{Hold, IsBroken, Each, Found, number, IsFirst, Answers}
-use Rattle.asl_judge.specs.private.Firsts.{better, under_step, at_root, Judges, sooner, unless}
+use Rattle.asl_schema.specs.First.{Hold, IsBroken, Each, Found, number, IsFirst, Answers, better}
+use Rattle.asl_judge.specs.private.Firsts.{under_step, at_root, Judges, sooner, unless}
 
 pub each-append : (P : Claim → Type 0) (xs ys : List Claim) → Each P xs → Each P ys → Each P (xs ++ ys)
 each-append P [] ys h k = k

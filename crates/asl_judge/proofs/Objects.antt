@@ -7,8 +7,8 @@ use Rattle.asl_json.specs.Meaning.{count}
 use Rattle.asl_schema.specs.declared.sort.Sort.{Sort}
 use Rattle.asl_schema.specs.Members.{Shape, shape_in, item_sort}
 use Rattle.asl_schema.specs.Claims.{Claim, Spot, heres, demands, claims, item_claims, member_claims, row_claims, group_demands, inside, object_claims, is_list, is_object}
-use Rattle.asl_schema.specs.First.{Found, Answers}
-use Rattle.asl_judge.specs.private.Firsts.{Judges, at_root, better}
+use Rattle.asl_schema.specs.First.{Found, Answers, better}
+use Rattle.asl_judge.specs.private.Firsts.{Judges, at_root}
 use Rattle.asl_judge.proofs.Answering.{answers-append}
 use Rattle.std.proofs.lemmas.List.{append-nil}
 

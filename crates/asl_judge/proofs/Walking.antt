@@ -20,8 +20,8 @@ use Rattle.asl_schema.specs.Members.{Row, Group, Shape, sort_at, is_among}
 use Rattle.asl_schema.specs.Demands.{Demand, there, decided}
 use Rattle.asl_schema.specs.private.Code.{row_of, rows_of, group_of, groups_of}
 use Rattle.asl_schema.specs.Claims.{Claim, Spot, under, step, is_nonempty, at_item, at_member, claims, item_claims, member_claims, row_claims, is_needed, group_demands, any_in, any_counts, counts}
-use Rattle.asl_schema.specs.First.{Found, Answers}
-use Rattle.asl_judge.specs.private.Firsts.{better, under_step, Judges, sooner, unless}
+use Rattle.asl_schema.specs.First.{Found, Answers, better}
+use Rattle.asl_judge.specs.private.Firsts.{under_step, Judges, sooner, unless}
 use Rattle.asl_judge.proofs.Answering.{answers-append, answers-under, judges-append, decided_judged, one_broken}
 
 -- what is answered for all, once the rest is answered

@@ -12,8 +12,8 @@ ghost use Rattle.asl_schema.specs.private.Code.{shape_seen, rows_of, row_of, gro
 ghost use Rattle.asl_judge.specs.private.Spots.{spot_of};
 ghost use Rattle.asl_schema.specs.Members.{shape_in, sort_at, is_among};
 ghost use Rattle.asl_schema.specs.Claims.{Spot, step, is_true, counts, any_counts, is_doubled, any_in, group_demands, has_any, is_needed, row_claims, names_in, inside, at_member, is_twice, claims, item_claims, member_claims, object_claims, under};
-ghost use Rattle.asl_schema.specs.First.{Found, Answers};
-ghost use Rattle.asl_judge.specs.private.Firsts.{Judges, unless, better, at_root, under_step};
+ghost use Rattle.asl_schema.specs.First.{Found, Answers, better};
+ghost use Rattle.asl_judge.specs.private.Firsts.{Judges, unless, at_root, under_step};
 
 use crate::spot::{Spot, at_item, one_deeper};
 use crate::value::{is_list, is_object, is_template, own_fault, sooner, unless};

@@ -48,7 +48,7 @@ fn between(low: Option<u32>, high: Option<u32>) -> Option<Span>
 }
 
 /// The numbers that a key spells: `N`, or `low-high` with low at most high, each of 1 to 9 digits.
-pub(crate) fn span_in(key: &str) -> Option<Span>
+pub fn span_in(key: &str) -> Option<Span>
     ensures value { result ≡ span_in key.now }
     ensures order { IfSome result (λ s. s.low ≤ s.high) }
 {

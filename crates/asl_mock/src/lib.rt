@@ -25,7 +25,9 @@ mod table;
 
 pub use case::{Case, answer};
 pub use fault::{CaseFault, MockFault};
-pub use key::Span;
+pub use key::{Span, span_in};
 pub use mocks::Mocks;
 pub use response::{Answer, Ranged};
 pub use responses::Response;
+pub use shape::Shape;
+pub use table::{members_at, members_in};

@@ -5,9 +5,9 @@ ghost use Rattle.asl_mock.specs.Form.{part_shape, takes_any, takes_text, fits, m
 
 use asl_json::Json;
 
-/// What a value of a mock file is.
+/// What a value of a mock file is. (AWS Step Functions, "Mocked service integrations", the file MockConfigFile.json.)
 #[derive(Clone, Copy, Debug, PartialEq, Eq)]
-pub(crate) enum Shape {
+pub enum Shape {
     /// Whatever it is.
     Any,
     Text,
@@ -24,7 +24,7 @@ pub(crate) enum Shape {
 
 impl Shape {
     /// What its member of this key is.
-    pub(crate) fn part(self, key: &str) -> Shape
+    pub fn part(self, key: &str) -> Shape
         ensures { result ≡ part_shape self key.now }
     {
         match self {
@@ -47,7 +47,7 @@ impl Shape {
     }
 
     /// Whether any value may stand there.
-    pub(crate) fn takes_any(self) -> bool
+    pub fn takes_any(self) -> bool
         ensures { result ≡ takes_any self }
     {
         match self {
@@ -57,7 +57,7 @@ impl Shape {
     }
 
     /// Whether a text may stand there.
-    pub(crate) fn takes_text(self) -> bool
+    pub fn takes_text(self) -> bool
         ensures { result ≡ takes_text self }
     {
         match self {
@@ -67,7 +67,7 @@ impl Shape {
     }
 
     /// Whether an object has the members that it needs, and none besides.
-    pub(crate) fn fits(self, value: &Json) -> bool
+    pub fn fits(self, value: &Json) -> bool
         ensures { result ≡ fits self (data_of value.now) }
     {
         match self {

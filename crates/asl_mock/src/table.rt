@@ -34,7 +34,7 @@ pub(crate) fn add<T: Drop>(
 }
 
 /// The members of an object; any other value has none.
-pub(crate) fn members_in(value: &Json) -> &[Member]
+pub fn members_in(value: &Json) -> &[Member]
     ensures members { members_of result.now ≡ members_in (data_of value.now) }
     ensures distinct { AreDistinct [] (members_of result.now) }
 {
@@ -45,7 +45,7 @@ pub(crate) fn members_in(value: &Json) -> &[Member]
 }
 
 /// The members of the object under this key.
-pub(crate) fn members_at<'a>(value: &'a Json, key: &str) -> &'a [Member]
+pub fn members_at<'a>(value: &'a Json, key: &str) -> &'a [Member]
     ensures members { members_of result.now ≡ members_at key.now (data_of value.now) }
     ensures distinct { AreDistinct [] (members_of result.now) }
 {

@@ -1,6 +1,6 @@
 -- Which of some demands that are broken is answered: the lowest number, and of its places the first
 -- in document order.
-use Rattle.std.specs.Prelude.{◌≡◌, ◌<◌, ◌≤◌, ℕ, List, [], ◌∷◌, ◌++◌, Option, Some, None}
+use Rattle.std.specs.Prelude.{◌≡◌, ◌<◌, ◌≤◌, ℕ, List, [], ◌∷◌, ◌++◌, Option, Some, None, nat_lt, if◌then◌else◌}
 use Rattle.asl_schema.specs.declared.fault.FaultKind.{FaultKind}
 use Rattle.asl_schema.specs.declared.fault.Step.{Step}
 use Rattle.asl_schema.specs.Demands.{Demand, Holds, fault_of, number_of}
@@ -19,6 +19,12 @@ Each P (c ∷ cs) = P c × Each P cs
 -- a fault and its place
 abbrev pub Found : Type 0
 Found = FaultKind × List Step
+
+-- the one with the lower number, else the earlier one
+abbrev pub better : Option Found → Option Found → Option Found
+better None b = b
+better (Some a) None = Some a
+better (Some a) (Some b) = if nat_lt (number_of b.0) (number_of a.0) then Some b else Some a
 
 abbrev pub number : Claim → ℕ
 number c = number_of (fault_of c.0)

@@ -6,12 +6,6 @@ use Rattle.asl_schema.specs.Demands.{Demand, number_of}
 use Rattle.asl_schema.specs.Claims.{heres}
 use Rattle.asl_schema.specs.First.{Found, Answers}
 
--- the one with the lower number, else the earlier one
-abbrev pub better : Option Found → Option Found → Option Found
-better None b = b
-better (Some a) None = Some a
-better (Some a) (Some b) = if nat_lt (number_of b.0) (number_of a.0) then Some b else Some a
-
 abbrev pub under_step : Step → Found → Found
 under_step s f = (f.0, s ∷ f.1)
 

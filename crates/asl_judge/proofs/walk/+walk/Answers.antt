@@ -7,8 +7,8 @@ use Rattle.asl_json.specs.View.{data_of, members_of}
 use Rattle.asl_schema.specs.private.Code.{shape_seen}
 use Rattle.asl_judge.specs.private.Spots.{spot_of}
 use Rattle.asl_schema.specs.Claims.{claims, item_claims, member_claims, heres, group_demands, step}
-use Rattle.asl_schema.specs.First.{Answers}
-use Rattle.asl_judge.specs.private.Firsts.{better, under_step}
+use Rattle.asl_schema.specs.First.{Answers, better}
+use Rattle.asl_judge.specs.private.Firsts.{under_step}
 use Rattle.asl_judge.proofs.Walking.{items_step, items_end, members_step, members_end, last_item, members_more}
 use Rattle.asl_json.proofs.Sounding.{item_depth, member_depth}
 use Rattle.asl_judge.proofs.Objects.{list_whole, object_whole, parts_answered}
