@@ -342,7 +342,8 @@ INNER_RULE = Frame('{"StartAt":"A","States":{"A":{"Type":"Choice","Choices":[{"N
 RETRIER = Frame('{"StartAt":"A","States":{"A":{"Type":"Task","Resource":"r","Retry":[{"ErrorEquals":["D"]},{', '}],"End":true}}}', "/States/A/Retry/1")
 
 # Around the members of the last catcher of a Task state.
-CATCHER = Frame('{"StartAt":"A","States":{"A":{"Type":"Task","Resource":"r","Catch":[{"ErrorEquals":["D"],"Next":"A"},{', '}],"End":true}}}', "/States/A/Catch/1")
+CATCHER = Frame('{"StartAt":"A","States":{"A":{"Type":"Task","Resource":"r","Catch":[{"ErrorEquals":["D"],"Next":"A"},{',
+    '}],"End":true}}}', "/States/A/Catch/1")
 
 RULE_PARTS = [
     RULE_HEAD,
@@ -394,13 +395,18 @@ OBJECTS = {
     "map": Shape(STATE, ["Type"], ["Type", "Iterator", "End"], MAP_PARTS),
     "succeed": Shape(STATE, ["Type"], ["Type"], SUCCEED_PARTS),
     "fail": Shape(STATE, ["Type"], ["Type"], FAIL_PARTS),
-    "branch": Shape(Frame('{"StartAt":"A","States":{"A":{"Type":"Parallel","Branches":[{"StartAt":"Y","States":{"Y":{"Type":"Succeed"}}},{', '}],"End":true}}}', "/States/A/Branches/1"), MACHINE, MACHINE, MACHINE_PARTS),
-    "iterator": Shape(Frame('{"StartAt":"A","States":{"A":{"Type":"Map","Iterator":{', '},"End":true}}}', "/States/A/Iterator"), MACHINE, MACHINE, MACHINE_PARTS),
+    "branch": Shape(Frame('{"StartAt":"A","States":{"A":{"Type":"Parallel","Branches":[{"StartAt":"Y","States":{"Y":{"Type":"Succeed"}}},{',
+        '}],"End":true}}}', "/States/A/Branches/1"), MACHINE, MACHINE, MACHINE_PARTS),
+    "iterator": Shape(Frame('{"StartAt":"A","States":{"A":{"Type":"Map","Iterator":{', '},"End":true}}}', "/States/A/Iterator"), MACHINE,
+        MACHINE, MACHINE_PARTS),
     "rule": Shape(RULE, ["Variable", "Next"], ["Variable", "IsNull", "Next"], RULE_PARTS),
     "negated_rule": Shape(INNER_RULE, ["Variable"], ["Variable", "IsNull"], INNER_RULE_PARTS),
-    "rule_in_or": Shape(Frame('{"StartAt":"A","States":{"A":{"Type":"Choice","Choices":[{"Or":[{"Variable":"$","IsNull":true},{', '}],"Next":"A"}]}}}', "/States/A/Choices/0/Or/1"), ["Variable"], ["Variable", "IsNull"], INNER_RULE_PARTS),
+    "rule_in_or": Shape(Frame('{"StartAt":"A","States":{"A":{"Type":"Choice","Choices":[{"Or":[{"Variable":"$","IsNull":true},{',
+        '}],"Next":"A"}]}}}', "/States/A/Choices/0/Or/1"), ["Variable"], ["Variable", "IsNull"], INNER_RULE_PARTS),
     "retrier": Shape(RETRIER, ["ErrorEquals"], ["ErrorEquals"], RETRIER_PARTS),
     "catcher": Shape(CATCHER, ["ErrorEquals", "Next"], ["ErrorEquals", "Next"], CATCHER_PARTS),
-    "item_processor": Shape(Frame('{"StartAt":"A","States":{"A":{"Type":"Map","ItemProcessor":{', '},"End":true}}}', "/States/A/ItemProcessor"), MACHINE, MACHINE, ITEM_PROCESSOR_PARTS),
-    "processor_config": Shape(Frame('{"StartAt":"A","States":{"A":{"Type":"Map","ItemProcessor":{"ProcessorConfig":{', '},"StartAt":"B","States":{"B":{"Type":"Succeed"}}},"End":true}}}', "/States/A/ItemProcessor/ProcessorConfig"), [], [], PROCESSOR_CONFIG_PARTS),
+    "item_processor": Shape(Frame('{"StartAt":"A","States":{"A":{"Type":"Map","ItemProcessor":{', '},"End":true}}}',
+        "/States/A/ItemProcessor"), MACHINE, MACHINE, ITEM_PROCESSOR_PARTS),
+    "processor_config": Shape(Frame('{"StartAt":"A","States":{"A":{"Type":"Map","ItemProcessor":{"ProcessorConfig":{',
+        '},"StartAt":"B","States":{"B":{"Type":"Succeed"}}},"End":true}}}', "/States/A/ItemProcessor/ProcessorConfig"), [], [], PROCESSOR_CONFIG_PARTS),
 }

@@ -24,9 +24,11 @@ TASK = """{"StartAt":"T","States":{
 {"ErrorEquals":["States.ResultPathMatchFailure"],"ResultPath":null,"Next":"B"},{"ErrorEquals":["States.ALL"],"ResultPath":null,"Next":"B"}]},
 "B":{"Type":"Succeed"}}}"""
 
-TASK_MOCKS = """{"StateMachines":{"M":{"TestCases":{"good":{"T":"good"},"other":{"T":"other"},"retried":{"T":"retried"},"twice":{"T":"twice"},"slow":{"T":"slow"},"odd":{"T":"odd"}}}},
+TASK_MOCKS = """{"StateMachines":{"M":{"TestCases":{"good":{"T":"good"},"other":{"T":"other"},"retried":{"T":"retried"},
+"twice":{"T":"twice"},"slow":{"T":"slow"},"odd":{"T":"odd"}}}},
 "MockedResponses":{"good":{"0":{"Return":{"x":1}}},"other":{"0":{"Return":{"y":1}}},"retried":{"0":{"Throw":{"Error":"R"}},"1":{"Return":{"x":2}}},
-"twice":{"0-1":{"Throw":{"Error":"R"}},"2-9":{"Return":{"x":3}}},"slow":{"0":{"Throw":{"Error":"States.Timeout"}},"1":{"Throw":{"Error":"S"}},"2":{"Throw":{"Error":"S"}}},
+"twice":{"0-1":{"Throw":{"Error":"R"}},"2-9":{"Return":{"x":3}}},"slow":{"0":{"Throw":{"Error":"States.Timeout"}},
+"1":{"Throw":{"Error":"S"}},"2":{"Throw":{"Error":"S"}}},
 "odd":{"0":{"Throw":{"Error":"Z"}}}}}"""
 
 TASK_POINTS = [
@@ -56,14 +58,16 @@ NESTED_POINTS = [
 
 # An older Map, whose time limit is over before the last state.
 LIMITED = """{"StartAt":"M","TimeoutSeconds":5,"States":{
-"M":{"Type":"Map","Next":"W","Iterator":{"StartAt":"I","States":{"I":{"Type":"Pass","End":true}}}},"W":{"Type":"Wait","Seconds":9,"Next":"D"},"D":{"Type":"Succeed"}}}"""
+"M":{"Type":"Map","Next":"W","Iterator":{"StartAt":"I","States":{"I":{"Type":"Pass","End":true}}}},"W":{"Type":"Wait","Seconds":9,
+"Next":"D"},"D":{"Type":"Succeed"}}}"""
 
 LIMITED_POINTS = ['state "M"', 'transition "M" -> "W"', 'state "I"', 'state "W"', 'transition "W" -> "D"', 'state "D"']
 
 # Names of any characters; a key of an answer with zeros before it; a case whose name is empty, which is never looked up.
 NAMED = """{"StartAt":"a\\n\\"b","States":{"a\\n\\"b":{"Type":"Task","Resource":"r","Next":"\\u00e9"},"\\u00e9":{"Type":"Succeed"}}}"""
 
-NAMED_MOCKS = """{"StateMachines":{"M":{"TestCases":{"c":{"a\\n\\"b":"r"},"":{"a\\n\\"b":"s\\t"}}}},"MockedResponses":{"r":{"00":{"Return":1}},"s\\t":{"0":{"Return":1}},"none":{}}}"""
+NAMED_MOCKS = """{"StateMachines":{"M":{"TestCases":{"c":{"a\\n\\"b":"r"},"":{"a\\n\\"b":"s\\t"}}}},
+"MockedResponses":{"r":{"00":{"Return":1}},"s\\t":{"0":{"Return":1}},"none":{}}}"""
 
 NAMED_POINTS = ['state "a\\n\\"b"', 'transition "a\\n\\"b" -> "é"', 'state "é"', 'answer "00" of response "r"', 'answer "0" of response "s\\t"']
 

@@ -5,13 +5,20 @@ TWO_STEPS = "/ 2024-01-01T00:00:00Z\n/ 2024-01-01T00:00:05Z\n"
 
 # Members of the state A, the input, how many lines a run of two steps has, and the last one.
 ONE_STATE = [
-    ('"Type":"Pass","Parameters":{"s.$":"$$.State.Name","t.$":"$$.Execution.StartTime"},"End":true', "{}", 7, 'status SUCCEEDED {"s":"A","t":"2024-01-01T00:00:00.000Z"}'),
-    ('"Type":"Pass","InputPath":"$$","End":true', '{"n":1.50}', 7, 'status SUCCEEDED {"Execution":{"Id":"execution:M:run","Name":"run","Input":{"n":1.50},"StartTime":"2024-01-01T00:00:00.000Z"},"StateMachine":{"Id":"stateMachine:M","Name":"M"},"State":{"Name":"A","EnteredTime":"2024-01-01T00:00:00.000Z","RetryCount":0}}'),
-    ('"Type":"Pass","InputPath":"$.a","Parameters":{"k.$":"$.b","l":[{"m.$":"States.MathAdd($.b, 1)"}]},"ResultPath":"$.r","OutputPath":"$.r","End":true', '{"a":{"b":1}}', 7, 'status SUCCEEDED {"k":1,"l":[{"m":2}]}'),
+    ('"Type":"Pass","Parameters":{"s.$":"$$.State.Name","t.$":"$$.Execution.StartTime"},"End":true', "{}", 7,
+        'status SUCCEEDED {"s":"A","t":"2024-01-01T00:00:00.000Z"}'),
+    ('"Type":"Pass","InputPath":"$$","End":true', '{"n":1.50}', 7,
+        'status SUCCEEDED {"Execution":{"Id":"execution:M:run","Name":"run","Input":{"n":1.50},"StartTime":"2024-01-01T00:00:00.000Z"},'
+        '"StateMachine":{"Id":"stateMachine:M","Name":"M"},"State":{"Name":"A","EnteredTime":"2024-01-01T00:00:00.000Z","RetryCount":0}}'),
+    ('"Type":"Pass","InputPath":"$.a","Parameters":{"k.$":"$.b","l":[{"m.$":"States.MathAdd($.b, 1)"}]},"ResultPath":"$.r","OutputPath":'
+        '"$.r","End":true', '{"a":{"b":1}}', 7, 'status SUCCEEDED {"k":1,"l":[{"m":2}]}'),
     ('"Type":"Pass","Result":{"k.$":"$.x"},"ResultPath":"$.r","End":true', '{"a":1}', 7, 'status SUCCEEDED {"a":1,"r":{"k.$":"$.x"}}'),
-    ('"Type":"Pass","Parameters":{"x.$":"$.q"},"Result":7,"End":true', "{}", 6, 'status FAILED {"Error":"States.ParameterPathFailure","Cause":"x.$: no value"}'),
-    ('''"Type":"Pass","Parameters":{"x.$":"States.MathAdd('x', 1)"},"End":true''', "{}", 6, 'status FAILED {"Error":"States.IntrinsicFailure","Cause":"x.$: unfit"}'),
-    ('"Type":"Pass","Parameters":{"x.$":"States.MathAdd($.q, 1)"},"End":true', "{}", 6, 'status FAILED {"Error":"States.IntrinsicFailure","Cause":"x.$: path"}'),
+    ('"Type":"Pass","Parameters":{"x.$":"$.q"},"Result":7,"End":true', "{}", 6,
+        'status FAILED {"Error":"States.ParameterPathFailure","Cause":"x.$: no value"}'),
+    ('''"Type":"Pass","Parameters":{"x.$":"States.MathAdd('x', 1)"},"End":true''', "{}", 6,
+        'status FAILED {"Error":"States.IntrinsicFailure","Cause":"x.$: unfit"}'),
+    ('"Type":"Pass","Parameters":{"x.$":"States.MathAdd($.q, 1)"},"End":true', "{}", 6,
+        'status FAILED {"Error":"States.IntrinsicFailure","Cause":"x.$: path"}'),
     ('"Type":"Pass","OutputPath":"$$.Task.Token","End":true', "{}", 6, 'status FAILED {"Error":"States.Runtime","Cause":"OutputPath: no value"}'),
     ('"Type":"Succeed","OutputPath":"$$.StateMachine"', "{}", 7, 'status SUCCEEDED {"Id":"stateMachine:M","Name":"M"}'),
     ('"Type":"Fail"', "{}", 6, "status FAILED {}"),
@@ -22,7 +29,11 @@ ONE_STATE = [
 ]
 
 # A Pass that asks when it was entered, and one that asks for more.
-TWO_PASSES = '{"StartAt":"A","States":{"A":{"Type":"Pass","Parameters":{"at.$":"$$.State.EnteredTime"},"Next":"B"},"B":{"Type":"Pass","Parameters":{"a.$":"$.at","b.$":"$$.State.EnteredTime","start.$":"$$.Execution.StartTime","name.$":"$$.Execution.Name","state.$":"$$.State.Name"},"End":true}}}'
+TWO_PASSES = (
+    '{"StartAt":"A","States":{"A":{"Type":"Pass","Parameters":{"at.$":"$$.State.EnteredTime"},"Next":"B"},"B":{"Type":"Pass",'
+    '"Parameters":{"a.$":"$.at","b.$":"$$.State.EnteredTime","start.$":"$$.Execution.StartTime","name.$":"$$.Execution.Name",'
+    '"state.$":"$$.State.Name"},"End":true}}}'
+)
 
 LIMIT = 'status FAILED {"Error":"States.DataLimitExceeded","Cause":"data limit"}'
 

@@ -20,13 +20,19 @@ TWO_STATES = '{"StartAt":"P","States":{"P":{"Type":"Pass","Result":7,"ResultPath
 LOOP = '{"StartAt":"P","States":{"P":{"Type":"Pass","Next":"P"}}}'
 
 # A loop of three states, which ends once `n` is 2.
-COUNTED = '{"StartAt":"A","States":{"A":{"Type":"Pass","Parameters":{"n.$":"States.MathAdd($.n, 1)"},"Next":"D"},"D":{"Type":"Pass","Next":"C"},"C":{"Type":"Choice","Choices":[{"Variable":"$.n","NumericLessThan":2,"Next":"A"}],"Default":"Z"},"Z":{"Type":"Succeed"}}}'
+COUNTED = (
+    '{"StartAt":"A","States":{"A":{"Type":"Pass","Parameters":{"n.$":"States.MathAdd($.n, 1)"},"Next":"D"},"D":{"Type":"Pass","Next":"C"},'
+    '"C":{"Type":"Choice","Choices":[{"Variable":"$.n","NumericLessThan":2,"Next":"A"}],"Default":"Z"},"Z":{"Type":"Succeed"}}}'
+)
 
 # A Map whose iterations are a Pass, one at a time.
 ONE_BY_ONE = '{"StartAt":"M","States":{"M":{"Type":"Map","MaxConcurrency":1,"Iterator":{"StartAt":"K","States":{"K":{"Type":"Pass","End":true}}},"End":true}}}'
 
 # A Map whose iterations are two Passes.
-BESIDE = '{"StartAt":"M","States":{"M":{"Type":"Map","Iterator":{"StartAt":"K","States":{"K":{"Type":"Pass","Next":"L"},"L":{"Type":"Pass","End":true}}},"End":true}}}'
+BESIDE = (
+    '{"StartAt":"M","States":{"M":{"Type":"Map","Iterator":{"StartAt":"K","States":{"K":{"Type":"Pass","Next":"L"},"L":{"Type":"Pass",'
+    '"End":true}}},"End":true}}}'
+)
 
 # A Task that is retried three seconds later, and then six.
 RETRIED = '{"StartAt":"W","States":{"W":{"Type":"Task","Resource":"r","Retry":[{"ErrorEquals":["X"]},{"ErrorEquals":["E"],"IntervalSeconds":3}],"End":true}}}'
@@ -35,7 +41,10 @@ RETRIED = '{"StartAt":"W","States":{"W":{"Type":"Task","Resource":"r","Retry":[{
 THREE_ANSWERS = answered('"0-1":{"Throw":{"Error":"E","Cause":"slow"}},"2":{"Return":"third"}')
 
 # A Parallel of a Task that fails and a Pass, which is forked again a second later.
-FORKED_AGAIN = '{"StartAt":"Q","States":{"Q":{"Type":"Parallel","Branches":[{"StartAt":"W","States":{"W":{"Type":"Task","Resource":"r","End":true}}},{"StartAt":"B","States":{"B":{"Type":"Pass","End":true}}}],"Retry":[{"ErrorEquals":["E"],"IntervalSeconds":1}],"End":true}}}'
+FORKED_AGAIN = (
+    '{"StartAt":"Q","States":{"Q":{"Type":"Parallel","Branches":[{"StartAt":"W","States":{"W":{"Type":"Task","Resource":"r","End":true}}},'
+    '{"StartAt":"B","States":{"B":{"Type":"Pass","End":true}}}],"Retry":[{"ErrorEquals":["E"],"IntervalSeconds":1}],"End":true}}}'
+)
 
 # A Wait of ten seconds in an execution that may take five.
 TOO_LONG = '{"StartAt":"W","TimeoutSeconds":5,"States":{"W":{"Type":"Wait","Seconds":10,"End":true}}}'
@@ -44,13 +53,15 @@ TOO_LONG = '{"StartAt":"W","TimeoutSeconds":5,"States":{"W":{"Type":"Wait","Seco
 SHOWN = [
     (COUNTED, "{}", '{"n":0}', [], "/", '["Ready","A",{"n":0}]'),
     # The raw input, though the state has InputPath and Parameters.
-    ('{"StartAt":"P","States":{"P":{"Type":"Pass","InputPath":"$.a","Parameters":{"x":1},"End":true}}}', "{}", '{"a":5,"b":2.50}', [], "/", '["Ready","P",{"a":5,"b":2.50}]'),
+    ('{"StartAt":"P","States":{"P":{"Type":"Pass","InputPath":"$.a","Parameters":{"x":1},"End":true}}}', "{}", '{"a":5,"b":2.50}', [], "/",
+        '["Ready","P",{"a":5,"b":2.50}]'),
     (BESIDE, "{}", '[{"k":"v"},20]', [STEP], "/0", '["New","K",{"k":"v"}]'),
     (BESIDE, "{}", "[10,20]", [STEP, at("/1")], "/1", '["Ready","L",20]'),
     (BESIDE, "{}", "[10,20]", [STEP], "/", '["Forked","M",[10,20],"2024-01-01T00:00:00.000Z",[],[10,20]]'),
     (FORKED_AGAIN, "{}", "{}", [STEP], "/", '["Forked","Q",{},"2024-01-01T00:00:00.000Z",[0],[]]'),
     (RETRIED, THREE_ANSWERS, '{"k":1}', [STEP], "/", '["Again","W",{"k":1},"2024-01-01T00:00:00.000Z",[0,1],"2024-01-01T00:00:03.000Z"]'),
-    (RETRIED, THREE_ANSWERS, "{}", [STEP, "step / 2024-01-01T00:00:03.0001Z"], "/", '["Again","W",{},"2024-01-01T00:00:00.000Z",[0,2],"2024-01-01T00:00:09.001Z"]'),
+    (RETRIED, THREE_ANSWERS, "{}", [STEP, "step / 2024-01-01T00:00:03.0001Z"], "/",
+        '["Again","W",{},"2024-01-01T00:00:00.000Z",[0,2],"2024-01-01T00:00:09.001Z"]'),
     (TOO_LONG, "{}", "[]", [STEP], "/", '["Pausing","W",[],"2024-01-01T00:00:00.000Z","2024-01-01T00:00:10.000Z"]'),
     (COUNTED, "{}", '{"n":0}', [STEP] * 7, "/", '["Done",{"n":2}]'),
     ('{"StartAt":"F","States":{"F":{"Type":"Fail","Error":"E","Cause":"why"}}}', "{}", "{}", [STEP], "/", '["Failed",{"Error":"E","Cause":"why"}]'),
@@ -158,7 +169,8 @@ status SUCCEEDED {"a":{"b":7}}
         self.assertEqual(end, self.unbroken(COUNTED, ["/"] * 7, given='{"n":0}'))
         self.assert_ends(end, 17, 'status SUCCEEDED {"n":2}')
         # Back to the start, where the breakpoint still stands and nothing is released.
-        back = [("back 8", "TooFar"), ("back 7", "back 0"), ("show /", 'shown ["Ready","A",{"n":0}]'), ("resume /", "NotPaused"), ('break "Y"', "NoSuchState"), ("show /4", "NoSuchPlace"), ("back 1", "TooFar"), ("back 0", "back 0")]
+        back = [("back 8", "TooFar"), ("back 7", "back 0"), ("show /", 'shown ["Ready","A",{"n":0}]'), ("resume /", "NotPaused"),
+            ('break "Y"', "NoSuchState"), ("show /4", "NoSuchPlace"), ("back 1", "TooFar"), ("back 0", "back 0")]
         end = self.replies(COUNTED, broken + back, given='{"n":0}')
         self.assertEqual(end, STARTED.replace("{}", '{"n":0}') + "status RUNNING\n")
         # The whole once more.
@@ -170,35 +182,43 @@ status SUCCEEDED {"a":{"b":7}}
 
     def test_iterations_pause_one_by_one(self):
         exchanged = [('break "K"', "set"), (at("/"), "ok"), (at("/1"), "S6 Slots"), (at("/0"), 'paused "K"'), ("resume /1", "resumed"), (at("/1"), "S6 Slots")]
-        exchanged += [("resume /0", "resumed"), ("resume /0", "NotPaused"), (at("/0"), "ok"), (at("/0"), "S4 Finished"), ("resume /0", "NotPaused"), (at("/1"), "ok"), (at("/2"), 'paused "K"')]
+        exchanged += [("resume /0", "resumed"), ("resume /0", "NotPaused"), (at("/0"), "ok"), (at("/0"), "S4 Finished"),
+            ("resume /0", "NotPaused"), (at("/1"), "ok"), (at("/2"), 'paused "K"')]
         exchanged += [("resume /3", "NotPaused"), ("resume /2", "resumed"), (at("/2"), "ok"), (at("/"), "ok")]
         end = self.replies(ONE_BY_ONE, exchanged, given="[10,20,30]")
         self.assertEqual(end, self.unbroken(ONE_BY_ONE, ["/", "/0", "/1", "/2", "/"], given="[10,20,30]"))
 
     def test_each_iteration_is_released_by_itself(self):
-        exchanged = [('break "K"', "set"), ('break "L"', "set"), (at("/"), "ok"), ("resume /1", "resumed"), (at("/1"), "ok"), (at("/1"), 'paused "L"'), (at("/0"), 'paused "K"')]
-        exchanged += [("resume /0", "resumed"), (at("/0"), "ok"), ("resume /1", "resumed"), (at("/0"), 'paused "L"'), (at("/1"), "ok"), (at("/1"), "S4 Finished")]
+        exchanged = [('break "K"', "set"), ('break "L"', "set"), (at("/"), "ok"), ("resume /1", "resumed"), (at("/1"), "ok"),
+            (at("/1"), 'paused "L"'), (at("/0"), 'paused "K"')]
+        exchanged += [("resume /0", "resumed"), (at("/0"), "ok"), ("resume /1", "resumed"), (at("/0"), 'paused "L"'), (at("/1"), "ok"),
+            (at("/1"), "S4 Finished")]
         exchanged += [('clear "L"', "cleared"), (at("/0"), "ok"), (at("/"), "ok")]
         end = self.replies(BESIDE, exchanged, given="[10,20]")
         self.assertEqual(end, self.unbroken(BESIDE, ["/", "/1", "/0", "/1", "/0", "/"], given="[10,20]"))
 
     def test_breakpoints_are_set_once_and_cleared(self):
-        exchanged = [('clear "P"', "NoSuchState"), ('break "P"', "set"), ('break "P"', "set"), ('break "S"', "set"), (STEP, 'paused "P"'), ('clear "P"', "cleared")]
-        exchanged += [('clear "P"', "NoSuchState"), ("resume /", "NotPaused"), (STEP, "ok"), (STEP, 'paused "S"'), ('break ""', "NoSuchState"), ('clear "Q"', "NoSuchState")]
+        exchanged = [('clear "P"', "NoSuchState"), ('break "P"', "set"), ('break "P"', "set"), ('break "S"', "set"), (STEP, 'paused "P"'),
+            ('clear "P"', "cleared")]
+        exchanged += [('clear "P"', "NoSuchState"), ("resume /", "NotPaused"), (STEP, "ok"), (STEP, 'paused "S"'),
+            ('break ""', "NoSuchState"), ('clear "Q"', "NoSuchState")]
         self.replies(TWO_STATES, exchanged)
 
     def test_a_released_branch_stays_released_until_it_steps(self):
-        exchanged = [('break "P"', "set"), ("resume /", "resumed"), ('clear "P"', "cleared"), ('break "P"', "set"), (STEP, "ok"), (STEP, 'paused "P"'), ("resume /", "resumed")]
+        exchanged = [('break "P"', "set"), ("resume /", "resumed"), ('clear "P"', "cleared"), ('break "P"', "set"), (STEP, "ok"),
+            (STEP, 'paused "P"'), ("resume /", "resumed")]
         # Taking back no step takes the release away too.
         exchanged += [("back 0", "back 1"), (STEP, 'paused "P"'), ("resume /", "resumed"), ("back 1", "back 0"), (STEP, 'paused "P"')]
         self.replies(LOOP, exchanged)
 
     def test_a_branch_that_waits_is_refused_and_does_not_pause(self):
-        exchanged = [('break "W"', "set"), (STEP, 'paused "W"'), ("resume /", "resumed"), (STEP, "ok"), (STEP, "S7 NotYet 2024-01-01T00:00:03.000Z"), ("resume /", "NotPaused"), (at("/", 3), "ok"), (at("/", 9), "ok")]
+        exchanged = [('break "W"', "set"), (STEP, 'paused "W"'), ("resume /", "resumed"), (STEP, "ok"),
+            (STEP, "S7 NotYet 2024-01-01T00:00:03.000Z"), ("resume /", "NotPaused"), (at("/", 3), "ok"), (at("/", 9), "ok")]
         self.assert_ends(self.replies(RETRIED, exchanged, mocks=THREE_ANSWERS, chosen="M#c"), 14, 'status SUCCEEDED "third"')
 
     def test_a_step_of_a_branch_takes_the_releases_under_it_away(self):
-        exchanged = [(at("/"), "ok"), ('break "B"', "set"), ("resume /1", "resumed"), (at("/0"), "ok"), (at("/1"), "S3 Stopped"), (at("/"), "ok"), ("resume /1", "NotPaused"), (at("/", 1), "ok"), (at("/1", 1), 'paused "B"')]
+        exchanged = [(at("/"), "ok"), ('break "B"', "set"), ("resume /1", "resumed"), (at("/0"), "ok"), (at("/1"), "S3 Stopped"),
+            (at("/"), "ok"), ("resume /1", "NotPaused"), (at("/", 1), "ok"), (at("/1", 1), 'paused "B"')]
         self.replies(FORKED_AGAIN, exchanged, mocks=answered('"0":{"Throw":{"Error":"E"}}'), chosen="M#c")
 
     def test_names_are_json_texts(self):
@@ -214,9 +234,11 @@ status SUCCEEDED {"a":{"b":7}}
                 self.assertEqual(replies, ["ok"] * len(before) + [f"shown {shown}"])
 
     def test_a_step_at_the_deadline_is_taken_though_the_branch_pauses(self):
-        exchanged = [('break "W"', "set"), (STEP, 'paused "W"'), ("step / 2024-01-01T00:00:04.999Z", 'paused "W"'), (at("/", 5), "ok"), (STEP, "S1 Over"), ("resume /", "resumed")]
+        exchanged = [('break "W"', "set"), (STEP, 'paused "W"'), ("step / 2024-01-01T00:00:04.999Z", 'paused "W"'), (at("/", 5), "ok"),
+            (STEP, "S1 Over"), ("resume /", "resumed")]
         end = self.replies(TOO_LONG, exchanged)
-        self.assertEqual(end, STARTED + '2 1 2024-01-01T00:00:05.000Z / ExecutionTimedOut "" {"Error":"States.Timeout"}\nstatus TIMED_OUT {"Error":"States.Timeout"}\n')
+        self.assertEqual(end, STARTED
+            + '2 1 2024-01-01T00:00:05.000Z / ExecutionTimedOut "" {"Error":"States.Timeout"}\nstatus TIMED_OUT {"Error":"States.Timeout"}\n')
         # It is a step like any other for those who go back.
         end = self.replies(TOO_LONG, [*exchanged, ("back 1", "back 0"), (STEP, 'paused "W"')])
         self.assertEqual(end, STARTED + "status RUNNING\n")
@@ -228,7 +250,8 @@ status SUCCEEDED {"a":{"b":7}}
         # A step that pauses, one that is refused, one that is taken back, one that isn't the last.
         other = "step / 2025-01-01T00:00:00Z"
         self.assertEqual(self.replies(LOOP, [('break "P"', "set"), (STEP, 'paused "P"'), (other, 'paused "P"')]), STARTED + "status RUNNING\n")
-        self.assertEqual(self.replies(LOOP, [("show /0", "NoSuchPlace"), (at("/0"), "S2 NoSuchPlace"), (other, "ok"), ("back 1", "back 0")]), STARTED + "status RUNNING\n")
+        self.assertEqual(self.replies(LOOP, [("show /0", "NoSuchPlace"), (at("/0"), "S2 NoSuchPlace"), (other, "ok"),
+            ("back 1", "back 0")]), STARTED + "status RUNNING\n")
 
     def test_a_line_that_is_no_command_is_told_before_anything_is_run(self):
         for line in BAD_LINES:
@@ -239,7 +262,8 @@ status SUCCEEDED {"a":{"b":7}}
                     self.assertEqual((ran.returncode, ran.stdout, ran.stderr), (2, "", f"fault: script: E2 ScriptLine {number}\n"))
 
     def test_other_texts_are_judged_before_the_script(self):
-        for texts, told in [(("[]", "[]", "X#c", "x"), "definition: F2 NotObject"), ((LOOP, "[]", "X#c", "x"), "mocks: M2 Shape"), ((LOOP, "{}", "X#c", "x"), "case: M7 NoMachine"), ((LOOP, "{}", "X", "x"), "input: J1 Syntax 0")]:
+        for texts, told in [(("[]", "[]", "X#c", "x"), "definition: F2 NotObject"), ((LOOP, "[]", "X#c", "x"), "mocks: M2 Shape"),
+            ((LOOP, "{}", "X#c", "x"), "case: M7 NoMachine"), ((LOOP, "{}", "X", "x"), "input: J1 Syntax 0")]:
             ran = self.on_texts("debug", *texts, "jump\n")
             self.assertEqual((ran.returncode, ran.stdout, ran.stderr), (2, "", f"fault: {told}\n"))
 
@@ -307,7 +331,8 @@ class BackTest(SessionTest):
     def test_invocations_and_the_last_moment_are_those_of_the_steps_that_are_left(self):
         taken = [(at("/", second), "ok") for second in [0, 3, 9]]
         again = '["Again","W",{},"2024-01-01T00:00:00.000Z",[0,%d],"2024-01-01T00:00:%sZ"]'
-        exchanged = [*taken, ("back 2", "back 1"), ("show /", "shown " + again % (1, "03.000")), (STEP, "S7 NotYet 2024-01-01T00:00:03.000Z"), *taken[1:], ("back 1", "back 2"), ("show /", "shown " + again % (2, "09.000")), taken[2]]
+        exchanged = [*taken, ("back 2", "back 1"), ("show /", "shown " + again % (1, "03.000")),
+            (STEP, "S7 NotYet 2024-01-01T00:00:03.000Z"), *taken[1:], ("back 1", "back 2"), ("show /", "shown " + again % (2, "09.000")), taken[2]]
         end = self.replies(RETRIED, exchanged, mocks=THREE_ANSWERS, chosen="M#c")
         self.assertEqual(end, self.replies(RETRIED, taken, mocks=THREE_ANSWERS, chosen="M#c"))
 

@@ -13,7 +13,14 @@ from program import TOP, ProgramTest, run_program
 
 # Iterations, two at once, of which each passes, waits and calls a service, which throws at first; beside them a branch that fails
 # where the input says so. All are retried once.
-MIXED = '{"StartAt":"Q","States":{"Q":{"Type":"Parallel","Branches":[{"StartAt":"M","States":{"M":{"Type":"Map","ItemsPath":"$.items","MaxConcurrency":2,"Iterator":{"StartAt":"P","States":{"P":{"Type":"Pass","Next":"X"},"X":{"Type":"Wait","Seconds":1,"Next":"T"},"T":{"Type":"Task","Resource":"r","Retry":[{"ErrorEquals":["E"],"IntervalSeconds":1}],"End":true}}},"End":true}}},{"StartAt":"B","States":{"B":{"Type":"Pass","Next":"C"},"C":{"Type":"Choice","Choices":[{"Variable":"$.fails","BooleanEquals":true,"Next":"F"}],"Default":"D"},"D":{"Type":"Succeed"},"F":{"Type":"Fail","Error":"G"}}}],"Retry":[{"ErrorEquals":["G"],"IntervalSeconds":1,"MaxAttempts":1}],"End":true}}}'
+MIXED = (
+    '{"StartAt":"Q","States":{"Q":{"Type":"Parallel","Branches":[{"StartAt":"M","States":{"M":{"Type":"Map","ItemsPath":"$.items",'
+    '"MaxConcurrency":2,"Iterator":{"StartAt":"P","States":{"P":{"Type":"Pass","Next":"X"},"X":{"Type":"Wait","Seconds":1,"Next":"T"},'
+    '"T":{"Type":"Task","Resource":"r","Retry":[{"ErrorEquals":["E"],"IntervalSeconds":1}],"End":true}}},"End":true}}},{"StartAt":"B",'
+    '"States":{"B":{"Type":"Pass","Next":"C"},"C":{"Type":"Choice","Choices":[{"Variable":"$.fails","BooleanEquals":true,"Next":"F"}],'
+    '"Default":"D"},"D":{"Type":"Succeed"},"F":{"Type":"Fail","Error":"G"}}}],"Retry":[{"ErrorEquals":["G"],"IntervalSeconds":1,'
+    '"MaxAttempts":1}],"End":true}}}'
+)
 MIXED_MOCKS = '{"StateMachines":{"M":{"TestCases":{"c":{"T":"a"}}}},"MockedResponses":{"a":{"0-1":{"Throw":{"Error":"E"}},"2-99":{"Return":0}}}}'
 MIXED_INPUTS = ['{"items":[0,1,2],"fails":false}', '{"items":[0,1,2],"fails":true}']
 MIXED_PLACES = ["/", "/0", "/0/0", "/0/1", "/0/2", "/1"]
@@ -110,7 +117,8 @@ def examples():
             places = sorted({it.split(" ")[3] for it in file.read().splitlines()[:-1]})
         given = f"{folder}/{case}.input.json"
         if len(places) > 1:
-            yield Run([f"{folder}/definition.json", f"{folder}/mocks.json", f"{os.path.basename(folder)}#{case}", given if os.path.exists(given) else f"{folder}/input.json"], places)
+            yield Run([f"{folder}/definition.json", f"{folder}/mocks.json", f"{os.path.basename(folder)}#{case}", given
+                if os.path.exists(given) else f"{folder}/input.json"], places)
 
 
 class ExchangeTest(ProgramTest):

@@ -192,7 +192,10 @@ class Exploring(ProgramTest):
 
     def test_a_later_wait_may_come_first(self):
         def fails(name, seconds):
-            return f'{{"StartAt":"W{name}","States":{{"W{name}":{{"Type":"Wait","Seconds":{seconds},"Next":"F{name}"}},"F{name}":{{"Type":"Fail","Error":"{name}"}}}}}}'
+            return (
+                f'{{"StartAt":"W{name}","States":{{"W{name}":{{"Type":"Wait","Seconds":{seconds},"Next":"F{name}"}},'
+                f'"F{name}":{{"Type":"Fail","Error":"{name}"}}}}}}'
+            )
 
         told = self.complete(parallel([fails("A", 1), fails("B", 2)]), chosen="M")
         self.assertEqual(sorted((one.outcome, one.late) for one in told.found), [('FAILED {"Error":"A"}', False), ('FAILED {"Error":"B"}', True)])
@@ -209,16 +212,23 @@ class Exploring(ProgramTest):
         """What a search found of the orders in which no branch is late. It says that it tried no others, and marks none."""
         ran = self.explore(definition, given, mocks, chosen, "--prompt")
         told = explored(ran.stdout)
-        self.assertEqual((ran.stderr, told.search, told.notes[0]), ("", "search complete", "note only orders in which no branch is late: one steps only where none may step earlier"))
+        self.assertEqual((ran.stderr, told.search, told.notes[0]),
+            ("", "search complete", "note only orders in which no branch is late: one steps only where none may step earlier"))
         self.assertEqual([one.late for one in told.found], len(told.found) * [False])
         return told
 
     def test_prompt_orders_have_the_outcomes_that_are_not_late(self):
         def fails(name, seconds):
-            return f'{{"StartAt":"W{name}","States":{{"W{name}":{{"Type":"Wait","Seconds":{seconds},"Next":"F{name}"}},"F{name}":{{"Type":"Fail","Error":"{name}"}}}}}}'
+            return (
+                f'{{"StartAt":"W{name}","States":{{"W{name}":{{"Type":"Wait","Seconds":{seconds},"Next":"F{name}"}},'
+                f'"F{name}":{{"Type":"Fail","Error":"{name}"}}}}}}'
+            )
 
         at_once = ['{"StartAt":"%s","States":{"%s":{"Type":"Fail","Error":"%s"}}}' % (name, name, name) for name in "DE"]
-        retried = '{"StartAt":"T","States":{"T":{"Type":"Task","Resource":"r","Retry":[{"ErrorEquals":["Busy"],"IntervalSeconds":2}],"Next":"G"},"G":{"Type":"Fail","Error":"G"}}}'
+        retried = (
+            '{"StartAt":"T","States":{"T":{"Type":"Task","Resource":"r","Retry":[{"ErrorEquals":["Busy"],"IntervalSeconds":2}],"Next":"G"},'
+            '"G":{"Type":"Fail","Error":"G"}}}'
+        )
         busy = mocked({"T": '"0":{"Throw":{"Error":"Busy"}},"1-9999":{"Return":1}'})
         for branches, mocks, chosen in [
             ([fails("A", 1), fails("B", 2)], "{}", "M"),
@@ -264,7 +274,10 @@ class Exploring(ProgramTest):
 
     def test_random_steps_end_in_a_listed_outcome(self):
         chance = random.Random(46)
-        body = '{"StartAt":"T","States":{"T":{"Type":"Task","Resource":"r","Retry":[{"ErrorEquals":["Busy"],"IntervalSeconds":2}],"Next":"U"},"U":{"Type":"Pass","End":true}}}'
+        body = (
+            '{"StartAt":"T","States":{"T":{"Type":"Task","Resource":"r","Retry":[{"ErrorEquals":["Busy"],"IntervalSeconds":2}],"Next":"U"},'
+            '"U":{"Type":"Pass","End":true}}}'
+        )
         retried = parallel([chain("A", 2, TASK), chain("B", 2)], ',"Retry":[{"ErrorEquals":["E"],"IntervalSeconds":1,"MaxAttempts":1}]')
         waits = parallel(['{"StartAt":"W","States":{"W":{"Type":"Wait","Seconds":3,"Next":"F"},"F":{"Type":"Fail","Error":"G"}}}', chain("A", 3, TASK)])
         for definition, given, answers in [

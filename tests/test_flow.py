@@ -2,20 +2,30 @@
 from program import ProgramTest, steps
 
 # Counts to two in a loop.
-LOOP = '{"StartAt":"A","States":{"A":{"Type":"Pass","Parameters":{"n.$":"States.MathAdd($.n, 1)"},"Next":"D"},"D":{"Type":"Pass","Next":"C"},"C":{"Type":"Choice","Choices":[{"Variable":"$.n","NumericLessThan":2,"Next":"A"}],"Default":"Z"},"Z":{"Type":"Succeed"}}}'
+LOOP = (
+    '{"StartAt":"A","States":{"A":{"Type":"Pass","Parameters":{"n.$":"States.MathAdd($.n, 1)"},"Next":"D"},"D":{"Type":"Pass","Next":"C"},'
+    '"C":{"Type":"Choice","Choices":[{"Variable":"$.n","NumericLessThan":2,"Next":"A"}],"Default":"Z"},"Z":{"Type":"Succeed"}}}'
+)
 
 # Members of the Choice A, the input, how many lines a run of two steps has, and the last one. A goes on to Y or Z.
 CHOICES = [
-    ('"Type":"Choice","Choices":[{"Variable":"$.n","NumericEquals":2,"Next":"Y"},{"Variable":"$.n","NumericEquals":1,"Next":"Z"},{"Variable":"$.n","IsNumeric":true,"Next":"Y"}]', '{"n":1}', 9, 'status SUCCEEDED "z"'),
+    ('"Type":"Choice","Choices":[{"Variable":"$.n","NumericEquals":2,"Next":"Y"},{"Variable":"$.n","NumericEquals":1,"Next":"Z"},'
+        '{"Variable":"$.n","IsNumeric":true,"Next":"Y"}]', '{"n":1}', 9, 'status SUCCEEDED "z"'),
     ('"Type":"Choice","Choices":[{"Variable":"$.n","NumericEquals":2,"Next":"Z"}],"Default":"Y","OutputPath":"$.n"', '{"n":1}', 9, "status SUCCEEDED 1"),
     ('"Type":"Choice","InputPath":"$.a","Choices":[{"Variable":"$.n","NumericEquals":1,"Next":"Y"}]', '{"a":{"n":1}}', 9, 'status SUCCEEDED {"n":1}'),
     ('"Type":"Choice","Choices":[{"Variable":"$$.State.Name","StringEquals":"A","Next":"Y"}]', "{}", 9, "status SUCCEEDED {}"),
-    ('"Type":"Choice","Choices":[{"And":[{"Variable":"$.v","IsPresent":true},{"Variable":"$.v","NumericEquals":1}],"Next":"Y"}]', "{}", 6, 'status FAILED {"Error":"States.NoChoiceMatched","Cause":"no rule holds"}'),
-    ('"Type":"Choice","Choices":[{"And":[{"Variable":"$.v","NumericEquals":1},{"Variable":"$.v","IsPresent":true}],"Next":"Y"}]', "{}", 6, 'status FAILED {"Error":"States.Runtime","Cause":"$.v: no value"}'),
-    (r'"Type":"Choice","Choices":[{"Variable":"$.v","StringMatches":"a\\b","Next":"Y"}],"Default":"Z"', '{"v":"ab"}', 6, 'status FAILED {"Error":"States.Runtime","Cause":"StringMatches: open escape"}'),
-    ('"Type":"Choice","Choices":[{"Variable":"$.v","IsNull":true,"Next":"Y"}],"Default":"Z","OutputPath":"$.q"', "{}", 6, 'status FAILED {"Error":"States.Runtime","Cause":"$.v: no value"}'),
-    ('"Type":"Choice","Choices":[{"Variable":"$","IsNull":true,"Next":"Y"}],"OutputPath":"$.q"', "{}", 6, 'status FAILED {"Error":"States.NoChoiceMatched","Cause":"no rule holds"}'),
-    ('"Type":"Choice","Choices":[{"Variable":"$","IsNull":false,"Next":"Y"}],"OutputPath":"$.q"', "{}", 6, 'status FAILED {"Error":"States.Runtime","Cause":"OutputPath: no value"}'),
+    ('"Type":"Choice","Choices":[{"And":[{"Variable":"$.v","IsPresent":true},{"Variable":"$.v","NumericEquals":1}],"Next":"Y"}]', "{}", 6,
+        'status FAILED {"Error":"States.NoChoiceMatched","Cause":"no rule holds"}'),
+    ('"Type":"Choice","Choices":[{"And":[{"Variable":"$.v","NumericEquals":1},{"Variable":"$.v","IsPresent":true}],"Next":"Y"}]', "{}", 6,
+        'status FAILED {"Error":"States.Runtime","Cause":"$.v: no value"}'),
+    (r'"Type":"Choice","Choices":[{"Variable":"$.v","StringMatches":"a\\b","Next":"Y"}],"Default":"Z"', '{"v":"ab"}', 6,
+        'status FAILED {"Error":"States.Runtime","Cause":"StringMatches: open escape"}'),
+    ('"Type":"Choice","Choices":[{"Variable":"$.v","IsNull":true,"Next":"Y"}],"Default":"Z","OutputPath":"$.q"', "{}", 6,
+        'status FAILED {"Error":"States.Runtime","Cause":"$.v: no value"}'),
+    ('"Type":"Choice","Choices":[{"Variable":"$","IsNull":true,"Next":"Y"}],"OutputPath":"$.q"', "{}", 6,
+        'status FAILED {"Error":"States.NoChoiceMatched","Cause":"no rule holds"}'),
+    ('"Type":"Choice","Choices":[{"Variable":"$","IsNull":false,"Next":"Y"}],"OutputPath":"$.q"', "{}", 6,
+        'status FAILED {"Error":"States.Runtime","Cause":"OutputPath: no value"}'),
 ]
 
 # The same of the Wait A. The second step comes five seconds after the first.
@@ -34,7 +44,8 @@ WAITS = [
     ('"Type":"Wait","Timestamp":"2023-01-01T00:00:00Z","End":true', "{}", 7, "status SUCCEEDED {}"),
     ('"Type":"Wait","Timestamp":"2024-01-01T00:00:05.0001Z","End":true', "{}", 5, "status RUNNING"),
     ('"Type":"Wait","TimestampPath":"$.t","End":true', '{"t":"2024-01-01T01:00:05+01:00"}', 7, 'status SUCCEEDED {"t":"2024-01-01T01:00:05+01:00"}'),
-    ('"Type":"Wait","TimestampPath":"$.t","End":true', '{"t":"2024-01-01t00:00:00Z"}', 6, 'status FAILED {"Error":"States.Runtime","Cause":"TimestampPath: no value"}'),
+    ('"Type":"Wait","TimestampPath":"$.t","End":true', '{"t":"2024-01-01t00:00:00Z"}', 6,
+        'status FAILED {"Error":"States.Runtime","Cause":"TimestampPath: no value"}'),
     ('"Type":"Wait","Seconds":0,"InputPath":"$.q","End":true', "{}", 6, 'status FAILED {"Error":"States.Runtime","Cause":"InputPath: no value"}'),
     ('"Type":"Wait","Seconds":0,"OutputPath":"$.q","End":true', "{}", 6, 'status FAILED {"Error":"States.Runtime","Cause":"OutputPath: no value"}'),
 ]

@@ -45,8 +45,10 @@ MOCKS = """\
 # Typical mistakes: a text of the good definition, what stands in its place, where it is told and in which words.
 MISTAKES = [
     ('"Next": "Ship"', '"Next": "Shipp"', "13:74", 'error F10: Next names "Shipp", and no state of this machine has that name; did you mean "Ship"?'),
-    ('"StartAt": "Charge card"', '"StartAt": "Charge crad"', "2:14", 'error F10: StartAt names "Charge crad", and no state of this machine has that name; did you mean "Charge card"?'),
-    ('"Type": "Task"', '"Type": "Taks"', "5:15", 'error F5: Type "Taks" is not supported; the types of states are Task, Pass, Choice, Wait, Parallel, Map, Succeed and Fail; did you mean "Task"?'),
+    ('"StartAt": "Charge card"', '"StartAt": "Charge crad"', "2:14",
+        'error F10: StartAt names "Charge crad", and no state of this machine has that name; did you mean "Charge card"?'),
+    ('"Type": "Task"', '"Type": "Taks"', "5:15",
+        'error F5: Type "Taks" is not supported; the types of states are Task, Pass, Choice, Wait, Parallel, Map, Succeed and Fail; did you mean "Task"?'),
     ('"Resource"', '"Resorce"', "6:7", 'error F4: a Task state has no member "Resorce"; did you mean "Resource"?'),
     ('"Default"', '"default"', "14:7", 'error F4: a Choice state has no member "default"; did you mean "Default"?'),
     ('      "Resource": "arn:aws:states:::lambda:invoke",\n', "", "9:5", "error F3: Resource is missing: a Task state needs it"),
@@ -54,14 +56,22 @@ MISTAKES = [
     ('"MaxAttempts": 2', '"MaxAttempts": -1', "8:69", "error F7: MaxAttempts is the number -1; it has to be a whole number from 0 to 99999999"),
     ('"Type": "Pass", "End": true', '"Type": "Pass"', "16:13", 'error F9: a Pass state needs one of Next and "End": true, and "Ship" has none'),
     ('"End": true', '"Next": "Paid?", "End": true', "16:48", "error F8: End can't stand beside Next: a Pass state has one of them at most"),
-    ('"End": true', '"Next": "End"', "16:39", 'error F10: Next names "End", and no state of this machine has that name; a state that ends has "End": true in the place of Next'),
-    ('"$.paid"', '"$.paid[*]"', "13:33", 'error F13: Variable is no path: "$.paid[*]" is wrong from "*]" on, byte 7 of it; supported are steps as $.name, $[\'a name\'] and $[0]; wildcards, slices, filters and ".." are not supported'),
-    ('"$.id"', '"States.Fomat(\'{}\', $.id)"', "7:31", "error F14: \"id.$\" is no call of an intrinsic function: \"States.Fomat('{}', $.id)\"; States.Fomat is not supported; did you mean States.Format?"),
-    ('"$.id"', '"id"', "7:31", 'error F14: "id.$" is neither a path, which begins with "$", nor a call of an intrinsic function, as States.Format(\'{}\', $.a): "id"; a text that is meant as it stands has the key "id"'),
+    ('"End": true', '"Next": "End"', "16:39",
+        'error F10: Next names "End", and no state of this machine has that name; a state that ends has "End": true in the place of Next'),
+    ('"$.paid"', '"$.paid[*]"', "13:33",
+        'error F13: Variable is no path: "$.paid[*]" is wrong from "*]" on, byte 7 of it; supported are steps as $.name, $[\'a name\'] and '
+        '$[0]; wildcards, slices, filters and ".." are not supported'),
+    ('"$.id"', '"States.Fomat(\'{}\', $.id)"', "7:31",
+        "error F14: \"id.$\" is no call of an intrinsic function: \"States.Fomat('{}', $.id)\"; States.Fomat is not supported; did you mean States.Format?"),
+    ('"$.id"', '"id"', "7:31",
+        'error F14: "id.$" is neither a path, which begins with "$", nor a call of an intrinsic function, as States.Format(\'{}\', $.a): '
+        '"id"; a text that is meant as it stands has the key "id"'),
     ('["States.Timeout"]', '["States.ALL", "E"]', "8:34", "error F12: States.ALL has to stand alone in its ErrorEquals"),
     ('"Type": "Pass"', '"Type": "Pass", "Retry": []', "16:31", 'error F4: a Pass state has no member "Retry"; it is for states of type Task, Parallel, Map'),
-    ('"Type": "Pass"', '"Type": "Pass", "Assign": {}', "16:41", "error F5: Assign is not supported: it sets a variable; ResultPath keeps a result in the state's output"),
-    ('"BooleanEquals": true, ', "", "13:19", "error F9: a rule of a Choice state needs a test, as StringEquals, or one of And, Or and Not, and this one has none"),
+    ('"Type": "Pass"', '"Type": "Pass", "Assign": {}', "16:41",
+        "error F5: Assign is not supported: it sets a variable; ResultPath keeps a result in the state's output"),
+    ('"BooleanEquals": true, ', "", "13:19",
+        "error F9: a rule of a Choice state needs a test, as StringEquals, or one of And, Or and Not, and this one has none"),
     # no JSON
     ('"End": true }', '"End": true, }', "16:44", "error F1: no comma can stand before a closing brace or bracket"),
     ('"States": {', "// the states\n  \"States\": {", "3:3", "error F1: JSON has no comments; Comment is a member for one"),
@@ -71,14 +81,17 @@ MISTAKES = [
     # suspicious
     ('"States.Timeout"', '"States.Timout"', "8:35", 'warning unknown-error: no error is named "States.Timout"; did you mean "States.Timeout"?'),
     ('"id.$": "$.id"', '"id": "$.id"', "7:29", 'warning forgotten-dollar: id stays the text "$.id"; the value at this path has the key "id.$"'),
-    (',\n      "Default": "Ship"', "", "11:5", 'warning no-default: the Choice state "Paid?" has no Default: where no rule holds, the execution fails with States.NoChoiceMatched'),
+    (',\n      "Default": "Ship"', "", "11:5",
+        'warning no-default: the Choice state "Paid?" has no Default: where no rule holds, the execution fails with States.NoChoiceMatched'),
     ('"Next": "Paid?"', '"Next": "Ship"', "11:5", 'warning unreachable-state: nothing leads to the state "Paid?" from StartAt'),
 ]
 
 # The same of mock files.
 MOCK_MISTAKES = [
-    ('"Charge card"', '"Charge crad"', "5:22", 'error unknown-state: case "shipped" has an answer for "Charge crad", and no Task has that name; did you mean "Charge card"?'),
-    ('"Charge card"', '"Charge card": "Charged", "Ship"', "5:48", 'error not-a-task: case "shipped" has an answer for "Ship", which is a Pass state and no Task'),
+    ('"Charge card"', '"Charge crad"', "5:22",
+        'error unknown-state: case "shipped" has an answer for "Charge crad", and no Task has that name; did you mean "Charge card"?'),
+    ('"Charge card"', '"Charge card": "Charged", "Ship"', "5:48",
+        'error not-a-task: case "shipped" has an answer for "Ship", which is a Pass state and no Task'),
     ('"Charge card": "Charged"', '"Charge card": "Chargd"', "5:37", 'error M5: no response has the name "Chargd"'),
     ('"0"', '"1-"', "10:18", 'error M3: "1-" is neither a number nor a range of numbers, as 0 or 1-3'),
     ('"0": {', '"0-2": { "Return": 1 }, "1": {', "10:42", 'error M4: "1" has a number of an answer before it'),

@@ -24,30 +24,42 @@ SLOTS = [
 # Members of a Map of a Task, the Task's answers, the input, how many lines a run of four steps (to the fork, of the first iteration,
 # of the join, and one more) has, and the last one.
 ENDED = [
-    ('"ItemsPath":"$.q","Catch":[{"ErrorEquals":["States.ALL"],"Next":"H"}],"End":true', "", "{}", 8, 'status FAILED {"Error":"States.Runtime","Cause":"ItemsPath: no value"}'),
+    ('"ItemsPath":"$.q","Catch":[{"ErrorEquals":["States.ALL"],"Next":"H"}],"End":true', "", "{}", 8,
+        'status FAILED {"Error":"States.Runtime","Cause":"ItemsPath: no value"}'),
     ('"End":true', "", '{"l":[]}', 8, 'status FAILED {"Error":"States.Runtime","Cause":"ItemsPath: no value"}'),
     ('"InputPath":"$.q","End":true', "", "[]", 8, 'status FAILED {"Error":"States.Runtime","Cause":"InputPath: no value"}'),
-    ('"Parameters":{"x.$":"$$.Map.Item.Value.x"},"Catch":[{"ErrorEquals":["States.ALL"],"Next":"H"}],"End":true', "", '[{"x":1},{}]', 11, 'status SUCCEEDED {"Error":"States.ParameterPathFailure","Cause":"x.$: no value"}'),
+    ('"Parameters":{"x.$":"$$.Map.Item.Value.x"},"Catch":[{"ErrorEquals":["States.ALL"],"Next":"H"}],"End":true', "", '[{"x":1},{}]', 11,
+        'status SUCCEEDED {"Error":"States.ParameterPathFailure","Cause":"x.$: no value"}'),
     ('"Parameters":{"x.$":"$.q"},"ResultSelector":{"n.$":"States.ArrayLength($)"},"End":true', "", "[]", 11, 'status SUCCEEDED {"n":0}'),
-    ('"InputPath":"$.in","ItemsPath":"$.l","ResultPath":"$.out","End":true', '"0":{"Return":"a"}', '{"in":{"l":[0]},"k":1}', 18, 'status SUCCEEDED {"in":{"l":[0]},"k":1,"out":["a"]}'),
+    ('"InputPath":"$.in","ItemsPath":"$.l","ResultPath":"$.out","End":true', '"0":{"Return":"a"}', '{"in":{"l":[0]},"k":1}', 18,
+        'status SUCCEEDED {"in":{"l":[0]},"k":1,"out":["a"]}'),
     ('"ResultPath":null,"End":true', '"0":{"Return":"a"}', "[0]", 18, "status SUCCEEDED [0]"),
     ('"OutputPath":"$[1]","End":true', '"0":{"Return":"a"}', "[0]", 17, 'status FAILED {"Error":"States.Runtime","Cause":"OutputPath: no value"}'),
-    ('"Catch":[{"ErrorEquals":["E"],"Next":"H"}],"End":true', '"0":{"Throw":{"Error":"E","Cause":"c"}}', "[0]", 19, 'status SUCCEEDED {"Error":"E","Cause":"c"}'),
+    ('"Catch":[{"ErrorEquals":["E"],"Next":"H"}],"End":true', '"0":{"Throw":{"Error":"E","Cause":"c"}}', "[0]", 19,
+        'status SUCCEEDED {"Error":"E","Cause":"c"}'),
     ('"Retry":[{"ErrorEquals":["F"]}],"End":true', '"0":{"Throw":{"Error":"E"}}', "[0]", 16, 'status FAILED {"Error":"E"}'),
 ]
 
 # One Map: in the older spelling, in the newer one, and in both ways of mixing them.
 SPELLINGS = [
-    '{"StartAt":"M","States":{"M":{"Type":"Map","Parameters":{"v.$":"$$.Map.Item.Value"},"Iterator":{"StartAt":"P","States":{"P":{"Type":"Pass","End":true}}},"End":true}}}',
-    '{"StartAt":"M","States":{"M":{"Type":"Map","ItemSelector":{"v.$":"$$.Map.Item.Value"},"ItemProcessor":{"ProcessorConfig":{"Mode":"INLINE"},"StartAt":"P","States":{"P":{"Type":"Pass","End":true}}},"End":true}}}',
-    '{"StartAt":"M","States":{"M":{"Type":"Map","Parameters":{"v.$":"$$.Map.Item.Value"},"ItemProcessor":{"StartAt":"P","States":{"P":{"Type":"Pass","End":true}}},"End":true}}}',
-    '{"StartAt":"M","States":{"M":{"Type":"Map","ItemSelector":{"v.$":"$$.Map.Item.Value"},"Iterator":{"StartAt":"P","States":{"P":{"Type":"Pass","End":true}}},"End":true}}}',
+    '{"StartAt":"M","States":{"M":{"Type":"Map","Parameters":{"v.$":"$$.Map.Item.Value"},"Iterator":{"StartAt":"P","States":{"P":{"Type":'
+    '"Pass","End":true}}},"End":true}}}',
+    '{"StartAt":"M","States":{"M":{"Type":"Map","ItemSelector":{"v.$":"$$.Map.Item.Value"},"ItemProcessor":{"ProcessorConfig":{"Mode":'
+    '"INLINE"},"StartAt":"P","States":{"P":{"Type":"Pass","End":true}}},"End":true}}}',
+    '{"StartAt":"M","States":{"M":{"Type":"Map","Parameters":{"v.$":"$$.Map.Item.Value"},"ItemProcessor":{"StartAt":"P","States":{"P":'
+    '{"Type":"Pass","End":true}}},"End":true}}}',
+    '{"StartAt":"M","States":{"M":{"Type":"Map","ItemSelector":{"v.$":"$$.Map.Item.Value"},"Iterator":{"StartAt":"P","States":{"P":{"Type":'
+    '"Pass","End":true}}},"End":true}}}',
 ]
 
 class MapTest(ProgramTest):
     def test_iterations_are_stepped_in_turn_and_joined(self):
         # A Map of a Pass over the items of `l`.
-        definition = '{"StartAt":"M","States":{"M":{"Type":"Map","ItemsPath":"$.l","Parameters":{"i.$":"$$.Map.Item.Index","v.$":"$$.Map.Item.Value","k.$":"$.k"},"Iterator":{"StartAt":"P","States":{"P":{"Type":"Pass","End":true}}},"ResultPath":"$.r","OutputPath":"$.r","End":true}}}'
+        definition = (
+            '{"StartAt":"M","States":{"M":{"Type":"Map","ItemsPath":"$.l","Parameters":{"i.$":"$$.Map.Item.Index",'
+            '"v.$":"$$.Map.Item.Value","k.$":"$.k"},"Iterator":{"StartAt":"P","States":{"P":{"Type":"Pass","End":true}}},'
+            '"ResultPath":"$.r","OutputPath":"$.r","End":true}}}'
+        )
         self.assertEqual(
             self.told(definition, '{"l":["a","b"],"k":0}', steps(["/", "/1", "/", "/0", "/"])),
             """\
@@ -107,13 +119,20 @@ status SUCCEEDED []
         mocks = answered('"0":{"Return":"x"},"1":{"Return":"y"},"2":{"Return":"z"}')
         for most, replies, output in SLOTS:
             with self.subTest(most):
-                definition = '{"StartAt":"M","States":{"M":{"Type":"Map","MaxConcurrency":%d,"Iterator":{"StartAt":"W","States":{"W":{"Type":"Task","Resource":"r","End":true}}},"End":true}}}' % most
+                definition = (
+                    '{"StartAt":"M","States":{"M":{"Type":"Map","MaxConcurrency":%d,"Iterator":{"StartAt":"W","States":{"W":{"Type":"Task",'
+                    '"Resource":"r","End":true}}},"End":true}}}'
+                ) % most
                 text = self.told(definition, "[10,20,30]", steps(place for place, _ in replies), mocks, "M#c")
                 self.assertTrue(text.startswith("".join(f"step {place} {reply}\n" for place, reply in replies)), text)
                 self.assertTrue(text.endswith(f"\nstatus SUCCEEDED {output}\n"), text)
 
     def test_a_failed_iteration_is_retried_with_all_others(self):
-        definition = '{"StartAt":"M","States":{"M":{"Type":"Map","Parameters":{"r.$":"$$.State.RetryCount","v.$":"$$.Map.Item.Value"},"Iterator":{"StartAt":"W","States":{"W":{"Type":"Task","Resource":"r","ResultPath":"$.w","End":true}}},"Retry":[{"ErrorEquals":["E"],"IntervalSeconds":1,"MaxAttempts":1}],"End":true}}}'
+        definition = (
+            '{"StartAt":"M","States":{"M":{"Type":"Map","Parameters":{"r.$":"$$.State.RetryCount","v.$":"$$.Map.Item.Value"},'
+            '"Iterator":{"StartAt":"W","States":{"W":{"Type":"Task","Resource":"r","ResultPath":"$.w","End":true}}},'
+            '"Retry":[{"ErrorEquals":["E"],"IntervalSeconds":1,"MaxAttempts":1}],"End":true}}}'
+        )
         moments = steps(["/", "/0", "/1", "/2", "/", "/", "/0"]) + steps(["/", "/0", "/1", "/2", "/"], "2024-01-01T00:00:01Z")
         mocks = answered('"0":{"Return":0},"1":{"Throw":{"Error":"E"}},"2-4":{"Return":1}')
         text = self.told(definition, "[5,6,7]", moments, mocks, "M#c")
@@ -146,16 +165,28 @@ step / ok
     def test_a_map_ends_by_what_its_members_say(self):
         for members, answers, given, lines, status in ENDED:
             with self.subTest(members):
-                definition = '{"StartAt":"M","States":{"M":{"Type":"Map",%s,"Iterator":{"StartAt":"W","States":{"W":{"Type":"Task","Resource":"r","End":true}}}},"H":{"Type":"Succeed"}}}' % members
+                definition = (
+                    '{"StartAt":"M","States":{"M":{"Type":"Map",%s,"Iterator":{"StartAt":"W","States":{"W":{"Type":"Task","Resource":"r",'
+                    '"End":true}}}},"H":{"Type":"Succeed"}}}'
+                ) % members
                 text = self.told(definition, given, steps(["/", "/0", "/", "/"]), answered(answers), "M#c")
                 self.assert_ends(text, lines, status)
 
     def test_the_item_of_the_innermost_map_is_in_the_context(self):
         # A Map in a Map, with a Parallel inside. Each asks for the item that it is at.
-        definition = '{"StartAt":"O","States":{"O":{"Type":"Map","Iterator":{"StartAt":"I","States":{"I":{"Type":"Map","InputPath":null,"ItemsPath":"$$.Map.Item.Value","Parameters":{"i.$":"$$.Map.Item.Index","v.$":"$$.Map.Item.Value"},"Iterator":{"StartAt":"Q","States":{"Q":{"Type":"Parallel","Branches":[{"StartAt":"P","States":{"P":{"Type":"Pass","Parameters":{"in.$":"$","i.$":"$$.Map.Item.Index","v.$":"$$.Map.Item.Value"},"End":true}}}],"OutputPath":"$[0]","End":true}}},"ResultSelector":{"all.$":"$","i.$":"$$.Map.Item.Index"},"End":true}}},"End":true}}}'
+        definition = (
+            '{"StartAt":"O","States":{"O":{"Type":"Map","Iterator":{"StartAt":"I","States":{"I":{"Type":"Map","InputPath":null,'
+            '"ItemsPath":"$$.Map.Item.Value","Parameters":{"i.$":"$$.Map.Item.Index","v.$":"$$.Map.Item.Value"},"Iterator":{"StartAt":"Q",'
+            '"States":{"Q":{"Type":"Parallel","Branches":[{"StartAt":"P","States":{"P":{"Type":"Pass","Parameters":{"in.$":"$",'
+            '"i.$":"$$.Map.Item.Index","v.$":"$$.Map.Item.Value"},"End":true}}}],"OutputPath":"$[0]","End":true}}},'
+            '"ResultSelector":{"all.$":"$","i.$":"$$.Map.Item.Index"},"End":true}}},"End":true}}}'
+        )
         places = ["/", "/0", "/1", "/0/0", "/0/1", "/1/0", "/0/0/0", "/0/1/0", "/1/0/0", "/0/0", "/0/1", "/1/0", "/0", "/1", "/"]
         text = self.told(definition, "[[5,6],[7]]", steps(places))
-        status = 'status SUCCEEDED [{"all":[{"in":{"i":0,"v":5},"i":0,"v":5},{"in":{"i":1,"v":6},"i":1,"v":6}],"i":0},{"all":[{"in":{"i":0,"v":7},"i":0,"v":7}],"i":1}]'
+        status = (
+            'status SUCCEEDED [{"all":[{"in":{"i":0,"v":5},"i":0,"v":5},{"in":{"i":1,"v":6},"i":1,"v":6}],"i":0},{"all":[{"in":{"i":0,'
+            '"v":7},"i":0,"v":7}],"i":1}]'
+        )
         self.assertEqual(text.splitlines()[-1], status)
         self.assertIn(' /0/1 MapIterationSucceeded "I" {"index":1}\n', text)
         self.assertIn(' /1 MapIterationSucceeded "O" {"index":1}\n', text)
@@ -167,7 +198,10 @@ step / ok
             self.assertEqual(other, older)
 
     def test_an_iteration_in_the_middle_fails_a_map_of_999(self):
-        definition = '{"StartAt":"M","States":{"M":{"Type":"Map","Iterator":{"StartAt":"W","States":{"W":{"Type":"Task","Resource":"r","End":true}}},"Catch":[{"ErrorEquals":["E"],"Next":"H"}],"End":true},"H":{"Type":"Succeed"}}}'
+        definition = (
+            '{"StartAt":"M","States":{"M":{"Type":"Map","Iterator":{"StartAt":"W","States":{"W":{"Type":"Task","Resource":"r","End":true}}}'
+            ',"Catch":[{"ErrorEquals":["E"],"Next":"H"}],"End":true},"H":{"Type":"Succeed"}}}'
+        )
         items = ",".join(999 * ["0"])
         places = ["/", *(f"/{number}" for number in range(501)), "/998", "/", "/"]
         mocks = answered('"0-499":{"Return":1},"500":{"Throw":{"Error":"E"}},"501-998":{"Return":1}')

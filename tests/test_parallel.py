@@ -5,35 +5,50 @@ from program import ProgramTest, answered, steps
 # (to the fork, of each branch, of the join) has, and the last one.
 JOINED = [
     ('"End":true', '{"n":1}', 15, 'status SUCCEEDED [{"n":1},"b"]'),
-    ('"Parameters":{"x.$":"$.n"},"ResultSelector":{"first.$":"$[0].x","both.$":"$"},"ResultPath":"$.r","OutputPath":"$.r","End":true', '{"n":1}', 15, 'status SUCCEEDED {"first":1,"both":[{"x":1},"b"]}'),
-    ('"InputPath":"$.in","Parameters":{"x.$":"$.n"},"ResultPath":"$.out","End":true', '{"in":{"n":2},"k":0}', 15, 'status SUCCEEDED {"in":{"n":2},"k":0,"out":[{"x":2},"b"]}'),
+    ('"Parameters":{"x.$":"$.n"},"ResultSelector":{"first.$":"$[0].x","both.$":"$"},"ResultPath":"$.r","OutputPath":"$.r","End":true',
+        '{"n":1}', 15, 'status SUCCEEDED {"first":1,"both":[{"x":1},"b"]}'),
+    ('"InputPath":"$.in","Parameters":{"x.$":"$.n"},"ResultPath":"$.out","End":true', '{"in":{"n":2},"k":0}', 15,
+        'status SUCCEEDED {"in":{"n":2},"k":0,"out":[{"x":2},"b"]}'),
     ('"InputPath":null,"End":true', '{"n":1}', 15, 'status SUCCEEDED [{},"b"]'),
     ('"ResultPath":null,"End":true', '{"n":1}', 15, 'status SUCCEEDED {"n":1}'),
     ('"OutputPath":null,"End":true', '{"n":1}', 15, "status SUCCEEDED {}"),
     ('"ResultSelector":{"n.$":"States.ArrayLength($)","in.$":"$$.State.Name"},"End":true', "{}", 15, 'status SUCCEEDED {"n":2,"in":"Q"}'),
     ('"ResultSelector":{"x.$":"$[2]"},"End":true', "{}", 14, 'status FAILED {"Error":"States.ParameterPathFailure","Cause":"x.$: no value"}'),
     ('"ResultPath":"$.n.r","End":true', '{"n":1}', 14, 'status FAILED {"Error":"States.ResultPathMatchFailure","Cause":"ResultPath: no place"}'),
-    ('"OutputPath":"$.q","Catch":[{"ErrorEquals":["States.ALL"],"Next":"H"}],"End":true', "{}", 14, 'status FAILED {"Error":"States.Runtime","Cause":"OutputPath: no value"}'),
+    ('"OutputPath":"$.q","Catch":[{"ErrorEquals":["States.ALL"],"Next":"H"}],"End":true', "{}", 14,
+        'status FAILED {"Error":"States.Runtime","Cause":"OutputPath: no value"}'),
     ('"ResultPath":"$.n.r","Catch":[{"ErrorEquals":["States.ALL"],"ResultPath":"$.e","Next":"H"}],"End":true', '{"n":1}', 14, "status RUNNING"),
 ]
 
 # Members of a Parallel of one Task, the Task's answers, the input, how many lines a run of four steps (to the fork, of the Task, of
 # the join, and one more) has, and the last one.
 FAILED = [
-    ('"Parameters":{"x":0},"Catch":[{"ErrorEquals":["States.TaskFailed"],"ResultPath":"$.e","Next":"H"}],"End":true', '"0":{"Throw":{"Error":"E","Cause":"c"}}', '{"n":1}', 17, 'status SUCCEEDED {"n":1,"e":{"Error":"E","Cause":"c"}}'),
-    ('"OutputPath":"$.q","Catch":[{"ErrorEquals":["E"],"ResultPath":"$.e","Next":"H"}],"End":true', '"0":{"Throw":{"Error":"E"}}', '{"n":1}', 17, 'status SUCCEEDED {"n":1,"e":{"Error":"E"}}'),
-    ('"Catch":[{"ErrorEquals":["States.BranchFailed"],"Next":"H"},{"ErrorEquals":["E"],"ResultPath":null,"Next":"H"}],"End":true', '"0":{"Throw":{"Error":"E"}}', '{"n":1}', 17, 'status SUCCEEDED {"n":1}'),
-    ('"Catch":[{"ErrorEquals":["E"],"ResultPath":"$.n.e","Next":"H"}],"End":true', '"0":{"Throw":{"Error":"E"}}', '{"n":1}', 14, 'status FAILED {"Error":"States.ResultPathMatchFailure","Cause":"ResultPath: no place"}'),
-    ('"Retry":[{"ErrorEquals":["States.ALL"]}],"Catch":[{"ErrorEquals":["States.ALL"],"Next":"H"}],"End":true', '"1":{"Return":0}', "{}", 14, 'status FAILED {"Error":"States.Runtime","Cause":"no mocked answer"}'),
+    ('"Parameters":{"x":0},"Catch":[{"ErrorEquals":["States.TaskFailed"],"ResultPath":"$.e","Next":"H"}],"End":true',
+        '"0":{"Throw":{"Error":"E","Cause":"c"}}', '{"n":1}', 17, 'status SUCCEEDED {"n":1,"e":{"Error":"E","Cause":"c"}}'),
+    ('"OutputPath":"$.q","Catch":[{"ErrorEquals":["E"],"ResultPath":"$.e","Next":"H"}],"End":true', '"0":{"Throw":{"Error":"E"}}',
+        '{"n":1}', 17, 'status SUCCEEDED {"n":1,"e":{"Error":"E"}}'),
+    ('"Catch":[{"ErrorEquals":["States.BranchFailed"],"Next":"H"},{"ErrorEquals":["E"],"ResultPath":null,"Next":"H"}],"End":true',
+        '"0":{"Throw":{"Error":"E"}}', '{"n":1}', 17, 'status SUCCEEDED {"n":1}'),
+    ('"Catch":[{"ErrorEquals":["E"],"ResultPath":"$.n.e","Next":"H"}],"End":true', '"0":{"Throw":{"Error":"E"}}', '{"n":1}', 14,
+        'status FAILED {"Error":"States.ResultPathMatchFailure","Cause":"ResultPath: no place"}'),
+    ('"Retry":[{"ErrorEquals":["States.ALL"]}],"Catch":[{"ErrorEquals":["States.ALL"],"Next":"H"}],"End":true', '"1":{"Return":0}', "{}",
+        14, 'status FAILED {"Error":"States.Runtime","Cause":"no mocked answer"}'),
     ('"Retry":[],"Catch":[],"End":true', '"0":{"Throw":{"Error":"E"}}', "{}", 14, 'status FAILED {"Error":"E"}'),
-    ('"Retry":[{"ErrorEquals":["F"],"MaxAttempts":5},{"ErrorEquals":["E"],"MaxAttempts":0}],"End":true', '"0":{"Throw":{"Error":"E"}}', "{}", 14, 'status FAILED {"Error":"E"}'),
-    ('"Parameters":{"x.$":"$.q"},"Catch":[{"ErrorEquals":["States.ALL"],"ResultPath":"$.e","Next":"H"}],"End":true', '"0":{"Return":0}', '{"n":1}', 11, 'status SUCCEEDED {"n":1,"e":{"Error":"States.ParameterPathFailure","Cause":"x.$: no value"}}'),
-    ('"InputPath":"$.q","Retry":[{"ErrorEquals":["States.ALL"]}],"End":true', '"0":{"Return":0}', "{}", 8, 'status FAILED {"Error":"States.Runtime","Cause":"InputPath: no value"}'),
+    ('"Retry":[{"ErrorEquals":["F"],"MaxAttempts":5},{"ErrorEquals":["E"],"MaxAttempts":0}],"End":true', '"0":{"Throw":{"Error":"E"}}',
+        "{}", 14, 'status FAILED {"Error":"E"}'),
+    ('"Parameters":{"x.$":"$.q"},"Catch":[{"ErrorEquals":["States.ALL"],"ResultPath":"$.e","Next":"H"}],"End":true', '"0":{"Return":0}',
+        '{"n":1}', 11, 'status SUCCEEDED {"n":1,"e":{"Error":"States.ParameterPathFailure","Cause":"x.$: no value"}}'),
+    ('"InputPath":"$.q","Retry":[{"ErrorEquals":["States.ALL"]}],"End":true', '"0":{"Return":0}', "{}", 8,
+        'status FAILED {"Error":"States.Runtime","Cause":"InputPath: no value"}'),
 ]
 
 class ParallelTest(ProgramTest):
     def test_two_branches_are_stepped_in_turn_and_joined(self):
-        definition = '{"StartAt":"Q","States":{"Q":{"Type":"Parallel","Branches":[{"StartAt":"A","States":{"A":{"Type":"Pass","Result":"a","Next":"A2"},"A2":{"Type":"Succeed"}}},{"StartAt":"B","States":{"B":{"Type":"Pass","Result":"b","Next":"B2"},"B2":{"Type":"Succeed"}}}],"End":true}}}'
+        definition = (
+            '{"StartAt":"Q","States":{"Q":{"Type":"Parallel","Branches":[{"StartAt":"A","States":{"A":{"Type":"Pass","Result":"a",'
+            '"Next":"A2"},"A2":{"Type":"Succeed"}}},{"StartAt":"B","States":{"B":{"Type":"Pass","Result":"b","Next":"B2"},'
+            '"B2":{"Type":"Succeed"}}}],"End":true}}}'
+        )
         self.assertEqual(
             self.told(definition, steps=steps(["/", "/1", "/", "/0", "/0", "/1", "/"])),
             """\
@@ -64,7 +79,11 @@ status SUCCEEDED ["a","b"]
 
     def test_a_failed_branch_stops_the_others_until_all_are_retried(self):
         # A branch that fails, and a Task beside it.
-        definition = '{"StartAt":"Q","States":{"Q":{"Type":"Parallel","Branches":[{"StartAt":"F","States":{"F":{"Type":"Fail","Error":"E"}}},{"StartAt":"W","States":{"W":{"Type":"Task","Resource":"r","End":true}}}],"Retry":[{"ErrorEquals":["E"],"IntervalSeconds":1,"MaxAttempts":1}],"End":true}}}'
+        definition = (
+            '{"StartAt":"Q","States":{"Q":{"Type":"Parallel","Branches":[{"StartAt":"F","States":{"F":{"Type":"Fail","Error":"E"}}},'
+            '{"StartAt":"W","States":{"W":{"Type":"Task","Resource":"r","End":true}}}],"Retry":[{"ErrorEquals":["E"],"IntervalSeconds":1,'
+            '"MaxAttempts":1}],"End":true}}}'
+        )
         first = steps(["/", "/1", "/0", "/1", "/0", "/", "/", "/0"])
         then = steps(["/", "/1", "/0", "/"], "2024-01-01T00:00:01Z")
         self.assertEqual(
@@ -106,7 +125,12 @@ status FAILED {"Error":"E"}
         )
 
     def test_an_error_of_an_inner_branch_is_caught_by_the_inner_parallel(self):
-        definition = '{"StartAt":"O","States":{"O":{"Type":"Parallel","Branches":[{"StartAt":"I","States":{"I":{"Type":"Parallel","Branches":[{"StartAt":"F","States":{"F":{"Type":"Fail","Error":"E"}}},{"StartAt":"G","States":{"G":{"Type":"Pass","End":true}}}],"Catch":[{"ErrorEquals":["States.ALL"],"Next":"R"}],"End":true},"R":{"Type":"Succeed"}}},{"StartAt":"H","States":{"H":{"Type":"Pass","End":true}}}],"End":true}}}'
+        definition = (
+            '{"StartAt":"O","States":{"O":{"Type":"Parallel","Branches":[{"StartAt":"I","States":{"I":{"Type":"Parallel",'
+            '"Branches":[{"StartAt":"F","States":{"F":{"Type":"Fail","Error":"E"}}},{"StartAt":"G","States":{"G":{"Type":"Pass","End":true}'
+            '}}],"Catch":[{"ErrorEquals":["States.ALL"],"Next":"R"}],"End":true},"R":{"Type":"Succeed"}}},{"StartAt":"H",'
+            '"States":{"H":{"Type":"Pass","End":true}}}],"End":true}}}'
+        )
         self.assertEqual(
             self.told(definition, steps=steps(["/", "/0", "/0/0", "/0/1", "/1", "/0", "/0/1", "/0", "/"])),
             """\
@@ -139,7 +163,12 @@ status SUCCEEDED [{"Error":"E"},{}]
         )
 
     def test_an_outer_branch_that_fails_stops_the_branches_under_its_siblings(self):
-        definition = '{"StartAt":"O","States":{"O":{"Type":"Parallel","Branches":[{"StartAt":"I","States":{"I":{"Type":"Parallel","Branches":[{"StartAt":"G","States":{"G":{"Type":"Pass","End":true}}}],"End":true}}},{"StartAt":"F","States":{"F":{"Type":"Fail","Error":"E","Cause":"c"}}}],"Catch":[{"ErrorEquals":["E"],"ResultPath":"$.why","Next":"H"}],"End":true},"H":{"Type":"Succeed"}}}'
+        definition = (
+            '{"StartAt":"O","States":{"O":{"Type":"Parallel","Branches":[{"StartAt":"I","States":{"I":{"Type":"Parallel",'
+            '"Branches":[{"StartAt":"G","States":{"G":{"Type":"Pass","End":true}}}],"End":true}}},{"StartAt":"F",'
+            '"States":{"F":{"Type":"Fail","Error":"E","Cause":"c"}}}],"Catch":[{"ErrorEquals":["E"],"ResultPath":"$.why","Next":"H"}],'
+            '"End":true},"H":{"Type":"Succeed"}}}'
+        )
         text = self.told(definition, '{"k":1}', steps(["/", "/0", "/", "/1", "/0/0", "/0", "/0/1", "/1", "/", "/0", "/"]))
         replies = """\
 step / ok
@@ -160,12 +189,19 @@ step / ok
     def test_the_outputs_in_the_order_of_the_branches_are_the_result(self):
         for members, given, lines, status in JOINED:
             with self.subTest(members):
-                definition = '{"StartAt":"Q","States":{"Q":{"Type":"Parallel","Branches":[{"StartAt":"A","States":{"A":{"Type":"Pass","End":true}}},{"StartAt":"B","States":{"B":{"Type":"Pass","Result":"b","End":true}}}],%s},"H":{"Type":"Succeed"}}}' % members
+                definition = (
+                    '{"StartAt":"Q","States":{"Q":{"Type":"Parallel","Branches":[{"StartAt":"A","States":{"A":{"Type":"Pass","End":true}}},'
+                    '{"StartAt":"B","States":{"B":{"Type":"Pass","Result":"b","End":true}}}],%s},"H":{"Type":"Succeed"}}}'
+                ) % members
                 self.assert_ends(self.told(definition, given, steps(["/", "/1", "/0", "/"])), lines, status)
 
     def joined(self, *texts):
-        branches = ",".join('{"StartAt":"S%d","States":{"S%d":{"Type":"Pass","Result":"%s","End":true}}}' % (number, number, text) for number, text in enumerate(texts))
-        definition = '{"StartAt":"Q","States":{"Q":{"Type":"Parallel","Branches":[%s],"Catch":[{"ErrorEquals":["States.ALL"],"Next":"Q"}],"End":true}}}' % branches
+        branches = ",".join('{"StartAt":"S%d","States":{"S%d":{"Type":"Pass","Result":"%s","End":true}}}' % (number, number, text)
+            for number, text in enumerate(texts))
+        definition = (
+            '{"StartAt":"Q","States":{"Q":{"Type":"Parallel","Branches":[%s],"Catch":[{"ErrorEquals":["States.ALL"],"Next":"Q"}],'
+            '"End":true}}}'
+        ) % branches
         return self.told(definition, steps=steps(["/", "/0", "/1", "/"]))
 
     def test_joined_outputs_have_at_most_262144_bytes(self):
@@ -181,13 +217,22 @@ status FAILED {"Error":"States.DataLimitExceeded","Cause":"data limit"}
     def test_a_branch_s_error_is_the_parallel_s(self):
         for members, answers, given, lines, status in FAILED:
             with self.subTest(members):
-                definition = '{"StartAt":"Q","States":{"Q":{"Type":"Parallel","Branches":[{"StartAt":"W","States":{"W":{"Type":"Task","Resource":"r","End":true}}}],%s},"H":{"Type":"Succeed"}}}' % members
+                definition = (
+                    '{"StartAt":"Q","States":{"Q":{"Type":"Parallel","Branches":[{"StartAt":"W","States":{"W":{"Type":"Task",'
+                    '"Resource":"r","End":true}}}],%s},"H":{"Type":"Succeed"}}}'
+                ) % members
                 text = self.told(definition, given, steps(["/", "/0", "/", "/"]), answered(answers), "M#c")
                 self.assert_ends(text, lines, status)
 
     def test_a_retried_parallel_counts_its_retries_and_is_not_entered_again(self):
         # It asks when it was entered and how often it was retried, at the fork and at the join.
-        definition = '{"StartAt":"Q","States":{"Q":{"Type":"Parallel","Parameters":{"r.$":"$$.State.RetryCount","at.$":"$$.State.EnteredTime"},"Branches":[{"StartAt":"W","States":{"W":{"Type":"Task","Resource":"r","ResultSelector":{"v.$":"$","r.$":"$$.State.RetryCount","at.$":"$$.State.EnteredTime","in.$":"$$.State.Name"},"ResultPath":"$.w","End":true}}}],"ResultSelector":{"of.$":"$[0]","r.$":"$$.State.RetryCount","at.$":"$$.State.EnteredTime","in.$":"$$.State.Name"},"Retry":[{"ErrorEquals":["F"]},{"ErrorEquals":["E"],"IntervalSeconds":1}],"End":true}}}'
+        definition = (
+            '{"StartAt":"Q","States":{"Q":{"Type":"Parallel","Parameters":{"r.$":"$$.State.RetryCount","at.$":"$$.State.EnteredTime"},'
+            '"Branches":[{"StartAt":"W","States":{"W":{"Type":"Task","Resource":"r","ResultSelector":{"v.$":"$",'
+            '"r.$":"$$.State.RetryCount","at.$":"$$.State.EnteredTime","in.$":"$$.State.Name"},"ResultPath":"$.w","End":true}}}],'
+            '"ResultSelector":{"of.$":"$[0]","r.$":"$$.State.RetryCount","at.$":"$$.State.EnteredTime","in.$":"$$.State.Name"},'
+            '"Retry":[{"ErrorEquals":["F"]},{"ErrorEquals":["E"],"IntervalSeconds":1}],"End":true}}}'
+        )
         moments = """\
 / 2024-01-01T00:00:00Z
 /0 2024-01-01T00:00:00Z
@@ -197,7 +242,10 @@ status FAILED {"Error":"States.DataLimitExceeded","Cause":"data limit"}
 / 2024-01-01T00:00:03Z
 """
         text = self.told(definition, steps=moments, mocks=answered('"0":{"Throw":{"Error":"E"}},"1":{"Return":"ok"}'), chosen="M#c")
-        status = 'status SUCCEEDED {"of":{"r":1,"at":"2024-01-01T00:00:00.000Z","w":{"v":"ok","r":0,"at":"2024-01-01T00:00:02.000Z","in":"W"}},"r":1,"at":"2024-01-01T00:00:00.000Z","in":"Q"}'
+        status = (
+            'status SUCCEEDED {"of":{"r":1,"at":"2024-01-01T00:00:00.000Z","w":{"v":"ok","r":0,"at":"2024-01-01T00:00:02.000Z","in":"W"}},'
+            '"r":1,"at":"2024-01-01T00:00:00.000Z","in":"Q"}'
+        )
         self.assertEqual(text.splitlines()[-1], status)
         self.assertIn(
             """

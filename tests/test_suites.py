@@ -19,10 +19,12 @@ FAILING = [
     # Retried, and then there is no answer.
     ('"Retry":[{"ErrorEquals":["E"]}],"End":true', '{"Type":"Succeed"}', '{"Error":"States.Runtime","Cause":"no mocked answer"}; no answer 1 of the Task "T"'),
     # Caught, and then another Task has no answer.
-    ('"Catch":[{"ErrorEquals":["E"],"Next":"F"}],"End":true', '{"Type":"Task","Resource":"r","End":true}', '{"Error":"States.Runtime","Cause":"no mocked answer"}; no answer 0 of the Task "F"'),
+    ('"Catch":[{"ErrorEquals":["E"],"Next":"F"}],"End":true', '{"Type":"Task","Resource":"r","End":true}',
+        '{"Error":"States.Runtime","Cause":"no mocked answer"}; no answer 0 of the Task "F"'),
     # Caught, and then it fails for another reason.
     ('"Catch":[{"ErrorEquals":["E"],"Next":"F"}],"End":true', '{"Type":"Fail","Error":"X"}', '{"Error":"X"}'),
-    ('"Catch":[{"ErrorEquals":["E"],"Next":"F"}],"End":true', '{"Type":"Fail","Error":"States.Runtime","Cause":"no mocked answer"}', '{"Error":"States.Runtime","Cause":"no mocked answer"}'),
+    ('"Catch":[{"ErrorEquals":["E"],"Next":"F"}],"End":true', '{"Type":"Fail","Error":"States.Runtime","Cause":"no mocked answer"}',
+        '{"Error":"States.Runtime","Cause":"no mocked answer"}'),
     # Neither.
     ('"End":true', '{"Type":"Succeed"}', '{"Error":"E","Cause":"why"}'),
 ]
@@ -62,7 +64,8 @@ REFUSED = [
 ]
 
 # Command lines that are wrong, behind the three files.
-WRONG = [["--workers", "0"], ["--workers", "65"], ["--workers", "x"], ["--format", "html"], ["--shard", "0/2"], ["--shard", "3/2"], ["--shard", "1"], ["--shard", "1/"], ["--shard", "+1/2"], ["more"]]
+WRONG = [["--workers", "0"], ["--workers", "65"], ["--workers", "x"], ["--format", "html"], ["--shard", "0/2"], ["--shard", "3/2"],
+    ["--shard", "1"], ["--shard", "1/"], ["--shard", "+1/2"], ["more"]]
 
 
 class SuitesTest(ProgramTest):
@@ -76,7 +79,8 @@ class SuitesTest(ProgramTest):
             self.assertEqual((ran.returncode, ran.stdout), (1, FIVE_REPORTS), workers)
 
     def test_visits_are_counted(self):
-        ran = self.on_suite(tests(("A", "SUCCEEDED", {"visits": {"T": 1}}), ("A", "SUCCEEDED", {"visits": {"T": 2}}), ("A", "SUCCEEDED", {"visits": {"U": 0, "T": 1}})))
+        ran = self.on_suite(tests(("A", "SUCCEEDED", {"visits": {"T": 1}}), ("A", "SUCCEEDED", {"visits": {"T": 2}}),
+            ("A", "SUCCEEDED", {"visits": {"U": 0, "T": 1}})))
         self.assertEqual((ran.returncode, ran.stdout), (1, "ok M#A SUCCEEDED 7\nvisits M#A SUCCEEDED 7\nok M#A SUCCEEDED 7\n2 passed, 1 failed\n"))
 
     def test_the_first_verdict_that_applies(self):
@@ -139,7 +143,8 @@ class SuitesTest(ProgramTest):
     def test_json_has_an_object_a_test(self):
         ran = self.on_suite(tests(*FIVE), "--format", "json")
         told = [json.loads(line) for line in ran.stdout.splitlines()]
-        self.assertEqual([" ".join(str(one[k]) for k in ["verdict", "machine", "case", "status", "events"]) for one in told], [re.sub("#", " ", line) for line in FIVE_REPORTS.splitlines()[:-1]])
+        self.assertEqual([" ".join(str(one[k]) for k in ["verdict", "machine", "case", "status", "events"]) for one in told],
+            [re.sub("#", " ", line) for line in FIVE_REPORTS.splitlines()[:-1]])
         self.assertEqual([one["test"] for one in told], [1, 2, 3, 4, 5])
         self.assertEqual(["difference" in one for one in told], [False, False, False, True, True])
 
@@ -150,7 +155,8 @@ class SuitesTest(ProgramTest):
         self.assertEqual((suite.get("tests"), suite.get("failures"), suite.get("errors")), ("5", "2", "0"))
         cases = suite.findall("testcase")
         self.assertEqual([(one.get("classname"), one.get("name")) for one in cases], [("M", "1 A"), ("M", "2 B"), ("M", "3 C"), ("M", "4 A"), ("M", "5 X")])
-        self.assertEqual([one.find("failure").get("type") if one.find("failure") is not None else None for one in cases], [None, None, None, "output", "nocase"])
+        self.assertEqual([one.find("failure").get("type") if one.find("failure") is not None else None for one in cases],
+            [None, None, None, "output", "nocase"])
 
     def test_names_of_any_characters_are_written(self):
         for name in ["a&b<c>\"d'", "tab\t, line\n, bell\u0007", "\ufffe\uffff\U0001f600", "]]>", "#"]:
@@ -164,7 +170,10 @@ class SuitesTest(ProgramTest):
     def test_a_missing_answer_is_told_where_the_run_failed_for_it(self):
         for members, other, wanted in FAILING:
             # (F is entered by T's Catch alone; where T has none, a Choice before it leads there)
-            definition = f'{{"StartAt":"C","States":{{"C":{{"Type":"Choice","Choices":[{{"Variable":"$.f","IsPresent":true,"Next":"F"}}],"Default":"T"}},"T":{{"Type":"Task","Resource":"r",{members}}},"F":{other}}}}}'
+            definition = (
+                f'{{"StartAt":"C","States":{{"C":{{"Type":"Choice","Choices":[{{"Variable":"$.f","IsPresent":true,"Next":"F"}}],'
+                f'"Default":"T"}},"T":{{"Type":"Task","Resource":"r",{members}}},"F":{other}}}}}'
+            )
             ran = self.on_suite(tests(("B", "SUCCEEDED", {})), definition=definition)
             self.assertEqual(ran.stderr, f'test 1 "M#B": status: wanted SUCCEEDED, came FAILED {wanted}\n', definition)
 
@@ -177,7 +186,8 @@ class SuitesTest(ProgramTest):
                 with open(names[-1], "w", encoding="utf-8") as out:
                     out.write(text)
             told = json.loads(run_program("test", *names, "--format", "json").stdout)
-            shown = subprocess.run(["bash", "-c", told["alone"]], capture_output=True, encoding="utf-8", env={**os.environ, "PATH": f"{os.path.dirname(PROGRAM)}:{os.environ['PATH']}"})
+            shown = subprocess.run(["bash", "-c", told["alone"]], capture_output=True, encoding="utf-8",
+                env={**os.environ, "PATH": f"{os.path.dirname(PROGRAM)}:{os.environ['PATH']}"})
             self.assertEqual(shown.stdout.splitlines()[-1], "status SUCCEEDED 1", told["alone"])
 
     def test_five_thousand_tests_on_sixty_four_workers(self):

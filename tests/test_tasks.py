@@ -7,14 +7,21 @@ THREE_FAILURES = '"0":{"Throw":{"Error":"E.A"}},"1-2":{"Throw":{"Error":"E.B","C
 # Members of the Task W, its answers, the input, how many lines a run of two steps at one moment has, and the last one.
 ONE_TASK = [
     ('"ResultPath":null,"End":true', '"0":{"Return":9}', '{"k":1}', 10, 'status SUCCEEDED {"k":1}'),
-    ('"InputPath":"$.in","ResultSelector":{"v.$":"$.x","n.$":"$$.State.Name"},"ResultPath":"$.out","OutputPath":"$.out","End":true', '"0":{"Return":{"x":7,"y":8}}', '{"in":1}', 10, 'status SUCCEEDED {"v":7,"n":"W"}'),
-    ('"ResultPath":"$.l[3]","Catch":[{"ErrorEquals":["States.ALL"],"Next":"H"}],"End":true', '"0":{"Return":9}', '{"l":[0,1,2]}', 12, 'status SUCCEEDED {"Error":"States.ResultPathMatchFailure","Cause":"ResultPath: no place"}'),
-    ('"Catch":[{"ErrorEquals":["States.ALL"],"Next":"H"}],"End":true', '"1":{"Return":9}', "{}", 9, 'status FAILED {"Error":"States.Runtime","Cause":"no mocked answer"}'),
-    ('"Parameters":{"x.$":"$.q"},"Catch":[{"ErrorEquals":["States.TaskFailed"],"ResultPath":"$.e","Next":"H"}],"End":true', '"0":{"Return":9}', '{"a":1}', 9, 'status SUCCEEDED {"a":1,"e":{"Error":"States.ParameterPathFailure","Cause":"x.$: no value"}}'),
-    ('"Catch":[{"ErrorEquals":["E"],"ResultPath":"$.a.b","Next":"H"}],"End":true', '"0":{"Throw":{"Error":"E"}}', '{"a":5}', 9, 'status FAILED {"Error":"States.ResultPathMatchFailure","Cause":"ResultPath: no place"}'),
+    ('"InputPath":"$.in","ResultSelector":{"v.$":"$.x","n.$":"$$.State.Name"},"ResultPath":"$.out","OutputPath":"$.out","End":true',
+        '"0":{"Return":{"x":7,"y":8}}', '{"in":1}', 10, 'status SUCCEEDED {"v":7,"n":"W"}'),
+    ('"ResultPath":"$.l[3]","Catch":[{"ErrorEquals":["States.ALL"],"Next":"H"}],"End":true', '"0":{"Return":9}', '{"l":[0,1,2]}', 12,
+        'status SUCCEEDED {"Error":"States.ResultPathMatchFailure","Cause":"ResultPath: no place"}'),
+    ('"Catch":[{"ErrorEquals":["States.ALL"],"Next":"H"}],"End":true', '"1":{"Return":9}', "{}", 9,
+        'status FAILED {"Error":"States.Runtime","Cause":"no mocked answer"}'),
+    ('"Parameters":{"x.$":"$.q"},"Catch":[{"ErrorEquals":["States.TaskFailed"],"ResultPath":"$.e","Next":"H"}],"End":true',
+        '"0":{"Return":9}', '{"a":1}', 9, 'status SUCCEEDED {"a":1,"e":{"Error":"States.ParameterPathFailure","Cause":"x.$: no value"}}'),
+    ('"Catch":[{"ErrorEquals":["E"],"ResultPath":"$.a.b","Next":"H"}],"End":true', '"0":{"Throw":{"Error":"E"}}', '{"a":5}', 9,
+        'status FAILED {"Error":"States.ResultPathMatchFailure","Cause":"ResultPath: no place"}'),
     ('"Catch":[{"ErrorEquals":["E"],"ResultPath":null,"Next":"H"}],"End":true', '"0":{"Throw":{"Error":"E"}}', '{"a":5}', 12, 'status SUCCEEDED {"a":5}'),
-    ('"Catch":[{"ErrorEquals":["States.TaskFailed"],"Next":"H"}],"End":true', '"0":{"Throw":{"Error":"States.Timeout"}}', "{}", 9, 'status FAILED {"Error":"States.Timeout"}'),
-    ('"Catch":[{"ErrorEquals":["States.Runtime"],"Next":"H"}],"End":true', '"0":{"Throw":{"Error":"States.Runtime"}}', "{}", 9, 'status FAILED {"Error":"States.Runtime"}'),
+    ('"Catch":[{"ErrorEquals":["States.TaskFailed"],"Next":"H"}],"End":true', '"0":{"Throw":{"Error":"States.Timeout"}}', "{}", 9,
+        'status FAILED {"Error":"States.Timeout"}'),
+    ('"Catch":[{"ErrorEquals":["States.Runtime"],"Next":"H"}],"End":true', '"0":{"Throw":{"Error":"States.Runtime"}}', "{}", 9,
+        'status FAILED {"Error":"States.Runtime"}'),
     ('"Retry":[{"ErrorEquals":["States.ALL"],"MaxAttempts":0}],"End":true', '"0":{"Throw":{"Error":"E"}}', "{}", 9, 'status FAILED {"Error":"E"}'),
     ('"Retry":[{"ErrorEquals":["States.ALL"]}],"End":true', '"0":{"Throw":{"Error":"E"}}', "{}", 8, "status RUNNING"),
 ]
@@ -60,7 +67,10 @@ status SUCCEEDED {"ok":true}
         self.assertEqual(self.task(members, THREE_FAILURES), by_itself)
 
     def test_a_used_up_retrier_hands_over_to_the_catchers(self):
-        members = '"Retry":[{"ErrorEquals":["E.A","E.B"],"IntervalSeconds":3,"MaxAttempts":2,"BackoffRate":1.5},{"ErrorEquals":["States.ALL"]}],"Catch":[{"ErrorEquals":["States.TaskFailed"],"ResultPath":"$.err","Next":"H"}],"End":true'
+        members = (
+            '"Retry":[{"ErrorEquals":["E.A","E.B"],"IntervalSeconds":3,"MaxAttempts":2,"BackoffRate":1.5},{"ErrorEquals":["States.ALL"]}],'
+            '"Catch":[{"ErrorEquals":["States.TaskFailed"],"ResultPath":"$.err","Next":"H"}],"End":true'
+        )
         moments = "/ 2024-01-01T00:00:00Z\n/ 2024-01-01T00:00:03Z\n/ 2024-01-01T00:00:07.5Z\n/ 2024-01-01T00:00:07.5Z\n"
         text = self.task(members, THREE_FAILURES, steps=moments)
         end = """
@@ -74,7 +84,10 @@ status SUCCEEDED {"err":{"Error":"E.B","Cause":"slow"}}
         self.assertTrue(text.endswith(end), text)
 
     def test_a_cap_and_jitter_are_kept(self):
-        members = '"Retry":[{"ErrorEquals":["States.ALL"],"IntervalSeconds":3,"MaxAttempts":3,"BackoffRate":1.5,"MaxDelaySeconds":4,"JitterStrategy":"FULL"}],"End":true'
+        members = (
+            '"Retry":[{"ErrorEquals":["States.ALL"],"IntervalSeconds":3,"MaxAttempts":3,"BackoffRate":1.5,"MaxDelaySeconds":4,'
+            '"JitterStrategy":"FULL"}],"End":true'
+        )
         moments = """\
 / 2024-01-01T00:00:00Z
 / 2024-01-01T00:00:03Z
@@ -88,7 +101,10 @@ status SUCCEEDED {"err":{"Error":"E.B","Cause":"slow"}}
         self.assertTrue(text.endswith('\nstatus SUCCEEDED {"ok":true}\n'), text)
 
     def test_each_invocation_has_its_token(self):
-        members = '"Parameters":{"t.$":"$$.Task.Token","r.$":"$$.State.RetryCount"},"Retry":[{"ErrorEquals":["E.B"]},{"ErrorEquals":["E.A"]}],"ResultPath":"$.of","OutputPath":"$$.Task.Token","End":true'
+        members = (
+            '"Parameters":{"t.$":"$$.Task.Token","r.$":"$$.State.RetryCount"},"Retry":[{"ErrorEquals":["E.B"]},{"ErrorEquals":["E.A"]}],'
+            '"ResultPath":"$.of","OutputPath":"$$.Task.Token","End":true'
+        )
         moments = "/ 2024-01-01T00:00:00Z\n/ 2024-01-01T00:01:00Z\n/ 2024-01-01T00:02:00Z\n/ 2024-01-01T00:03:00Z\n"
         text = self.task(members, THREE_FAILURES, steps=moments)
         for invocation in (0, 1, 3):

@@ -7,7 +7,11 @@ import tempfile
 from program import PROGRAM, TOP, ProgramTest
 
 # A Parallel of two Passes and of a Wait with a Succeed.
-FORK = '{"StartAt":"Q","States":{"Q":{"Type":"Parallel","End":true,"Branches":[{"StartAt":"A","States":{"A":{"Type":"Pass","Result":"a","Next":"A2"},"A2":{"Type":"Succeed"}}},{"StartAt":"B","States":{"B":{"Type":"Wait","Seconds":5,"Next":"B2"},"B2":{"Type":"Succeed"}}}]}}}'
+FORK = (
+    '{"StartAt":"Q","States":{"Q":{"Type":"Parallel","End":true,"Branches":[{"StartAt":"A","States":{"A":{"Type":"Pass","Result":"a",'
+    '"Next":"A2"},"A2":{"Type":"Succeed"}}},{"StartAt":"B","States":{"B":{"Type":"Wait","Seconds":5,"Next":"B2"},"B2":{"Type":"Succeed"}}}]'
+    '}}}'
+)
 
 # A Pass that goes on to itself.
 LOOP = '{"StartAt":"P","States":{"P":{"Type":"Pass","Next":"P"}}}'
@@ -43,7 +47,8 @@ class TerminalTest(ProgramTest):
         """The answers alone, as far as they go before the history."""
         told = self.typed(definition, lines, **texts)
         end = self.typed(definition, "", **texts).split(" ", 1)[1].splitlines()[0]
-        first = next(at for at, line in enumerate(told.splitlines()) if line.startswith("1 0 ") and line.split(" ", 1)[1].split(" ", 2)[2:] == end.split(" ", 2)[2:])
+        first = next(at for at, line in enumerate(told.splitlines()) if line.startswith("1 0 ")
+            and line.split(" ", 1)[1].split(" ", 2)[2:] == end.split(" ", 2)[2:])
         return told.splitlines()[:first]
 
     def test_nothing_typed(self):
@@ -87,7 +92,8 @@ class TerminalTest(ProgramTest):
     def test_a_loop_pauses_each_time(self):
         self.assertEqual(
             self.answers(LOOP, 'break "P"\nnext 3\nnext 3\nclear "P"\nnext 2\n'),
-            ["set", f"step / {START} ok", f'step / {START} paused "P"', f"step / {START} ok", f'step / {START} paused "P"', "cleared", f"step / {START} ok", f"step / {START} ok"],
+            ["set", f"step / {START} ok", f'step / {START} paused "P"', f"step / {START} ok", f'step / {START} paused "P"', "cleared",
+                f"step / {START} ok", f"step / {START} ok"],
         )
 
     def test_another_branch_first(self):
@@ -116,7 +122,8 @@ class TerminalTest(ProgramTest):
     def test_what_each_branch_waits_for(self):
         self.assertEqual(
             self.answers(ONE_BY_ONE, "next\nplaces\nnext\nplaces\n", given="[1,2]"),
-            [f"step / {START} ok", '/ Forked "M" S5 Busy', '/0 New "K" ok', '/1 New "K" S6 Slots', f"step /0 {START} ok", '/ Forked "M" S5 Busy', "/0 Done S4 Finished", '/1 New "K" ok'],
+            [f"step / {START} ok", '/ Forked "M" S5 Busy', '/0 New "K" ok', '/1 New "K" S6 Slots', f"step /0 {START} ok",
+                '/ Forked "M" S5 Busy', "/0 Done S4 Finished", '/1 New "K" ok'],
         )
         self.assertEqual(
             self.answers(RETRIED, "next\nplaces\nnext\nplaces\n", mocks=ONE_FAILURE, chosen="M#c"),
@@ -136,12 +143,14 @@ class TerminalTest(ProgramTest):
     def test_data_and_events(self):
         self.assertEqual(
             self.answers(FORK, "data /\nnext 2\ndata /0\ndata /7\nevents 2\nevents 0\n", given='{"n": 2.50}'),
-            ['{"n":2.50}', f"step / {START} ok", f"step /0 {START} ok", '"a"', "NoSuchPlace", f'4 3 {START} /0 PassStateEntered "A" {{"n":2.50}}', f'5 4 {START} /0 PassStateExited "A" "a"'],
+            ['{"n":2.50}', f"step / {START} ok", f"step /0 {START} ok", '"a"', "NoSuchPlace",
+                f'4 3 {START} /0 PassStateEntered "A" {{"n":2.50}}', f'5 4 {START} /0 PassStateExited "A" "a"'],
         )
 
     def test_bad_lines_lose_nothing(self):
         self.assertEqual(
-            self.answers(FORK, "next\n\nfoo\nnext x\nnext 1234567890\nnext  2\n next\ncontinue 2\nstep /0\nstep / 2024\nsteps 1\nbreak A2\nuntil\nuntil soon\ndata\ndata 0\nplaces \nevents -1\nswap /0\nback\nquit now\nplaces\n"),
+            self.answers(FORK, "next\n\nfoo\nnext x\nnext 1234567890\nnext  2\n next\ncontinue 2\nstep /0\nstep / 2024\nsteps 1\nbreak "
+                "A2\nuntil\nuntil soon\ndata\ndata 0\nplaces \nevents -1\nswap /0\nback\nquit now\nplaces\n"),
             [f"step / {START} ok", WORDS[:-1], WORDS[:-1]]
             + ["write it as: next [N]"] * 3
             + [WORDS[:-1], "write it as: continue"]
@@ -188,7 +197,8 @@ class TerminalTest(ProgramTest):
 
     def test_each_line_is_answered_at_once(self):
         folder = f"{TOP}/examples/hello"
-        ran = subprocess.Popen([PROGRAM, "debug", f"{folder}/definition.json", f"{folder}/mocks.json", "M", f"{folder}/input.json"], stdin=subprocess.PIPE, stdout=subprocess.PIPE, encoding="utf-8")
+        ran = subprocess.Popen([PROGRAM, "debug", f"{folder}/definition.json", f"{folder}/mocks.json", "M", f"{folder}/input.json"],
+            stdin=subprocess.PIPE, stdout=subprocess.PIPE, encoding="utf-8")
         try:
             for line, answer in (("next", f"step / {START} ok\n"), ("places", '/ Ready "S" ok\n'), ("foo", WORDS)):
                 ran.stdin.write(line + "\n")
@@ -204,7 +214,8 @@ class TerminalTest(ProgramTest):
     def test_a_terminal_gets_a_prompt(self):
         folder = f"{TOP}/examples/hello"
         ours, theirs = pty.openpty()
-        ran = subprocess.Popen([PROGRAM, "debug", f"{folder}/definition.json", f"{folder}/mocks.json", "M", f"{folder}/input.json"], stdin=theirs, stdout=subprocess.PIPE, stderr=subprocess.PIPE, encoding="utf-8")
+        ran = subprocess.Popen([PROGRAM, "debug", f"{folder}/definition.json", f"{folder}/mocks.json", "M", f"{folder}/input.json"],
+            stdin=theirs, stdout=subprocess.PIPE, stderr=subprocess.PIPE, encoding="utf-8")
         os.close(theirs)
         os.write(ours, b"next\nquit\n")
         out, err = ran.communicate(timeout=60)
@@ -219,6 +230,7 @@ class TerminalTest(ProgramTest):
     def test_input_that_cannot_be_read(self):
         folder = f"{TOP}/examples/hello"
         folder_itself = os.open(folder, os.O_RDONLY)
-        ran = subprocess.run([PROGRAM, "debug", f"{folder}/definition.json", f"{folder}/mocks.json", "M", f"{folder}/input.json"], stdin=folder_itself, capture_output=True, encoding="utf-8", timeout=60)
+        ran = subprocess.run([PROGRAM, "debug", f"{folder}/definition.json", f"{folder}/mocks.json", "M", f"{folder}/input.json"],
+            stdin=folder_itself, capture_output=True, encoding="utf-8", timeout=60)
         os.close(folder_itself)
         self.assertEqual((ran.returncode, ran.stdout, ran.stderr), (2, "", "fault: file standard input\n"))

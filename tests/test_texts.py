@@ -5,7 +5,10 @@ from program import ProgramTest
 TWO_STATES = '{"StartAt":"P","States":{"P":{"Type":"Pass","Result":7,"ResultPath":"$.a.b","Next":"S"},"S":{"Type":"Succeed"}}}'
 
 # A mock file with the cases `c`, `a#b`, and, of another machine, `c`.
-MOCKS = '{"StateMachines":{"M":{"TestCases":{"c":{"T":"r"},"a#b":{"T":"s"}}},"N":{"TestCases":{"c":{"T":"s"}}}},\n"MockedResponses":{"r":{"0":{"Return":1}},"s":{"0":{"Throw":{"Error":"E"}}}}}'
+MOCKS = (
+    '{"StateMachines":{"M":{"TestCases":{"c":{"T":"r"},"a#b":{"T":"s"}}},"N":{"TestCases":{"c":{"T":"s"}}}},'
+    '\n"MockedResponses":{"r":{"0":{"Return":1}},"s":{"0":{"Throw":{"Error":"E"}}}}}'
+)
 
 # The texts of a run (definition, mocks, what is chosen, input, steps), and the line of the first fault.
 REFUSED = [

@@ -7,7 +7,10 @@ TOO_LONG = '{"StartAt":"X","TimeoutSeconds":5,"States":{"X":{"Type":"Wait","Seco
 
 class TimeLimitTest(ProgramTest):
     def test_a_step_at_the_deadline_ends_the_execution_whatever_its_place(self):
-        definition = '{"StartAt":"W","TimeoutSeconds":5,"States":{"W":{"Type":"Task","Resource":"r","Retry":[{"ErrorEquals":["E"],"IntervalSeconds":3,"BackoffRate":1.5}],"End":true}}}'
+        definition = (
+            '{"StartAt":"W","TimeoutSeconds":5,"States":{"W":{"Type":"Task","Resource":"r","Retry":[{"ErrorEquals":["E"],'
+            '"IntervalSeconds":3,"BackoffRate":1.5}],"End":true}}}'
+        )
         moments = """\
 / 2024-01-01T00:00:00Z
 / 2024-01-01T00:00:03Z

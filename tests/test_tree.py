@@ -135,7 +135,8 @@ class TreeTest(ProgramTest):
         )
 
     def test_maps_and_choices(self):
-        inner = {"StartAt": "C", "States": {"C": {"Type": "Choice", "Choices": [{"Variable": "$", "NumericEquals": 1, "Next": "D"}], "Default": "D"}, "D": {"Type": "Succeed"}}}
+        inner = {"StartAt": "C", "States": {"C": {"Type": "Choice", "Choices": [{"Variable": "$", "NumericEquals": 1, "Next": "D"}],
+            "Default": "D"}, "D": {"Type": "Succeed"}}}
         told = self.tree(machine({"A": {"Type": "Map", "ItemProcessor": inner, "MaxConcurrency": 1, "End": True}}), "[1,2]")
         self.assertEqual(
             told,

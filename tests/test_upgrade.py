@@ -23,12 +23,32 @@ from nesting import nested
 from program import TOP, ProgramTest, run_program, steps
 
 # The worked example in both spellings.
-OLDER = '{"StartAt":"M","States":{"M":{"Type":"Map","Parameters":{"v.$":"$$.Map.Item.Value"},"Iterator":{"StartAt":"P","States":{"P":{"Type":"Pass","Parameters":{"k":1},"End":true}}},"End":true}}}'
-NEWER = '{"StartAt":"M","States":{"M":{"Type":"Map","ItemSelector":{"v.$":"$$.Map.Item.Value"},"ItemProcessor":{"StartAt":"P","States":{"P":{"Type":"Pass","Parameters":{"k":1},"End":true}}},"End":true}}}'
+OLDER = (
+    '{"StartAt":"M","States":{"M":{"Type":"Map","Parameters":{"v.$":"$$.Map.Item.Value"},"Iterator":{"StartAt":"P",'
+    '"States":{"P":{"Type":"Pass","Parameters":{"k":1},"End":true}}},"End":true}}}'
+)
+NEWER = (
+    '{"StartAt":"M","States":{"M":{"Type":"Map","ItemSelector":{"v.$":"$$.Map.Item.Value"},"ItemProcessor":{"StartAt":"P",'
+    '"States":{"P":{"Type":"Pass","Parameters":{"k":1},"End":true}}},"End":true}}}'
+)
 
 # A Map in a Map in a Parallel, with both spellings mixed, and states whose `Parameters` keep their name; and what it is upgraded to.
-MIXED = '{"StartAt":"L","States":{"L":{"Type":"Parallel","Parameters":{"l":[[1,2],[3]]},"Branches":[{"StartAt":"A","States":{"A":{"Type":"Task","Resource":"r","Parameters":{"Iterator":2,"Parameters":{"Type":"Map","Iterator":3}},"End":true}}},{"StartAt":"M","States":{"M":{"Type":"Map","ItemsPath":"$.l","ItemSelector":{"Parameters.$":"$$.Map.Item.Value"},"Iterator":{"StartAt":"N","States":{"N":{"Type":"Map","ItemsPath":"$.Parameters","Parameters":{"n.$":"$$.Map.Item.Value"},"ItemProcessor":{"ProcessorConfig":{"Mode":"INLINE"},"StartAt":"F","States":{"F":{"Type":"Pass","Parameters":{"n.$":"$.n"},"End":true}}},"End":true}}},"End":true}}}],"End":true}}}'
-MIXED_NEWER = '{"StartAt":"L","States":{"L":{"Type":"Parallel","Parameters":{"l":[[1,2],[3]]},"Branches":[{"StartAt":"A","States":{"A":{"Type":"Task","Resource":"r","Parameters":{"Iterator":2,"Parameters":{"Type":"Map","Iterator":3}},"End":true}}},{"StartAt":"M","States":{"M":{"Type":"Map","ItemsPath":"$.l","ItemSelector":{"Parameters.$":"$$.Map.Item.Value"},"ItemProcessor":{"StartAt":"N","States":{"N":{"Type":"Map","ItemsPath":"$.Parameters","ItemSelector":{"n.$":"$$.Map.Item.Value"},"ItemProcessor":{"ProcessorConfig":{"Mode":"INLINE"},"StartAt":"F","States":{"F":{"Type":"Pass","Parameters":{"n.$":"$.n"},"End":true}}},"End":true}}},"End":true}}}],"End":true}}}'
+MIXED = (
+    '{"StartAt":"L","States":{"L":{"Type":"Parallel","Parameters":{"l":[[1,2],[3]]},"Branches":[{"StartAt":"A",'
+    '"States":{"A":{"Type":"Task","Resource":"r","Parameters":{"Iterator":2,"Parameters":{"Type":"Map","Iterator":3}},"End":true}}},'
+    '{"StartAt":"M","States":{"M":{"Type":"Map","ItemsPath":"$.l","ItemSelector":{"Parameters.$":"$$.Map.Item.Value"},'
+    '"Iterator":{"StartAt":"N","States":{"N":{"Type":"Map","ItemsPath":"$.Parameters","Parameters":{"n.$":"$$.Map.Item.Value"},'
+    '"ItemProcessor":{"ProcessorConfig":{"Mode":"INLINE"},"StartAt":"F","States":{"F":{"Type":"Pass","Parameters":{"n.$":"$.n"},"End":true}'
+    '}},"End":true}}},"End":true}}}],"End":true}}}'
+)
+MIXED_NEWER = (
+    '{"StartAt":"L","States":{"L":{"Type":"Parallel","Parameters":{"l":[[1,2],[3]]},"Branches":[{"StartAt":"A",'
+    '"States":{"A":{"Type":"Task","Resource":"r","Parameters":{"Iterator":2,"Parameters":{"Type":"Map","Iterator":3}},"End":true}}},'
+    '{"StartAt":"M","States":{"M":{"Type":"Map","ItemsPath":"$.l","ItemSelector":{"Parameters.$":"$$.Map.Item.Value"},'
+    '"ItemProcessor":{"StartAt":"N","States":{"N":{"Type":"Map","ItemsPath":"$.Parameters","ItemSelector":{"n.$":"$$.Map.Item.Value"},'
+    '"ItemProcessor":{"ProcessorConfig":{"Mode":"INLINE"},"StartAt":"F","States":{"F":{"Type":"Pass","Parameters":{"n.$":"$.n"},"End":true}'
+    '}},"End":true}}},"End":true}}}],"End":true}}}'
+)
 
 # The members of states of each type, and how many machines are made of them.
 STATE_PARTS = [PASS_PARTS, TASK_PARTS, CHOICE_PARTS, WAIT_PARTS, PARALLEL_PARTS, MAP_PARTS, MAP_PARTS, SUCCEED_PARTS, FAIL_PARTS]
@@ -36,7 +56,8 @@ MACHINES = 1000
 
 # Members of which one is taken, and those of which at most one is. `Parameters` stand alone in states that aren't Maps.
 EITHER = [("Next", "End"), ("Seconds", "SecondsPath", "Timestamp", "TimestampPath"), ("Iterator", "ItemProcessor")]
-AT_MOST = [("Parameters", "ItemSelector"), ("TimeoutSeconds", "TimeoutSecondsPath"), ("HeartbeatSeconds", "HeartbeatSecondsPath"), ("Error", "ErrorPath"), ("Cause", "CausePath")]
+AT_MOST = [("Parameters", "ItemSelector"), ("TimeoutSeconds", "TimeoutSecondsPath"), ("HeartbeatSeconds", "HeartbeatSecondsPath"),
+    ("Error", "ErrorPath"), ("Cause", "CausePath")]
 ALWAYS = ["Type", "Resource", "Choices", "Branches", "StartAt", "States"]
 
 # The input of a run of such a machine.

@@ -97,7 +97,8 @@ NO_CALLS = [
     '"States.ArrayLength()"',
     '"States.MathAdd(1)"',
     '"States.MathAdd(1,2,3)"',
-    '"States.Array(States.Array(States.Array(States.Array(States.Array(States.Array(States.Array(States.Array(States.Array(States.Array(States.Array()))))))))))"',
+    '"States.Array(States.Array(States.Array(States.Array(States.Array(States.Array(States.Array(States.Array(States.Array(States.Array('
+    'States.Array()))))))))))"',
 ]
 TIMESTAMPS = [
     '"2024-01-01T00:00:00Z"',
