@@ -16,18 +16,18 @@ use Rattle.asl_intrinsic.specs.private.Steps.{heard}
 use Rattle.asl_template.specs.Names.{name_before, name_of}
 use Rattle.asl_template.specs.Filling as filling
 use Rattle.asl_template.specs.Filling.{is_path, called, text_value, computed, chosen, fill, fill_items, fill_members}
+use Rattle.asl_data.specs.Paths.{part_of}
 use Rattle.asl_unread.specs.Reading.{Keys, AreEqualBut, leads, path_reads, argument_reads, some_argument_reads, tree_reads, call_reads, text_reads, reads, some_item_reads, some_member_reads}
-use Rattle.asl_unread.specs.Laws.{named}
 use Rattle.asl_unread.proofs.Parts.{at_agrees}
 
 -- ---- one text
 
 -- a text names the same with two Context Objects, and gives the same as a call
 pub record Agrees (a b : Data) (t : List ℕ) : Type 0 where
-  pub names : (x : Data) → named t x a ≡ named t x b
+  pub names : (x : Data) → part_of t x a ≡ part_of t x b
   pub gives : (x : Data) → ev t x a ≡ ev t x b
 
-pub path_agrees : (ks : Keys) (a b : Data) (t : List ℕ) → AreEqualBut ks a b → path_reads ks t ≡ false → (x : Data) → named t x a ≡ named t x b
+pub path_agrees : (ks : Keys) (a b : Data) (t : List ℕ) → AreEqualBut ks a b → path_reads ks t ≡ false → (x : Data) → part_of t x a ≡ part_of t x b
 unfolding path_reads
 path_agrees ks a b t same unread x = by (is_context t) (steps t) unread
   where

@@ -1,22 +1,28 @@
 -- Laws of what no text reads.
-use Rattle.std.specs.Prelude.{◌≡◌, ℕ, List, false, Option, if◌then◌else◌}
+use Rattle.std.specs.Prelude.{◌≡◌, ℕ, List, true, false}
 use Rattle.asl_json.specs.Data.{Data}
-use Rattle.asl_path.specs.Paths.{part_at}
+use Rattle.asl_json.specs.declared.value.Json.{Json}
 use Rattle.asl_intrinsic.specs.Tree.{Argument}
-use Rattle.asl_intrinsic.specs.Calls.{is_context, value_of}
+use Rattle.asl_intrinsic.specs.Calls.{value_of}
 use Rattle.asl_intrinsic.specs.Values.{ev}
 use Rattle.asl_template.specs.Filling.{fill}
+use Rattle.asl_mock.specs.Answers.{answer_to}
+use Rattle.asl_steps.specs.declared.facts.Facts.{Facts}
+use Rattle.asl_steps.specs.Records.{name_in}
+use Rattle.asl_steps.specs.Seen.{Seen}
+use Rattle.asl_data.specs.Paths.{part_of}
+use Rattle.asl_kinds.specs.Members.{effective, pass_output, selected, passed_on, choice_output, wait_until, fail_error}
+use Rattle.asl_kinds.specs.Table.{state_effect, invokes}
 use Rattle.asl_unread.specs.Reading.{Keys, AreEqualBut, path_reads, argument_reads, call_reads, reads}
+use Rattle.asl_unread.specs.Steps.{token_keys, with_count}
 
--- the part that a path names: of the Context Object c, where it begins `$$`, and else of the input x
-abbrev pub named : List ℕ → Data → Data → Option Data
-named t x c = part_at t (if is_context t then c else x)
+-- ---- one text, and a template
 
 -- a path that doesn't read what stands there names the same in both Context Objects
 abbrev pub PathsAgree : Type 0
 PathsAgree =
     (ks : Keys) (a b : Data) (t : List ℕ) → AreEqualBut ks a b → path_reads ks t ≡ false
-    → (x : Data) → named t x a ≡ named t x b
+    → (x : Data) → part_of t x a ≡ part_of t x b
 
 -- a call that doesn't gives the same
 abbrev pub TreesAgree : Type 0
@@ -34,3 +40,41 @@ abbrev pub TemplatesAgree : Type 0
 TemplatesAgree =
     (ks : Keys) (a b : Data) (t : Data) → AreEqualBut ks a b → reads ks t ≡ false
     → (x : Data) → fill t x a ≡ fill t x b
+
+-- ---- a state
+
+-- what a state of this object takes of its raw input, and what it gives: with the one Context Object the same as with the other
+pub record GivesTheSame (d a b : Data) : Type 0 where
+  -- the effective input
+  pub input : (x : Json) → effective d x a ≡ effective d x b
+  -- of a result r, what the state is left with
+  pub result : (x r : Json) → selected d x a r ≡ selected d x b r
+  -- a Pass; a Succeed, or a Wait that is over
+  pub passed : (x : Json) → pass_output d x a ≡ pass_output d x b
+  pub output : (x : Json) → passed_on d x a ≡ passed_on d x b
+  -- where a Choice goes on; until when a Wait waits; the error of a Fail
+  pub target : (x : Json) → choice_output d x a ≡ choice_output d x b
+  pub until : (now : ℕ) (x : Json) → wait_until d now x a ≡ wait_until d now x b
+  pub error : (x : Data) → fail_error d x a ≡ fail_error d x b
+
+abbrev pub StatesAgree : Type 0
+StatesAgree =
+    (ks : Keys) (a b : Data) (d : Data) → AreEqualBut ks a b → reads ks d ≡ false
+    → GivesTheSame d a b
+
+-- ---- a step of a state
+
+-- A state that doesn't read its token does the same, however often it was invoked before; a Task
+-- does where the test case answers both numbers alike.
+abbrev pub CountsDontMatter : Type 0
+CountsDontMatter =
+    (d : Data) (f : Facts) (v : Seen) (n : ℕ) → reads token_keys d ≡ false
+    → (invokes d ≡ true
+    → answer_to v.case (name_in v.current) n ≡ answer_to v.case (name_in v.current) v.count)
+    → state_effect d f (with_count v n) ≡ state_effect d f v
+
+-- A state that invokes no service has no token, and does the same whatever its texts read.
+abbrev pub OthersDontCount : Type 0
+OthersDontCount =
+    (d : Data) (f : Facts) (v : Seen) (n : ℕ) → invokes d ≡ false → v.invokes ≡ false
+    → state_effect d f (with_count v n) ≡ state_effect d f v

@@ -1,5 +1,5 @@
 // Laws of what no text reads.
-ghost use Rattle.asl_unread.specs.Laws.{PathsAgree, TreesAgree, CallsAgree, TemplatesAgree};
+ghost use Rattle.asl_unread.specs.Laws.{PathsAgree, TreesAgree, CallsAgree, TemplatesAgree, StatesAgree, CountsDontMatter, OthersDontCount};
 
 /// What doesn't read the part of the Context Object at a chain of keys gives the same in any two that are equal but for that part.
 /// The laws have no code.
@@ -12,4 +12,17 @@ pub fn a_text_gives_by_what_it_reads()
     ensures calls { CallsAgree }
     // and a template gives the same.
     ensures templates { TemplatesAgree }
+{}
+
+/// The same of a state none of whose texts reads that part: of what it takes and gives.
+pub fn a_state_gives_by_what_it_reads()
+    ensures gives { StatesAgree }
+{}
+
+/// How often a state was invoked before matters to its step by the token that a text of it reads, and by the test case's answer.
+pub fn a_step_counts_where_it_reads_the_count()
+    // Where neither differs, the step does the same;
+    ensures counts { CountsDontMatter }
+    // and so does each step of a state that invokes no service.
+    ensures others { OthersDontCount }
 {}

@@ -3,4 +3,7 @@
 
 mod laws;
 
-pub use laws::a_text_gives_by_what_it_reads;
+pub use laws::{
+    a_state_gives_by_what_it_reads, a_step_counts_where_it_reads_the_count,
+    a_text_gives_by_what_it_reads,
+};
