@@ -1,6 +1,6 @@
 -- A step where the state was invoked another number of times before.
-use Rattle.std.proofs.Common.{◌≡◌, ℕ, ◌+◌, List, [], ◌∷◌, Bool, true, false, refl, ap, ◌∙◌, cond, Option, Some, None}
-use Rattle.std.specs.Prelude.{Result, Ok, Err, codes}
+use Rattle.std.proofs.Common.{◌≡◌, ℕ, List, [], Bool, true, false, refl, ap, ◌∙◌, cond, Option, Some, None}
+use Rattle.std.specs.Prelude.{Ok, Err, codes}
 use Rattle.asl_json.specs.Data.{Data}
 use Rattle.asl_json.specs.View.{data_of}
 use Rattle.asl_json.specs.Same.{bytes_eq}
@@ -14,7 +14,6 @@ use Rattle.asl_mock.specs.declared.response.Answer.{Answer}
 use Rattle.asl_mock.specs.declared.response.Answer.TheVariants.{Returns, Throws}
 use Rattle.asl_handle.specs.Decisions.{Handling, again, caught, unhandled, decision}
 use Rattle.asl_parts.specs.Texts.{text_in}
-use Rattle.asl_states.specs.Items.{processor_in, selector_in}
 use Rattle.asl_steps.specs.declared.effect.Effect.{Effect}
 use Rattle.asl_steps.specs.declared.effect.Progress.{Progress}
 use Rattle.asl_steps.specs.declared.facts.Facts.{Facts}
@@ -23,13 +22,14 @@ use Rattle.asl_steps.specs.Records.{name_in, uses_in, entering_with, beginning_w
 use Rattle.asl_steps.specs.Seen.{Seen}
 use Rattle.asl_steps.specs.Context.{context_of}
 use Rattle.asl_steps.specs.Rows.{idle, entering, beginning, telling, unstarted, failing, error_output, is_within_limit, over_limit}
-use Rattle.asl_data.specs.Paths.{Given, put_into, taken}
+use Rattle.asl_data.specs.Paths.{Given, put_into}
 use Rattle.asl_kinds.specs.Members.{next_in, effective, passed_on, selected, fail_error, GivenTarget, choice_output, GivenMoment, wait_until, no_answer}
-use Rattle.asl_kinds.specs.Forks.{in_iteration, item_input, new_before, iterations, GivenFork, with_items, items_by, forked_with, first_error, outputs, gathered}
-use Rattle.asl_kinds.specs.Table.{passed, in_one, pass_effect, succeed_effect, begun, fail_effect, decided, choice_effect, waits, wait_over, wait_with, wait_effect, error_name, handled, settled, invoked, task_settled, task_fails, task_returns, task_answered, task_with, task_effect, fork_settled, joined_by, parallel_forks, parallel_joins, parallel_with, parallel_effect, iteration_start, fork_over, fork_by, fork_of, map_forks, map_joins, map_with, map_effect, effect_by_type, state_effect, is_invoking_type, invokes}
+use Rattle.asl_kinds.specs.Forks.{in_iteration, GivenFork, forked_with, first_error, outputs, gathered}
+use Rattle.asl_kinds.specs.Table.{passed, in_one, pass_effect, succeed_effect, begun, fail_effect, decided, choice_effect, waits, wait_over, wait_with, wait_effect, error_name, handled, settled, invoked, task_settled, task_fails, task_returns, task_answered, task_with, task_effect, fork_settled, joined_by, parallel_forks, parallel_joins, parallel_with, parallel_effect, fork_of, map_forks, map_joins, map_with, map_effect, effect_by_type, state_effect, is_invoking_type, invokes}
 use Rattle.asl_unread.specs.Steps.{with_count}
 use Rattle.asl_unread.proofs.Agreeing.{AllAgree}
-use Rattle.asl_unread.proofs.Members.{SomeAgrees, member_agrees, selector_agrees, taken_agrees, filled_agrees, effective_agrees, pass_agrees, selected_agrees, passed_agrees, choice_agrees, wait_agrees, fail_agrees}
+use Rattle.asl_unread.proofs.Forking.{fork_same}
+use Rattle.asl_unread.proofs.Members.{effective_agrees, pass_agrees, selected_agrees, passed_agrees, choice_agrees, wait_agrees, fail_agrees}
 
 -- ---- rows
 
@@ -165,31 +165,8 @@ module _ (d : Data) (f : Facts) (v : Seen) (n : ℕ) (agree : AllAgree (context_
   -- ---- Map
 
   module _ (inside : (i : ℕ) (x : Data) → AllAgree (context_of f (in_iteration (with_count v n) i x)) (context_of f (in_iteration v i x)) d) where
-    iterations_same : (start : List ℕ) (t : Option Data) (y : Json) (i : ℕ) (xs : List Data) → ((i : ℕ) (x : Data) → SomeAgrees (context_of f (in_iteration (with_count v n) i x)) (context_of f (in_iteration v i x)) t) → iterations start t y f (with_count v n) i xs ≡ iterations start t y f v i xs
-    iterations_same start t y i [] each = refl
-    iterations_same start t y i (x ∷ xs) each =
-        let first = input_same t y i x (each i x) in
-        let rest = iterations_same start t y (i + 1) xs each in
-        λ j. new_before start (first j) (rest j)
-      where
-        input_same : (t : Option Data) (y : Json) (i : ℕ) (x : Data) → SomeAgrees (context_of f (in_iteration (with_count v n) i x)) (context_of f (in_iteration v i x)) t → item_input t y f (with_count v n) i x ≡ item_input t y f v i x
-        input_same None y i x h = refl
-        input_same (Some t) y i x h = filled_agrees (context_of f (in_iteration (with_count v n) i x)) (context_of f (in_iteration v i x)) (Some t) y h
-
-    fork_over_same : (y : Json) (r : Result (List Data) ErrorOut) → fork_over (selector_in d) (iteration_start (processor_in d)) f (with_count v n) y r ≡ fork_over (selector_in d) (iteration_start (processor_in d)) f v y r
-    fork_over_same y (Ok xs) = ap (with_items xs) (iterations_same (iteration_start (processor_in d)) (selector_in d) y 0 xs (λ i x. selector_agrees (context_of f (in_iteration (with_count v n) i x)) (context_of f (in_iteration v i x)) d (inside i x)))
-    fork_over_same y (Err e) = refl
-
-    fork_by_same : (g : Given) → fork_by (value_in (codes "ItemsPath") d) (selector_in d) (iteration_start (processor_in d)) f (with_count v n) g ≡ fork_by (value_in (codes "ItemsPath") d) (selector_in d) (iteration_start (processor_in d)) f v g
-    fork_by_same (Ok y) =
-        fork_over_same y (items_by (taken (codes "ItemsPath") (value_in (codes "ItemsPath") d) y (context_of f (with_count v n))))
-        ∙ ap (λ (g : Given). fork_over (selector_in d) (iteration_start (processor_in d)) f v y (items_by g)) (taken_agrees (context_of f (with_count v n)) (context_of f v) (codes "ItemsPath") (value_in (codes "ItemsPath") d) y (member_agrees (context_of f (with_count v n)) (context_of f v) (codes "ItemsPath") d agree))
-    fork_by_same (Err e) = refl
-
-    fork_same : (x : Json) → fork_of d f (with_count v n) x ≡ fork_of d f v x
-    fork_same x =
-        fork_by_same (taken (codes "InputPath") (value_in (codes "InputPath") d) x (context_of f (with_count v n)))
-        ∙ ap (fork_by (value_in (codes "ItemsPath") d) (selector_in d) (iteration_start (processor_in d)) f v) (taken_agrees (context_of f (with_count v n)) (context_of f v) (codes "InputPath") (value_in (codes "InputPath") d) x (member_agrees (context_of f (with_count v n)) (context_of f v) (codes "InputPath") d agree))
+    fork_is : (x : Json) → fork_of d f (with_count v n) x ≡ fork_of d f v x
+    fork_is x = fork_same d f (with_count v n) v agree inside x
 
     map_forks_same : (done : Progress) (x : Json) (g : GivenFork) → map_forks d (with_count v n) done x g ≡ map_forks d v done x g
     map_forks_same done x (Ok g) = refl
@@ -202,7 +179,7 @@ module _ (d : Data) (f : Facts) (v : Seen) (n : ℕ) (agree : AllAgree (context_
     map_with_same : (o : Option Json) → map_with d f (with_count v n) o ≡ map_with d f v o
     map_with_same (Some x) =
         map_forks_same (beginning v MapStateEntered x) x (fork_of d f (with_count v n) x)
-        ∙ ap (map_forks d v (beginning v MapStateEntered x) x) (fork_same x)
+        ∙ ap (map_forks d v (beginning v MapStateEntered x) x) (fork_is x)
     map_with_same None = map_joins_same (forked_with v.current)
 
     -- ---- a state of any type

@@ -1,20 +1,50 @@
 -- Laws of what no text reads.
-use Rattle.std.specs.Prelude.{◌≡◌, ℕ, List, true, false}
+use Rattle.std.specs.Prelude.{◌≡◌, ℕ, List, true, false, Some}
 use Rattle.asl_json.specs.Data.{Data}
 use Rattle.asl_json.specs.declared.value.Json.{Json}
+use Rattle.asl_path.specs.Grammar.{SpellsPath}
+use Rattle.asl_path.specs.declared.step.Root.TheVariants.{Input, Context}
+use Rattle.asl_path.specs.declared.step.Step.{Step}
 use Rattle.asl_intrinsic.specs.Tree.{Argument}
+use Rattle.asl_intrinsic.specs.Grammar.{SpellsCall, Fits}
 use Rattle.asl_intrinsic.specs.Calls.{value_of}
 use Rattle.asl_intrinsic.specs.Values.{ev}
 use Rattle.asl_template.specs.Filling.{fill}
 use Rattle.asl_mock.specs.Answers.{answer_to}
+use Rattle.asl_def.specs.Machines.{state_object}
 use Rattle.asl_steps.specs.declared.facts.Facts.{Facts}
 use Rattle.asl_steps.specs.Records.{name_in}
 use Rattle.asl_steps.specs.Seen.{Seen}
 use Rattle.asl_data.specs.Paths.{part_of}
 use Rattle.asl_kinds.specs.Members.{effective, pass_output, selected, passed_on, choice_output, wait_until, fail_error}
 use Rattle.asl_kinds.specs.Table.{state_effect, invokes}
-use Rattle.asl_unread.specs.Reading.{Keys, AreEqualBut, path_reads, argument_reads, call_reads, reads}
-use Rattle.asl_unread.specs.Steps.{token_keys, with_count}
+use Rattle.asl_unread.specs.Reading.{Keys, AreEqualBut, meets, path_reads, argument_reads, call_reads, reads}
+use Rattle.asl_unread.specs.Steps.{token_keys, with_count, clock_keys, timeless, timeless_effect}
+
+-- ---- what a text reads, by what it spells
+
+-- a path of the Context Object reads what its steps meet
+abbrev pub ContextPathsRead : Type 0
+ContextPathsRead =
+    (ks : Keys) (ss : List Step) (t : List ℕ) → SpellsPath Context ss t
+    → path_reads ks t ≡ meets ks ss
+
+-- one of the input reads nothing of it
+abbrev pub InputPathsDont : Type 0
+InputPathsDont =
+    (ks : Keys) (ss : List Step) (t : List ℕ) → SpellsPath Input ss t → path_reads ks t ≡ false
+
+-- a call reads what the paths among its arguments read
+abbrev pub CallsReadByTrees : Type 0
+CallsReadByTrees =
+    (ks : Keys) (a : Argument) (t : List ℕ) → SpellsCall a t → Fits a
+    → call_reads ks t ≡ argument_reads ks a
+
+-- a state of a definition reads no more than the definition
+abbrev pub StatesReadNoMore : Type 0
+StatesReadNoMore =
+    (ks : Keys) (d : Data) (name : List ℕ) (state : Data) → reads ks d ≡ false
+    → state_object name d ≡ Some state → reads ks state ≡ false
 
 -- ---- one text, and a template
 
@@ -78,3 +108,10 @@ abbrev pub OthersDontCount : Type 0
 OthersDontCount =
     (d : Data) (f : Facts) (v : Seen) (n : ℕ) → invokes d ≡ false → v.invokes ≡ false
     → state_effect d f (with_count v n) ≡ state_effect d f v
+
+-- Two steps that read the same but for moments do the same but for moments, where no text of the
+-- state reads when it was entered.
+abbrev pub MomentsDontMatter : Type 0
+MomentsDontMatter =
+    (d : Data) (f : Facts) (u v : Seen) → reads clock_keys d ≡ false → timeless u ≡ timeless v
+    → timeless_effect (state_effect d f u) ≡ timeless_effect (state_effect d f v)

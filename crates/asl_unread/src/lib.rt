@@ -5,5 +5,6 @@ mod laws;
 
 pub use laws::{
     a_state_gives_by_what_it_reads, a_step_counts_where_it_reads_the_count,
-    a_text_gives_by_what_it_reads,
+    a_step_hangs_on_the_clock_where_it_reads_it, a_text_gives_by_what_it_reads,
+    a_text_reads_what_it_spells,
 };
