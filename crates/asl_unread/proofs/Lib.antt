@@ -1,0 +1,12 @@
+pub mod Spelling
+pub mod Inside
+pub mod Parts
+pub mod Agreeing
+pub mod Choosing
+pub mod Members
+pub mod Giving
+pub mod Forking
+pub mod Counting
+pub mod Tokens
+pub mod Timing
+pub mod Clock
