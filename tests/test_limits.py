@@ -129,6 +129,10 @@ class Limits(ProgramTest):
         steps = 12497 * "/ 2024-01-01T00:00:00Z\n"
         told = self.told(loop, steps=steps).splitlines()
         self.assertEqual(told[12495:12497], ["step / ok", "step / S8 HistoryFull"])
+        # By itself it goes 10,000 steps.
+        ran = self.run_texts(loop, "{}", "M", "{}", None)
+        told = ran.stdout.splitlines()
+        self.assertEqual((ran.returncode, len(told), told[-1]), (1, 20_002, "status RUNNING"))
 
 
 if __name__ == "__main__":
