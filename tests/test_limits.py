@@ -120,6 +120,17 @@ class Limits(ProgramTest):
                             self.assertIn(ran.returncode, (0, 1), (what, words[0]))
                             self.assertTrue(ran.stdout, (what, words[0]))
 
+    def test_each_limit_is_found(self):
+        with tempfile.TemporaryDirectory(prefix="asl-test-") as room:
+            for what, within, beyond, fault in LIMITS:
+                for text, name in [(within, None), (beyond, fault.split(" ")[0])]:
+                    with open(os.path.join(room, "definition"), "w", encoding="utf-8") as file:
+                        file.write(text)
+                    ran = run_program("lint", os.path.join(room, "definition"))
+                    self.assertEqual((ran.stderr, ran.returncode), ("", 1 if name else 0), what)
+                    self.assertEqual(f"error {name}: " in ran.stdout, name is not None, what)
+                    self.assertEqual(" error " in ran.stdout, name is not None, what)
+
     def test_a_range_has_at_most_1000_items(self):
         for last, status in [(1000, "SUCCEEDED"), (1001, "FAILED")]:
             definition = machine('"Type":"Pass","Parameters":{"a.$":"States.ArrayRange(1, %d, 1)"},"End":true' % last)
@@ -131,6 +142,10 @@ class Limits(ProgramTest):
         steps = 12497 * "/ 2024-01-01T00:00:00Z\n"
         told = self.told(loop, steps=steps).splitlines()
         self.assertEqual(told[12495:12497], ["step / ok", "step / S8 HistoryFull"])
+        # By itself it goes 10,000 steps.
+        ran = self.run_texts(loop, "{}", "M", "{}", None)
+        told = ran.stdout.splitlines()
+        self.assertEqual((ran.returncode, len(told), told[-1]), (1, 20_002, "status RUNNING"))
 
 
 if __name__ == "__main__":

@@ -15,16 +15,20 @@ COMMANDS = [
     ["check", DEFINITION],
     ["print", DEFINITION],
     ["upgrade", DEFINITION],
-    ["graph", DEFINITION],
+    *(["lint", f"{TOP}/examples/refused.json", MOCKS, "--format", kind] for kind in ["text", "json", "sarif"]),
+    *(["graph", DEFINITION, "--format", kind] for kind in ["mermaid", "dot"]),
     ["mocks", DEFINITION],
     ["run", *SETUP],
-    *(["run", *SETUP, "--format", kind] for kind in ["json", "aws", "steps"]),
+    ["run", *SETUP, "--steps", "STEPS"],
+    *(["run", *SETUP, "--format", kind] for kind in ["json", "aws", "steps", "tree"]),
     ["debug", *SETUP, "SCRIPT"],
     *(["test", DEFINITION, MOCKS, f"{EXAMPLE}/expectations.json", "--format", kind] for kind in ["text", "junit", "json"]),
     ["explore", *SETUP],
+    ["test", DEFINITION, MOCKS, f"{EXAMPLE}/expectations.json", "--workers", "2"],
     ["explore", *SETUP, "--witness", "2"],
 ]
 
+STEPS = "/ 2024-01-01T00:00:00Z\n/ 2024-01-01T00:00:01Z\n"
 SCRIPT = "step / 2024-01-01T00:00:00Z\nshow /\nback 1\n"
 
 
@@ -37,12 +41,14 @@ class Streams(unittest.TestCase):
         cls.addClassCleanup(room.cleanup)
         cls.library = f"{room.name}/streams.so"
         subprocess.run([os.environ.get("CC", "cc"), "-shared", "-fPIC", "-o", cls.library, f"{TOP}/tests/streams.c"], check=True)
-        cls.script = f"{room.name}/script"
-        with open(cls.script, "w", encoding="utf-8") as file:
-            file.write(SCRIPT)
+        cls.files = {}
+        for name, text in [("SCRIPT", SCRIPT), ("STEPS", STEPS)]:
+            cls.files[name] = f"{room.name}/{name}"
+            with open(cls.files[name], "w", encoding="utf-8") as file:
+                file.write(text)
 
     def commands(self):
-        return [[self.script if word == "SCRIPT" else word for word in words] for words in COMMANDS]
+        return [[self.files.get(word, word) for word in words] for words in COMMANDS]
 
     def run_by(self, words, **more):
         """What the program does, with the library and these variables of the environment: its status, what it prints, and what it tells."""

@@ -122,3 +122,41 @@ status SUCCEEDED {"a":{"b":7}}
                 self.assertTrue(told.endswith('\nstatus SUCCEEDED {"machine":"%s","run":"%s"}\n' % (machine, name)), told)
                 told = self.told(task, mocks=MOCKS, chosen=chosen)
                 self.assertEqual(told.splitlines()[-1], status)
+
+    def test_a_test_case_of_the_only_machine_needs_no_machine(self):
+        task = '{"StartAt":"T","States":{"T":{"Type":"Task","Resource":"r","ResultSelector":{"machine.$":"$$.StateMachine.Name","run.$":"$$.Execution.Name"},"End":true}}}'
+        failed = 'status FAILED {"Error":"States.Runtime","Cause":"no mocked answer"}'
+
+        def found(machine, case):
+            return 'status SUCCEEDED {"machine":"%s","run":"%s"}' % (machine, case)
+
+        def mocks(*machines):
+            return '{"StateMachines":{%s},"MockedResponses":{"r":{"0":{"Return":1}}}}' % ",".join('"%s":{"TestCases":{"c":{"T":"r"},"M":{"T":"r"},"":{"T":"r"}}}' % machine for machine in machines)
+
+        for machines, chosen, status in [
+            (["M"], "c", found("M", "c")),
+            (["M"], "M#c", found("M", "c")),
+            # A machine's own name, with and without a case of this name, and names of nothing.
+            (["M"], "M", failed),
+            (["N"], "M", found("N", "M")),
+            (["M"], "N", failed),
+            (["M"], "C", failed),
+            (["M"], "", failed),
+            # Several machines, or none; a machine whose name has the sign.
+            (["M", "N"], "c", failed),
+            ([], "c", failed),
+            (["M#N"], "c", failed),
+            (["M"], "c#", failed),
+            (["M"], "#c", None),
+        ]:
+            with self.subTest(machines=machines, chosen=chosen):
+                if status:
+                    self.assertEqual(self.told(task, mocks=mocks(*machines), chosen=chosen).splitlines()[-1], status)
+                else:
+                    self.assertEqual(self.refused(task, mocks(*machines), chosen, "{}", ""), "case: M7 NoMachine")
+        self.assertEqual(self.refused(task, "[", "c", "{}", ""), "mocks: M1 Json J1 Syntax 1")
+        self.assertEqual(self.refused(task, mocks("M"), "c", "{", ""), "input: J1 Syntax 1")
+        for command, last, end in [("debug", "step / 2024-01-01T00:00:00Z\n", found("M", "c")), ("explore", None, "order /")]:
+            ran = self.on_texts(command, task, mocks("M"), "c", "{}", last)
+            self.assertEqual((ran.stderr, ran.stdout.splitlines()[-1]), ("", end))
+            self.assertEqual(ran.stdout, self.on_texts(command, task, mocks("M"), "M#c", "{}", last).stdout)

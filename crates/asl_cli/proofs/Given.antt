@@ -17,7 +17,7 @@ given-before gives less (Some n) None k h = h
 given-before gives less (Some n) (Some b) k h = k n b h
 
 -- the texts of a setup and a file of steps are those of a run
-pub given-run : (gives : List ℕ → List ℕ → Type 0) (w : SetupWords) (name steps : Option (List ℕ)) (r : SetupTexts) (t : Texts) → t ≡ read_texts r w.chosen.now steps → AreGiven gives w None (read_texts r w.chosen.now None) → IsGiven gives name steps → AreGiven gives w name t
+pub given-run : (gives : List ℕ → List ℕ → Type 0) (w : SetupWords) (name steps : Option (List ℕ)) (r : SetupTexts) (t : Texts) → t ≡ read_texts r steps → AreGiven gives w None (read_texts r None) → IsGiven gives name steps → AreGiven gives w name t
 given-run gives w name steps r t e g s = subst (AreGiven gives w name) (sym e) (record {
   definition = g.definition;
   mocks = g.mocks;

@@ -1,5 +1,5 @@
 -- What is read for a command, what is judged or emulated then, and why nothing is.
-use Rattle.std.specs.Prelude.{ℕ, Bool, Option, Some, None, option_map, List, [], ◌∷◌, ◌≡◌, ◌++◌, ◌⊎◌, ⊤, codes}
+use Rattle.std.specs.Prelude.{ℕ, Bool, Option, Some, None, option_map, string_bytes, List, [], ◌∷◌, ◌≡◌, ◌++◌, ◌⊎◌, ⊤, codes}
 use Rattle.asl_json.specs.Data.{Data}
 use Rattle.asl_json.specs.Compact.{compact}
 use Rattle.asl_json.specs.Wrong.{ReadsAs}
@@ -13,6 +13,7 @@ use Rattle.asl_check.specs.declared.fault.Fault.TheVariants as fault
 use Rattle.asl_expect.specs.Lines.{expect_line}
 use Rattle.asl_setup.specs.declared.fault.EmulateFault.{EmulateFault}
 use Rattle.asl_setup.specs.declared.setup.Setup.{Setup}
+use Rattle.asl_chosen.specs.Chosen.{IsChosen}
 use Rattle.asl_setup.specs.Emulations.{Texts, run_texts, Accepts, IsRefused}
 use Rattle.asl_setup.specs.Texts.{Unless, refusal_line}
 use Rattle.asl_session.specs.declared.script_file.ScriptFault.{ScriptFault}
@@ -74,17 +75,18 @@ named (Some name) = name ∷ []
 abbrev pub names_in : SetupWords → Option (List ℕ) → List (List ℕ)
 names_in w more = w.definition.now ∷ w.mocks.now ∷ w.input.now ∷ named more
 
--- the texts of a run with this choice, and with this file of steps, where there is one
-abbrev pub read_texts : SetupTexts → List ℕ → Option (List ℕ) → Texts
-read_texts t chosen steps =
-    run_texts t.definition.items t.mocks.items chosen t.input.items steps
+-- the texts of a run with this file of steps, where there is one
+abbrev pub read_texts : SetupTexts → Option (List ℕ) → Texts
+read_texts t steps =
+    run_texts t.definition.items t.mocks.items (string_bytes t.chosen) t.input.items steps
 
--- the files that the words name may give these texts, of steps where such a file is named
+-- the files that the words name may give these texts, of steps where such a file is named, and what
+-- the words choose there is this
 pub record AreGiven (gives : List ℕ → List ℕ → Type 0) (w : SetupWords) (name : Option (List ℕ))
     (t : Texts) : Type 0 where
   pub definition : gives w.definition.now t.definition
   pub mocks : gives w.mocks.now t.mocks
-  pub chosen : t.chosen ≡ w.chosen.now
+  pub chosen : IsChosen t.mocks w.chosen.now t.chosen
   pub input : gives w.input.now t.input
   pub steps : IsGiven gives name t.steps
 

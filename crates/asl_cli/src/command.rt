@@ -150,7 +150,7 @@ fn emulate_files<'a, F: Files>(
 {
     let texts = read_texts(alloc, files, &words.setup)?;
     let steps = read_named(alloc, files, words.steps)?;
-    let given = texts.of_run(words.setup.chosen, steps.as_deref());
+    let given = texts.of_run(steps.as_deref());
     match emulate_given(alloc, words.format, &given) {
         Ok(emulated) => Ok(emulated),
         Err(refusal) => Err(refusal),

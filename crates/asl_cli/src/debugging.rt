@@ -74,7 +74,7 @@ fn debug_files<'a, F: Files>(
 {
     let texts = read_texts(alloc, files, words)?;
     let script = read_file(alloc, files, script)?;
-    let setup = setup_of(alloc, words, &texts)?;
+    let setup = setup_of(alloc, &texts)?;
     match run_by(alloc, setup, script.as_slice()) {
         Ok(text) => Ok(text),
         Err(refusal) => Err(refusal),
@@ -126,7 +126,7 @@ fn open_session<'a, F: Files>(
         (IsRunReason (F.gives files.old) (F.lacks files.old) words.now None) }
 {
     let texts = read_texts(alloc, files, words)?;
-    let setup = setup_of(alloc, words, &texts)?;
+    let setup = setup_of(alloc, &texts)?;
     match Console::open(alloc, setup) {
         Ok(console) => Ok(console),
         Err(AllocError) => Err(CommandFault::OutOfMemory),
@@ -134,21 +134,15 @@ fn open_session<'a, F: Files>(
 }
 
 /// What an execution begins with, from its texts.
-pub(crate) fn setup_of<'a>(
-    alloc: Global,
-    words: &SetupWords<'a>,
-    texts: &SetupTexts,
-) -> Result<Setup, CommandFault<'a>>
-    ensures found { IfOk result (λ s.
-        Accepts (read_texts texts.now words.now.chosen.now None) s None) }
-    ensures refused { IfErr result
-        (IsTextsReason (read_texts texts.now words.now.chosen.now None)) }
+pub(crate) fn setup_of<'a>(alloc: Global, texts: &SetupTexts) -> Result<Setup, CommandFault<'a>>
+    ensures found { IfOk result (λ s. Accepts (read_texts texts.now None) s None) }
+    ensures refused { IfErr result (IsTextsReason (read_texts texts.now None)) }
 {
     let answer = Setup::read(
         alloc,
         texts.definition.as_slice(),
         texts.mocks.as_slice(),
-        words.chosen,
+        texts.chosen.as_str(),
         texts.input.as_slice(),
     );
     match answer {

@@ -62,7 +62,7 @@ fn explore_files<'a, W: Watch, F: Files>(
         (IsRunReason (F.gives files.old) (F.lacks files.old) words.now.setup None) }
 {
     let texts = read_texts(alloc, files, &words.setup)?;
-    let setup = setup_of(alloc, &words.setup, &texts)?;
+    let setup = setup_of(alloc, &texts)?;
     match search(alloc, setup, orders_for(words.prompt), words.limit, watch) {
         Ok(explored) => Ok(explored),
         Err(AllocError) => Err(CommandFault::OutOfMemory),

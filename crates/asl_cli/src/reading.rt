@@ -1,13 +1,16 @@
 // What a command reads: the files that its words name.
-ghost use Rattle.std.specs.Prelude.{◌≡◌, List, ℕ, None, option_map, IfOk, IfErr};
+ghost use Rattle.std.specs.Prelude.{◌≡◌, List, ℕ, None, option_map, string_bytes, IfOk, IfErr};
 ghost use Rattle.asl_setup.specs.Views.{texts_of};
+ghost use Rattle.asl_chosen.specs.Chosen.{IsChosen};
 ghost use Rattle.asl_host.specs.declared.files.Unreadable.{Unreadable};
+ghost use Rattle.asl_cli.specs.declared.fault.CommandFault.TheVariants.{OutOfMemory};
 ghost use Rattle.asl_cli.specs.Faults.{IsUnread, IsGiven, AreUnread, AreGiven, named, names_in, read_texts};
 
 use crate::fault::CommandFault;
+use asl_chosen::chosen;
 use asl_host::{Files, ReadFault, SetupWords};
 use asl_setup::RunTexts;
-use std::alloc::Global;
+use std::alloc::{AllocError, Global};
 
 /// Reads a file that a word names.
 pub(crate) fn read_file<'a, F: Files>(
@@ -51,33 +54,45 @@ pub(crate) fn read_named<'a, F: Files>(
 pub(crate) struct SetupTexts {
     pub(crate) definition: Vec<u8>,
     pub(crate) mocks: Vec<u8>,
+    /// What is chosen of the mock file, as `Machine#Case`.
+    pub(crate) chosen: String,
     pub(crate) input: Vec<u8>,
 }
 
 impl SetupTexts {
-    /// The texts of a run with this choice, and with this file of steps, where there is one.
-    pub(crate) fn of_run<'a>(&'a self, chosen: &'a str, steps: Option<&'a [u8]>) -> RunTexts<'a>
-        ensures { texts_of result
-            ≡ read_texts self.now chosen.now (option_map (λ b. b.now) steps.entry) }
+    /// The texts of a run with this file of steps, where there is one.
+    pub(crate) fn of_run<'a>(&'a self, steps: Option<&'a [u8]>) -> RunTexts<'a>
+        ensures { texts_of result ≡ read_texts self.now (option_map (λ b. b.now) steps.entry) }
     {
         RunTexts {
             definition: self.definition.as_slice(),
             mocks: self.mocks.as_slice(),
-            chosen,
+            chosen: self.chosen.as_str(),
             input: self.input.as_slice(),
             steps,
         }
     }
 }
 
-/// Reads the files, in the order of the words.
+/// What a word chooses of a mock file.
+fn choose<'a>(alloc: Global, mocks: &[u8], word: &str) -> Result<String, CommandFault<'a>>
+    ensures chosen { IfOk result (λ t. IsChosen mocks.now word.now (string_bytes t)) }
+    ensures refused { IfErr result (λ e. e ≡ OutOfMemory) }
+{
+    match chosen(alloc, mocks, word) {
+        Ok(chosen) => Ok(chosen),
+        Err(AllocError) => Err(CommandFault::OutOfMemory),
+    }
+}
+
+/// Reads the files, in the order of the words, and looks what is chosen there.
 pub(crate) fn read_texts<'a, F: Files>(
     alloc: Global,
     files: &mut F,
     words: &SetupWords<'a>,
 ) -> Result<SetupTexts, CommandFault<'a>>
     ensures given { IfOk result (λ t. AreGiven (F.gives files.old) words.now None
-        (read_texts t words.now.chosen.now None)) }
+        (read_texts t None)) }
     ensures kept { (n b : List ℕ) → F.gives files.new n b → F.gives files.old n b }
     ensures lacking { (n : List ℕ) (u : Unreadable) → F.lacks files.new n u
         → F.lacks files.old n u }
@@ -87,9 +102,11 @@ pub(crate) fn read_texts<'a, F: Files>(
     let definition = read_file(alloc, files, words.definition)?;
     let mocks = read_file(alloc, files, words.mocks)?;
     let input = read_file(alloc, files, words.input)?;
+    let chosen = choose(alloc, mocks.as_slice(), words.chosen)?;
     Ok(SetupTexts {
         definition,
         mocks,
+        chosen,
         input,
     })
 }

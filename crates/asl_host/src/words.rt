@@ -594,7 +594,7 @@ fn explore_command<'a>(alloc: Global) -> Result<Command<'a>, AllocError> {
 fn with_setup_words<'a>(alloc: Global, command: Command<'a>) -> Result<Command<'a>, AllocError> {
     let mocks = Arg::new(alloc, "MOCKS").help("The file of the mocked tasks");
     let chosen = Arg::new(alloc, "CHOSEN").help(
-        "The machine's name, or the machine's and a case's as Machine#Case",
+        "The machine's name, the machine's and a case's as Machine#Case, or the case's alone where the mock file has one machine",
     );
     let input = Arg::new(alloc, "INPUT").help("The file of the execution's input");
     command

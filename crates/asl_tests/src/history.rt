@@ -57,7 +57,7 @@ fn spelled_again(alloc: Global, text: &str) -> Option<String> {
 }
 
 /// Adds an event at the start of 2024.
-fn add(
+pub(crate) fn add(
     alloc: Global,
     history: &mut History,
     at: &str,

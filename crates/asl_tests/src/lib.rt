@@ -2,7 +2,7 @@
 //! ample memory, and what libraries that aren't ours read.
 //!
 //! `json`, `cases`, `second_reader` and `deep` try values; `calls` and `functions` the calls of intrinsic functions, `templates` what
-//! stands on them; `paths`, `time` and `history` the crate of that subject. They stand here since the tests of a crate have it proved
+//! stands on them; `paths`, `time` and `history` the crate of that subject; `formats` what is written for other programs. They stand here since the tests of a crate have it proved
 //! once more: here only they are. What the program prints is tested on the built program, beside the crates.
 #![tactic(auto)]
 
@@ -12,6 +12,8 @@ mod calls;
 mod cases;
 #[cfg(test)]
 mod deep;
+#[cfg(test)]
+mod formats;
 #[cfg(test)]
 mod functions;
 #[cfg(test)]

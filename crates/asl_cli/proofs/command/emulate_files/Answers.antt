@@ -7,7 +7,7 @@ use Rattle.asl_cli.proofs.command.emulate_files.Goals as goal
 pub returns-in-Ok-clause-emulated : goal.returns-in-Ok-clause-emulated
 returns-in-Ok-clause-emulated g c =
     let texts = c.in_ok-texts.texts in
-    let same = c.of_run-given.ensures ∙ ap (read_texts texts c.args.words.now.setup.chosen.now) c.as_deref.ensures.value in
+    let same = c.of_run-given.ensures ∙ ap (read_texts texts) c.as_deref.ensures.value in
     record {
       texts = texts_of c.of_run-given.result;
       given = given-run _ c.args.words.now.setup _ _ texts (texts_of c.of_run-given.result) same c.in_ok-texts.ensures.given (given-before _ _ _ _ c.in_ok-texts.ensures.kept c.in_ok-steps.ensures.given);
@@ -17,6 +17,6 @@ returns-in-Ok-clause-emulated g c =
 pub returns-clause-refused : goal.returns-clause-refused
 returns-clause-refused g c =
     let texts = c.in_ok-texts.texts in
-    let same = c.of_run-given.ensures ∙ ap (read_texts texts c.args.words.now.setup.chosen.now) c.as_deref.ensures.value in
+    let same = c.of_run-given.ensures ∙ ap (read_texts texts) c.as_deref.ensures.value in
     let given = given-run _ c.args.words.now.setup _ _ texts (texts_of c.of_run-given.result) same c.in_ok-texts.ensures.given (given-before _ _ _ _ c.in_ok-texts.ensures.kept c.in_ok-steps.ensures.given) in
     refused-run _ _ c.args.words.now.setup _ (texts_of c.of_run-given.result) c.in-Err.refusal given c.in-Err.ensures.refused

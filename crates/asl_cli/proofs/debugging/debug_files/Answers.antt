@@ -6,7 +6,7 @@ pub returns-in-Ok-clause-text : goal.returns-in-Ok-clause-text
 returns-in-Ok-clause-text g c = record {
   setup = c.in_ok-setup.setup;
   begins = record {
-    texts = read_texts c.in_ok-texts.texts c.args.words.now.chosen.now None;
+    texts = read_texts c.in_ok-texts.texts None;
     given = c.in_ok-texts.ensures.given;
     accepted = c.in_ok-setup.ensures.found;
   };

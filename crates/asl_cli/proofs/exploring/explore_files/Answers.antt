@@ -9,7 +9,7 @@ pub returns-in-Ok-clause-found : goal.returns-in-Ok-clause-found
 returns-in-Ok-clause-found g c = record {
   setup = c.in_ok-setup.setup;
   begins = record {
-    texts = read_texts c.in_ok-texts.texts c.args.words.now.setup.chosen.now None;
+    texts = read_texts c.in_ok-texts.texts None;
     given = c.in_ok-texts.ensures.given;
     accepted = c.in_ok-setup.ensures.found;
   };
