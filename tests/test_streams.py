@@ -22,6 +22,7 @@ COMMANDS = [
     ["debug", *SETUP, "SCRIPT"],
     *(["test", DEFINITION, MOCKS, f"{EXAMPLE}/expectations.json", "--format", kind] for kind in ["text", "junit", "json"]),
     ["explore", *SETUP],
+    ["explore", *SETUP, "--calls"],
     ["explore", *SETUP, "--witness", "2"],
 ]
 
