@@ -1,5 +1,6 @@
 """Every order of the branches: what is listed is given by its witness, and whatever steps are taken, their outcome is listed."""
 import glob
+import json
 import os
 import random
 import tempfile
@@ -14,19 +15,22 @@ SEVERAL = {"order#shipped": 2, "orders#declined": 2, "thumbnails#made": 4, "loan
 
 
 class Found(NamedTuple):
-    """What is printed of an outcome: its text, the places of the steps that end in it, and whether it comes only where a branch is late."""
+    """What is printed of an outcome: its text, the places of the steps that end in it, whether it comes only where a branch is late, and
+    how often Tasks are invoked: pairs of a name and a text."""
 
     outcome: str
     places: list
     late: bool
+    calls: list
 
 
 class Explored(NamedTuple):
-    """What is printed of a search: its first line, the number of worlds, the outcomes, and the notes behind them."""
+    """What is printed of a search: its first line, the number of worlds, the outcomes, and behind them what is remarkable and the notes."""
 
     search: str
     worlds: int
     found: list
+    remarks: list
     notes: list
 
     @property
@@ -35,18 +39,30 @@ class Explored(NamedTuple):
         return [one.outcome for one in self.found]
 
 
+def called(line):
+    """The name and the text of a line that tells how often a Task is invoked."""
+    name, told = line.removeprefix("calls ").rsplit(" ", 1)
+    assert line.startswith("calls "), line
+    return json.loads(name), told
+
+
 def explored(text):
     """What this text of a search says."""
     head, *parts = text.split("\n\n")
     search, worlds, outcomes = head.splitlines()
-    notes = parts.pop().splitlines() if parts and parts[-1].startswith("note ") else []
+    behind = parts.pop().splitlines() if parts and not parts[-1].startswith("outcome ") else []
+    notes = [line for line in behind if line.startswith("note ")]
+    remarks = behind[: len(behind) - len(notes)]
+    assert remarks + notes == behind, text
     found = []
     for number, part in enumerate(parts, 1):
-        first, order, *late = part.splitlines()
-        assert first.startswith(f"outcome {number} ") and order.startswith("order ") and late in ([], ["late"]), part
-        found.append(Found(first.split(" ", 2)[2], order.split(" ")[1:], bool(late)))
+        first, order, *more = part.splitlines()
+        assert first.startswith(f"outcome {number} ") and order.startswith("order "), part
+        late = more[:1] == ["late"]
+        calls = [called(line) for line in more[late:]]
+        found.append(Found(first.split(" ", 2)[2], order.split(" ")[1:], late, calls))
     assert outcomes == f"outcomes {len(found)}", text
-    return Explored(search, int(worlds.removeprefix("worlds ")), found, notes)
+    return Explored(search, int(worlds.removeprefix("worlds ")), found, remarks, notes)
 
 
 def example_cases():
@@ -95,7 +111,9 @@ ONE_TASK = '{"StartAt":"T","States":{"T":{"Type":"Task","Resource":"r","End":tru
 FOR_EVER = '"0-9999":{"Return":1}'
 
 
-class Exploring(ProgramTest):
+class Searches(ProgramTest):
+    """Tests of searches."""
+
     def explore(self, definition, given="{}", mocks="{}", chosen="M#c", *words):
         """What a search of these texts prints, with its status and what it tells."""
         with tempfile.TemporaryDirectory(prefix="asl-test-") as room:
@@ -106,6 +124,8 @@ class Exploring(ProgramTest):
                     out.write(text)
             return run_program("explore", names[0], names[1], chosen, names[2], *words)
 
+
+class Exploring(Searches):
     def complete(self, definition, given="{}", mocks="{}", chosen="M#c"):
         """What a search found that left out nothing. Its status is 0 just if all succeed."""
         ran = self.explore(definition, given, mocks, chosen)

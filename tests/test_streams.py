@@ -25,6 +25,7 @@ COMMANDS = [
     *(["test", DEFINITION, MOCKS, f"{EXAMPLE}/expectations.json", "--format", kind] for kind in ["text", "junit", "json"]),
     ["explore", *SETUP],
     ["test", DEFINITION, MOCKS, f"{EXAMPLE}/expectations.json", "--workers", "2"],
+    ["explore", *SETUP, "--calls"],
     ["explore", *SETUP, "--witness", "2"],
 ]
 

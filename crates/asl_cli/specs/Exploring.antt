@@ -6,6 +6,7 @@ use Rattle.asl_setup.specs.StepsFile.{steps_file}
 use Rattle.asl_explore.specs.declared.found.Found.{Found}
 use Rattle.asl_explore.specs.declared.found.Explored.{Explored}
 use Rattle.asl_explore.specs.Orders.{IsWhole}
+use Rattle.asl_explore.specs.Calls.{IsStated, AreCounted}
 use Rattle.asl_explore.specs.Searches.{Shows, AreDistinct, AreLate, outcomes_of}
 use Rattle.asl_explore.specs.declared.orders.Orders.{Orders}
 use Rattle.asl_explore.specs.declared.orders.Orders.TheVariants.{Every, Prompt}
@@ -24,7 +25,8 @@ orders_for false = Every
 
 -- what a search may find for the setup that the files may give: each outcome with steps that end in
 -- it, none twice, and, where nothing was left out, the outcome of every order that is tried; those
--- that are called late come in no order in which no branch is
+-- that are called late come in no order in which no branch is. If that is wanted, where nothing was
+-- left out, how often each state is invoked in an order lies within the bounds of its outcome
 pub record IsFoundFor (gives : List ℕ → List ℕ → Type 0) (w : ExploreWords) (x : Explored) : Type 0
   where
     pub setup : Setup
@@ -34,6 +36,9 @@ pub record IsFoundFor (gives : List ℕ → List ℕ → Type 0) (w : ExploreWor
     pub orders : x.orders ≡ orders_for w.prompt
     pub whole : x.complete ≡ true → IsWhole x.orders setup (outcomes_of x.found.items)
     pub late : AreLate setup x.found.items x.late.items
+    pub calls : w.calls ≡ true → x.complete ≡ true
+        → AreCounted x.orders setup (outcomes_of x.found.items) x.calls.items
+    pub states : All (IsStated setup.machine) x.states.items
 
 -- the outcome of a number, from 1
 abbrev pub numbered : List Found → ℕ → Option Found

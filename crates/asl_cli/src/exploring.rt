@@ -63,7 +63,8 @@ fn explore_files<'a, W: Watch, F: Files>(
 {
     let texts = read_texts(alloc, files, &words.setup)?;
     let setup = setup_of(alloc, &texts)?;
-    match search(alloc, setup, orders_for(words.prompt), words.limit, watch) {
+    let orders = orders_for(words.prompt);
+    match search(alloc, setup, orders, words.calls, words.limit, watch) {
         Ok(explored) => Ok(explored),
         Err(AllocError) => Err(CommandFault::OutOfMemory),
     }

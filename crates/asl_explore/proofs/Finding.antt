@@ -13,7 +13,7 @@ use Rattle.asl_run.specs.declared.outcome.Outcome.{Outcome}
 use Rattle.asl_explore.specs.declared.found.Found.{Found}
 use Rattle.asl_explore.specs.Searches.{outcomes_of, Shows, AreDistinct, IsLater}
 
-at-map : (fs : List Found) (i : ℕ) (f : Found) (e : Outcome) → i < length fs → f ≡ get_or fs i f → get_or (outcomes_of fs) i e ≡ f.outcome
+pub at-map : (fs : List Found) (i : ℕ) (f : Found) (e : Outcome) → i < length fs → f ≡ get_or fs i f → get_or (outcomes_of fs) i e ≡ f.outcome
 at-map [] i f e l h = absurd (omega arith)
 at-map (x ∷ fs) zero f e l h = ap (λ (z : Found). z.outcome) (sym h)
 at-map (x ∷ fs) (suc i) f e l h = at-map fs i f e (omega arith) h

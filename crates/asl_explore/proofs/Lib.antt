@@ -5,3 +5,6 @@ pub mod Finding
 pub mod Expanding
 pub mod Timing
 pub mod Lateness
+pub mod Ends
+pub mod Tallies
+pub mod Lines

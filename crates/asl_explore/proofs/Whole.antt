@@ -36,11 +36,11 @@ met-same ws os u v e m = subst (IsMet ws os) (sym e) m
 
 -- ---- so each order that is tried leads to a world that is met
 
-tried-bare : (o : Orders) (s : Setup) (w : World) (p : List ℕ) → IsTried o s w p → IsTried o s (bare w) p
+pub tried-bare : (o : Orders) (s : Setup) (w : World) (p : List ℕ) → IsTried o s w p → IsTried o s (bare w) p
 tried-bare Every s w p t = t
 tried-bare Prompt s w p t = t
 
-met-step : (o : Orders) (s : Setup) (ws : List World) (os : List Outcome) (w : World) (p : List ℕ) → All (IsExpanded o s ws os) ws → IsTried o s w p → IsMet ws os w → IsMet ws os (step s w p (due w p))
+pub met-step : (o : Orders) (s : Setup) (ws : List World) (os : List Outcome) (w : World) (p : List ℕ) → All (IsExpanded o s ws os) ws → IsTried o s w p → IsMet ws os w → IsMet ws os (step s w p (due w p))
 met-step o s ws os w p all tried m = by (is_over w.outcome) refl
   where
     split : is_over w.outcome ≡ false → (step s w p (due w p) ≡ w) ⊎ (bare (step s w p (due w p)) ≡ bare (step s (bare w) p (due w p))) → IsMet ws os (step s w p (due w p))
@@ -70,7 +70,7 @@ one-there last p b bs r P true c all e deeper =
     subst (λ (z : List ℕ). P (record { place = z; moment = due_from last r })) (sym q) (subst (λ (z : Record). P (record { place = b.place; moment = due_from last z })) y h)
 one-there last p b bs r P false c all e deeper = deeper (rw c at e)
 
-there : (last : ℕ) (p : List ℕ) (bs : List Branch) (r : Record) (P : Earliest → Type 0) → All P (earliest last bs) → record_at p bs ≡ Some r → P (record { place = p; moment = due_from last r })
+pub there : (last : ℕ) (p : List ℕ) (bs : List Branch) (r : Record) (P : Earliest → Type 0) → All P (earliest last bs) → record_at p bs ≡ Some r → P (record { place = p; moment = due_from last r })
 there last p [] r P all e = (cc)
 there last p (b ∷ bs) r P all e = one-there last p b bs r P (same_place p b.place) refl all e (there last p bs r P (All-tail P (record { place = b.place; moment = due_from last b.current }) (earliest last bs) all))
 
@@ -78,7 +78,7 @@ there last p (b ∷ bs) r P all e = one-there last p b bs r P (same_place p b.pl
 late-ends : (s : Setup) (w : World) (p : List ℕ) (t : ℕ) → is_over w.outcome ≡ false → is_late (max w.last t) w.deadline ≡ true → (step s w p t).outcome ≡ TimedOut
 late-ends s w p t r l = ap (λ (v : World). v.outcome) (step_late s w p t (late-accepts (limits_in s.machine) w p t r l) l)
 
-later-late : (last t : ℕ) (d : Option ℕ) → is_late (max last last) d ≡ true → is_late (max last t) d ≡ true
+pub later-late : (last t : ℕ) (d : Option ℕ) → is_late (max last last) d ≡ true → is_late (max last t) d ≡ true
 later-late last t None h = (cc)
 later-late last t (Some d) h = grind (arith, nat_tests, h)
 
@@ -89,7 +89,7 @@ met-by ws os v e c = record {
 }
 
 -- what is tried isn't beyond the moment at which a branch may step
-within-bound : (o : Orders) (s : Setup) (w : World) (bound : Option ℕ) (p : List ℕ) → IsBound o s (bare w) bound → IsTried o s w p → is_beyond bound (due w p) ≡ false
+pub within-bound : (o : Orders) (s : Setup) (w : World) (bound : Option ℕ) (p : List ℕ) → IsBound o s (bare w) bound → IsTried o s w p → is_beyond bound (due w p) ≡ false
 within-bound o s w None p b tried = refl
 within-bound Every s w (Some m) p b tried = let e : Every ≡ Prompt = b.0 in absurd (cc)
 within-bound Prompt s w (Some m) p b tried =
@@ -99,11 +99,11 @@ within-bound Prompt s w (Some m) p b tried =
     let l : due w p ≤ m = omega (arith, le, e) in
     grind (arith, nat_tests, l)
 
-every-unbound : (s : Setup) (w : World) (bound : Option ℕ) (t : ℕ) → IsBound Every s w bound → is_beyond bound t ≡ false
+pub every-unbound : (s : Setup) (w : World) (bound : Option ℕ) (t : ℕ) → IsBound Every s w bound → is_beyond bound t ≡ false
 every-unbound s w None t b = refl
 every-unbound s w (Some m) t b = let e : Every ≡ Prompt = b.0 in absurd (cc)
 
-nowhere-prompt : (s : Setup) (w : World) (p : List ℕ) → record_at p w.branches ≡ None → IsTried Prompt s w p → ⊥
+pub nowhere-prompt : (s : Setup) (w : World) (p : List ℕ) → record_at p w.branches ≡ None → IsTried Prompt s w p → ⊥
 nowhere-prompt s w p n tried =
     let here : is_some (record_at p w.branches) ≡ true = tried.0.0 in
     let x : false ≡ true = ap is_some (sym n) ∙ here in absurd (cc)

@@ -1,4 +1,6 @@
 pub mod Orders
 pub mod Searches
+pub mod Calls
+pub mod Telling
 pub mod Reports
 pub mod Laws

@@ -14,6 +14,7 @@ use Rattle.asl_explore.specs.declared.orders.Orders.{Orders}
 use Rattle.asl_explore.specs.declared.orders.Orders.TheVariants.{Every, Prompt}
 use Rattle.asl_explore.specs.declared.found.Found.{Found}
 use Rattle.asl_explore.specs.declared.found.Explored.{Explored}
+use Rattle.asl_explore.specs.Telling.{calls_text, are_remarks, remarks_text}
 
 -- a status, with its output or its error
 abbrev pub ended_text : Outcome → List ℕ
@@ -41,10 +42,13 @@ found_text n f = outcome_line n f.outcome ++ order_line f.steps.items
 abbrev pub late_line : List ℕ → ℕ → List ℕ
 late_line late n = if list_any (λ k. nat_eq k n) late then codes "late\n" else []
 
--- the same of several, numbered from n
-abbrev pub founds_text : List ℕ → ℕ → List Found → List ℕ
-founds_text late n [] = []
-founds_text late n (f ∷ fs) = found_text n f ++ (late_line late n ++ founds_text late (n + 1) fs)
+-- the lines of outcomes, numbered from n
+abbrev pub founds_text : Explored → ℕ → List Found → List ℕ
+founds_text x n [] = []
+founds_text x n (f ∷ fs) =
+    found_text n f
+    ++ (late_line x.late.items n
+    ++ (calls_text x.states.items x.calls.items n ++ founds_text x (n + 1) fs))
 
 abbrev pub number_line : List ℕ → ℕ → List ℕ
 number_line word n = word ++ (decimal n ++ 10 ∷ [])
@@ -84,19 +88,21 @@ abbrev pub is_prompt : Orders → Bool
 is_prompt Every = false
 is_prompt Prompt = true
 
--- which orders were tried, and what else may come where steps are taken at other moments
+-- what is remarkable, which orders were tried, and what else may come where steps are taken at other
+-- moments
 abbrev pub notes_text : Explored → List ℕ
 notes_text x =
-    note_text (is_prompt x.orders || (x.limited || x.clocked)) gap
-    ++ (note_text (is_prompt x.orders) prompt_note
-    ++ (note_text x.limited time_limit_note ++ note_text x.clocked clock_note))
+    note_text (is_prompt x.orders || (x.limited || (x.clocked || are_remarks x.remarks))) gap
+    ++ (remarks_text x.remarks ++ (note_text (is_prompt x.orders) prompt_note
+    ++ (note_text x.limited time_limit_note ++ note_text x.clocked clock_note)))
 
 -- what a search found
 abbrev pub explored_text : Explored → List ℕ
 explored_text x =
     searched_text x.complete x.depth
     ++ (number_line (codes "worlds ") x.worlds
-    ++ (number_line (codes "outcomes ") (length x.found.items) ++ (founds_text x.late.items 1 x.found.items ++ notes_text x)))
+    ++ (number_line (codes "outcomes ") (length x.found.items)
+    ++ (founds_text x 1 x.found.items ++ notes_text x)))
 
 -- each outcome is a success
 abbrev pub are_good : List Found → Bool

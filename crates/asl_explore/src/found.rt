@@ -1,6 +1,9 @@
 // What a search finds.
 
+use crate::calls::Calls;
 use crate::orders::Orders;
+use crate::remarks::Remarks;
+use crate::states::Stated;
 use asl_exec::Outcome;
 use asl_setup::StepAt;
 
@@ -27,6 +30,12 @@ pub struct Explored {
     pub worlds: usize,
     /// Where the search was cut, all orders of at most so many steps were tried; none where that isn't known.
     pub depth: Option<u32>,
+    /// The states of the definition, in document order.
+    pub states: Vec<Stated>,
+    /// How often each state is invoked in the orders that end in each outcome; empty where it wasn't counted.
+    pub calls: Vec<Calls>,
+    /// What is remarkable beyond the outcomes.
+    pub remarks: Remarks,
     /// Whether the execution has a time limit: steps at later moments may end it.
     pub limited: bool,
     /// Whether the definition may read the clock: steps at other moments may give other outcomes.

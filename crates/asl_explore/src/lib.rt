@@ -2,11 +2,15 @@
 //!
 //! Modules in reading order: `orders` says which orders are tried; `found` is what a search finds; `met` the worlds that it met, which are looked up by `table` and `digest`;
 //! `order` takes steps at their earliest moments; `visiting` takes one step of a search; `search` takes all of them, and tells `watch` how
-//! far it is; `late` marks outcomes; `clock` looks for the clock in a definition; `report` tells what was found; `laws` says that nothing is
+//! far it is; `late` marks outcomes; `clock` looks for the clock in a definition; `states` lists its states; `calls` and `counting` say how often each is
+//! invoked; `remarks` is what is remarkable beyond the outcomes, which `seeing` sees, by the `answers` of a mock file; `telling` and `report` tell what was found; `laws` says that nothing is
 //! left out.
 #![tactic(auto)]
 
+mod answers;
+mod calls;
 mod clock;
+mod counting;
 mod digest;
 mod found;
 mod late;
@@ -14,16 +18,23 @@ mod laws;
 mod met;
 mod order;
 mod orders;
+mod remarks;
 mod report;
 mod search;
+mod seeing;
+mod states;
 mod table;
+mod telling;
 mod visiting;
 mod watch;
 
 pub use asl_setup::Setup;
+pub use calls::{Bounds, Calls};
 pub use found::{Explored, Found};
 pub use laws::searches_leave_out_nothing;
 pub use orders::Orders;
+pub use remarks::{Answers, Remarks};
 pub use report::{is_good, put_explored};
 pub use search::explore;
+pub use states::Stated;
 pub use watch::Watch;

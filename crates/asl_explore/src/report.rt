@@ -5,25 +5,18 @@ ghost use Rattle.std.specs.List.{list_any};
 ghost use Rattle.asl_json.specs.View.{data_of};
 ghost use Rattle.asl_json.specs.Compact.{compact};
 ghost use Rattle.asl_steps.specs.Rows.{error_output};
+ghost use Rattle.asl_explore.specs.Telling.{are_remarks};
 ghost use Rattle.asl_explore.specs.Reports.{ended_text, place_word, order_line, outcome_line, found_text, late_line, founds_text, number_line, note_text, gap, prompt_note, is_prompt, time_limit_note, clock_note, notes_text, searched_text, explored_text, are_good, is_good};
 
 use crate::found::{Explored, Found};
 use crate::orders::Orders;
+use crate::telling::{are_remarks, put_calls, put_number, put_remarks};
 use asl_exec::Outcome;
 use asl_json::{Json, put};
 use asl_run::is_success;
 use asl_setup::StepAt;
 use asl_steps::{ErrorOut, error_output};
-use itoa::Buffer;
 use std::alloc::{AllocError, Global};
-
-/// Appends a number in plain decimal. The error is that memory ran out.
-fn put_number(out: &mut String, number: u64) -> Result<(), AllocError>
-    ensures { OnOk result (string_bytes out.new ≡ string_bytes out.old ++ decimal number) }
-{
-    let mut buffer = Buffer::new();
-    out.push_str(buffer.format(number))
-}
 
 /// Appends a word, a number and a line feed. The error is that memory ran out.
 fn put_number_line(out: &mut String, word: &str, number: u64) -> Result<(), AllocError>
@@ -134,19 +127,15 @@ fn put_late(out: &mut String, late: &[usize], number: usize) -> Result<(), Alloc
 }
 
 /// Appends the lines of outcomes, numbered from 1. The error is that memory ran out.
-fn put_founds(
-    alloc: Global,
-    out: &mut String,
-    late: &[usize],
-    found: &[Found],
-) -> Result<(), AllocError>
+fn put_founds(alloc: Global, out: &mut String, explored: &Explored) -> Result<(), AllocError>
     ensures { OnOk result (string_bytes out.new
-        ≡ string_bytes out.old ++ founds_text late.now 1 found.now) }
+        ≡ string_bytes out.old ++ founds_text explored.now 1 explored.now.found.items) }
 {
-    for (index, one) in found.iter().enumerate() {
+    for (index, one) in explored.found.iter().enumerate() {
         let number = index + 1;
         put_found(alloc, out, number as u64, one)?;
-        put_late(out, late, number)?;
+        put_late(out, &explored.late, number)?;
+        put_calls(out, &explored.states, &explored.calls, index)?;
     }
     Ok(())
 }
@@ -179,12 +168,15 @@ fn is_prompt(orders: Orders) -> bool
     }
 }
 
-/// Whether anything is noted.
+/// Whether anything is told behind the outcomes.
 fn has_notes(explored: &Explored) -> bool
-    ensures { result
-        ≡ (is_prompt explored.now.orders || (explored.now.limited || explored.now.clocked)) }
+    ensures { result ≡ (is_prompt explored.now.orders
+        || (explored.now.limited || (explored.now.clocked || are_remarks explored.now.remarks))) }
 {
-    is_prompt(explored.orders) || explored.limited || explored.clocked
+    is_prompt(explored.orders)
+        || explored.limited
+        || explored.clocked
+        || are_remarks(&explored.remarks)
 }
 
 /// Appends an empty line, where it is wanted. The error is that memory ran out.
@@ -239,11 +231,13 @@ fn put_clock(out: &mut String, wanted: bool) -> Result<(), AllocError>
     Ok(())
 }
 
-/// Appends the lines of which orders were tried, and of what else may come at other moments. The error is that memory ran out.
+/// Appends the lines of what is remarkable, of which orders were tried, and of what else may come at other moments. The error is that
+/// memory ran out.
 fn put_notes(out: &mut String, explored: &Explored) -> Result<(), AllocError>
     ensures { OnOk result (string_bytes out.new ≡ string_bytes out.old ++ notes_text explored.now) }
 {
     put_gap(out, has_notes(explored))?;
+    put_remarks(out, &explored.remarks)?;
     put_prompt(out, is_prompt(explored.orders))?;
     put_time_limit(out, explored.limited)?;
     put_clock(out, explored.clocked)
@@ -257,7 +251,7 @@ pub fn put_explored(alloc: Global, out: &mut String, explored: &Explored) -> Res
     put_searched(out, explored)?;
     put_number_line(out, "worlds ", explored.worlds as u64)?;
     put_number_line(out, "outcomes ", explored.found.len() as u64)?;
-    put_founds(alloc, out, &explored.late, &explored.found)?;
+    put_founds(alloc, out, explored)?;
     put_notes(out, explored)
 }
 

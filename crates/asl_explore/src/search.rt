@@ -7,14 +7,18 @@ ghost use Rattle.asl_exec.specs.Steps.{opening, step};
 ghost use Rattle.asl_exec.specs.Views.{setup_of};
 ghost use Rattle.asl_explore.specs.Orders.{IsWhole};
 ghost use Rattle.asl_explore.specs.declared.orders.Orders.TheVariants.{Every};
+ghost use Rattle.asl_explore.specs.Calls.{IsStated, AllAreExpanded, AreCounted};
 ghost use Rattle.asl_explore.specs.Searches.{IsMet, IsExpanded, IsBound, AreLate, worlds_of, outcomes_of, Shows, AreDistinct, IsLater, is_beyond};
 
 use crate::clock::may_read_clock;
+use crate::counting::{Counted, count_calls};
 use crate::found::{Explored, Found};
 use crate::late::late_among;
 use crate::met::Met;
 use crate::order::soonest;
 use crate::orders::Orders;
+use crate::seeing::{no_remarks, remarks_on};
+use crate::states::states_in;
 use crate::visiting::{enter, turns_in, visit};
 use crate::watch::Watch;
 use asl_exec::{Earliest, Execution, World};
@@ -24,7 +28,7 @@ use asl_time::Moment;
 use std::alloc::{AllocError, Global};
 
 /// The moment behind which no branch of a world steps that is tried; none where each is. The error is that memory ran out.
-fn bound_in(
+pub(crate) fn bound_in(
     execution: &mut Execution,
     alloc: Global,
     orders: Orders,
@@ -46,7 +50,7 @@ fn bound_in(
 }
 
 /// Whether a step at this moment is later than one that may be taken.
-fn is_beyond(bound: &Option<Moment>, moment: Moment) -> bool
+pub(crate) fn is_beyond(bound: &Option<Moment>, moment: Moment) -> bool
     ensures { result ≡ is_beyond bound.now moment }
 {
     match bound {
@@ -168,6 +172,9 @@ pub(crate) fn search<W: Watch>(
     ensures once { IfOk result (λ o. IfSome o (λ x. AreDistinct (outcomes_of x.found.items))) }
     ensures whole { IfOk result (λ o. IfSome o (λ x. x.complete ≡ true
         → IsWhole orders (setup_of execution.old) (outcomes_of x.found.items))) }
+    ensures expanded { IfOk result (λ o. IfSome o (λ x. x.complete ≡ true
+        → AllAreExpanded orders (setup_of execution.old) (worlds_of x.met.nodes.items)
+        (outcomes_of x.found.items))) }
     ensures setup { setup_of execution.new ≡ setup_of execution.old }
 {
     let mut found = Vec::new(alloc);
@@ -217,13 +224,47 @@ fn late_in(
     }
 }
 
-/// Tries the orders of the branches of an execution, each branch at the earliest moments at which it may step: its outcomes, each
-/// once, with steps that end in it. At most so many worlds are tried; complete says that none was left. The error is that memory ran
+/// How often each state is invoked in the orders that end in each outcome of a search, if that is wanted. The error is that memory ran
 /// out.
+fn calls_in(
+    execution: &mut Execution,
+    alloc: Global,
+    orders: Orders,
+    searched: &Searched,
+    wanted: bool,
+) -> Result<Counted, AllocError>
+    ensures counted { IfOk result (λ c. wanted ≡ true → c.whole ≡ true
+        → AllAreExpanded orders (setup_of execution.old) (worlds_of searched.now.met.nodes.items)
+        (outcomes_of searched.now.found.items)
+        → AreCounted orders (setup_of execution.old) (outcomes_of searched.now.found.items)
+        c.calls.items) }
+    ensures setup { setup_of execution.new ≡ setup_of execution.old }
+{
+    if !wanted {
+        return Ok(Counted {
+            calls: Vec::new(alloc),
+            whole: true,
+        });
+    }
+    let states = execution.setup().machine.len();
+    count_calls(
+        execution,
+        alloc,
+        orders,
+        &searched.met.nodes,
+        &searched.found,
+        states,
+    )
+}
+
+/// Tries the orders of the branches of an execution, each branch at the earliest moments at which it may step: its outcomes, each
+/// once, with steps that end in it, and, if that is wanted, how often each state is invoked in the orders that do. At most so many
+/// worlds are tried; complete says that none was left. The error is that memory ran out.
 pub fn explore<W: Watch>(
     alloc: Global,
     setup: Setup,
     orders: Orders,
+    calls: bool,
     limit: u32,
     watch: &W,
 ) -> Result<Explored, AllocError>
@@ -232,10 +273,14 @@ pub fn explore<W: Watch>(
     ensures whole { IfOk result (λ x. x.complete ≡ true
         → IsWhole orders setup (outcomes_of x.found.items)) }
     ensures late { IfOk result (λ x. AreLate setup x.found.items x.late.items) }
+    ensures calls { IfOk result (λ x. calls ≡ true → x.complete ≡ true
+        → AreCounted orders setup (outcomes_of x.found.items) x.calls.items) }
+    ensures states { IfOk result (λ x. All (IsStated setup.machine) x.states.items) }
     ensures orders { IfOk result (λ x. x.orders ≡ orders) }
 {
     let limited = setup.machine.timeout().is_some();
     let clocked = may_read_clock(alloc, &setup.machine)?;
+    let states = states_in(alloc, &setup.machine)?;
     let mut execution = Execution::open(alloc, setup)?;
     let Some(searched) = search(&mut execution, alloc, orders, limit, watch)? else {
         return Ok(Explored {
@@ -245,22 +290,45 @@ pub fn explore<W: Watch>(
             complete: false,
             worlds: 0,
             depth: None,
+            states,
+            calls: Vec::new(alloc),
+            remarks: no_remarks(alloc),
             limited,
             clocked,
         });
     };
+    let counted = calls_in(&mut execution, alloc, orders, &searched, calls)?;
     let late = late_in(&mut execution, alloc, orders, &searched, limit)?;
+    let complete = are_both(searched.complete, counted.whole);
     let worlds = searched.met.nodes.len();
+    let remarks = remarks_on(
+        &mut execution,
+        alloc,
+        orders,
+        &searched.met.nodes,
+        &states,
+        complete,
+    )?;
     Ok(Explored {
         found: searched.found,
         late,
         orders,
-        complete: searched.complete,
+        complete,
         worlds,
         depth: searched.depth,
+        states,
+        calls: counted.calls,
+        remarks,
         limited,
         clocked,
     })
+}
+
+/// Whether both are so.
+fn are_both(one: bool, other: bool) -> bool
+    ensures { result ≡ true → (one ≡ true) × (other ≡ true) }
+{
+    one && other
 }
 
 /// Whether nothing was left out: so many worlds were tried, each wholly, of so many that were met.

@@ -182,6 +182,8 @@ pub struct ExploreWords<'a> {
     pub limit: u32,
     /// Whether only orders are tried in which no branch is late.
     pub prompt: bool,
+    /// Whether it is told how often each Task is invoked in the orders that end in each outcome.
+    pub calls: bool,
     /// The number, from 1, of the outcome whose steps are to be printed; none where all outcomes are.
     pub witness: Option<u32>,
 }
@@ -268,6 +270,7 @@ fn words_of<'a>(matches: &ArgMatches<'a>) -> Option<Words<'a>> {
             setup: setup_words_of(matches)?,
             limit: matches.get_one::<u32>("limit").unwrap_or(WORLDS),
             prompt: matches.get_flag("prompt"),
+            calls: matches.get_flag("calls"),
             witness: matches.get_one::<u32>("witness"),
         }));
     }
@@ -576,6 +579,10 @@ fn explore_command<'a>(alloc: Global) -> Result<Command<'a>, AllocError> {
         .help(
             "Tries only orders in which no branch is late: one steps only where none may step earlier",
         );
+    let calls = Arg::new(alloc, "calls")
+        .long("calls")
+        .action(ArgAction::SetTrue)
+        .help("Tells how often each Task is invoked in the orders that end in each outcome");
     let witness = Arg::new(alloc, "witness")
         .long("witness")
         .value_name("I")
@@ -587,6 +594,7 @@ fn explore_command<'a>(alloc: Global) -> Result<Command<'a>, AllocError> {
     with_setup_words(alloc, explore)?
         .arg(limit)?
         .arg(prompt)?
+        .arg(calls)?
         .arg(witness)
 }
 

@@ -1,0 +1,143 @@
+// Counting how often each state is invoked in the worlds that end an execution.
+ghost use Rattle.std.specs.Prelude.{◌≡◌, true, false, IfOk};
+ghost use Rattle.std.specs.List.{All};
+ghost use Rattle.asl_run.specs.Bare.{bare};
+ghost use Rattle.asl_exec.specs.Steps.{step};
+ghost use Rattle.asl_exec.specs.Views.{setup_of};
+ghost use Rattle.asl_explore.specs.Searches.{worlds_of, outcomes_of, is_beyond};
+ghost use Rattle.asl_explore.specs.Calls.{AreKept, AreEndsCounted, IsEndCounted};
+
+use crate::calls::{Calls, count_end, no_calls};
+use crate::found::Found;
+use crate::met::Node;
+use crate::orders::Orders;
+use crate::search::{bound_in, is_beyond};
+use crate::visiting::{enter, turns_in};
+use asl_exec::{Earliest, Execution, World};
+use asl_setup::StepAt;
+use std::alloc::{AllocError, Global};
+
+/// Takes a step in a world: where it ends the execution, how often each of so many states was invoked is within the bounds of the
+/// outcome then, if this is true. The error is that memory ran out.
+fn count_step(
+    execution: &mut Execution,
+    alloc: Global,
+    world: &World,
+    found: &[Found],
+    calls: &mut Vec<Calls>,
+    states: usize,
+    turn: &Earliest,
+) -> Result<bool, AllocError>
+    ensures counted { IfOk result (λ b. b ≡ true
+        → IsEndCounted states (outcomes_of found.now) calls.new.items
+        (step (setup_of execution.old) (bare world.now) turn.now.place turn.now.moment)) }
+    ensures keeps { IfOk result (λ b. AreKept calls.old.items calls.new.items) }
+    ensures setup { setup_of execution.new ≡ setup_of execution.old }
+{
+    if !enter(execution, alloc, world)? {
+        return Ok(false);
+    }
+    let at = StepAt {
+        place: turn.place.try_clone()?,
+        moment: turn.moment,
+    };
+    let _reply = execution.reply(&at)?;
+    let next = execution.world();
+    if next.is_running() {
+        return Ok(true);
+    }
+    Ok(count_end(found, calls, states, next))
+}
+
+/// The same, unless the step is later than is tried.
+fn count_turn(
+    execution: &mut Execution,
+    alloc: Global,
+    world: &World,
+    found: &[Found],
+    calls: &mut Vec<Calls>,
+    states: usize,
+    turn: &Earliest,
+    beyond: bool,
+) -> Result<bool, AllocError>
+    ensures counted { IfOk result (λ b. b ≡ true → beyond ≡ false
+        → IsEndCounted states (outcomes_of found.now) calls.new.items
+        (step (setup_of execution.old) (bare world.now) turn.now.place turn.now.moment)) }
+    ensures keeps { IfOk result (λ b. AreKept calls.old.items calls.new.items) }
+    ensures setup { setup_of execution.new ≡ setup_of execution.old }
+{
+    if beyond {
+        return Ok(true);
+    }
+    count_step(execution, alloc, world, found, calls, states, turn)
+}
+
+/// Takes a step of each branch in a world that was met: whichever branch steps of those that are tried, where it ends the execution, how
+/// often each of so many states was invoked is within the bounds of the outcome then, if this is true. The error is that memory ran out.
+fn count_ends(
+    execution: &mut Execution,
+    alloc: Global,
+    orders: Orders,
+    world: &World,
+    found: &[Found],
+    calls: &mut Vec<Calls>,
+    states: usize,
+) -> Result<bool, AllocError>
+    ensures counted { IfOk result (λ b. b ≡ true
+        → AreEndsCounted orders (setup_of execution.old) states (outcomes_of found.now)
+        calls.new.items (bare world.now)) }
+    ensures keeps { IfOk result (λ b. AreKept calls.old.items calls.new.items) }
+    ensures setup { setup_of execution.new ≡ setup_of execution.old }
+{
+    let Some(turns) = turns_in(alloc, world)? else {
+        return Ok(false);
+    };
+    let bound = bound_in(execution, alloc, orders, world, &turns)?;
+    let mut whole = true;
+    for turn in &turns {
+        let beyond = is_beyond(&bound, turn.moment);
+        let is_counted = count_turn(execution, alloc, world, found, calls, states, turn, beyond)?;
+        whole = whole && is_counted;
+    }
+    Ok(whole)
+}
+
+/// How often each of so many states is invoked, by outcomes.
+#[derive(Drop)]
+pub(crate) struct Counted {
+    pub(crate) calls: Vec<Calls>,
+    /// Whether it is so in each world that was met.
+    pub(crate) whole: bool,
+}
+
+/// How often each of so many states is invoked in the orders that end in each outcome, by the worlds that were met. The error is that
+/// memory ran out.
+pub(crate) fn count_calls(
+    execution: &mut Execution,
+    alloc: Global,
+    orders: Orders,
+    nodes: &[Node],
+    found: &[Found],
+    states: usize,
+) -> Result<Counted, AllocError>
+    ensures counted { IfOk result (λ c. c.whole ≡ true
+        → All (AreEndsCounted orders (setup_of execution.old) states (outcomes_of found.now)
+        c.calls.items) (worlds_of nodes.now)) }
+    ensures setup { setup_of execution.new ≡ setup_of execution.old }
+{
+    let mut calls = no_calls(alloc, found.len(), states)?;
+    let mut whole = true;
+    for node in nodes {
+        let is_counted = count_ends(
+            execution,
+            alloc,
+            orders,
+            &node.world,
+            found,
+            &mut calls,
+            states,
+        )?;
+        whole = whole && is_counted;
+    }
+    Ok(Counted { calls, whole })
+}
