@@ -5,3 +5,4 @@ pub mod Standing
 pub mod Making
 pub mod Places
 pub mod Counting
+pub mod Onward

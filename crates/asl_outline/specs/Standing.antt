@@ -4,7 +4,7 @@ use Rattle.asl_json.specs.Data.{Data}
 use Rattle.asl_json.specs.Grammar.{Spells}
 use Rattle.asl_json.specs.Text.{SpellsText}
 use Rattle.asl_json.specs.Open.{Frame, in_list, in_dict, IsOpen, AwaitsKey}
-use Rattle.asl_outline.specs.Places.{Place, places}
+use Rattle.asl_outline.specs.Places.{Place, place, places, place_at}
 use Rattle.asl_outline.specs.declared.span.Span.{Span}
 use Rattle.asl_outline.specs.declared.span.Node.{Node}
 
@@ -52,3 +52,11 @@ Finds b None None = Unit {0}
 Finds b None (Some n) = ⊥
 Finds b (Some p) None = ⊥
 Finds b (Some p) (Some n) = Stands b p n
+
+-- the same of each of these places, by the numbers of items and members from the whole value in
+abbrev pub AllFind : List ℕ → Data → List (List ℕ) → List (Option Node) → Type 0
+AllFind b d [] [] = Unit {0}
+AllFind b d [] (n ∷ ns) = ⊥
+AllFind b d (is ∷ ps) [] = ⊥
+AllFind b d (is ∷ ps) (n ∷ ns) =
+    Finds b (place_at (Some (place [] d)) is) n × AllFind b d ps ns

@@ -1,2 +1,3 @@
 -- Words that only proofs need.
 pub mod Marks
+pub mod Trails

@@ -32,7 +32,7 @@ fn skip(nodes: &[Node], count: usize) -> &[Node]
 }
 
 /// The nodes of the values in the first one.
-fn parts_of(nodes: &[Node]) -> &[Node]
+pub(crate) fn parts_of(nodes: &[Node]) -> &[Node]
     ensures { result.now ≡ parts_of nodes.now }
 {
     let Some(first) = nodes.first() else {
@@ -54,7 +54,7 @@ fn behind_first(nodes: &[Node]) -> &[Node]
 }
 
 /// The nodes behind so many values and those in them.
-fn behind_some(nodes: &[Node], count: usize) -> &[Node]
+pub(crate) fn behind_some(nodes: &[Node], count: usize) -> &[Node]
     ensures { result.now ≡ behind_some count nodes.now }
 {
     let mut rest = nodes;
@@ -77,7 +77,7 @@ fn found<'a>(nodes: &'a [Node], place: &[usize]) -> &'a [Node]
     rest
 }
 
-fn first_of(nodes: &[Node]) -> Option<Node>
+pub(crate) fn first_of(nodes: &[Node]) -> Option<Node>
     ensures { result ≡ first_of nodes.now }
 {
     match nodes {

@@ -71,6 +71,34 @@ fn nothing_is_found_where_no_value_is(rt: HostRuntime) -> Result<(), Fail> {
     Ok(())
 }
 
+/// Whether these places are found as each is by itself.
+fn are_found(alloc: Global, text: &str, places: &[&[usize]]) -> bool {
+    let Ok(value) = read(alloc, text.as_bytes()) else {
+        return false;
+    };
+    let Ok(outline) = outline(alloc, text.as_bytes(), &value) else {
+        return false;
+    };
+    let Ok(found) = outline.find_all(alloc, places) else {
+        return false;
+    };
+    found.len() == places.len()
+        && found
+            .iter()
+            .zip(places.iter())
+            .all(|(node, place)| *node == outline.find(place))
+}
+
+#[test]
+fn many_places_are_found_as_each_is(rt: HostRuntime) -> Result<(), Fail> {
+    let alloc = rt.alloc();
+    assert!(rt; are_found(alloc, TEXT, &[]));
+    assert!(rt; are_found(alloc, TEXT, &[&[], &[0], &[0, 0], &[0, 2], &[0, 3], &[1], &[1, 0], &[4]]));
+    assert!(rt; are_found(alloc, TEXT, &[&[4], &[1, 0], &[1], &[0, 3], &[0, 1], &[0, 3], &[0, 4], &[5], &[2]]));
+    assert!(rt; are_found(alloc, TEXT, &[&[5, 1], &[0, 9, 1], &[0, 2], &[1, 0, 0], &[1, 0], &[1, 0]]));
+    Ok(())
+}
+
 /// The line feeds before a byte, and the characters before it in its line.
 fn position(text: &str, at: usize) -> (usize, usize) {
     let here = Position::start().forward(text.as_bytes(), at);

@@ -6,3 +6,4 @@ pub mod Placing
 pub mod Searching
 pub mod Telling
 pub mod Turning
+pub mod Idle

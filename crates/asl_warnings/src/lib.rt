@@ -3,7 +3,7 @@
 //! Modules in reading order: `warning` is a warning at its place, `trail` the steps to a value; `naming` judges texts, `handling`
 //! retriers and catchers, `resting` one state; `search` finds what a walk along edges reaches, `leading` where a state leads, and
 //! `standing` which states of a machine are reached and which reach an end; `walk` tells all warnings of a definition, and `laws` says
-//! what ways are.
+//! what ways are, and which handlers no error reaches.
 #![tactic(auto)]
 
 mod handling;
@@ -17,7 +17,7 @@ mod trail;
 mod walk;
 mod warning;
 
-pub use laws::ways_are_walked;
+pub use laws::{unasked_handlers_are_idle, ways_are_walked};
 pub use naming::{ERRORS, PARTS};
 pub use walk::every_warning;
 pub use warning::{Warning, WarningKind};

@@ -7,25 +7,29 @@ ghost use Rattle.asl_warnings.specs.private.Growths.{Grown};
 use std::alloc::{AllocError, Global};
 
 /// Marks a node, and opens it where it wasn't marked.
-fn mark(marks: &mut Vec<bool>, open: &mut Vec<usize>, node: usize) -> Result<(), AllocError>
-    ensures { OnOk result (Grown marks.old.items open.old.items (node ∷ []) marks.new.items
-        open.new.items) }
+fn mark(marks: &mut Vec<bool>, opened: &mut Vec<usize>, node: usize) -> Result<(), AllocError>
+    ensures { OnOk result (Grown marks.old.items opened.old.items (node ∷ []) marks.new.items
+        opened.new.items) }
 {
     if node >= marks.len() || marks[node] {
         return Ok(());
     }
-    open.push(node)?;
+    opened.push(node)?;
     marks[node] = true;
     Ok(())
 }
 
 /// Marks these nodes.
-fn mark_all(marks: &mut Vec<bool>, open: &mut Vec<usize>, nodes: &[usize]) -> Result<(), AllocError>
-    ensures { OnOk result (Grown marks.old.items open.old.items nodes.now marks.new.items
-        open.new.items) }
+fn mark_all(
+    marks: &mut Vec<bool>,
+    opened: &mut Vec<usize>,
+    nodes: &[usize],
+) -> Result<(), AllocError>
+    ensures { OnOk result (Grown marks.old.items opened.old.items nodes.now marks.new.items
+        opened.new.items) }
 {
     for node in nodes {
-        mark(marks, open, *node)?;
+        mark(marks, opened, *node)?;
     }
     Ok(())
 }
@@ -52,10 +56,10 @@ pub(crate) fn reached(
         → (is_marked marks.items i ≡ true ↔ Reaches (map (λ v. v.items) edges.now) starts.now i)) }
 {
     let mut marks = vec![in alloc; false; edges.len()]?;
-    let mut open = Vec::new(alloc);
-    mark_all(&mut marks, &mut open, starts)?;
-    while let Some(node) = open.pop() {
-        mark_all(&mut marks, &mut open, nodes_behind(edges, node))?;
+    let mut opened = Vec::new(alloc);
+    mark_all(&mut marks, &mut opened, starts)?;
+    while let Some(node) = opened.pop() {
+        mark_all(&mut marks, &mut opened, nodes_behind(edges, node))?;
     }
     Ok(marks)
 }

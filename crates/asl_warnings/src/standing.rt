@@ -6,7 +6,7 @@ ghost use Rattle.asl_json.specs.View.{data_of, members_of};
 ghost use Rattle.asl_warnings.specs.Ways.{IsIn, Edge};
 ghost use Rattle.asl_warnings.specs.private.Marks.{is_marked};
 ghost use Rattle.asl_warnings.specs.private.Places.{place_by, AreTurned, HasTurned};
-ghost use Rattle.asl_warnings.specs.Graphs.{place_of, states_of, numbers_of, edges_from, numbers_below, this_or_all, place_named, leads_astray, is_empty, is_end, ends_from, is_reached, is_ending};
+ghost use Rattle.asl_warnings.specs.Graphs.{place_of, states_of, numbers_of, edges_from, numbers_below, this_or_all, place_named, targets, leads_astray, is_empty, is_end, ends_from, is_reached, is_ending};
 
 use crate::leading::{is_last, targets};
 use crate::search::reached;
@@ -80,23 +80,6 @@ fn numbers<'a>(
     Ok(numbers)
 }
 
-/// The edges from each state to those that it leads to.
-fn edges<'a>(
-    alloc: Global,
-    places: &HashMap<&'a str, usize>,
-    states: &'a [Member],
-) -> Result<Vec<Vec<usize>>, AllocError>
-    ensures { IfOk result (λ edges. map (λ v. v.items) edges.items
-        ≡ edges_from (place_by places.now) (pairs (members_of states.now))) }
-{
-    let mut edges = Vec::new(alloc);
-    for state in states {
-        let names = targets(alloc, &state.value)?;
-        edges.push(numbers(alloc, places, &names)?)?;
-    }
-    Ok(edges)
-}
-
 /// So many nodes without edges.
 fn bare(alloc: Global, count: usize) -> Result<Vec<Vec<usize>>, AllocError>
     ensures size { IfOk result (λ edges. length edges.items ≡ count) }
@@ -165,34 +148,53 @@ fn is_empty(names: &[&str]) -> bool
     names.is_empty()
 }
 
-/// Whether a machine can end with a state: it has `"End": true`, leads nowhere, or leads to what is no state, which is a fault.
-fn is_end<'a>(
-    alloc: Global,
-    places: &HashMap<&'a str, usize>,
-    state: &'a Json,
-) -> Result<bool, AllocError>
-    ensures { IfOk result (λ b. b ≡ is_end (place_by places.now) (data_of state.now)) }
+/// Whether a machine can end with a state that leads to these: it has `"End": true`, leads nowhere, or leads to what is no state, which is a
+/// fault.
+fn is_end<'a>(places: &HashMap<&'a str, usize>, state: &Json, names: &[&'a str]) -> bool
+    requires { map (λ l. l.now) names.now ≡ targets (data_of state.now) }
+    ensures { result ≡ is_end (place_by places.now) (data_of state.now) }
 {
-    let names = targets(alloc, state)?;
-    Ok(is_last(state.get("End")) || is_empty(&names) || leads_astray(places, &names))
+    is_last(state.get("End")) || is_empty(names) || leads_astray(places, names)
 }
 
-/// The numbers of the states with which a machine can end.
-fn ends<'a>(
+/// Where the states of a machine lead.
+#[derive(Drop)]
+struct Ways {
+    /// The edges from each state to those that it leads to.
+    edges: Vec<Vec<usize>>,
+    /// The numbers of the states with which a machine can end.
+    ends: Vec<usize>,
+}
+
+/// Adds the number of a state with which a machine can end.
+fn add_end(ends: &mut Vec<usize>, state: usize, is_end: bool) -> Result<(), AllocError>
+    ensures { OnOk result (ends.new.items
+        ≡ ends.old.items ++ (if is_end then state ∷ [] else [])) }
+{
+    if is_end {
+        ends.push(state)?;
+    }
+    Ok(())
+}
+
+fn ways_of<'a>(
     alloc: Global,
     places: &HashMap<&'a str, usize>,
     states: &'a [Member],
-) -> Result<Vec<usize>, AllocError>
-    ensures { IfOk result (λ ends. ends.items
+) -> Result<Ways, AllocError>
+    ensures edges { IfOk result (λ w. map (λ v. v.items) w.edges.items
+        ≡ edges_from (place_by places.now) (pairs (members_of states.now))) }
+    ensures ends { IfOk result (λ w. w.ends.items
         ≡ ends_from (place_by places.now) 0 (pairs (members_of states.now))) }
 {
+    let mut edges = Vec::new(alloc);
     let mut ends = Vec::new(alloc);
     for (i, state) in states.iter().enumerate() {
-        if is_end(alloc, places, &state.value)? {
-            ends.push(i)?;
-        }
+        let names = targets(alloc, &state.value)?;
+        add_end(&mut ends, i, is_end(places, &state.value, &names))?;
+        edges.push(numbers(alloc, places, &names)?)?;
     }
-    Ok(ends)
+    Ok(Ways { edges, ends })
 }
 
 /// All numbers below this one.
@@ -240,14 +242,13 @@ pub(crate) fn standing_of(alloc: Global, machine: &[Member]) -> Result<Standing,
 {
     let states = states_in(machine);
     let places = places(alloc, states)?;
-    let edges = edges(alloc, &places, states)?;
+    let ways = ways_of(alloc, &places, states)?;
     let start = place_named(&places, find(machine, "StartAt"));
     let starts = this_or_all(alloc, states.len(), start)?;
-    let ends = ends(alloc, &places, states)?;
-    let turned = turned(alloc, &edges)?;
+    let turned = turned(alloc, &ways.edges)?;
     Ok(Standing {
-        reached: reached(alloc, &edges, &starts)?,
-        ending: reached(alloc, &turned, &ends)?,
+        reached: reached(alloc, &ways.edges, &starts)?,
+        ending: reached(alloc, &turned, &ways.ends)?,
     })
 }
 

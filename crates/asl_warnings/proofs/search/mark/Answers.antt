@@ -11,4 +11,4 @@ returns c =
     let node = c.args.node in
     let lt : node < length a = omega (arith, c.if-node-len.false, c.len.ensures) in
     let un : is_marked a node ≡ false = sym (get_or_read a node c.index.result.now lt c.index.ensures false) ∙ c.if-index.false in
-    subst (λ (q : List ℕ). Grown a c.args.open.now.items (node ∷ []) (set a node true) q) (sym c.in_ok-push.ensures.items) (marked a c.args.open.now.items node lt un)
+    subst (λ (q : List ℕ). Grown a c.args.opened.now.items (node ∷ []) (set a node true) q) (sym c.in_ok-push.ensures.items) (marked a c.args.opened.now.items node lt un)

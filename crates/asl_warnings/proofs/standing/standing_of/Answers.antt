@@ -11,7 +11,7 @@ pub returns-clause-reached : goal.returns-clause-reached
 returns-clause-reached c =
     let f : Vec ℕ Global → List ℕ = λ v. v.items in
     standing_reached (pairs (members_of c.args.machine.now)) (pairs (members_of c.states_in-states.result.now)) (place_by c.in_ok-places.places) (map f c.deref-2.result.now) c.deref-3.result.now (length c.states_in-states.result.now) (length c.deref-2.result.now) c.place_named-start.result (option_map (λ v. data_of v.now) c.find.result) c.in_ok-reached.field-0.items
-    c.states_in-states.ensures c.in_ok-places.ensures (ap (map f) c.deref-2.ensures.value ∙ c.in_ok-edges.ensures) (many_members c.states_in-states.result.now) c.place_named-start.ensures c.find.ensures (c.deref-3.ensures.value ∙ c.in_ok-starts.ensures) (length-map c.deref-2.result.now f) c.in_ok-reached.ensures.size c.in_ok-reached.ensures.marks
+    c.states_in-states.ensures c.in_ok-places.ensures (ap (map f) c.deref-2.ensures.value ∙ c.in_ok-ways.ensures.edges) (many_members c.states_in-states.result.now) c.place_named-start.ensures c.find.ensures (c.deref-3.ensures.value ∙ c.in_ok-starts.ensures) (length-map c.deref-2.result.now f) c.in_ok-reached.ensures.size c.in_ok-reached.ensures.marks
 
 pub returns-clause-ending : goal.returns-clause-ending
 returns-clause-ending c =
@@ -20,4 +20,4 @@ returns-clause-ending c =
     let fs : List (List ℕ) = map f c.deref-4.result.now in
     let turned : AreTurned es fs = subst (λ (x : List (Vec ℕ Global)). AreTurned es (map f x)) (sym c.deref-4.ensures.value) c.in_ok-turned.ensures in
     standing_ending (pairs (members_of c.args.machine.now)) (pairs (members_of c.states_in-states.result.now)) (place_by c.in_ok-places.places) es fs c.deref-5.result.now (length c.deref-4.result.now) c.in_ok-reached-2.field-0.items
-    c.states_in-states.ensures c.in_ok-places.ensures (ap (map f) c.deref.ensures.value ∙ c.in_ok-edges.ensures) turned (c.deref-5.ensures.value ∙ c.in_ok-ends.ensures) (length-map c.deref-4.result.now f) c.in_ok-reached-2.ensures.size c.in_ok-reached-2.ensures.marks
+    c.states_in-states.ensures c.in_ok-places.ensures (ap (map f) c.deref.ensures.value ∙ c.in_ok-ways.ensures.edges) turned (c.deref-5.ensures.value ∙ c.in_ok-ways.ensures.ends) (length-map c.deref-4.result.now f) c.in_ok-reached-2.ensures.size c.in_ok-reached-2.ensures.marks
