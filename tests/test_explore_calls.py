@@ -20,6 +20,20 @@ def scheduled(lines):
     return counts
 
 
+def entered(lines):
+    """The states that were entered in a run that printed these lines."""
+    return {found[1] for found in (re.match(r"\d+ \d+ \S+ \S+ [A-Za-z]+StateEntered \"([^\"]*)\" ", line) for line in lines) if found}
+
+
+def random_steps(chance, places, count):
+    """Steps of any of these branches, at moments that now and then are a second later."""
+    moment, steps = 0, []
+    for number in range(count):
+        moment += 1000 * (number > 0 and chance.random() < 0.2)
+        steps.append(f"{chance.choice(places)} 1970-01-01T00:00:{moment // 1000:02}.000Z\n")
+    return "".join(steps)
+
+
 def span(told):
     """The lowest and the highest number of a text, as 0-2 or 4."""
     low, _, high = told.partition("-")
@@ -88,10 +102,7 @@ class Telling(Searches):
             listed = self.calls(definition, given, mocks)
             met = {}
             for _ in range(150):
-                steps, moment = "", 0
-                for number in range(40):
-                    moment += 1000 * (number > 0 and chance.random() < 0.2)
-                    steps += f"{chance.choice(['/', '/0', '/1', '/2'])} 1970-01-01T00:00:{moment // 1000:02}.000Z\n"
+                steps = random_steps(chance, ["/", "/0", "/1", "/2"], 40)
                 lines = self.run_texts(definition, mocks, "M#c", given, steps).stdout.splitlines()
                 outcome = lines[-1].removeprefix("status ")
                 if outcome == "RUNNING":
@@ -167,6 +178,23 @@ class Telling(Searches):
     def test_names_are_json_texts(self):
         definition = '{"StartAt":"A","States":{"A":{"Type":"Succeed"},"a\\n\\"b":{"Type":"Succeed"}}}'
         self.assertEqual(self.remarks(definition, "1", chosen="M"), ['never entered "a\\n\\"b"'])
+
+    def test_random_steps_enter_just_the_states_that_are_not_told(self):
+        chance = random.Random(48)
+        caught = ',"Catch":[{"ErrorEquals":["E"],"Next":"X"},{"ErrorEquals":["G"],"Next":"Y"},{"ErrorEquals":["H"],"Next":"Z"}]'
+        waits = '{"StartAt":"W","States":{"W":{"Type":"Wait","Seconds":1,"Next":"V"},"V":{"Type":"Fail","Error":"G"}}}'
+        definition = parallel([chain("A", 2, TASK), waits, chain("B", 1, TASK)], caught)
+        definition = definition.removesuffix("}}") + ',"X":{"Type":"Pass","End":true},"Y":{"Type":"Pass","End":true},"Z":{"Type":"Pass","End":true}}}'
+        names = {"P", "A0", "A1", "W", "V", "B0", "X", "Y", "Z"}
+        for last, never in [('"0":{"Throw":{"Error":"E"}}', {"Z"}), ('"0":{"Return":1}', {"X", "Z"})]:
+            mocks = mocked({"A0": FOR_EVER, "A1": last, "B0": FOR_EVER})
+            told = self.remarks(definition, "{}", mocks)
+            self.assertEqual({line[len('never entered "'):-1] for line in told if line.startswith("never entered ")}, never)
+            seen = set()
+            for _ in range(80):
+                steps = random_steps(chance, ["/", "/0", "/1", "/2"], 30)
+                seen |= entered(self.run_texts(definition, mocks, "M#c", "{}", steps).stdout.splitlines())
+            self.assertEqual(seen, names - never)
 
     def test_states_that_only_late_orders_enter(self):
         def waits(name, seconds):
