@@ -5,3 +5,9 @@ pub mod Finding
 pub mod Expanding
 pub mod Timing
 pub mod Lateness
+pub mod Orderly
+pub mod Reduced
+pub mod Taking
+pub mod Waiting
+pub mod Quieting
+pub mod Resting

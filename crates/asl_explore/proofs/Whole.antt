@@ -70,7 +70,7 @@ one-there last p b bs r P true c all e deeper =
     subst (λ (z : List ℕ). P (record { place = z; moment = due_from last r })) (sym q) (subst (λ (z : Record). P (record { place = b.place; moment = due_from last z })) y h)
 one-there last p b bs r P false c all e deeper = deeper (rw c at e)
 
-there : (last : ℕ) (p : List ℕ) (bs : List Branch) (r : Record) (P : Earliest → Type 0) → All P (earliest last bs) → record_at p bs ≡ Some r → P (record { place = p; moment = due_from last r })
+pub there : (last : ℕ) (p : List ℕ) (bs : List Branch) (r : Record) (P : Earliest → Type 0) → All P (earliest last bs) → record_at p bs ≡ Some r → P (record { place = p; moment = due_from last r })
 there last p [] r P all e = (cc)
 there last p (b ∷ bs) r P all e = one-there last p b bs r P (same_place p b.place) refl all e (there last p bs r P (All-tail P (record { place = b.place; moment = due_from last b.current }) (earliest last bs) all))
 

@@ -17,4 +17,4 @@ pub returns-clause-late : goal.returns-clause-late
 returns-clause-late g c =
     let fs = c.in-Some.searched.found.items in
     let shown : All (Shows c.args.setup) fs = subst (λ (s : Setup). All (Shows s) fs) c.in_ok-execution.ensures.setup (rw c.in-Some.is at c.in_ok-searched.ensures.shown) in
-    subst (λ (s : Setup). All (Shows s) fs → AreLate s fs c.in_ok-late.late.items) (c.search.ensures.setup ∙ c.in_ok-execution.ensures.setup) c.in_ok-late.ensures shown
+    subst (λ (s : Setup). All (Shows s) fs → AreLate s fs c.in_ok-late.late.items) (c.try_orders.ensures.setup ∙ c.in_ok-execution.ensures.setup) c.in_ok-late.ensures shown
