@@ -320,6 +320,67 @@ class Exploring(Searches):
             self.assertLessEqual(seen, set(listed))
             self.assertTrue(seen)
 
+    # ---- quiet steps are taken alone
+
+    def test_branches_that_only_pass_are_tried_one_after_another(self):
+        for branches, length, worlds in [(4, 5, 22), (6, 5, 32), (12, 10, 122)]:
+            definition = parallel([chain(f"B{number}S", length) for number in range(branches)])
+            self.assertEqual((self.complete(definition, chosen="M").worlds, self.prompt(definition, chosen="M").worlds), (worlds, worlds))
+
+    def test_a_wait_elsewhere_lets_every_order_be_tried(self):
+        definition = parallel([chain("A", 4), chain("B", 4), chain("C", 4), chain("W", 1, '"Type":"Wait","Seconds":1')])
+        every, told = self.complete(definition, chosen="M"), self.prompt(definition, chosen="M")
+        self.assertEqual(every.outcomes, told.outcomes)
+        self.assertGreater(every.worlds, 5 ** 3)
+        self.assertLess(told.worlds, 30)
+
+    def test_a_loop_beside_a_branch_that_fails(self):
+        loop = '{"StartAt":"L","States":{"L":{"Type":"Pass","Next":"K"},"K":{"Type":"Pass","Next":"L"}}}'
+        fails = '{"StartAt":"F","States":{"F":{"Type":"Pass","Next":"G"},"G":{"Type":"Fail","Error":"E"}}}'
+        for branches in [[loop, fails], [fails, loop], [loop, loop, fails]]:
+            for told in [self.complete(parallel(branches), chosen="M"), self.prompt(parallel(branches), chosen="M")]:
+                self.assertEqual(told.outcomes, ['FAILED {"Error":"E"}'])
+
+    def random_machine(self, chance, name, deep):
+        """The text of a machine of a few states: they pass, choose nothing, fail, ask a service, go back, or fork."""
+        states, count = {}, chance.randrange(1, 4)
+        for number in range(count):
+            here, goes = f"{name}{number}", f'"Next":"{name}{number + 1}"' if number < count - 1 else '"End":true'
+            kind = chance.randrange(8 if deep else 6)
+            if kind == 0:
+                states[here] = f'{{"Type":"Fail","Error":"E{here}"}}'
+            elif kind in (1, 2):
+                states[here] = f"{{{TASK},{goes}}}"
+            elif kind in (3, 4, 5):
+                states[here] = f'{{"Type":"Pass",{goes}}}'
+            else:
+                inner = ",".join(self.random_machine(chance, f"{here}{letter}", False) for letter in "ab"[: chance.randrange(1, 3)])
+                caught = chance.choice(["", f',"Catch":[{{"ErrorEquals":["States.ALL"],"Next":"{name}0"}}]', ',"Retry":[{"ErrorEquals":["States.ALL"],"IntervalSeconds":1,"MaxAttempts":1}]'])
+                states[here] = f'{{"Type":"Parallel","Branches":[{inner}]{caught},{goes}}}'
+        rows = ",".join(f'"{here}":{row}' for here, row in states.items())
+        return f'{{"StartAt":"{name}0","States":{{{rows}}}}}'
+
+    def test_the_outcomes_are_those_of_every_order(self):
+        chance = random.Random(47)
+        compared = 0
+        for _ in range(60):
+            body = parallel([self.random_machine(chance, "A", True), self.random_machine(chance, "B", True), self.random_machine(chance, "C", False)])
+            tasks = sorted({part.split('"')[-2] for part in body.split(':{"Type":"Task"')[:-1]})
+            answers = {task: chance.choice([FOR_EVER, '"0":{"Throw":{"Error":"T%s"}},"1-9999":{"Return":1}' % task]) for task in tasks}
+            waits = body.replace('"StartAt":"P","States":{', '"StartAt":"W","States":{"W":{"Type":"Wait","Seconds":1,"Next":"P"},', 1)
+            found = []
+            for definition in (body, waits):
+                ran = self.explore(definition, "{}", mocked(answers), "M#c", "--limit", "3000", "--prompt")
+                found.append(explored(ran.stdout))
+            plain = explored(self.explore(waits, "{}", mocked(answers), "M#c", "--limit", "3000").stdout)
+            reduced = explored(self.explore(body, "{}", mocked(answers), "M#c", "--limit", "3000").stdout)
+            if plain.search == reduced.search == "search complete":
+                compared += 1
+                self.assertEqual(sorted(plain.outcomes), sorted(reduced.outcomes), body)
+            if found[0].search == found[1].search == "search complete":
+                self.assertEqual(sorted(found[0].outcomes), sorted(found[1].outcomes), body)
+        self.assertGreater(compared, 20)
+
     # ---- searches that are cut
 
     def test_a_loop_that_goes_on_is_cut(self):

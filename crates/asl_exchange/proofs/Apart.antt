@@ -21,7 +21,7 @@ pub prefix-append : (p x : List ℕ) → is_prefix p (p ++ x) ≡ true
 prefix-append [] x = refl
 prefix-append (i ∷ p) x = and_from _ _ (eq-eqb i i refl) (prefix-append p x)
 
-prefix-trans : (p x q : List ℕ) → is_prefix p x ≡ true → is_prefix x q ≡ true → is_prefix p q ≡ true
+pub prefix-trans : (p x q : List ℕ) → is_prefix p x ≡ true → is_prefix x q ≡ true → is_prefix p q ≡ true
 prefix-trans [] x q u v = refl
 prefix-trans (i ∷ p) [] q u v = (cc)
 prefix-trans (i ∷ p) (j ∷ x) [] u v = v

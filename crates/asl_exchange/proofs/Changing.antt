@@ -35,10 +35,10 @@ unless : (b : Bool) (x : Refusal) (o : Option Refusal) → cond b (Some x) o ≡
 unless true x o h = (cc)
 unless false x o h = refl
 
-with-room : (u : World) → length u.events ≤ 24992 → refusal_if_full u ≡ None
+pub with-room : (u : World) → length u.events ≤ 24992 → refusal_if_full u ≡ None
 with-room u room = rw (le-ltb 24992 (length u.events) room) refl
 
-ready-later : (w u : World) (q : List ℕ) (now slots : ℕ) (r : Record) → children_at q u.branches ≡ children_at q w.branches → (is_crowded slots q w.branches ≡ false → is_crowded slots q u.branches ≡ false) → length u.events ≤ 24992 → refusal_by w q now slots r ≡ None → refusal_by u q now slots r ≡ None
+pub ready-later : (w u : World) (q : List ℕ) (now slots : ℕ) (r : Record) → children_at q u.branches ≡ children_at q w.branches → (is_crowded slots q w.branches ≡ false → is_crowded slots q u.branches ≡ false) → length u.events ≤ 24992 → refusal_by w q now slots r ≡ None → refusal_by u q now slots r ≡ None
 ready-later w u q now slots (New n x) same less room h = rw (less (unless (is_crowded slots q w.branches) _ (refusal_if_full w) h)) (with-room u room)
 ready-later w u q now slots (Ready n x) same less room h = with-room u room
 ready-later w u q now slots (Pausing n x since until) same less room h = rw (unless (nat_lt now until) _ (refusal_if_full w) h) (with-room u room)
@@ -48,7 +48,7 @@ ready-later w u q now slots (Done x) same less room h = h
 ready-later w u q now slots (Failed e) same less room h = h
 
 -- a branch that isn't refused isn't done
-undone-by : (w : World) (p : List ℕ) (now slots : ℕ) (r : Record) → refusal_by w p now slots r ≡ None → is_undone r ≡ true
+pub undone-by : (w : World) (p : List ℕ) (now slots : ℕ) (r : Record) → refusal_by w p now slots r ≡ None → is_undone r ≡ true
 undone-by w p now slots (New n x) h = refl
 undone-by w p now slots (Ready n x) h = refl
 undone-by w p now slots (Pausing n x since until) h = refl
@@ -104,7 +104,7 @@ one-swapped (Some n) (Some m) h = false_from_ne_true (bytes_eq m n) (λ e. both_
 abbrev pub InvokeApart : Setup → Record → Record → Type 0
 InvokeApart s r m = are_one_name (invoked_by s.machine (Some r)) (invoked_by s.machine (Some m)) ≡ false
 
-raises-apart : (s : Setup) (w : World) (p : List ℕ) (now : ℕ) (r m : Record) → InvokeApart s r m → (does s w p now r).raises ≡ true → Differ (number_in s.machine r) (number_in s.machine m)
+pub raises-apart : (s : Setup) (w : World) (p : List ℕ) (now : ℕ) (r m : Record) → InvokeApart s r m → (does s w p now r).raises ≡ true → Differ (number_in s.machine r) (number_in s.machine m)
 raises-apart s w p now r m h i = names-differ s.machine r m h ((effect-bounded s.machine (facts_of s) (seen_at s.machine s.case w p now r)).raises i)
 
 -- ---- two steps

@@ -39,7 +39,7 @@ module _ (p : List ℕ) (r : Record) (c : Children) where
   pub stays : (b : Branch) → is_prefix p b.place ≡ false → branch_after p r c b ≡ b ∷ []
   stays b h = rw (same-false p b.place h, h) refl
 
-  under : (b : Branch) → is_prefix p b.place ≡ true → Under p (branch_after p r c b)
+  pub under : (b : Branch) → is_prefix p b.place ≡ true → Under p (branch_after p r c b)
   under b h = by (same_place p b.place) (is_prefix p b.place && not (are_kept c))
     where
       by : (s k : Bool) → Under p (cond s (family p r c) (cond k [] (b ∷ [])))

@@ -90,7 +90,7 @@ gone q p r c b k u = by (same_place p b.place) (is_prefix p b.place) refl refl
         let no : same_place q b.place ≡ false = false_from_ne_true (same_place q b.place) (λ t. both_ways (is_prefix p b.place) f (rw (← same-eq q b.place t) u)) in
         rw no (omega arith)
 
-one-after : (p : List ℕ) (r : Record) (c : Children) (bs : List Branch) → IsOneEach bs → IsOneEach (branches_after p r c bs)
+pub one-after : (p : List ℕ) (r : Record) (c : Children) (bs : List Branch) → IsOneEach bs → IsOneEach (branches_after p r c bs)
 one-after p r c bs o q = by (is_prefix p q) c refl refl
   where
     by : (u : Bool) (d : Children) → is_prefix p q ≡ u → c ≡ d → length (at q (branches_after p r d bs)) ≤ 1
@@ -105,7 +105,7 @@ one-moved : (s : Setup) (w : World) (p : List ℕ) (now : ℕ) (r : Option Recor
 one-moved s w p now None o = o
 one-moved s w p now (Some r) o = one-after p _ _ w.branches o
 
-one-stepped : (s : Setup) (w : World) (p : List ℕ) (t : ℕ) → IsOneEach w.branches → IsOneEach (step s w p t).branches
+pub one-stepped : (s : Setup) (w : World) (p : List ℕ) (t : ℕ) → IsOneEach w.branches → IsOneEach (step s w p t).branches
 unfolding step
 one-stepped s w p t o =
     let P : World → Type 0 = λ u. IsOneEach u.branches in

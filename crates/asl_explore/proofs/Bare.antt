@@ -70,7 +70,7 @@ step-bare s w p t = by (refusal_in s w p t) refl
 
 -- ---- steps that change nothing
 
-over-refuses : (w : World) (p : List ℕ) (t slots : ℕ) → is_over w.outcome ≡ true → is_none (refusal_of w p t slots) ≡ false
+pub over-refuses : (w : World) (p : List ℕ) (t slots : ℕ) → is_over w.outcome ≡ true → is_none (refusal_of w p t slots) ≡ false
 unfolding refusal_of
 over-refuses w p t slots o = rw o refl
 

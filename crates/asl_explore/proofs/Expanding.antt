@@ -1,8 +1,8 @@
 -- Worlds that a search puts into its lists.
-use Rattle.std.proofs.Common.{ℕ, suc, zero, ◌≡◌, ◌<◌, ◌≤◌, ◌+◌, ◌∙◌, ap, sym, refl, subst, arith, Bool, true, false, List, [], ◌∷◌, length, get_or, Option, Some, None}
+use Rattle.std.proofs.Common.{ℕ, suc, zero, ◌≡◌, ◌<◌, ◌≤◌, ◌+◌, ◌++◌, ◌∙◌, ap, sym, refl, subst, arith, Bool, true, false, List, [], ◌∷◌, length, get_or, Option, Some, None}
 use Rattle.std.specs.Prelude.{is_some, is_none}
 use Rattle.std.specs.List.{All, AllWithin, Contains, HoldsAt}
-use Rattle.std.proofs.lemmas.List.{get_or_read, length-map}
+use Rattle.std.proofs.lemmas.List.{get_or_read, get_or_push, length-append, length-map}
 use Rattle.std.proofs.lemmas.List.Elements.{AllWithin-more}
 use Rattle.asl_explore.specs.declared.found.Found.{Found}
 use Rattle.asl_steps.specs.declared.record.Record.{Record}
@@ -16,11 +16,10 @@ use Rattle.asl_setup.specs.declared.setup.Setup.{Setup}
 use Rattle.asl_exec.specs.Steps.{step, opening, refusal_in}
 use Rattle.asl_exec.proofs.Accepting.{step_refused}
 use Rattle.asl_explore.specs.declared.met.Node.{Node}
-use Rattle.asl_explore.specs.Orders.{IsWhole}
 use Rattle.asl_explore.specs.declared.orders.Orders.{Orders}
-use Rattle.asl_explore.specs.Searches.{IsMet, IsExpanded, IsBound, IsLater, Shows, is_beyond, worlds_of}
-use Rattle.asl_explore.proofs.Growing.{later-at, met-later, within-later}
-use Rattle.asl_explore.proofs.Whole.{expanded, closed-whole}
+use Rattle.asl_explore.specs.Searches.{IsMet, IsExpanded, IsBound, IsLater, Shows, StandsAt, is_beyond, worlds_of}
+use Rattle.asl_explore.proofs.Growing.{later-at, met-later}
+use Rattle.asl_explore.proofs.Whole.{expanded}
 
 pub node-at : (ns : List Node) (i : ℕ) (n : Node) (d : World) → i < length ns → n ≡ get_or ns i n → get_or (worlds_of ns) i d ≡ bare n.world
 node-at [] i n d l h = absurd (omega arith)
@@ -28,8 +27,19 @@ node-at (x ∷ ns) zero n d l h = ap (λ (z : Node). bare z.world) (sym h)
 node-at (x ∷ ns) (suc i) n d l h = node-at ns i n d (omega arith) h
 
 -- a world that is alike is there
-pub alike-there : (ns : List Node) (i : ℕ) (n : Node) (w : World) → i < length ns → n ≡ get_or ns i n → bare n.world ≡ bare w → Contains (worlds_of ns) (bare w)
-alike-there ns i n w l h e = (i, omega (arith, l, length-map ns (λ (m : Node). bare m.world)), node-at ns i n (bare w) l h ∙ e)
+pub stands-alike : (ns : List Node) (i : ℕ) (n : Node) (w : World) → i < length ns → n ≡ get_or ns i n → bare n.world ≡ bare w → StandsAt (worlds_of ns) i (bare w)
+stands-alike ns i n w l h e = (omega (arith, l, length-map ns (λ (m : Node). bare m.world)), λ d. node-at ns i n d l h ∙ e)
+
+-- so is one that is put behind the others
+pub stands-behind : (ns ms : List Node) (n : Node) (i : ℕ) → ms ≡ ns ++ n ∷ [] → i ≡ length ns → StandsAt (worlds_of ms) i (bare n.world)
+stands-behind ns ms n i is at =
+    let long : length ms ≡ length ns + 1 = ap (length {A = Node}) is ∙ length-append ns (n ∷ []) in
+    let l : i < length ms = omega (arith, long, at) in
+    let e : get_or ms i n ≡ n = ap (λ (z : List Node). get_or z i n) is ∙ get_or_push ns n n i (sym at) in
+    (omega (arith, l, length-map ms (λ (m : Node). bare m.world)), λ d. node-at ms i n d l (sym e))
+
+pub stands-there : (ws : List World) (i : ℕ) (w : World) → StandsAt ws i w → Contains ws w
+stands-there ws i w h = (i, h.0, h.1 w)
 
 pub met-running : (ws : List World) (os : List Outcome) (v next : World) → next ≡ bare v → is_over next.outcome ≡ false → Contains ws (bare next) → IsMet ws os v
 met-running ws os v next e r c = record {
@@ -70,9 +80,6 @@ expanded-all o s ws vs os us number w bound turns i l lt lv same runs root et le
     by : (r : Option Record) → record_at [] w.branches ≡ r → IsExpanded o s vs us (bare w)
     by (Some r) e = expanded o s vs us (bare w) bound r runs here e b all
     by None e = let x : false ≡ true = ap is_some (sym e) ∙ root in absurd (cc)
-
-pub all-whole : (o : Orders) (s : Setup) (ws : List World) (os : List Outcome) (i : ℕ) → length ws ≤ i → IsMet ws os (opening s) → AllWithin (IsExpanded o s ws os) ws 0 i → IsWhole o s os
-all-whole o s ws os i le m h = closed-whole o s ws os m (λ k d l. h k d (omega arith) (omega arith))
 
 -- a search begins with the world before the first step
 pub met-first : (s z : Setup) (ws : List World) (os : List Outcome) → z ≡ s → ws ≡ bare (opening z) ∷ [] → IsMet ws os (opening s)
@@ -126,7 +133,3 @@ pub met-more : (s : Setup) (ws vs xs : List World) (us ys : List Outcome) (numbe
 met-more s ws vs xs us ys number bound turns i l h new =
     AllWithin-more (IsMetBy s ws number xs ys bound) turns 0 i
     (λ k d z lt inside w. met-later vs xs us ys (step s (get_or ws number w) (get_or turns k d).place (get_or turns k d).moment) l (h k d z lt inside w)) new
-
-pub within-more : (o : Orders) (s z : Setup) (ws vs : List World) (os us : List Outcome) (i : ℕ) → z ≡ s → IsLater ws os vs us → i ≤ length ws → AllWithin (IsExpanded o s ws os) ws 0 i → HoldsAt (IsExpanded o z vs us) vs i → AllWithin (IsExpanded o s vs us) vs 0 (i + 1)
-within-more o s z ws vs os us i e l le h new =
-    AllWithin-more (IsExpanded o s vs us) vs 0 i (within-later o s ws vs os us i l le h) (subst (λ (x : Setup). HoldsAt (IsExpanded o x vs us) vs i) e new)

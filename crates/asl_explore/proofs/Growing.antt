@@ -37,10 +37,6 @@ later-at ws vs os us k d l h = ap (λ (z : List World). get_or z k d) l.worlds �
 pub later-length : (ws vs : List World) (os us : List Outcome) → IsLater ws os vs us → length ws ≤ length vs
 later-length ws vs os us l = omega (arith, ap (length {A = World}) l.worlds, length-append ws l.more_worlds)
 
-pub within-later : (o : Orders) (s : Setup) (ws vs : List World) (os us : List Outcome) (i : ℕ) → IsLater ws os vs us → i ≤ length ws → AllWithin (IsExpanded o s ws os) ws 0 i → AllWithin (IsExpanded o s vs us) vs 0 i
-within-later o s ws vs os us i l le h k d z lt p t =
-    met-later ws vs os us (step s (get_or vs k d) p (due (get_or vs k d) p)) l (subst (λ (w : World). IsExpanded o s ws os w) (sym (later-at ws vs os us k d l (omega arith))) (h k d z lt) p t)
-
 pub distinct-more : (os : List Outcome) (o : Outcome) → AreDistinct os → All (λ (a : Outcome). a ≡ o → ⊥) os → AreDistinct (os ++ o ∷ [])
 distinct-more os o h new i j d lt le = by (nat_lt j (length os)) refl
   where

@@ -8,3 +8,9 @@ pub mod Lateness
 pub mod Ends
 pub mod Tallies
 pub mod Lines
+pub mod Orderly
+pub mod Reduced
+pub mod Taking
+pub mod Waiting
+pub mod Quieting
+pub mod Resting

@@ -1,11 +1,15 @@
 -- What a search has met.
-use Rattle.std.specs.Prelude.{ℕ, zero, suc, ◌≡◌, ◌<◌, length, get_or, ◌++◌, true, false, ⊤, Bool, nat_lt, List, map, Option, Some, None}
+use Rattle.std.specs.Prelude.{ℕ, zero, suc, ◌≡◌, ◌⊎◌, ◌<◌, length, get_or, ◌++◌, true, false, ⊤, Bool, nat_lt, List, map, Option, Some, None}
 use Rattle.std.specs.List.{All, AllPairs, Contains}
+use Rattle.asl_steps.specs.declared.record.Record.{Record}
+use Rattle.asl_frames.specs.Branches.{record_at, is_stopped}
+use Rattle.asl_frames.specs.Earliest.{due_from}
 use Rattle.asl_run.specs.World.{World, is_over}
 use Rattle.asl_run.specs.Bare.{bare}
 use Rattle.asl_run.specs.declared.outcome.Outcome.{Outcome}
 use Rattle.asl_setup.specs.declared.setup.Setup.{Setup}
-use Rattle.asl_exec.specs.Steps.{step, opening, world_after}
+use Rattle.asl_exec.specs.Steps.{object_in, invokes_by, step, opening, world_after}
+use Rattle.asl_exec.specs.Exchanges.{goes_on}
 use Rattle.asl_explore.specs.Orders.{due, timed, places_of, MayStep, IsTried, AreTried, after_order}
 use Rattle.asl_explore.specs.declared.found.Found.{Found}
 use Rattle.asl_explore.specs.declared.orders.Orders.{Orders}
@@ -22,6 +26,61 @@ pub record IsMet (ws : List World) (os : List Outcome) (w : World) : Type 0 wher
 abbrev pub IsExpanded : Orders → Setup → List World → List Outcome → World → Type 0
 IsExpanded o s ws os w =
     (p : List ℕ) → IsTried o s w p → IsMet ws os (step s w p (due w p))
+
+-- a world is the one of this number
+abbrev pub StandsAt : List World → ℕ → World → Type 0
+StandsAt ws i w = (i < length ws) × ((d : World) → get_or ws i d ≡ w)
+
+-- ---- worlds in which one step alone is taken
+
+-- a step of the branch at this place invokes nothing
+abbrev pub IsMute : Setup → World → List ℕ → Type 0
+IsMute s w p =
+    (r : Record) → record_at p w.branches ≡ Some r → invokes_by (object_in s.machine r) ≡ false
+
+-- a step that may be taken at once, invokes nothing, and neither ends the execution nor fails its
+-- branch
+pub record IsQuietAt (s : Setup) (w : World) (p : List ℕ) : Type 0 where
+  pub goes : goes_on s w p w.last ≡ true
+  pub mute : IsMute s w p
+
+-- of the world of this number only such a step is taken: it leads to a world of a higher number
+pub record IsReduced (s : Setup) (ws : List World) (number : ℕ) (w : World) : Type 0 where
+  pub place : List ℕ
+  pub quiet : IsQuietAt s w place
+  pub next : ℕ
+  pub later : number < next
+  pub leads : StandsAt ws next (bare (step s w place w.last))
+
+-- of the world of this number every step that is tried is taken; or, where no branch is to be late,
+-- only a quiet one
+abbrev pub IsTakenOn : Orders → Setup → List World → List Outcome → ℕ → World → Type 0
+IsTakenOn o s ws os number w =
+    IsExpanded o s ws os w ⊎ ((o ≡ Prompt) × IsReduced s ws number w)
+
+-- the same of the first worlds
+abbrev pub AreTakenOn : Orders → Setup → List World → List Outcome → ℕ → Type 0
+AreTakenOn o s ws os n =
+    (i : ℕ) → i < n → (d : World) → IsTakenOn o s ws os i (get_or ws i d)
+
+-- a branch that nothing stops waits for a later moment
+pub record Waits (w : World) : Type 0 where
+  pub place : List ℕ
+  pub current : Record
+  pub there : record_at place w.branches ≡ Some current
+  pub free : is_stopped place w.branches ≡ false
+  pub waits : w.last < due_from w.last current
+
+-- in none of these worlds one does
+abbrev pub NoneWaits : List World → Type 0
+NoneWaits ws = (i : ℕ) → i < length ws → (d : World) → Waits (get_or ws i d) → ⊥
+
+-- a search met the opening world, and took enough steps of each world that it met
+pub record IsClosed (o : Orders) (s : Setup) (ws : List World) (os : List Outcome) : Type 0 where
+  pub begins : IsMet ws os (opening s)
+  pub taken : AreTakenOn o s ws os (length ws)
+
+-- ---- worlds in which every step is taken that is tried
 
 -- a step at this moment is later than one that may be taken
 abbrev pub is_beyond : Option ℕ → ℕ → Bool

@@ -1,8 +1,9 @@
 // Outcomes that come only where a branch is late.
-ghost use Rattle.std.specs.Prelude.{IfOk};
+ghost use Rattle.std.specs.Prelude.{◌≡◌, false, IfOk};
 ghost use Rattle.std.specs.List.{All};
 ghost use Rattle.asl_exec.specs.Views.{setup_of};
-ghost use Rattle.asl_explore.specs.Searches.{AreLate, IsMissing, IsNumbered, Shows};
+ghost use Rattle.asl_explore.specs.Searches.{AreLate, IsMissing, IsNumbered, NoneWaits, Shows, Waits, worlds_of};
+ghost use Rattle.asl_run.specs.Bare.{bare};
 
 use crate::found::Found;
 use crate::met::Node;
@@ -10,17 +11,33 @@ use crate::orders::Orders;
 use crate::search::search;
 use crate::visiting::{is_found, turns_in};
 use crate::watch::Unwatched;
-use asl_exec::Execution;
+use asl_exec::{Execution, World};
 use std::alloc::{AllocError, Global};
 
+/// Whether a branch waits in a world. The error is that memory ran out.
+fn waits(alloc: Global, world: &World) -> Result<bool, AllocError>
+    ensures { IfOk result (λ b. b ≡ false → Waits (bare world.now) → ⊥) }
+{
+    let Some(turns) = turns_in(alloc, world)? else {
+        return Ok(true);
+    };
+    let last = world.last().millis();
+    for index in 0..turns.len() {
+        let moment = turns[index].moment.millis();
+        if last < moment {
+            return Ok(true);
+        }
+    }
+    Ok(false)
+}
+
 /// Whether a branch waits in one of these worlds. The error is that memory ran out.
-fn any_waits(alloc: Global, nodes: &[Node]) -> Result<bool, AllocError> {
-    for node in nodes {
-        let Some(turns) = turns_in(alloc, &node.world)? else {
-            continue;
-        };
-        let last = node.world.last().millis();
-        if turns.iter().any(|turn| last < turn.moment.millis()) {
+pub(crate) fn any_waits(alloc: Global, nodes: &[Node]) -> Result<bool, AllocError>
+    ensures { IfOk result (λ b. b ≡ false → NoneWaits (worlds_of nodes.now)) }
+{
+    for index in 0..nodes.len() {
+        let node = &nodes[index];
+        if waits(alloc, &node.world)? {
             return Ok(true);
         }
     }

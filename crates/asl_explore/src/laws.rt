@@ -1,8 +1,10 @@
 // Laws of searches.
-ghost use Rattle.asl_explore.specs.Laws.{StepsIgnoreHistory, ClosedIsWhole};
+ghost use Rattle.asl_explore.specs.Laws.{StepsIgnoreHistory, ClosedIsWhole, WaitlessIsWhole};
 
-/// A step reads nothing of the history, and a search that expanded each world that it met left out no outcome. The laws have no code.
+/// A step reads nothing of the history, and a search that took enough steps of each world that it met left out no outcome: of all orders, where no branch
+/// ever waits. The laws have no code.
 pub fn searches_leave_out_nothing()
     ensures history { StepsIgnoreHistory }
     ensures whole { ClosedIsWhole }
+    ensures waitless { WaitlessIsWhole }
 {}

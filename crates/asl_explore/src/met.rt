@@ -1,9 +1,8 @@
 // The worlds that a search met.
-ghost use Rattle.std.specs.Prelude.{◌≡◌, List, ◌∷◌, [], true, IfOk, OnOk};
-ghost use Rattle.std.specs.List.{Contains};
+ghost use Rattle.std.specs.Prelude.{◌≡◌, List, ◌∷◌, [], IfOk, IfSome};
 ghost use Rattle.asl_run.specs.Bare.{bare};
 ghost use Rattle.asl_run.specs.declared.outcome.Outcome.{Outcome};
-ghost use Rattle.asl_explore.specs.Searches.{worlds_of, IsLater};
+ghost use Rattle.asl_explore.specs.Searches.{worlds_of, IsLater, StandsAt};
 
 use crate::digest::digest_of;
 use crate::table::Table;
@@ -64,40 +63,44 @@ impl Met {
         })
     }
 
-    /// Whether a world was met, if this is true.
-    fn holds(&self, world: &World, digest: u64) -> bool
-        ensures { result ≡ true → Contains (worlds_of self.now.nodes.items) (bare world.now) }
+    /// The number of a world that was met, if it is found.
+    fn find(&self, world: &World, digest: u64) -> Option<usize>
+        ensures { IfSome result
+            (λ i. StandsAt (worlds_of self.now.nodes.items) i (bare world.now)) }
     {
         let mut number = self.table.last_in(digest);
         for _ in 0..self.nodes.len() {
             if number == 0 || number > self.nodes.len() {
-                return false;
+                return None;
             }
-            let node = &self.nodes[number - 1];
+            let index = number - 1;
+            let node = &self.nodes[index];
             if node.digest == digest && node.world.is_alike(world) {
-                return true;
+                return Some(index);
             }
             number = node.before;
         }
-        false
+        None
     }
 
-    /// A world that runs is among those that were met, put there if it wasn't. The error is that memory ran out.
+    /// A world that runs is among those that were met, put there if it wasn't: its number. The error is that memory ran out.
     pub(crate) fn put(
         &mut self,
         next: World,
         parent: usize,
         depth: u32,
         at: StepAt,
-    ) -> Result<(), AllocError>
-        ensures met { OnOk result (Contains (worlds_of self.new.nodes.items) (bare next)) }
+    ) -> Result<usize, AllocError>
+        ensures at { IfOk result
+            (λ i. StandsAt (worlds_of self.new.nodes.items) i (bare next)) }
         ensures later { (os : List Outcome)
             → IsLater (worlds_of self.old.nodes.items) os (worlds_of self.new.nodes.items) os }
     {
         let digest = digest_of(&next, self.states);
-        if self.holds(&next, digest) {
-            return Ok(());
+        if let Some(index) = self.find(&next, digest) {
+            return Ok(index);
         }
+        let index = self.nodes.len();
         let before = self.table.last_in(digest);
         self.nodes.push(Node {
             world: next,
@@ -108,6 +111,6 @@ impl Met {
             before,
         })?;
         self.table.put(digest, self.nodes.len());
-        Ok(())
+        Ok(index)
     }
 }

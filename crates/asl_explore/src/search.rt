@@ -1,22 +1,23 @@
 // A search over the worlds that steps lead to.
-ghost use Rattle.std.specs.Prelude.{◌≡◌, ◌<◌, ◌≤◌, ◌∷◌, [], true, false, length, slice_index_or, IfOk, IfSome};
+ghost use Rattle.std.specs.Prelude.{◌≡◌, ◌<◌, ◌≤◌, ◌∷◌, [], true, false, length, get_or, slice_index_or, None, IfOk, IfSome};
 ghost use Rattle.std.specs.List.{All, HoldsAt};
 ghost use Rattle.asl_run.specs.Bare.{bare};
 ghost use Rattle.asl_run.specs.World.{World, is_over};
-ghost use Rattle.asl_exec.specs.Steps.{opening, step};
+ghost use Rattle.asl_exec.specs.Steps.{deadline_of, opening, step};
 ghost use Rattle.asl_exec.specs.Views.{setup_of};
 ghost use Rattle.asl_explore.specs.Orders.{IsWhole};
 ghost use Rattle.asl_explore.specs.declared.orders.Orders.TheVariants.{Every};
 ghost use Rattle.asl_explore.specs.Calls.{IsStated, AllAreExpanded, AreCounted};
-ghost use Rattle.asl_explore.specs.Searches.{IsMet, IsExpanded, IsBound, AreLate, worlds_of, outcomes_of, Shows, AreDistinct, IsLater, is_beyond};
+ghost use Rattle.asl_explore.specs.Searches.{IsMet, IsExpanded, IsTakenOn, IsClosed, IsBound, AreLate, worlds_of, outcomes_of, Shows, AreDistinct, IsLater, is_beyond};
 
 use crate::clock::may_read_clock;
 use crate::counting::{Counted, count_calls};
 use crate::found::{Explored, Found};
-use crate::late::late_among;
+use crate::late::{any_waits, late_among};
 use crate::met::Met;
 use crate::order::soonest;
 use crate::orders::Orders;
+use crate::quiet::quietly;
 use crate::seeing::{no_remarks, remarks_on};
 use crate::states::states_in;
 use crate::visiting::{enter, turns_in, visit};
@@ -131,6 +132,71 @@ fn expand(
     Ok(whole)
 }
 
+/// Of a world that was met takes one quiet step alone, where no branch is to be late and there is one; else a step of each branch: enough of
+/// them were taken, if this is true. The error is that memory ran out.
+fn take_on(
+    execution: &mut Execution,
+    alloc: Global,
+    orders: Orders,
+    met: &mut Met,
+    found: &mut Vec<Found>,
+    number: usize,
+) -> Result<bool, AllocError>
+    requires { number < length met.old.nodes.items }
+    ensures taken { IfOk result (λ b. b ≡ true → (d : World)
+        → IsTakenOn orders (setup_of execution.old) (worlds_of met.new.nodes.items)
+        (outcomes_of found.new.items) number (get_or (worlds_of met.new.nodes.items) number d)) }
+    ensures later { IsLater (worlds_of met.old.nodes.items) (outcomes_of found.old.items)
+        (worlds_of met.new.nodes.items) (outcomes_of found.new.items) }
+    ensures shown { All (Shows (setup_of execution.old)) found.old.items
+        → All (Shows (setup_of execution.old)) found.new.items }
+    ensures once { AreDistinct (outcomes_of found.old.items)
+        → AreDistinct (outcomes_of found.new.items) }
+    ensures setup { setup_of execution.new ≡ setup_of execution.old }
+{
+    match orders {
+        Orders::Every => expand(execution, alloc, orders, met, found, number),
+        Orders::Prompt => {
+            if quietly(execution, alloc, met, number)? {
+                return Ok(true);
+            }
+            expand(execution, alloc, orders, met, found, number)
+        }
+    }
+}
+
+/// The same, where a quiet step may be taken alone; else a step of each branch: each was taken, if this is true.
+fn go_on(
+    execution: &mut Execution,
+    alloc: Global,
+    orders: Orders,
+    alone: bool,
+    met: &mut Met,
+    found: &mut Vec<Found>,
+    number: usize,
+) -> Result<bool, AllocError>
+    requires { number < length met.old.nodes.items }
+    ensures taken { IfOk result (λ b. b ≡ true → (d : World)
+        → IsTakenOn orders (setup_of execution.old) (worlds_of met.new.nodes.items)
+        (outcomes_of found.new.items) number (get_or (worlds_of met.new.nodes.items) number d)) }
+    ensures expanded { alone ≡ false → IfOk result (λ b. b ≡ true → HoldsAt
+        (IsExpanded orders (setup_of execution.old) (worlds_of met.new.nodes.items)
+        (outcomes_of found.new.items))
+        (worlds_of met.new.nodes.items) number) }
+    ensures later { IsLater (worlds_of met.old.nodes.items) (outcomes_of found.old.items)
+        (worlds_of met.new.nodes.items) (outcomes_of found.new.items) }
+    ensures shown { All (Shows (setup_of execution.old)) found.old.items
+        → All (Shows (setup_of execution.old)) found.new.items }
+    ensures once { AreDistinct (outcomes_of found.old.items)
+        → AreDistinct (outcomes_of found.new.items) }
+    ensures setup { setup_of execution.new ≡ setup_of execution.old }
+{
+    if alone {
+        return take_on(execution, alloc, orders, met, found, number);
+    }
+    expand(execution, alloc, orders, met, found, number)
+}
+
 /// The worlds that a search begins with: that before the first step; none where it can't begin. The error is that memory ran out.
 fn beginning(alloc: Global, execution: &Execution) -> Result<Option<Met>, AllocError>
     ensures { IfOk result (λ o. IfSome o
@@ -158,12 +224,14 @@ pub(crate) struct Searched {
     pub(crate) depth: Option<u32>,
 }
 
-/// Tries the orders of the branches of an execution, from the beginning: its outcomes, each once. At most so many worlds are tried. None
-/// where the search can't begin. The error is that memory ran out.
+/// Tries the orders of the branches of an execution, from the beginning: its outcomes, each once. A quiet step may be taken alone, or a step
+/// of each branch is taken in each world. At most so many worlds are tried. None where the search can't begin. The error is that memory
+/// ran out.
 pub(crate) fn search<W: Watch>(
     execution: &mut Execution,
     alloc: Global,
     orders: Orders,
+    alone: bool,
     limit: u32,
     watch: &W,
 ) -> Result<Option<Searched>, AllocError>
@@ -172,7 +240,10 @@ pub(crate) fn search<W: Watch>(
     ensures once { IfOk result (λ o. IfSome o (λ x. AreDistinct (outcomes_of x.found.items))) }
     ensures whole { IfOk result (λ o. IfSome o (λ x. x.complete ≡ true
         → IsWhole orders (setup_of execution.old) (outcomes_of x.found.items))) }
-    ensures expanded { IfOk result (λ o. IfSome o (λ x. x.complete ≡ true
+    ensures closed { IfOk result (λ o. IfSome o (λ x. x.complete ≡ true
+        → IsClosed orders (setup_of execution.old) (worlds_of x.met.nodes.items)
+        (outcomes_of x.found.items))) }
+    ensures expanded { alone ≡ false → IfOk result (λ o. IfSome o (λ x. x.complete ≡ true
         → AllAreExpanded orders (setup_of execution.old) (worlds_of x.met.nodes.items)
         (outcomes_of x.found.items))) }
     ensures setup { setup_of execution.new ≡ setup_of execution.old }
@@ -185,19 +256,91 @@ pub(crate) fn search<W: Watch>(
     let mut number = 0;
     let mut whole = true;
     while number < met.nodes.len() && number < limit {
-        let is_expanded = expand(execution, alloc, orders, &mut met, &mut found, number)?;
-        whole = whole && is_expanded;
+        let is_enough = go_on(
+            execution,
+            alloc,
+            orders,
+            alone,
+            &mut met,
+            &mut found,
+            number,
+        )?;
+        whole = whole && is_enough;
         number += 1;
         watch.tried(number);
     }
     let complete = is_complete(whole, number, met.nodes.len());
-    let depth = depth_of(&met, number, whole);
+    let depth = depth_of(orders, &met, number, whole);
     Ok(Some(Searched {
         met,
         found,
         complete,
         depth,
     }))
+}
+
+/// Whether no time limit ends an execution that is tried in every order.
+fn is_unlimited(execution: &Execution, orders: Orders) -> bool
+    ensures every { result ≡ true → orders ≡ Every }
+    ensures limit { result ≡ true → deadline_of (setup_of execution.now) ≡ None }
+{
+    match orders {
+        Orders::Every => execution.setup().machine.timeout().is_none(),
+        Orders::Prompt => false,
+    }
+}
+
+/// The same as `search`. Where no branch ever waits, every order is one in which none is late, of which fewer have to be tried. The error
+/// is that memory ran out.
+fn try_orders<W: Watch>(
+    execution: &mut Execution,
+    alloc: Global,
+    orders: Orders,
+    limit: u32,
+    watch: &W,
+) -> Result<Option<Searched>, AllocError>
+    ensures shown { IfOk result (λ o. IfSome o
+        (λ x. All (Shows (setup_of execution.old)) x.found.items)) }
+    ensures once { IfOk result (λ o. IfSome o (λ x. AreDistinct (outcomes_of x.found.items))) }
+    ensures whole { IfOk result (λ o. IfSome o (λ x. x.complete ≡ true
+        → IsWhole orders (setup_of execution.old) (outcomes_of x.found.items))) }
+    ensures setup { setup_of execution.new ≡ setup_of execution.old }
+{
+    if !is_unlimited(execution, orders) {
+        return search(execution, alloc, orders, true, limit, watch);
+    }
+    let Some(prompt) = search(execution, alloc, Orders::Prompt, true, limit, watch)? else {
+        return Ok(None);
+    };
+    if prompt.complete && !any_waits(alloc, &prompt.met.nodes)? {
+        return Ok(Some(prompt));
+    }
+    search(execution, alloc, orders, true, limit, watch)
+}
+
+/// The same. Where calls are to be counted, a step of each branch is taken in each world.
+fn search_for<W: Watch>(
+    execution: &mut Execution,
+    alloc: Global,
+    orders: Orders,
+    calls: bool,
+    limit: u32,
+    watch: &W,
+) -> Result<Option<Searched>, AllocError>
+    ensures shown { IfOk result (λ o. IfSome o
+        (λ x. All (Shows (setup_of execution.old)) x.found.items)) }
+    ensures once { IfOk result (λ o. IfSome o (λ x. AreDistinct (outcomes_of x.found.items))) }
+    ensures whole { IfOk result (λ o. IfSome o (λ x. x.complete ≡ true
+        → IsWhole orders (setup_of execution.old) (outcomes_of x.found.items))) }
+    ensures expanded { calls ≡ true → IfOk result (λ o. IfSome o (λ x. x.complete ≡ true
+        → AllAreExpanded orders (setup_of execution.old) (worlds_of x.met.nodes.items)
+        (outcomes_of x.found.items))) }
+    ensures setup { setup_of execution.new ≡ setup_of execution.old }
+{
+    if calls {
+        return search(execution, alloc, orders, false, limit, watch);
+    }
+    try_orders(execution, alloc, orders, limit, watch)
 }
 
 /// The outcomes of a search that come only where a branch is late, by their numbers from 1; none where only orders were tried in which no
@@ -282,7 +425,7 @@ pub fn explore<W: Watch>(
     let clocked = may_read_clock(alloc, &setup.machine)?;
     let states = states_in(alloc, &setup.machine)?;
     let mut execution = Execution::open(alloc, setup)?;
-    let Some(searched) = search(&mut execution, alloc, orders, limit, watch)? else {
+    let Some(searched) = search_for(&mut execution, alloc, orders, calls, limit, watch)? else {
         return Ok(Explored {
             found: Vec::new(alloc),
             late: Vec::new(alloc),
@@ -339,10 +482,12 @@ fn is_complete(whole: bool, tried: usize, met: usize) -> bool
 }
 
 /// How many steps led to the first world that wasn't tried, where there is one, and all before it were tried wholly.
-fn depth_of(met: &Met, number: usize, whole: bool) -> Option<u32> {
-    if !whole {
-        return None;
+fn depth_of(orders: Orders, met: &Met, number: usize, whole: bool) -> Option<u32> {
+    match orders {
+        Orders::Every if whole => {
+            let node = met.nodes.get(number)?;
+            Some(node.depth)
+        }
+        _ => None,
     }
-    let node = met.nodes.get(number)?;
-    Some(node.depth)
 }

@@ -142,7 +142,7 @@ pub(crate) fn visit(
         return Ok(false);
     };
     if next.is_running() {
-        met.put(next, number, depth, at)?;
+        let _index = met.put(next, number, depth, at)?;
         return Ok(true);
     }
     conclude(

@@ -19,12 +19,12 @@ pub returns-clause-late : goal.returns-clause-late
 returns-clause-late g c =
     let fs = c.in-Some.searched.found.items in
     let shown : All (Shows c.args.setup) fs = subst (λ (s : Setup). All (Shows s) fs) c.in_ok-execution.ensures.setup (rw c.in-Some.is at c.in_ok-searched.ensures.shown) in
-    subst (λ (s : Setup). All (Shows s) fs → AreLate s fs c.in_ok-late.late.items) (c.calls_in.ensures.setup ∙ c.search.ensures.setup ∙ c.in_ok-execution.ensures.setup) c.in_ok-late.ensures shown
+    subst (λ (s : Setup). All (Shows s) fs → AreLate s fs c.in_ok-late.late.items) (c.calls_in.ensures.setup ∙ c.search_for.ensures.setup ∙ c.in_ok-execution.ensures.setup) c.in_ok-late.ensures shown
 
 pub returns-clause-calls : goal.returns-clause-calls
 returns-clause-calls g c wanted t =
     let x = c.in-Some.searched in
     let both = c.are_both-complete.ensures t in
-    let closed : AllAreExpanded c.args.orders c.args.setup (worlds_of x.met.nodes.items) (outcomes_of x.found.items) = subst (λ (s : Setup). x.complete ≡ true → AllAreExpanded c.args.orders s (worlds_of x.met.nodes.items) (outcomes_of x.found.items)) c.in_ok-execution.ensures.setup (rw c.in-Some.is at c.in_ok-searched.ensures.expanded) both.0 in
+    let closed : AllAreExpanded c.args.orders c.args.setup (worlds_of x.met.nodes.items) (outcomes_of x.found.items) = subst (λ (s : Setup). x.complete ≡ true → AllAreExpanded c.args.orders s (worlds_of x.met.nodes.items) (outcomes_of x.found.items)) c.in_ok-execution.ensures.setup (rw c.in-Some.is at c.in_ok-searched.ensures.expanded wanted) both.0 in
     subst (λ (s : Setup). AllAreExpanded c.args.orders s (worlds_of x.met.nodes.items) (outcomes_of x.found.items) → AreCounted c.args.orders s (outcomes_of x.found.items) c.in_ok-counted.counted.calls.items)
-    (c.search.ensures.setup ∙ c.in_ok-execution.ensures.setup) (c.in_ok-counted.ensures.counted wanted both.1) closed
+    (c.search_for.ensures.setup ∙ c.in_ok-execution.ensures.setup) (c.in_ok-counted.ensures.counted wanted both.1) closed

@@ -6,9 +6,26 @@ use Rattle.asl_exec.specs.Views.{setup_of}
 use Rattle.asl_explore.specs.declared.met.Node.{Node}
 use Rattle.asl_explore.specs.Searches.{worlds_of, outcomes_of}
 use Rattle.asl_explore.proofs.Growing.{met-later, later-length}
-use Rattle.asl_explore.proofs.Expanding.{shown-as, within-more, all-whole}
+use Rattle.asl_explore.proofs.Expanding.{shown-as}
+use Rattle.asl_explore.proofs.Taking.{taken-more, expanded-more, all-whole}
 use Rattle.asl_explore.proofs.search.search.Goals as goal
 use Rattle.asl_explore.proofs.search.search.Goals.{then-whole, else-whole}
+
+pub returns-clause-closed : goal.returns-clause-closed
+returns-clause-closed g c t =
+    let ns = c.loop-number.met.nodes.items in
+    let inv = c.loop-number.invariant in
+    let all = c.is_complete-complete.ensures t in
+    let le : length (worlds_of ns) ≤ c.loop-number.number = omega (arith, length-map ns (λ (n : Node). bare n.world), c.loop-number.met.nodes.ok.0, all.1, c.len-2.ensures) in
+    record { begins = inv.begins; taken = λ i l d. inv.taken all.0 i (omega (arith, l, le)) d }
+
+pub returns-clause-expanded : goal.returns-clause-expanded
+returns-clause-expanded g c plain t =
+    let ns = c.loop-number.met.nodes.items in
+    let inv = c.loop-number.invariant in
+    let all = c.is_complete-complete.ensures t in
+    let le : length (worlds_of ns) ≤ c.loop-number.number = omega (arith, length-map ns (λ (n : Node). bare n.world), c.loop-number.met.nodes.ok.0, all.1, c.len-2.ensures) in
+    record { begins = inv.begins; expanded = λ i d l. inv.expanded plain all.0 i d (omega arith) (omega (arith, l, le)) }
 
 pub returns-clause-whole : goal.returns-clause-whole
 returns-clause-whole g c t =
@@ -16,27 +33,30 @@ returns-clause-whole g c t =
     let inv = c.loop-number.invariant in
     let all = c.is_complete-complete.ensures t in
     let le : length (worlds_of ns) ≤ c.loop-number.number = omega (arith, length-map ns (λ (n : Node). bare n.world), c.loop-number.met.nodes.ok.0, all.1, c.len-2.ensures) in
-    all-whole c.args.orders (setup_of c.args.execution.now) (worlds_of ns) (outcomes_of c.loop-number.found.items) c.loop-number.number le inv.begins (inv.expanded all.0)
+    all-whole c.args.orders (setup_of c.args.execution.now) (worlds_of ns) (outcomes_of c.loop-number.found.items) c.loop-number.number le inv.begins (inv.taken all.0)
 
 pub loop-number-preserved : goal.loop-number-preserved
 loop-number-preserved g c =
     let s = setup_of c.args.execution.now in
     let z = setup_of c.loop-number.execution in
     let ns = c.loop-number.met.nodes.items in
-    let ms = c.expand.new.met.nodes.items in
+    let ms = c.go_on.new.met.nodes.items in
     let os = outcomes_of c.loop-number.found.items in
-    let us = outcomes_of c.expand.new.found.items in
+    let us = outcomes_of c.go_on.new.found.items in
     let i = c.loop-number.number in
     let inv = c.loop-number.invariant in
-    let more = later-length (worlds_of ns) (worlds_of ms) os us c.expand.ensures.later in
+    let more = later-length (worlds_of ns) (worlds_of ms) os us c.go_on.ensures.later in
     let lt : i < length (worlds_of ns) = omega (arith, length-map ns (λ (n : Node). bare n.world), c.loop-number.met.nodes.ok.0, c.loop-number-test.true, c.len.ensures) in
     record {
-      setup = c.expand.ensures.setup ∙ inv.setup;
-      shown = shown-as z s c.loop-number.found.items c.expand.new.found.items inv.setup c.expand.ensures.shown inv.shown;
-      once = c.expand.ensures.once inv.once;
-      begins = met-later (worlds_of ns) (worlds_of ms) os us (opening s) c.expand.ensures.later inv.begins;
+      setup = c.go_on.ensures.setup ∙ inv.setup;
+      shown = shown-as z s c.loop-number.found.items c.go_on.new.found.items inv.setup c.go_on.ensures.shown inv.shown;
+      once = c.go_on.ensures.once inv.once;
+      begins = met-later (worlds_of ns) (worlds_of ms) os us (opening s) c.go_on.ensures.later inv.begins;
       within = omega (arith, lt, more);
-      expanded = λ w.
-          let both : (c.loop-number.whole ≡ true) × (c.in_ok-is_expanded.is_expanded ≡ true) = elim c.if-whole.branch [ then-whole b ↦ (b.if-whole.true, sym b.whole-is ∙ w) | else-whole b ↦ let e : true ≡ false = sym w ∙ b.whole-is ∙ b.if-whole.false in absurd (cc) ] in
-          within-more c.args.orders s z (worlds_of ns) (worlds_of ms) os us i inv.setup c.expand.ensures.later inv.within (inv.expanded both.0) (c.in_ok-is_expanded.ensures.expanded both.1);
+      taken = λ w.
+          let both : (c.loop-number.whole ≡ true) × (c.in_ok-is_enough.is_enough ≡ true) = elim c.if-whole.branch [ then-whole b ↦ (b.if-whole.true, sym b.whole-is ∙ w) | else-whole b ↦ let e : true ≡ false = sym w ∙ b.whole-is ∙ b.if-whole.false in absurd (cc) ] in
+          taken-more c.args.orders s z (worlds_of ns) (worlds_of ms) os us i inv.setup c.go_on.ensures.later inv.within (inv.taken both.0) (c.in_ok-is_enough.ensures.taken both.1);
+      expanded = λ plain w.
+          let both : (c.loop-number.whole ≡ true) × (c.in_ok-is_enough.is_enough ≡ true) = elim c.if-whole.branch [ then-whole b ↦ (b.if-whole.true, sym b.whole-is ∙ w) | else-whole b ↦ let e : true ≡ false = sym w ∙ b.whole-is ∙ b.if-whole.false in absurd (cc) ] in
+          expanded-more c.args.orders s z (worlds_of ns) (worlds_of ms) os us i inv.setup c.go_on.ensures.later inv.within (inv.expanded plain both.0) (c.in_ok-is_enough.ensures.expanded plain both.1);
     }

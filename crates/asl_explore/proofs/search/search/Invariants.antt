@@ -1,11 +1,11 @@
-use Rattle.std.proofs.Common.{◌≡◌, ◌≤◌, ◌-◌, true, length}
+use Rattle.std.proofs.Common.{◌≡◌, ◌≤◌, ◌-◌, true, false, length}
 use Rattle.std.specs.List.{All, AllWithin}
 use Rattle.asl_exec.specs.Steps.{opening}
 use Rattle.asl_exec.specs.Views.{setup_of}
-use Rattle.asl_explore.specs.Searches.{IsMet, IsExpanded, Shows, AreDistinct, worlds_of, outcomes_of}
+use Rattle.asl_explore.specs.Searches.{IsMet, IsExpanded, AreTakenOn, Shows, AreDistinct, worlds_of, outcomes_of}
 use Rattle.asl_explore.proofs.search.search.Given as goal
 
--- the first worlds are expanded, unless one was left out
+-- of the first worlds enough steps were taken, unless one was left out
 abbrev pub invariant-loop-number : goal.invariant-loop-number
 invariant-loop-number g l = record {
   setup : setup_of l.execution ≡ setup_of l.fn.execution;
@@ -13,7 +13,8 @@ invariant-loop-number g l = record {
   once : AreDistinct (outcomes_of l.found.items);
   begins : IsMet (worlds_of l.met.nodes.items) (outcomes_of l.found.items) (opening (setup_of l.fn.execution));
   within : l.number ≤ length (worlds_of l.met.nodes.items);
-  expanded : l.whole ≡ true → AllWithin (IsExpanded l.orders (setup_of l.fn.execution) (worlds_of l.met.nodes.items) (outcomes_of l.found.items)) (worlds_of l.met.nodes.items) 0 l.number;
+  taken : l.whole ≡ true → AreTakenOn l.orders (setup_of l.fn.execution) (worlds_of l.met.nodes.items) (outcomes_of l.found.items) l.number;
+  expanded : l.alone ≡ false → l.whole ≡ true → AllWithin (IsExpanded l.orders (setup_of l.fn.execution) (worlds_of l.met.nodes.items) (outcomes_of l.found.items)) (worlds_of l.met.nodes.items) 0 l.number;
 }
 
 abbrev pub decreases-loop-number : goal.decreases-loop-number

@@ -9,7 +9,7 @@ use Rattle.asl_exec.specs.Views.{setup_of, world_of}
 use Rattle.asl_explore.specs.declared.met.Node.{Node}
 use Rattle.asl_explore.specs.Searches.{worlds_of, outcomes_of}
 use Rattle.asl_explore.proofs.Growing.{later-same}
-use Rattle.asl_explore.proofs.Expanding.{node-at, met-running, met-over, met-unmoved, next-is}
+use Rattle.asl_explore.proofs.Expanding.{node-at, met-running, met-over, met-unmoved, next-is, stands-there}
 use Rattle.asl_explore.proofs.visiting.visit.Goals as goal
 
 pub returns-in_err-enter-clause-later : goal.returns-in_err-enter-clause-later
@@ -46,7 +46,7 @@ returns-then-is_running-clause-met c t d =
     let e = next-is (setup_of c.args.execution.now) (setup_of c.enter.new.execution) (worlds_of ns) c.args.number c.index-node.result.now.world (world_of c.enter.new.execution) (world_of c.reply.new.self) next d c.args.at.place c.args.at.moment
     c.enter.ensures.setup (c.in_ok-enter.ensures.world c.if-not-branch.false) c.in_ok-reply.ensures.world (rw c.world.ensures at (rw c.in-Some.is at c.in_ok-next.ensures)) (node-at ns c.args.number c.index-node.result.now d c.requires.there c.index-node.ensures) in
     met-running (worlds_of c.put.new.self.nodes.items) (outcomes_of c.args.found.now.items) _ next e
-    (running-is next c.is_running.result c.is_running.ensures c.if-is_running.true) c.in_ok-put.ensures.met
+    (running-is next c.is_running.result c.is_running.ensures c.if-is_running.true) (stands-there (worlds_of c.put.new.self.nodes.items) c.in_ok-_index._index (bare next) c.in_ok-_index.ensures.at)
 
 pub returns-clause-met : goal.returns-clause-met
 returns-clause-met c = IfOk-weaker c.conclude.result _ _ (λ b h t d.

@@ -1,0 +1,35 @@
+use Rattle.std.proofs.Common.{[], ◌∙◌, refl, subst, arith}
+use Rattle.std.proofs.lemmas.List.{length-map}
+use Rattle.asl_run.specs.Bare.{bare}
+use Rattle.asl_exec.specs.Views.{setup_of}
+use Rattle.asl_explore.specs.declared.met.Node.{Node}
+use Rattle.asl_explore.specs.Searches.{worlds_of}
+use Rattle.asl_explore.proofs.Growing.{later-same, later-then, later-length}
+use Rattle.asl_explore.proofs.quiet.quietly.Goals as goal
+
+pub returns-in_err-turns-clause-later : goal.returns-in_err-turns-clause-later
+returns-in_err-turns-clause-later c os = later-same (worlds_of c.args.met.now.nodes.items) os
+
+pub returns-in_default-clause-later : goal.returns-in_default-clause-later
+returns-in_default-clause-later c os = later-same (worlds_of c.args.met.now.nodes.items) os
+
+pub loop-index-init : goal.loop-index-init
+loop-index-init c = record { later = λ os. later-same (worlds_of c.args.met.now.nodes.items) os; setup = refl }
+
+pub take_quietly-requires : goal.take_quietly-requires
+take_quietly-requires c =
+    let ns = c.args.met.now.nodes.items in
+    let ms = c.loop-index.met.nodes.items in
+    omega (arith, c.requires, later-length (worlds_of ns) (worlds_of ms) [] [] (c.loop-index.invariant.later []), length-map ns (λ (n : Node). bare n.world), length-map ms (λ (n : Node). bare n.world))
+
+pub returns-in_err-take_quietly-clause-later : goal.returns-in_err-take_quietly-clause-later
+returns-in_err-take_quietly-clause-later c os = later-then (worlds_of c.args.met.now.nodes.items) (worlds_of c.loop-index.met.nodes.items) (worlds_of c.take_quietly.new.met.nodes.items) os os os (c.loop-index.invariant.later os) (c.take_quietly.ensures.later os)
+
+pub returns-then-branch-clause-later : goal.returns-then-branch-clause-later
+returns-then-branch-clause-later c os = later-then (worlds_of c.args.met.now.nodes.items) (worlds_of c.loop-index.met.nodes.items) (worlds_of c.take_quietly.new.met.nodes.items) os os os (c.loop-index.invariant.later os) (c.take_quietly.ensures.later os)
+
+pub loop-index-preserved : goal.loop-index-preserved
+loop-index-preserved c = record {
+  later = λ os. later-then (worlds_of c.args.met.now.nodes.items) (worlds_of c.loop-index.met.nodes.items) (worlds_of c.take_quietly.new.met.nodes.items) os os os (c.loop-index.invariant.later os) (c.take_quietly.ensures.later os);
+  setup = c.take_quietly.ensures.setup ∙ c.loop-index.invariant.setup;
+}

@@ -1,0 +1,12 @@
+use Rattle.std.proofs.Common.{◌≡◌, List}
+use Rattle.asl_run.specs.declared.outcome.Outcome.{Outcome}
+use Rattle.asl_exec.specs.Views.{setup_of}
+use Rattle.asl_explore.specs.Searches.{IsLater, worlds_of}
+use Rattle.asl_explore.proofs.quiet.quietly.Given as goal
+
+-- what was met stays met
+abbrev pub invariant-loop-index : goal.invariant-loop-index
+invariant-loop-index l = record {
+  later : (os : List Outcome) → IsLater (worlds_of l.fn.met.nodes.items) os (worlds_of l.met.nodes.items) os;
+  setup : setup_of l.execution ≡ setup_of l.fn.execution;
+}

@@ -1,0 +1,25 @@
+use Rattle.std.proofs.Common.{◌≡◌, subst, sym, true, List}
+use Rattle.std.specs.Prelude.{IfOk, IfSome}
+use Rattle.asl_setup.specs.declared.setup.Setup.{Setup}
+use Rattle.asl_exec.specs.Views.{setup_of}
+use Rattle.asl_explore.specs.declared.met.Node.{Node}
+use Rattle.asl_explore.specs.declared.orders.Orders.{Orders}
+use Rattle.asl_explore.specs.declared.orders.Orders.TheVariants.{Prompt}
+use Rattle.asl_explore.specs.Orders.{IsWhole}
+use Rattle.asl_explore.specs.Searches.{IsClosed, NoneWaits, worlds_of, outcomes_of}
+use Rattle.asl_explore.proofs.Waiting.{every-whole}
+use Rattle.asl_explore.proofs.search.try_orders.Goals as goal
+
+pub returns-then-not-branch-clause-whole : goal.returns-then-not-branch-clause-whole
+returns-then-not-branch-clause-whole g c t =
+    let s = setup_of c.args.execution.now in
+    let ws = worlds_of c.in-Some.prompt.met.nodes.items in
+    let os = outcomes_of c.in-Some.prompt.found.items in
+    let unlimited = c.if-not-is_unlimited.false in
+    let closed : IsClosed Prompt s ws os = (rw c.in-Some.is at c.in_ok-prompt.ensures.closed) t in
+    let none : NoneWaits ws = subst (λ (ns : List Node). NoneWaits (worlds_of ns)) c.deref.ensures.value (c.in_ok-any_waits.ensures c.if-not-branch.true) in
+    subst (λ (o : Orders). IsWhole o s os) (sym (c.is_unlimited.ensures.every unlimited)) (every-whole s ws os closed.begins closed.taken none (c.is_unlimited.ensures.limit unlimited))
+
+pub returns-clause-whole : goal.returns-clause-whole
+returns-clause-whole g c =
+    subst (λ (s : Setup). IfOk c.search-3.result (λ o. IfSome o (λ x. x.complete ≡ true → IsWhole c.args.orders s (outcomes_of x.found.items)))) c.search-2.ensures.setup c.search-3.ensures.whole

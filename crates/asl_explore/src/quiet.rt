@@ -1,0 +1,159 @@
+// Steps that need no other one of the same world.
+ghost use Rattle.std.specs.Prelude.{◌≡◌, ◌<◌, List, length, get_or, not, true, option_map, IfOk};
+ghost use Rattle.asl_schema.specs.Canon.{Named};
+ghost use Rattle.asl_states.specs.Show.{state_of as state_shown};
+ghost use Rattle.asl_def.specs.Machines.{states_of};
+ghost use Rattle.asl_frames.specs.Branches.{record_at};
+ghost use Rattle.asl_run.specs.World.{World};
+ghost use Rattle.asl_run.specs.declared.outcome.Outcome.{Outcome};
+ghost use Rattle.asl_exec.specs.Steps.{object_in, invokes_by, step};
+ghost use Rattle.asl_exec.specs.Exchanges.{has_failed};
+ghost use Rattle.asl_exec.specs.Views.{setup_of, world_of};
+ghost use Rattle.asl_explore.specs.Searches.{IsMute, IsQuietAt, IsReduced, IsLater, worlds_of};
+
+use crate::met::Met;
+use crate::visiting::{enter, turns_in};
+use asl_def::Machine;
+use asl_exec::{Earliest, Execution};
+use asl_history::Place;
+use asl_kinds::StateKind;
+use asl_setup::StepAt;
+use asl_states::State;
+use asl_steps::Record;
+use std::alloc::{AllocError, Global};
+
+/// Whether a state invokes a service, where there is one.
+fn invokes_in(state: Option<&State>) -> bool
+    ensures { (t : List Named)
+        → result ≡ invokes_by (option_map (λ s. state_shown t s.now) state.entry) }
+{
+    match state {
+        Some(state) => state.invokes(),
+        None => false,
+    }
+}
+
+/// The state that a branch is in; none where the branch has ended.
+fn state_of<'a>(machine: &'a Machine, current: &Record) -> Option<&'a State>
+    ensures { option_map (λ s. state_shown (states_of machine.now) s.now) result
+        ≡ object_in machine.now current.now }
+{
+    let name = current.state()?;
+    let (_, state) = machine.find(name.as_str())?;
+    Some(state)
+}
+
+/// Whether a step of a branch that is doing this invokes a service.
+fn invokes(machine: &Machine, current: &Record) -> bool
+    ensures { result ≡ invokes_by (object_in machine.now current.now) }
+{
+    invokes_in(state_of(machine, current))
+}
+
+/// Whether a step of the branch at a place invokes nothing.
+fn is_mute(execution: &Execution, place: &Place) -> bool
+    ensures { result ≡ true → IsMute (setup_of execution.now) (world_of execution.now) place.now }
+{
+    match execution.view(place) {
+        Some(current) => !invokes(&execution.setup().machine, current),
+        None => true,
+    }
+}
+
+/// Whether the branch at a place has failed.
+fn has_failed(execution: &Execution, place: &Place) -> bool
+    ensures { result ≡ has_failed (record_at place.now (world_of execution.now).branches) }
+{
+    match execution.view(place) {
+        Some(current) => current.is_failed(),
+        None => false,
+    }
+}
+
+/// Takes a step, if it may be taken at once and invokes nothing, and whether then the execution runs on and the branch hasn't failed. The
+/// error is that memory ran out.
+fn step_quietly(execution: &mut Execution, at: &StepAt) -> Result<bool, AllocError>
+    ensures quiet { IfOk result (λ b. b ≡ true
+        → IsQuietAt (setup_of execution.old) (world_of execution.old) at.now.place) }
+    ensures world { IfOk result (λ b. b ≡ true → world_of execution.new
+        ≡ step (setup_of execution.old) (world_of execution.old) at.now.place
+        (world_of execution.old).last) }
+    ensures setup { setup_of execution.new ≡ setup_of execution.old }
+{
+    if execution.world().last().millis() != at.moment.millis() {
+        return Ok(false);
+    }
+    if !is_mute(execution, &at.place) {
+        return Ok(false);
+    }
+    if execution.reply(at)?.is_some() {
+        return Ok(false);
+    }
+    if !execution.world().is_running() {
+        return Ok(false);
+    }
+    Ok(!has_failed(execution, &at.place))
+}
+
+/// Takes a step of a branch in a world that was met: no other has to be taken there, if this is true. The error is that memory ran out.
+fn take_quietly(
+    execution: &mut Execution,
+    alloc: Global,
+    met: &mut Met,
+    number: usize,
+    turn: &Earliest,
+) -> Result<bool, AllocError>
+    requires { number < length met.old.nodes.items }
+    ensures reduced { IfOk result (λ b. b ≡ true → (d : World)
+        → IsReduced (setup_of execution.old) (worlds_of met.new.nodes.items) number
+        (get_or (worlds_of met.new.nodes.items) number d)) }
+    ensures later { (os : List Outcome)
+        → IsLater (worlds_of met.old.nodes.items) os (worlds_of met.new.nodes.items) os }
+    ensures setup { setup_of execution.new ≡ setup_of execution.old }
+{
+    let at = StepAt {
+        place: turn.place.try_clone()?,
+        moment: turn.moment,
+    };
+    let node = &met.nodes[number];
+    let depth = node.depth.saturating_add(1);
+    if !enter(execution, alloc, &node.world)? {
+        return Ok(false);
+    }
+    if !step_quietly(execution, &at)? {
+        return Ok(false);
+    }
+    let Some(next) = execution.world().bare_copy(alloc)? else {
+        return Ok(false);
+    };
+    let index = met.put(next, number, depth, at)?;
+    Ok(number < index)
+}
+
+/// Takes a quiet step in a world that was met, which leads to a world that was met later: no other has to be taken there, if this is true.
+/// The error is that memory ran out.
+pub(crate) fn quietly(
+    execution: &mut Execution,
+    alloc: Global,
+    met: &mut Met,
+    number: usize,
+) -> Result<bool, AllocError>
+    requires { number < length met.old.nodes.items }
+    ensures reduced { IfOk result (λ b. b ≡ true → (d : World)
+        → IsReduced (setup_of execution.old) (worlds_of met.new.nodes.items) number
+        (get_or (worlds_of met.new.nodes.items) number d)) }
+    ensures later { (os : List Outcome)
+        → IsLater (worlds_of met.old.nodes.items) os (worlds_of met.new.nodes.items) os }
+    ensures setup { setup_of execution.new ≡ setup_of execution.old }
+{
+    let Some(turns) = turns_in(alloc, &met.nodes[number].world)? else {
+        return Ok(false);
+    };
+    for index in 0..turns.len() {
+        let turn = &turns[index];
+        if take_quietly(execution, alloc, met, number, turn)? {
+            return Ok(true);
+        }
+    }
+    Ok(false)
+}
