@@ -1,5 +1,5 @@
 -- Whether anything is wrong.
-use Rattle.std.specs.Prelude.{List, Bool, true, false, ◌||◌, not}
+use Rattle.std.specs.Prelude.{Bool, true, false, ◌||◌, not}
 use Rattle.std.specs.List.{list_any}
 use Rattle.asl_lint.specs.declared.rule.Rule.{Rule}
 use Rattle.asl_lint.specs.declared.rule.Rule.TheVariants as rule

@@ -1,8 +1,12 @@
 // What doesn't fit between a definition and a mock file.
-use crate::finding::{Found, Part};
+ghost use Rattle.std.specs.Prelude.{true, map, OnOk};
+ghost use Rattle.asl_lint.specs.Linted.{Adds};
+ghost use Rattle.asl_lint.specs.private.Founds.{noted};
+
+use crate::finding::Found;
 use crate::mock_faults::Walk;
 use crate::rule::{MockRule, Rule};
-use asl_advice::{EFFORT, Search, States, kind_word, members_in, put_name, put_separator};
+use asl_advice::{EFFORT, Search, State, States, kind_word, members_in, put_name, put_separator};
 use asl_json::{Json, Member};
 use asl_schema::Kind;
 use std::alloc::{AllocError, Global};
@@ -87,7 +91,7 @@ fn tell_no_machine(walk: &mut Walk, name: &str, members: &[Member]) -> Result<()
         search.add(member.key.as_str(), &mut effort)?;
     }
     search.put(&mut message)?;
-    walk.tell(MockRule::NoMachine, Part::Value, message)
+    walk.tell(MockRule::NoMachine, message)
 }
 
 /// Tells that one of several machines has to be named.
@@ -104,7 +108,7 @@ fn tell_machines(walk: &mut Walk, members: &[Member]) -> Result<(), AllocError> 
     if members.len() > count {
         message.push_str(", ..")?;
     }
-    walk.tell(MockRule::NoMachine, Part::Value, message)
+    walk.tell(MockRule::NoMachine, message)
 }
 
 fn walk_machine(
@@ -175,7 +179,7 @@ fn walk_state(
     message.push_str(", which is a ")?;
     message.push_str(kind_word(kind))?;
     message.push_str(" state and no Task")?;
-    walk.tell(MockRule::NotTask, Part::Key, message)
+    walk.tell(MockRule::NotTask, message)
 }
 
 fn tell_unknown(
@@ -193,30 +197,58 @@ fn tell_unknown(
         }
     }
     search.put(&mut message)?;
-    walk.tell(MockRule::UnknownState, Part::Key, message)
+    walk.tell(MockRule::UnknownState, message)
 }
 
-/// The Tasks that no case answers. They stand in the definition.
+/// Tells of a Task that no case answers.
+fn add_task(alloc: Global, found: &mut Vec<Found>, state: &State<'_>) -> Result<(), AllocError>
+    ensures { OnOk result (Adds true (map noted found.old.items) (map noted found.new.items)) }
+{
+    let mut message = String::from_str(
+        alloc,
+        "no case of the mock file has an answer for the Task ",
+    )?;
+    put_name(&mut message, state.name)?;
+    found.push(Found {
+        rule: Rule::Mock(MockRule::UnansweredTask),
+        place: Vec::from_slice(alloc, &state.place)?,
+        message,
+    })?;
+    Ok(())
+}
+
+/// Tells of the state of this number, if it is a Task that no case answers.
+#[tactic(auto, using(crate::proofs::Telling::adds_none))]
+fn add_unless(
+    alloc: Global,
+    found: &mut Vec<Found>,
+    answered: &HashSet<usize>,
+    number: usize,
+    state: &State<'_>,
+) -> Result<(), AllocError>
+    ensures { OnOk result (Adds true (map noted found.old.items) (map noted found.new.items)) }
+{
+    if state.kind != Some(Kind::Task) || answered.contains(&number) {
+        return Ok(());
+    }
+    add_task(alloc, found, state)
+}
+
+/// The Tasks that no case answers. They stand in the definition. None is told where it isn't known which are answered.
+#[tactic(auto, using(crate::proofs::Telling::adds_none, crate::proofs::Telling::adds_more))]
 pub(crate) fn add_unanswered(
     alloc: Global,
     found: &mut Vec<Found>,
     states: &States<'_>,
-    answered: &HashSet<usize>,
-) -> Result<(), AllocError> {
+    answered: &Option<HashSet<usize>>,
+) -> Result<(), AllocError>
+    ensures { OnOk result (Adds true (map noted found.old.items) (map noted found.new.items)) }
+{
+    let Some(answered) = answered else {
+        return Ok(());
+    };
     for (number, state) in states.list.iter().enumerate() {
-        if state.kind == Some(Kind::Task) && !answered.contains(&number) {
-            let mut message = String::from_str(
-                alloc,
-                "no case of the mock file has an answer for the Task ",
-            )?;
-            put_name(&mut message, state.name)?;
-            found.push(Found {
-                rule: Rule::Mock(MockRule::UnansweredTask),
-                place: Vec::from_slice(alloc, &state.place)?,
-                part: Part::Key,
-                message,
-            })?;
-        }
+        add_unless(alloc, found, answered, number, state)?;
     }
     Ok(())
 }
@@ -264,7 +296,7 @@ pub(crate) fn walk_unused(walk: &mut Walk, file: &Json) -> Result<(), AllocError
             walk.enter(number)?;
             let mut message = String::from_str(walk.alloc, "no case names the response ")?;
             put_name(&mut message, name)?;
-            walk.tell(MockRule::UnusedResponse, Part::Key, message)?;
+            walk.tell(MockRule::UnusedResponse, message)?;
             walk.leave();
         }
     }

@@ -1,5 +1,11 @@
 // What is found in a definition.
-use crate::finding::{Found, Part};
+ghost use Rattle.std.specs.Prelude.{◌≡◌, ◌++◌, IfOk, OnOk, map, reverse};
+ghost use Rattle.asl_json.specs.View.{data_of};
+ghost use Rattle.asl_warnings.specs.Warnings.{warnings_of};
+ghost use Rattle.asl_lint.specs.Findings.{numbers, of_fault, of_warning, is_of_ways, is_kept, is_faulty, told_of, warnings_told, AreFound};
+ghost use Rattle.asl_lint.specs.private.Founds.{noted};
+
+use crate::finding::Found;
 use crate::rule::Rule;
 use asl_advice::{EFFORT, States, put_fault, put_warning, standing_at};
 use asl_findings::every_fault;
@@ -8,21 +14,15 @@ use asl_schema::{Fault, FaultKind, Step};
 use asl_warnings::{Warning, WarningKind, every_warning};
 use std::alloc::{AllocError, Global};
 
-/// Which part of what stands at its place a fault is of.
-fn part_of(kind: FaultKind) -> Part {
-    match kind {
-        FaultKind::Missing => Part::End,
-        FaultKind::UnknownField | FaultKind::Both | FaultKind::DuplicateState => Part::Key,
-        _ => Part::Value,
-    }
-}
-
 /// The numbers of these steps, from the last to the first.
-fn place_of(alloc: Global, steps: &[Step]) -> Result<Vec<usize>, AllocError> {
+fn place_of(alloc: Global, steps: &[Step]) -> Result<Vec<usize>, AllocError>
+    ensures { IfOk result (λ place. place.items ≡ numbers (reverse steps.now)) }
+{
     let mut place = Vec::with_capacity(alloc, steps.len())?;
-    for step in steps.iter().rev() {
+    for step in steps {
         place.push(step.at)?;
     }
+    place.reverse();
     Ok(place)
 }
 
@@ -56,7 +56,9 @@ fn found_of(
     fault: &Fault,
     number: usize,
     effort: &mut usize,
-) -> Result<Found, AllocError> {
+) -> Result<Found, AllocError>
+    ensures { IfOk result (λ f. noted f ≡ of_fault fault.now) }
+{
     let steps = fault.steps_back();
     let standing = standing_at(definition, steps);
     let mut message = String::new(alloc);
@@ -72,25 +74,22 @@ fn found_of(
     Ok(Found {
         rule: Rule::Fault(fault.kind()),
         place: place_of(alloc, steps)?,
-        part: part_of(fault.kind()),
         message,
     })
 }
 
 /// Whether a warning is of the way through the states, which the faults of a definition may break.
-fn is_of_ways(kind: WarningKind) -> bool {
+fn is_of_ways(kind: WarningKind) -> bool
+    ensures { result ≡ is_of_ways kind }
+{
     matches!(kind, WarningKind::UnreachableState | WarningKind::NoEnd)
 }
 
-/// Which part of what stands at its place a warning is of.
-fn part_of_warning(kind: WarningKind) -> Part {
-    match kind {
-        WarningKind::UnreachableState
-        | WarningKind::NoEnd
-        | WarningKind::NoDefault
-        | WarningKind::EndlessWait => Part::Key,
-        _ => Part::Value,
-    }
+/// Whether a warning is told of a definition with faults or without.
+fn is_kept(is_faulty: bool, warning: &Warning) -> bool
+    ensures { result ≡ is_kept is_faulty warning.now }
+{
+    !(is_faulty && is_of_ways(warning.kind()))
 }
 
 fn found_of_warning(
@@ -98,7 +97,9 @@ fn found_of_warning(
     definition: &Json,
     warning: &Warning,
     effort: &mut usize,
-) -> Result<Found, AllocError> {
+) -> Result<Found, AllocError>
+    ensures { IfOk result (λ f. noted f ≡ of_warning warning.now) }
+{
     let steps = warning.steps_back();
     let standing = standing_at(definition, steps);
     let mut message = String::new(alloc);
@@ -106,25 +107,87 @@ fn found_of_warning(
     Ok(Found {
         rule: Rule::Warning(warning.kind()),
         place: place_of(alloc, steps)?,
-        part: part_of_warning(warning.kind()),
         message,
     })
 }
 
-/// Adds each warning. Of a definition with faults none of the way through its states: the faults may be why.
+/// Adds a warning, where it is told.
+fn add_warning(
+    alloc: Global,
+    definition: &Json,
+    is_faulty: bool,
+    warning: &Warning,
+    found: &mut Vec<Found>,
+    effort: &mut usize,
+) -> Result<(), AllocError>
+    ensures { OnOk result (map noted found.new.items
+        ≡ map noted found.old.items ++ told_of (is_kept is_faulty warning.now) warning.now) }
+{
+    if is_kept(is_faulty, warning) {
+        found.push(found_of_warning(alloc, definition, warning, effort)?)?;
+    }
+    Ok(())
+}
+
+/// Adds each of these warnings that is told.
+fn add_each(
+    alloc: Global,
+    definition: &Json,
+    is_faulty: bool,
+    warnings: &[Warning],
+    found: &mut Vec<Found>,
+    effort: &mut usize,
+) -> Result<(), AllocError>
+    ensures { OnOk result (map noted found.new.items
+        ≡ map noted found.old.items ++ warnings_told is_faulty warnings.now) }
+{
+    for warning in warnings {
+        add_warning(alloc, definition, is_faulty, warning, found, effort)?;
+    }
+    Ok(())
+}
+
+/// Adds the warnings. Of a definition with faults none of the way through its states: the faults may be why.
 fn add_warnings(
     alloc: Global,
     definition: &Json,
+    is_faulty: bool,
     found: &mut Vec<Found>,
     effort: &mut usize,
-) -> Result<(), AllocError> {
-    let is_faulty = !found.is_empty();
-    for warning in &every_warning(alloc, definition)? {
-        if !(is_faulty && is_of_ways(warning.kind())) {
-            found.push(found_of_warning(alloc, definition, warning, effort)?)?;
-        }
-    }
+) -> Result<(), AllocError>
+    ensures { OnOk result (map noted found.new.items ≡ map noted found.old.items
+        ++ warnings_told is_faulty (warnings_of (data_of definition.now))) }
+{
+    let warnings = every_warning(alloc, definition)?;
+    add_each(alloc, definition, is_faulty, &warnings, found, effort)?;
     Ok(())
+}
+
+/// What is found of these faults.
+fn found_faults(
+    alloc: Global,
+    definition: &Json,
+    states: &States<'_>,
+    faults: &[Fault],
+    effort: &mut usize,
+) -> Result<Vec<Found>, AllocError>
+    ensures { IfOk result (λ found. map noted found.items ≡ map of_fault faults.now) }
+{
+    let mut found = Vec::with_capacity(alloc, faults.len())?;
+    for (i, fault) in faults.iter().enumerate() {
+        let number = number_of(&faults[..i], fault);
+        found.push(found_of(alloc, definition, states, fault, number, effort)?)?;
+    }
+    Ok(found)
+}
+
+fn is_faulty(faults: &[Fault]) -> bool
+    ensures { result ≡ is_faulty faults.now }
+{
+    match faults {
+        [] => false,
+        _ => true,
+    }
 }
 
 /// What is found in a definition with these states: each of its faults, and its warnings. The error is that memory ran out.
@@ -132,14 +195,18 @@ pub(crate) fn found_in(
     alloc: Global,
     definition: &Json,
     states: &States<'_>,
-) -> Result<Vec<Found>, AllocError> {
+) -> Result<Vec<Found>, AllocError>
+    ensures { IfOk result (λ found. AreFound (data_of definition.now) (map noted found.items)) }
+{
     let faults = every_fault(alloc, definition)?;
-    let mut found = Vec::with_capacity(alloc, faults.len())?;
     let mut effort = EFFORT;
-    for (i, fault) in faults.iter().enumerate() {
-        let number = number_of(&faults[..i], fault);
-        found.push(found_of(alloc, definition, states, fault, number, &mut effort)?)?;
-    }
-    add_warnings(alloc, definition, &mut found, &mut effort)?;
+    let mut found = found_faults(alloc, definition, states, &faults, &mut effort)?;
+    add_warnings(
+        alloc,
+        definition,
+        is_faulty(&faults),
+        &mut found,
+        &mut effort,
+    )?;
     Ok(found)
 }

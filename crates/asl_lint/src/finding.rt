@@ -11,19 +11,7 @@ use asl_outline::{Position, Span};
 pub(crate) struct Found {
     pub(crate) rule: Rule,
     pub(crate) place: Vec<usize>,
-    pub(crate) part: Part,
     pub(crate) message: String,
-}
-
-/// Which part of what stands at a place a finding points at.
-#[derive(Clone, Copy, Debug, PartialEq, Eq)]
-pub(crate) enum Part {
-    /// The key of the value.
-    Key,
-    /// The value.
-    Value,
-    /// The last byte of the value in which the last step of the place is missing.
-    End,
 }
 
 /// Something that is wrong or suspicious, and where it stands in its file.

@@ -1,5 +1,5 @@
 // Texts that are no JSON.
-ghost use Rattle.std.specs.Prelude.{IfOk};
+ghost use Rattle.std.specs.Prelude.{◌≡◌, ◌∷◌, [], map, IfOk};
 ghost use Rattle.std.specs.List.{All};
 ghost use Rattle.asl_lint.specs.Places.{IsAt};
 
@@ -103,7 +103,8 @@ pub(crate) fn unread(
     text: &[u8],
     fault: JsonFault,
 ) -> Result<Vec<Finding>, AllocError>
-    ensures { IfOk result (λ fs. All (IsAt text.now) fs.items) }
+    ensures at { IfOk result (λ fs. All (IsAt text.now) fs.items) }
+    ensures only { IfOk result (λ fs. map (λ f. f.rule) fs.items ≡ rule ∷ []) }
 {
     let at = byte_of(fault);
     let mut message = String::new(alloc);

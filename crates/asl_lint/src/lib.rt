@@ -1,6 +1,6 @@
 //! Everything that is wrong or suspicious in a definition and in the mock file beside it, where it stands, and how it is mended.
 //!
-//! Modules in reading order: `rule` and `finding` are what is told; `json_faults` says what is wrong with a text that is no JSON; `placing` finds
+//! Modules in reading order: `rule` and `finding` are what is told, and `part` at what it points; `json_faults` says what is wrong with a text that is no JSON; `placing` finds
 //! lines and columns; `definition` has the findings of a definition, `mock_faults` and `mocks` those of a mock file, `beside` what doesn't fit
 //! between the two, and `linting` all; `lines`, `json_lines` and `sarif_log` are the formats.
 #![tactic(auto)]
@@ -14,6 +14,7 @@ mod lines;
 mod linting;
 mod mock_faults;
 mod mocks;
+mod part;
 mod placing;
 mod rule;
 mod sarif_log;

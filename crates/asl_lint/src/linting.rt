@@ -1,7 +1,11 @@
 // Everything that is found in some texts.
-ghost use Rattle.std.specs.Prelude.{option_map, IfOk, IfErr};
+ghost use Rattle.std.specs.Prelude.{option_map, is_some, map, true, IfOk, IfErr, OnOk};
 ghost use Rattle.std.specs.List.{All};
+ghost use Rattle.asl_json.specs.View.{data_of};
+ghost use Rattle.asl_json.specs.Wrong.{ReadsAs};
+ghost use Rattle.asl_lint.specs.Linted.{Adds, IsJudged, IsLinted, IsUnread};
 ghost use Rattle.asl_lint.specs.Places.{IsAt, AreIn};
+ghost use Rattle.asl_lint.specs.private.Founds.{noted};
 
 use crate::beside::{add_unanswered, walk_beside, walk_unused};
 use crate::definition::found_in;
@@ -29,12 +33,17 @@ fn value_of(
     rule: Rule,
     text: &[u8],
 ) -> Result<Result<Json, Vec<Finding>>, AllocError>
-    ensures { IfOk result (λ r. IfErr r (λ fs. All (IsAt text.now) fs.items)) }
+    ensures at { IfOk result (λ r. IfErr r (λ fs. All (IsAt text.now) fs.items)) }
+    ensures value { IfOk result (λ r. IfOk r (λ v. ReadsAs text.now (data_of v))) }
+    ensures unread { IfOk result (λ r. IfErr r (λ fs. IsUnread rule text.now fs.items)) }
 {
     match read(alloc, text) {
         Ok(value) => Ok(Ok(value)),
         Err(JsonFault::OutOfMemory) => Err(AllocError),
-        Err(fault) => Ok(Err(unread(alloc, rule, text, fault)?)),
+        Err(fault) => {
+            let findings = unread(alloc, rule, text, fault)?;
+            Ok(Err(findings))
+        }
     }
 }
 
@@ -43,6 +52,9 @@ fn value_of(
 pub fn lint(alloc: Global, source: &Source<'_>) -> Result<Report, AllocError>
     ensures definition { IfOk result (λ r. All (IsAt source.now.definition.now) r.definition.items) }
     ensures mocks { IfOk result (λ r. AreIn (option_map (λ b. b.now) source.now.mocks) r.mocks.items) }
+    // Each fault and each warning of the definition is told once, at its place, and nothing else is told of it.
+    ensures told { IfOk result (λ r. IsLinted (is_some source.now.mocks) source.now.definition.now
+        r.definition.items) }
 {
     match value_of(alloc, Rule::Json, source.definition)? {
         Ok(definition) => lint_definition(alloc, source, &definition),
@@ -71,45 +83,67 @@ fn lint_mocks(alloc: Global, mocks: Option<&[u8]>) -> Result<Vec<Finding>, Alloc
     }
 }
 
+/// What is told of a definition that a text spells, and of the mock file beside it.
 fn lint_definition(
     alloc: Global,
     source: &Source<'_>,
     definition: &Json,
 ) -> Result<Report, AllocError>
+    requires { ReadsAs source.now.definition.now (data_of definition.now) }
     ensures definition { IfOk result (λ r. All (IsAt source.now.definition.now) r.definition.items) }
     ensures mocks { IfOk result (λ r. AreIn (option_map (λ b. b.now) source.now.mocks) r.mocks.items) }
+    ensures judged { IfOk result (λ r. IsJudged (is_some source.now.mocks)
+        source.now.definition.now r.definition.items) }
 {
     let states = States::of(alloc, definition)?;
     let mut found = found_in(alloc, definition, &states)?;
-    let mocks = match source.mocks {
-        Some(text) => lint_beside(alloc, source.machine, &states, &mut found, text)?,
-        None => Vec::new(alloc),
-    };
+    let mocks = lint_beside(alloc, source, &states, &mut found)?;
+    let findings = placed(alloc, source.definition, definition, found)?;
     Ok(Report {
-        definition: placed(alloc, source.definition, definition, found)?,
+        definition: findings,
         mocks,
     })
 }
 
-/// What is wrong with a mock file by itself and beside a definition with these states. The Tasks that it doesn't answer are added to what is found in
-/// the definition.
+/// What is wrong with the mock file beside a definition with these states, where there is one. The Tasks that it doesn't answer are added to what is
+/// found in the definition.
+#[tactic(auto, using(crate::proofs::Telling::adds_none))]
 fn lint_beside(
+    alloc: Global,
+    source: &Source<'_>,
+    states: &States<'_>,
+    found: &mut Vec<Found>,
+) -> Result<Vec<Finding>, AllocError>
+    ensures at { IfOk result (λ fs. AreIn (option_map (λ b. b.now) source.now.mocks) fs.items) }
+    ensures found { OnOk result (Adds (is_some source.now.mocks) (map noted found.old.items)
+        (map noted found.new.items)) }
+{
+    match source.mocks {
+        Some(text) => lint_file(alloc, source.machine, states, found, text),
+        None => Ok(Vec::new(alloc)),
+    }
+}
+
+/// What is wrong with a mock file by itself and beside a definition with these states.
+#[tactic(auto, using(crate::proofs::Telling::adds_none))]
+fn lint_file(
     alloc: Global,
     machine: Option<&str>,
     states: &States<'_>,
     found: &mut Vec<Found>,
     text: &[u8],
 ) -> Result<Vec<Finding>, AllocError>
-    ensures { IfOk result (λ fs. All (IsAt text.now) fs.items) }
+    ensures at { IfOk result (λ fs. All (IsAt text.now) fs.items) }
+    ensures found { OnOk result (Adds true (map noted found.old.items)
+        (map noted found.new.items)) }
 {
     match value_of(alloc, Rule::Mock(MockRule::Json), text)? {
         Ok(file) => {
             let mut walk = Walk::new(alloc);
             walk_file(&mut walk, &file)?;
             walk_unused(&mut walk, &file)?;
-            if let Some(answered) = walk_beside(&mut walk, &file, machine, states)? {
-                add_unanswered(alloc, found, states, &answered)?;
-            }
+            let answered = walk_beside(&mut walk, &file, machine, states)?;
+            add_unanswered(alloc, found, states, &answered)?;
             placed(alloc, text, &file, walk.found)
         }
         Err(findings) => Ok(findings),

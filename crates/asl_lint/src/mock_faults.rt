@@ -1,5 +1,5 @@
 // The faults of a mock file by itself.
-use crate::finding::{Found, Part};
+use crate::finding::Found;
 use crate::mocks::walk_response;
 use crate::rule::{MockRule, Rule};
 use asl_advice::{EFFORT, members_in, put_name};
@@ -39,16 +39,10 @@ impl Walk {
     }
 
     /// Tells something of where the walk is.
-    pub(crate) fn tell(
-        &mut self,
-        rule: MockRule,
-        part: Part,
-        message: String,
-    ) -> Result<(), AllocError> {
+    pub(crate) fn tell(&mut self, rule: MockRule, message: String) -> Result<(), AllocError> {
         self.found.push(Found {
             rule: Rule::Mock(rule),
             place: Vec::from_slice(self.alloc, &self.place)?,
-            part,
             message,
         })?;
         Ok(())
@@ -58,7 +52,7 @@ impl Walk {
     fn misfit(&mut self, wanted: &str) -> Result<(), AllocError> {
         let mut message = String::from_str(self.alloc, "this has to be ")?;
         message.push_str(wanted)?;
-        self.tell(MockRule::Shape, Part::Value, message)
+        self.tell(MockRule::Shape, message)
     }
 }
 
@@ -164,7 +158,7 @@ fn walk_name(walk: &mut Walk, names: &HashSet<String>, name: &Json) -> Result<()
     }
     let mut message = String::from_str(walk.alloc, "no response has the name ")?;
     put_name(&mut message, name.as_str())?;
-    walk.tell(MockRule::NoResponse, Part::Value, message)
+    walk.tell(MockRule::NoResponse, message)
 }
 
 fn walk_responses(walk: &mut Walk, responses: &Json) -> Result<(), AllocError> {

@@ -1,5 +1,4 @@
 // The numbers of the answers of a response.
-use crate::finding::Part;
 use crate::mock_faults::{Walk, walk_answer};
 use crate::rule::MockRule;
 use asl_advice::put_name;
@@ -71,13 +70,13 @@ fn walk_key(walk: &mut Walk, spans: &mut Vec<Span>, key: &str) -> Result<(), All
         let mut message = String::new(walk.alloc);
         put_name(&mut message, key)?;
         message.push_str(" is neither a number nor a range of numbers, as 0 or 1-3")?;
-        return walk.tell(MockRule::Key, Part::Key, message);
+        return walk.tell(MockRule::Key, message);
     };
     if unite(spans, span)? {
         let mut message = String::new(walk.alloc);
         put_name(&mut message, key)?;
         message.push_str(" has a number of an answer before it")?;
-        walk.tell(MockRule::Overlap, Part::Key, message)?;
+        walk.tell(MockRule::Overlap, message)?;
     }
     Ok(())
 }
@@ -108,7 +107,7 @@ fn tell_gaps(walk: &mut Walk, name: &str, spans: &[Span]) -> Result<(), AllocErr
         return Ok(());
     }
     message.push_str(", and one of a higher number")?;
-    walk.tell(MockRule::MissingAnswer, Part::Key, message)
+    walk.tell(MockRule::MissingAnswer, message)
 }
 
 fn put_gap(out: &mut String, number: usize, low: u32, high: u32) -> Result<(), AllocError> {

@@ -1,10 +1,18 @@
 // Where findings stand in their text.
-ghost use Rattle.std.specs.Prelude.{◌≡◌, ◌≤◌, length, take, IfOk};
+ghost use Rattle.std.specs.Prelude.{◌≡◌, ◌≤◌, ℕ, List, length, map, take, IfOk};
 ghost use Rattle.std.specs.List.{All};
+ghost use Rattle.asl_json.specs.Data.{Data};
+ghost use Rattle.asl_json.specs.Grammar.{IsText};
+ghost use Rattle.asl_json.specs.View.{data_of};
 ghost use Rattle.asl_outline.specs.Position.{IsPosition};
-ghost use Rattle.asl_lint.specs.Places.{IsAt};
+ghost use Rattle.asl_outline.specs.Standing.{IsOutline, AllFind};
+ghost use Rattle.asl_lint.specs.Findings.{part_of, pointed};
+ghost use Rattle.asl_lint.specs.Places.{IsAt, end_of, span_by, AllPoint, ArePlaced, ruled};
+ghost use Rattle.asl_lint.specs.private.Founds.{noted, spanned, front, behind, with_nodes};
 
-use crate::finding::{Finding, Found, Part};
+use crate::finding::{Finding, Found};
+use crate::part::{Part, part_of};
+use crate::rule::Rule;
 use asl_json::Json;
 use asl_outline::{Node, Outline, Position, Span, outline};
 use std::alloc::{AllocError, Global};
@@ -17,44 +25,113 @@ struct Spanned {
 }
 
 /// The last byte of a value.
-fn end_of(node: Node) -> Span {
+fn end_of(node: Node) -> Span
+    ensures { result ≡ end_of node }
+{
     Span {
         begin: node.value.end.saturating_sub(1),
         end: node.value.end,
     }
 }
 
-/// The place without its last step.
-fn around(place: &[usize]) -> &[usize] {
-    &place[..place.len().saturating_sub(1)]
+/// The place of the value at which a finding points: of a missing member that of its object.
+fn pointed(found: &Found) -> &[usize]
+    ensures { result.now ≡ pointed (noted found.now) }
+{
+    let place = found.place.as_slice();
+    match part_of(found.rule) {
+        Part::Key | Part::Value => place,
+        Part::End => &place[..place.len().saturating_sub(1)],
+    }
 }
 
-/// Where a finding stands.
-fn span_of(outline: &Outline, found: &Found) -> Span {
-    let place = match found.part {
-        Part::Key | Part::Value => found.place.as_slice(),
-        Part::End => around(&found.place),
-    };
-    let Some(node) = outline.find(place) else {
+/// The part of a value that a finding of this rule points at.
+fn span_by(rule: Rule, node: Option<Node>) -> Span
+    ensures { result ≡ span_by (part_of rule) node }
+{
+    let Some(node) = node else {
         return Span { begin: 0, end: 0 };
     };
-    match found.part {
+    match part_of(rule) {
         Part::Key => node.key,
         Part::Value => node.value,
         Part::End => end_of(node),
     }
 }
 
+/// The places of the values at which findings point.
+fn all_pointed<'a>(alloc: Global, found: &'a [Found]) -> Result<Vec<&'a [usize]>, AllocError>
+    ensures { IfOk result (λ ps. map (λ p. p.now) ps.items
+        ≡ map (λ f. pointed (noted f)) found.now) }
+{
+    let mut places = Vec::with_capacity(alloc, found.len())?;
+    for found in found {
+        places.push(pointed(found))?;
+    }
+    Ok(places)
+}
+
+fn front(nodes: &[Option<Node>]) -> Option<Node>
+    ensures { result ≡ front nodes.now }
+{
+    match nodes {
+        [] => None,
+        [first, ..] => *first,
+    }
+}
+
+fn behind(nodes: &[Option<Node>]) -> &[Option<Node>]
+    ensures { result.now ≡ behind nodes.now }
+{
+    match nodes {
+        [] => nodes,
+        [_, rest @ ..] => rest,
+    }
+}
+
+/// The findings with the stretches that they point at, of the nodes of their values.
+fn with_nodes(
+    alloc: Global,
+    found: Vec<Found>,
+    nodes: &[Option<Node>],
+) -> Result<Vec<Spanned>, AllocError>
+    ensures { IfOk result (λ all. map spanned all.items ≡ with_nodes found.items nodes.now) }
+{
+    let mut all = Vec::with_capacity(alloc, found.len())?;
+    let mut rest = nodes;
+    for found in found {
+        let span = span_by(found.rule, front(rest));
+        all.push(Spanned { span, found })?;
+        rest = behind(rest);
+    }
+    Ok(all)
+}
+
+/// The nodes of the values at which findings point.
+fn nodes_of(
+    alloc: Global,
+    outline: &Outline,
+    found: &[Found],
+) -> Result<Vec<Option<Node>>, AllocError>
+    ensures { IfOk result (λ ns. (b : List ℕ) (d : Data) → IsOutline b d outline.now
+        → AllFind b d (map (λ f. pointed (noted f)) found.now) ns.items) }
+{
+    let places = all_pointed(alloc, found)?;
+    let nodes = outline.find_all(alloc, &places)?;
+    Ok(nodes)
+}
+
+/// The findings with the stretches of the text that they point at.
 fn with_spans(
     alloc: Global,
     outline: &Outline,
     found: Vec<Found>,
-) -> Result<Vec<Spanned>, AllocError> {
-    let mut all = Vec::with_capacity(alloc, found.len())?;
-    for found in found {
-        let span = span_of(outline, &found);
-        all.push(Spanned { span, found })?;
-    }
+) -> Result<Vec<Spanned>, AllocError>
+    ensures { IfOk result (λ all. (b : List ℕ) (d : Data) → IsOutline b d outline.now
+        → AllPoint b d (map noted found.items) (map spanned all.items)) }
+{
+    let nodes = nodes_of(alloc, outline, &found)?;
+    let all = with_nodes(alloc, found, &nodes)?;
     Ok(all)
 }
 
@@ -80,7 +157,8 @@ pub(crate) fn position_of(text: &[u8], to: usize) -> Position
 
 /// The findings at their lines and columns, in one pass over the text where they stand in its order.
 fn positioned(alloc: Global, text: &[u8], all: Vec<Spanned>) -> Result<Vec<Finding>, AllocError>
-    ensures { IfOk result (λ fs. All (IsAt text.now) fs.items) }
+    ensures at { IfOk result (λ fs. All (IsAt text.now) fs.items) }
+    ensures same { IfOk result (λ fs. map ruled fs.items ≡ map spanned all.items) }
 {
     let mut findings = Vec::with_capacity(alloc, all.len())?;
     let mut here = Position::start();
@@ -105,7 +183,9 @@ pub(crate) fn placed(
     value: &Json,
     found: Vec<Found>,
 ) -> Result<Vec<Finding>, AllocError>
-    ensures { IfOk result (λ fs. All (IsAt text.now) fs.items) }
+    ensures at { IfOk result (λ fs. All (IsAt text.now) fs.items) }
+    ensures placed { IfOk result (λ fs. IsText text.now (data_of value.now)
+        → ArePlaced text.now (data_of value.now) (map noted found.items) (map ruled fs.items)) }
 {
     if found.is_empty() {
         return Ok(Vec::new(alloc));
@@ -113,5 +193,6 @@ pub(crate) fn placed(
     let outline = outline(alloc, text, value)?;
     let mut all = with_spans(alloc, &outline, found)?;
     all.sort_by_key(|spanned| spanned.span.begin)?;
-    positioned(alloc, text, all)
+    let findings = positioned(alloc, text, all)?;
+    Ok(findings)
 }
