@@ -13,6 +13,10 @@ use std::thread::{Builder, Threads};
 /// and again, and writing, cloning, comparing and dropping one take up to 336 bytes for each of its levels.
 const STACK: usize = 1 << 30;
 
+/// The stack with which it runs where the system doesn't give that much. A state's output has at most 262,144 bytes, so what a state begins with
+/// nests some 131,072 levels deep; a path of a definition, which has at most 1,048,576 bytes, may put it below as many as 524,288 more.
+const LESS_STACK: usize = 1 << 28;
+
 /// Does what the words of the command line ask for, and tells the status. The handle is for threads.
 fn program<R: Threads + Wait + Sync>(handle: &R, rt: HostRuntime) -> u8 {
     let alloc = rt.alloc();
@@ -45,12 +49,25 @@ fn program<R: Threads + Wait + Sync>(handle: &R, rt: HostRuntime) -> u8 {
     }
 }
 
+/// Tells that the system gives no stack.
+fn refuse_stack(rt: HostRuntime) -> u8 {
+    let mut err = Stream::new(rt.stderr());
+    tell_fault(&mut err, "OutOfMemory");
+    2
+}
+
 fn main(rt: HostRuntime) -> ExitCode {
     let roomy = Builder::new().stack_size(STACK);
     let status = match roomy.spawn(&rt, move || program(&rt, rt)) {
         Ok(thread) => thread.join(&rt),
-        // Where the system gives no such thread, the usual stack has to do.
-        Err(_) => program(&rt, rt),
+        Err(_) => {
+            let less = Builder::new().stack_size(LESS_STACK);
+            match less.spawn(&rt, move || program(&rt, rt)) {
+                Ok(thread) => thread.join(&rt),
+                // On the usual stack deep data would end the program by a signal.
+                Err(_) => refuse_stack(rt),
+            }
+        }
     };
     ExitCode::from(status)
 }
