@@ -17,7 +17,7 @@ use Rattle.asl_template.specs.Names.{name_before, name_of}
 use Rattle.asl_template.specs.Filling as filling
 use Rattle.asl_template.specs.Filling.{is_path, called, text_value, computed, chosen, fill, fill_items, fill_members}
 use Rattle.asl_data.specs.Paths.{part_of}
-use Rattle.asl_unread.specs.Reading.{Keys, AreEqualBut, leads, path_reads, argument_reads, some_argument_reads, tree_reads, call_reads, text_reads, reads, some_item_reads, some_member_reads}
+use Rattle.asl_unread.specs.Reading.{Keys, AreEqualBut, leads, path_reads, argument_reads, some_argument_reads, tree_reads, call_reads, text_reads, reads, some_text_in, some_text_among}
 use Rattle.asl_unread.proofs.Parts.{at_agrees}
 
 -- ---- one text
@@ -93,16 +93,16 @@ mutual
   unread_agrees ks a b (list ds) same unread = unread_items ks a b ds same unread
   unread_agrees ks a b (dict ms) same unread = unread_members ks a b ms same unread
 
-  unread_items : (ks : Keys) (a b : Data) (ds : Chain) → AreEqualBut ks a b → some_item_reads ks ds ≡ false → ItemsAgree a b ds
+  unread_items : (ks : Keys) (a b : Data) (ds : Chain) → AreEqualBut ks a b → some_text_in (text_reads ks) ds ≡ false → ItemsAgree a b ds
   unread_items ks a b no_items same unread = tt
   unread_items ks a b (item d ds) same unread =
-      let (own, others) = or_parts (reads ks d) (some_item_reads ks ds) unread in
+      let (own, others) = or_parts (reads ks d) (some_text_in (text_reads ks) ds) unread in
       (unread_agrees ks a b d same own, unread_items ks a b ds same others)
 
-  unread_members : (ks : Keys) (a b : Data) (ms : Pairs) → AreEqualBut ks a b → some_member_reads ks ms ≡ false → MembersAgree a b ms
+  unread_members : (ks : Keys) (a b : Data) (ms : Pairs) → AreEqualBut ks a b → some_text_among (text_reads ks) ms ≡ false → MembersAgree a b ms
   unread_members ks a b no_members same unread = tt
   unread_members ks a b (member k d ms) same unread =
-      let (own, others) = or_parts (reads ks d) (some_member_reads ks ms) unread in
+      let (own, others) = or_parts (reads ks d) (some_text_among (text_reads ks) ms) unread in
       (unread_agrees ks a b d same own, unread_members ks a b ms same others)
 
 -- with one Context Object all do

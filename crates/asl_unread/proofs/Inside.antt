@@ -10,7 +10,7 @@ use Rattle.asl_schema.specs.declared.sort.Sort.TheVariants as sort
 use Rattle.asl_schema.specs.Members.{Shape, shape_in, sort_at, item_sort}
 use Rattle.asl_schema.specs.Canon.{Named}
 use Rattle.asl_def.specs.Machines.{holds_states, own_states, all_states, states_of_items, states_of_members, states_of}
-use Rattle.asl_unread.specs.Reading.{Keys, reads, some_item_reads, some_member_reads}
+use Rattle.asl_unread.specs.Reading.{Keys, text_reads, reads, some_text_in, some_text_among}
 use Rattle.asl_unread.specs.Laws.{StatesReadNoMore}
 
 module _ (ks : Keys) where
@@ -26,13 +26,13 @@ module _ (ks : Keys) where
   chosen_unread true xs h = h
   chosen_unread false xs h = tt
 
-  members_unread : (ms : Pairs) → some_member_reads ks ms ≡ false → AreUnread (unpaired ms)
+  members_unread : (ms : Pairs) → some_text_among (text_reads ks) ms ≡ false → AreUnread (unpaired ms)
   members_unread no_members h = tt
   members_unread (member k d ms) h =
-      let (own, others) = or_parts (reads ks d) (some_member_reads ks ms) h in
+      let (own, others) = or_parts (reads ks d) (some_text_among (text_reads ks) ms) h in
       (own, members_unread ms others)
 
-  own_unread : (s : Sort) (ms : Pairs) → some_member_reads ks ms ≡ false → AreUnread (own_states s ms)
+  own_unread : (s : Sort) (ms : Pairs) → some_text_among (text_reads ks) ms ≡ false → AreUnread (own_states s ms)
   own_unread sort.States ms h = members_unread ms h
   own_unread s ms h = tt
 
@@ -47,16 +47,16 @@ module _ (ks : Keys) where
         chosen_unread (holds_states s) (states_of_members (shape_in s ms) ms ++ own_states s ms)
         (append_unread (states_of_members (shape_in s ms) ms) (own_states s ms) (in_members (shape_in s ms) ms h) (own_unread s ms h))
 
-    in_items : (s : Sort) (ds : Chain) → some_item_reads ks ds ≡ false → AreUnread (states_of_items s ds)
+    in_items : (s : Sort) (ds : Chain) → some_text_in (text_reads ks) ds ≡ false → AreUnread (states_of_items s ds)
     in_items s no_items h = tt
     in_items s (item d ds) h =
-        let (own, others) = or_parts (reads ks d) (some_item_reads ks ds) h in
+        let (own, others) = or_parts (reads ks d) (some_text_in (text_reads ks) ds) h in
         append_unread (all_states s d) (states_of_items s ds) (states_unread s d own) (in_items s ds others)
 
-    in_members : (sh : Shape) (ms : Pairs) → some_member_reads ks ms ≡ false → AreUnread (states_of_members sh ms)
+    in_members : (sh : Shape) (ms : Pairs) → some_text_among (text_reads ks) ms ≡ false → AreUnread (states_of_members sh ms)
     in_members sh no_members h = tt
     in_members sh (member k d ms) h =
-        let (own, others) = or_parts (reads ks d) (some_member_reads ks ms) h in
+        let (own, others) = or_parts (reads ks d) (some_text_among (text_reads ks) ms) h in
         append_unread (all_states (sort_at sh k) d) (states_of_members sh ms) (states_unread (sort_at sh k) d own) (in_members sh ms others)
 
   found_unread : (k : List ℕ) (xs : List Named) (o : Data) → AreUnread xs → value_at k (pairs xs) ≡ Some o → reads ks o ≡ false

@@ -1,5 +1,7 @@
 pub mod Spelling
 pub mod Inside
+pub mod Mentioning
+pub mod Leading
 pub mod Parts
 pub mod Agreeing
 pub mod Choosing

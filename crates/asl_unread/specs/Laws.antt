@@ -19,6 +19,7 @@ use Rattle.asl_data.specs.Paths.{part_of}
 use Rattle.asl_kinds.specs.Members.{effective, pass_output, selected, passed_on, choice_output, wait_until, fail_error}
 use Rattle.asl_kinds.specs.Table.{state_effect, invokes}
 use Rattle.asl_unread.specs.Reading.{Keys, AreEqualBut, meets, path_reads, argument_reads, call_reads, reads}
+use Rattle.asl_unread.specs.Mentions.{may_read}
 use Rattle.asl_unread.specs.Steps.{token_keys, with_count, clock_keys, timeless, timeless_effect}
 
 -- ---- what a text reads, by what it spells
@@ -45,6 +46,10 @@ abbrev pub StatesReadNoMore : Type 0
 StatesReadNoMore =
     (ks : Keys) (d : Data) (name : List ℕ) (state : Data) → reads ks d ≡ false
     → state_object name d ≡ Some state → reads ks state ≡ false
+
+-- what no text may read by its bytes, no text reads
+abbrev pub UnmentionedIsUnread : Type 0
+UnmentionedIsUnread = (ks : Keys) (d : Data) → may_read ks d ≡ false → reads ks d ≡ false
 
 -- ---- one text, and a template
 

@@ -1,3 +1,4 @@
 pub mod Reading
+pub mod Mentions
 pub mod Laws
 pub mod Steps

@@ -73,20 +73,24 @@ call_reads ks t = tree_reads ks (heard t)
 abbrev pub text_reads : Keys → List ℕ → Bool
 text_reads ks t = path_reads ks t || call_reads ks t
 
--- some text of the value does, whatever it stands for
+-- some text of a value passes a test, whatever it stands for
 abbrev mutual
-  pub reads : Keys → Data → Bool
-  reads ks null = false
-  reads ks (boolean b) = false
-  reads ks (number n) = false
-  reads ks (text t) = text_reads ks t
-  reads ks (list ds) = some_item_reads ks ds
-  reads ks (dict ms) = some_member_reads ks ms
+  pub some_text : (List ℕ → Bool) → Data → Bool
+  some_text p null = false
+  some_text p (boolean b) = false
+  some_text p (number n) = false
+  some_text p (text t) = p t
+  some_text p (list ds) = some_text_in p ds
+  some_text p (dict ms) = some_text_among p ms
 
-  pub some_item_reads : Keys → Chain → Bool
-  some_item_reads ks no_items = false
-  some_item_reads ks (item d ds) = reads ks d || some_item_reads ks ds
+  pub some_text_in : (List ℕ → Bool) → Chain → Bool
+  some_text_in p no_items = false
+  some_text_in p (item d ds) = some_text p d || some_text_in p ds
 
-  pub some_member_reads : Keys → Pairs → Bool
-  some_member_reads ks no_members = false
-  some_member_reads ks (member k d ms) = reads ks d || some_member_reads ks ms
+  pub some_text_among : (List ℕ → Bool) → Pairs → Bool
+  some_text_among p no_members = false
+  some_text_among p (member k d ms) = some_text p d || some_text_among p ms
+
+-- some text of the value reads what stands there
+abbrev pub reads : Keys → Data → Bool
+reads ks d = some_text (text_reads ks) d

@@ -1,5 +1,5 @@
 // Laws of what no text reads.
-ghost use Rattle.asl_unread.specs.Laws.{ContextPathsRead, InputPathsDont, CallsReadByTrees, StatesReadNoMore, PathsAgree, TreesAgree, CallsAgree, TemplatesAgree, StatesAgree, CountsDontMatter, OthersDontCount, MomentsDontMatter};
+ghost use Rattle.asl_unread.specs.Laws.{ContextPathsRead, InputPathsDont, CallsReadByTrees, StatesReadNoMore, UnmentionedIsUnread, PathsAgree, TreesAgree, CallsAgree, TemplatesAgree, StatesAgree, CountsDontMatter, OthersDontCount, MomentsDontMatter};
 
 /// What a text reads of the Context Object is said by the path or the call that it spells. The laws have no code.
 pub fn a_text_reads_what_it_spells()
@@ -11,6 +11,8 @@ pub fn a_text_reads_what_it_spells()
     ensures calls { CallsReadByTrees }
     // A state of a definition reads no more than the definition.
     ensures states { StatesReadNoMore }
+    // What no text may read by its bytes, no text reads.
+    ensures bytes { UnmentionedIsUnread }
 {}
 
 /// What doesn't read the part of the Context Object at a chain of keys gives the same in any two that are equal but for that part.

@@ -1,5 +1,6 @@
 use Rattle.asl_unread.proofs.Spelling.{context_paths, input_paths, calls}
 use Rattle.asl_unread.proofs.Inside.{states_read_no_more}
+use Rattle.asl_unread.proofs.Mentioning.{unmentioned}
 use Rattle.asl_unread.proofs.laws.a_text_reads_what_it_spells.Goals as goal
 
 pub returns-clause-context : goal.returns-clause-context
@@ -13,3 +14,6 @@ returns-clause-calls c = calls
 
 pub returns-clause-states : goal.returns-clause-states
 returns-clause-states c = states_read_no_more
+
+pub returns-clause-bytes : goal.returns-clause-bytes
+returns-clause-bytes c = unmentioned
