@@ -22,13 +22,16 @@ taken-later o s ws vs os us i w l (inr x) =
     let r = x.1 in
     let le = later-length ws vs os us l in
     let within = r.leads.0 in
-    inr (x.0, record {
-      place = r.place;
-      quiet = r.quiet;
-      next = r.next;
-      later = r.later;
-      leads = (omega (arith, within, le), λ d. later-at ws vs os us r.next d l within ∙ r.leads.1 d);
-    })
+    inr (
+      x.0,
+      record {
+        place = r.place;
+        quiet = r.quiet;
+        next = r.next;
+        later = r.later;
+        leads = (omega (arith, within, le), λ d. later-at ws vs os us r.next d l within ∙ r.leads.1 d);
+      },
+    )
 
 pub taken-more : (o : Orders) (s z : Setup) (ws vs : List World) (os us : List Outcome) (n : ℕ) → z ≡ s → IsLater ws os vs us → n ≤ length ws → AreTakenOn o s ws os n → ((d : World) → IsTakenOn o z vs us n (get_or vs n d)) → AreTakenOn o s vs us (n + 1)
 taken-more o s z ws vs os us n e l le h new i lt d = by (nat_lt i n) refl

@@ -257,13 +257,7 @@ pub(crate) fn search<W: Watch>(
     let mut whole = true;
     while number < met.nodes.len() && number < limit {
         let is_enough = go_on(
-            execution,
-            alloc,
-            orders,
-            alone,
-            &mut met,
-            &mut found,
-            number,
+            execution, alloc, orders, alone, &mut met, &mut found, number,
         )?;
         whole = whole && is_enough;
         number += 1;
