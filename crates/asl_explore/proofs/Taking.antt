@@ -1,15 +1,14 @@
 -- Of the first worlds of a search enough steps were taken.
-use Rattle.std.proofs.Common.{ℕ, ◌≡◌, ◌<◌, ◌≤◌, ◌+◌, ◌⊎◌, inl, inr, ◌∙◌, sym, refl, subst, arith, Bool, true, false, List, length, get_or}
+use Rattle.std.proofs.Common.{ℕ, ◌≡◌, ◌<◌, ◌≤◌, ◌+◌, inl, inr, ◌∙◌, sym, refl, subst, arith, Bool, true, false, List, length, get_or}
 use Rattle.std.specs.Prelude.{nat_lt}
 use Rattle.std.proofs.lemmas.Bool.Decides.{nat_tests}
 use Rattle.asl_run.specs.World.{World}
-use Rattle.asl_run.specs.Bare.{bare}
 use Rattle.asl_run.specs.declared.outcome.Outcome.{Outcome}
 use Rattle.asl_setup.specs.declared.setup.Setup.{Setup}
 use Rattle.asl_exec.specs.Steps.{step, opening}
 use Rattle.asl_explore.specs.Orders.{due, IsWhole}
 use Rattle.asl_explore.specs.declared.orders.Orders.{Orders}
-use Rattle.asl_explore.specs.Searches.{IsMet, IsExpanded, IsReduced, IsTakenOn, AreTakenOn, IsLater, StandsAt}
+use Rattle.asl_explore.specs.Searches.{IsMet, IsTakenOn, AreTakenOn, IsLater}
 use Rattle.asl_explore.proofs.Growing.{met-later, later-at, later-length}
 use Rattle.asl_explore.proofs.Reduced.{taken-whole}
 
@@ -20,13 +19,16 @@ taken-later o s ws vs os us i w l (inr x) =
     let r = x.1 in
     let le = later-length ws vs os us l in
     let within = r.leads.0 in
-    inr (x.0, record {
-      place = r.place;
-      quiet = r.quiet;
-      next = r.next;
-      later = r.later;
-      leads = (omega (arith, within, le), λ d. later-at ws vs os us r.next d l within ∙ r.leads.1 d);
-    })
+    inr (
+      x.0,
+      record {
+        place = r.place;
+        quiet = r.quiet;
+        next = r.next;
+        later = r.later;
+        leads = (omega (arith, within, le), λ d. later-at ws vs os us r.next d l within ∙ r.leads.1 d);
+      },
+    )
 
 pub taken-more : (o : Orders) (s z : Setup) (ws vs : List World) (os us : List Outcome) (n : ℕ) → z ≡ s → IsLater ws os vs us → n ≤ length ws → AreTakenOn o s ws os n → ((d : World) → IsTakenOn o z vs us n (get_or vs n d)) → AreTakenOn o s vs us (n + 1)
 taken-more o s z ws vs os us n e l le h new i lt d = by (nat_lt i n) refl
