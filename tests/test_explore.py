@@ -335,9 +335,9 @@ class Exploring(Searches):
         self.assertLess(told.worlds, 30)
 
     def test_a_loop_beside_a_branch_that_fails(self):
-        loop = '{"StartAt":"L","States":{"L":{"Type":"Pass","Next":"K"},"K":{"Type":"Pass","Next":"L"}}}'
+        loop, other = ['{"StartAt":"%s","States":{"%s":{"Type":"Pass","Next":"%s"},"%s":{"Type":"Pass","Next":"%s"}}}' % (one, one, two, two, one) for one, two in ("KL", "MN")]
         fails = '{"StartAt":"F","States":{"F":{"Type":"Pass","Next":"G"},"G":{"Type":"Fail","Error":"E"}}}'
-        for branches in [[loop, fails], [fails, loop], [loop, loop, fails]]:
+        for branches in [[loop, fails], [fails, loop], [loop, other, fails]]:
             for told in [self.complete(parallel(branches), chosen="M"), self.prompt(parallel(branches), chosen="M")]:
                 self.assertEqual(told.outcomes, ['FAILED {"Error":"E"}'])
 
@@ -363,23 +363,23 @@ class Exploring(Searches):
     def test_the_outcomes_are_those_of_every_order(self):
         chance = random.Random(47)
         compared = 0
-        for _ in range(60):
+        for _ in range(40):
             body = parallel([self.random_machine(chance, "A", True), self.random_machine(chance, "B", True), self.random_machine(chance, "C", False)])
             tasks = sorted({part.split('"')[-2] for part in body.split(':{"Type":"Task"')[:-1]})
             answers = {task: chance.choice([FOR_EVER, '"0":{"Throw":{"Error":"T%s"}},"1-9999":{"Return":1}' % task]) for task in tasks}
             waits = body.replace('"StartAt":"P","States":{', '"StartAt":"W","States":{"W":{"Type":"Wait","Seconds":1,"Next":"P"},', 1)
             found = []
             for definition in (body, waits):
-                ran = self.explore(definition, "{}", mocked(answers), "M#c", "--limit", "3000", "--prompt")
+                ran = self.explore(definition, "{}", mocked(answers), "M#c", "--limit", "1000", "--prompt")
                 found.append(explored(ran.stdout))
-            plain = explored(self.explore(waits, "{}", mocked(answers), "M#c", "--limit", "3000").stdout)
-            reduced = explored(self.explore(body, "{}", mocked(answers), "M#c", "--limit", "3000").stdout)
+            plain = explored(self.explore(waits, "{}", mocked(answers), "M#c", "--limit", "1000").stdout)
+            reduced = explored(self.explore(body, "{}", mocked(answers), "M#c", "--limit", "1000").stdout)
             if plain.search == reduced.search == "search complete":
                 compared += 1
                 self.assertEqual(sorted(plain.outcomes), sorted(reduced.outcomes), body)
             if found[0].search == found[1].search == "search complete":
                 self.assertEqual(sorted(found[0].outcomes), sorted(found[1].outcomes), body)
-        self.assertGreater(compared, 20)
+        self.assertGreater(compared, 10)
 
     # ---- searches that are cut
 

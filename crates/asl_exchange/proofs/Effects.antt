@@ -1,6 +1,6 @@
 -- What states of any kind make of the branches under them, and read of them.
 use Rattle.std.proofs.Common.{ℕ, ◌≡◌, ◌⊎◌, inl, inr, Bool, true, false, List, [], refl, sym, ◌∙◌, ap, Some, None, Option, if◌then◌else◌}
-use Rattle.std.specs.Prelude.{Result, Ok, Err, codes}
+use Rattle.std.specs.Prelude.{Ok, Err, codes}
 use Rattle.std.specs.Str.{bytes_eq}
 use Rattle.std.proofs.lemmas.Bool.{both_ways}
 use Rattle.asl_json.specs.Data.{Data}
@@ -9,9 +9,9 @@ use Rattle.asl_json.specs.View.{data_of}
 use Rattle.asl_json.specs.declared.value.Json.{Json}
 use Rattle.asl_json.specs.declared.value.Json.TheVariants.{Dict, List as ListOf}
 use Rattle.asl_history.specs.declared.kind.EventKind.{EventKind}
-use Rattle.asl_history.specs.declared.kind.EventKind.TheVariants.{PassStateEntered, PassStateExited, SucceedStateEntered, SucceedStateExited, FailStateEntered, ChoiceStateEntered, ChoiceStateExited, WaitStateEntered, WaitStateExited, TaskStateEntered, TaskStateExited, TaskSucceeded, TaskFailed, ParallelStateEntered, ParallelStateExited, ParallelStateStarted, ParallelStateSucceeded, ParallelStateFailed, MapStateEntered, MapStateStarted, MapStateSucceeded, MapStateFailed, MapStateExited}
+use Rattle.asl_history.specs.declared.kind.EventKind.TheVariants.{PassStateEntered, PassStateExited, SucceedStateEntered, SucceedStateExited, FailStateEntered, ChoiceStateEntered, ChoiceStateExited, WaitStateEntered, WaitStateExited, TaskStateEntered, TaskStateExited, TaskSucceeded, TaskFailed, ParallelStateEntered, ParallelStateExited, ParallelStateSucceeded, ParallelStateFailed, MapStateEntered, MapStateSucceeded, MapStateFailed, MapStateExited}
 use Rattle.asl_parts.specs.Texts.{text_in}
-use Rattle.asl_steps.specs.Bounds.{is_forked, are_kept}
+use Rattle.asl_steps.specs.Bounds.{is_forked}
 use Rattle.asl_steps.specs.Context.{context_of}
 use Rattle.asl_steps.specs.Records.{name_in, entering_with, beginning_with, pausing_with, uses_in}
 use Rattle.asl_steps.specs.Rows.{telling, error_output, left, idle, entering, unstarted, beginning_by, beginning, leaving, failing, is_within_limit, over_limit}
@@ -31,7 +31,7 @@ use Rattle.asl_handle.specs.Decisions.{Handling, again, caught, unhandled, decis
 use Rattle.asl_data.specs.Paths.{Given, put_into}
 use Rattle.asl_kinds.specs.Members.{GivenTarget, GivenMoment, effective, next_in, pass_output, passed_on, fail_error, choice_output, wait_until, selected, no_answer}
 use Rattle.asl_kinds.specs.Forks.{GivenFork, forked_with, first_error, outputs, gathered}
-use Rattle.asl_kinds.specs.Table.{begun, task_settled, task_returns, task_fails, fork_settled, passed, in_one, pass_effect, succeed_effect, fail_effect, decided, choice_effect, waits, wait_over, wait_with, wait_effect, error_name, handled, raised, settled, task_answered, task_with, task_effect, joined_by, joined, parallel_forks, parallel_joins, parallel_with, parallel_effect, fork_of, map_forks, map_joins, map_with, map_effect, effect_by_type, state_effect, invoked}
+use Rattle.asl_kinds.specs.Table.{begun, task_settled, task_returns, task_fails, fork_settled, passed, in_one, fail_effect, decided, choice_effect, waits, wait_over, wait_with, error_name, handled, settled, task_answered, task_with, task_effect, joined_by, joined, parallel_forks, parallel_joins, parallel_with, fork_of, map_forks, map_joins, map_with, effect_by_type, invoked}
 use Rattle.asl_exec.specs.Steps.{effect_by}
 use Rattle.asl_exchange.proofs.Rooted.{is_joining}
 

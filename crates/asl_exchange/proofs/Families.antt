@@ -1,11 +1,11 @@
 -- What branches directly under a place say of those under it.
-use Rattle.std.proofs.Common.{ℕ, ◌≡◌, ◌==◌, ◌&&◌, ◌||◌, Bool, true, false, not, List, [], ◌∷◌, ◌++◌, refl, sym, ◌∙◌, ap, cond, map, Some, None, Option}
-use Rattle.std.proofs.lemmas.Bool.{and_parts, and_from, and_left, both_ways, false_from_ne_true, eqb-true, eq-eqb}
-use Rattle.std.specs.List.{filter, list_any, list_all}
-use Rattle.asl_history.specs.Places.{is_prefix, is_child, is_beside}
+use Rattle.std.proofs.Common.{ℕ, ◌≡◌, ◌==◌, ◌&&◌, ◌||◌, Bool, true, false, not, List, [], ◌∷◌, ◌++◌, refl, sym, ◌∙◌, ap, Some}
+use Rattle.std.proofs.lemmas.Bool.{and_parts, and_from, both_ways, false_from_ne_true, eq-eqb}
+use Rattle.std.specs.List.{list_any, list_all}
+use Rattle.asl_history.specs.Places.{is_child, is_beside}
 use Rattle.asl_steps.specs.Records.{is_done, is_failed}
 use Rattle.asl_steps.specs.declared.record.Record.{Record}
-use Rattle.asl_frames.specs.Branches.{Branch, same_place, record_at, children_at, is_stopped, is_busy}
+use Rattle.asl_frames.specs.Branches.{Branch, same_place, record_at, children_at, is_stopped}
 use Rattle.asl_frames.proofs.Linking.{same-eq}
 use Rattle.asl_exec.specs.Exchanges.{IsOneEach}
 use Rattle.asl_exchange.proofs.Fewer.{AllAt, all-at}

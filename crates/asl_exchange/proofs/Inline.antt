@@ -1,8 +1,7 @@
 -- A step that invokes nothing and doesn't fail, and steps at places above it and under it.
-use Rattle.std.proofs.Common.{ℕ, ◌≡◌, ◌⊎◌, inl, inr, ◌≤◌, ◌&&◌, ◌||◌, Bool, true, false, not, List, [], ◌∷◌, ◌++◌, refl, sym, ◌∙◌, ap, subst, append_assoc, arith, cond, length, max, Some, None, Option}
+use Rattle.std.proofs.Common.{ℕ, ◌≡◌, ◌⊎◌, inl, inr, ◌≤◌, ◌&&◌, ◌||◌, Bool, true, false, not, List, [], ◌∷◌, ◌++◌, refl, sym, ◌∙◌, ap, subst, append_assoc, arith, cond, length, Some, None, Option}
 use Rattle.std.specs.Prelude.{is_some, nat_lt}
 use Rattle.std.specs.List.{list_any, list_all}
-use Rattle.std.specs.Option.{option_or}
 use Rattle.std.proofs.lemmas.Bool.{both_ways, ltb-false}
 use Rattle.std.proofs.lemmas.List.{append-nil}
 use Rattle.asl_json.specs.Data.{Data}
@@ -11,29 +10,28 @@ use Rattle.asl_history.specs.Places.{is_prefix, is_beside}
 use Rattle.asl_steps.specs.Bounds.{are_kept}
 use Rattle.asl_steps.specs.Records.{is_done, is_failed}
 use Rattle.asl_steps.specs.Rows.{idle}
-use Rattle.asl_steps.specs.declared.effect.Children.TheVariants.{Kept, Removed}
+use Rattle.asl_steps.specs.declared.effect.Children.TheVariants.{Removed}
 use Rattle.asl_steps.specs.declared.effect.Effect.{Effect}
 use Rattle.asl_steps.specs.declared.record.ErrorOut.{ErrorOut}
 use Rattle.asl_steps.specs.declared.record.Record.{Record}
 use Rattle.asl_steps.specs.declared.record.Record.TheVariants.{New, Ready, Pausing, Again, Forked, Done, Failed}
-use Rattle.asl_kinds.specs.Forks.{first_error, error_in}
-use Rattle.asl_frames.specs.Branches.{Branch, record_at, children_at, forker_at, iteration_at, is_stopped, is_busy, branches_after}
+use Rattle.asl_kinds.specs.Forks.{first_error}
+use Rattle.asl_frames.specs.Branches.{Branch, record_at, children_at, is_stopped, is_busy, branches_after}
 use Rattle.asl_frames.specs.Earliest.{due_from}
-use Rattle.asl_run.specs.Bare.{bare}
 use Rattle.asl_run.specs.World.{World, is_over, outcome_after, counts_after, count_of, world_with}
 use Rattle.asl_run.specs.declared.outcome.Outcome.{Outcome}
 use Rattle.asl_run.specs.declared.refusal.Refusal.{Refusal}
 use Rattle.asl_run.specs.Refusals.{refusal_if_full, refusal_by}
 use Rattle.asl_setup.specs.declared.setup.Setup.{Setup}
-use Rattle.asl_exec.specs.Steps.{facts_of, number_in, object_in, invokes_by, limits_in, seen_at, effect_by, effect_in}
-use Rattle.asl_exec.proofs.Going.{does, next, slots_at, IsReady}
+use Rattle.asl_exec.specs.Steps.{facts_of, number_in, object_in, invokes_by, seen_at, effect_by}
+use Rattle.asl_exec.proofs.Going.{does, slots_at, IsReady}
 use Rattle.asl_exchange.proofs.Leaving.{record-stays, forker-stays, iteration-stays}
 use Rattle.asl_exchange.proofs.Fewer.{all-at, not-stopped}
 use Rattle.asl_exchange.proofs.Changing.{undone-by, with-room}
 use Rattle.asl_exchange.proofs.Telling.{count-stays}
 use Rattle.asl_exchange.proofs.Effects.{effect-takes, effect-same, waiting}
-use Rattle.asl_exchange.proofs.Rooted.{is_joining, joins_at, joins_in, IsRooted, rooted-above, some-joins, below}
-use Rattle.asl_exchange.proofs.Families.{child-done, failed-stops, stopped-under, stopped-by-child}
+use Rattle.asl_exchange.proofs.Rooted.{is_joining, joins_at, joins_in, IsRooted, rooted-above, below}
+use Rattle.asl_exchange.proofs.Families.{child-done, failed-stops, stopped-by-child}
 use Rattle.asl_exchange.proofs.Joining.{error-stays, absorbs, nothing-changes, all-are}
 use Rattle.asl_exchange.proofs.Pending.{IsQuiet, IsPending, ahead, after, unraised, counts-are, none-over, unfinished-by}
 
@@ -224,11 +222,19 @@ module _ (s : Setup) (u : World) (p q : List ℕ) (r m : Record) (e : Effect) (q
           let iteration = iteration-stays p e.after e.children q u.branches b in
           let count = count-stays (number_in s.machine r) (number_in s.machine k) e.raises u.counts (λ t. absurd (both_ways e.raises (unraised s u p r e w.so quiet) t)) in
           let read : seen_at s.machine s.case v q u.last k ≡ waiting seen n x since uses items (children_at q v.branches) = λ i. record {
-            place = q; current = k; children = children_at q v.branches; forker = forker i; iteration = iteration i;
-            invokes = invokes_by o; count = count i; case = s.case; moment = u.last } in
+            place = q;
+            current = k;
+            children = children_at q v.branches;
+            forker = forker i;
+            iteration = iteration i;
+            invokes = invokes_by o;
+            count = count i;
+            case = s.case;
+            moment = u.last;
+          } in
           let fs = fails in
           let same : does s v q u.last k ≡ does s u q u.last k =
-              ap (effect_by o f) read ∙ effect-same f seen n x since uses items o (children_at q v.branches) (children_at q u.branches) fs.error fs.behind fs.before in
+          ap (effect_by o f) read ∙ effect-same f seen n x since uses items o (children_at q v.branches) (children_at q u.branches) fs.error fs.behind fs.before in
           let takes = effect-takes f seen n x since uses items o (children_at q u.branches) in
           record {
             same = subst (λ (z : Record). does s v q u.last z ≡ does s u q u.last z) (sym is) same;
@@ -257,19 +263,19 @@ module _ (s : Setup) (u : World) (p q : List ℕ) (r m : Record) (e : Effect) (q
           let never : e.raises ≡ false = unraised s u p r e w.so quiet in
           let gone : are_kept f.children ≡ false = rw taken refl in
           let branches : branches_after q (does s (ahead s u p r e) q u.last m).after (does s (ahead s u p r e) q u.last m).children (branches_after p e.after e.children u.branches) ≡ branches_after q f.after f.children u.branches =
-              ap (λ (z : Effect). branches_after q z.after z.children (branches_after p e.after e.children u.branches)) same
-              ∙ absorbs q p f.after e.after f.children e.children u.branches a b gone in
+          ap (λ (z : Effect). branches_after q z.after z.children (branches_after p e.after e.children u.branches)) same
+          ∙ absorbs q p f.after e.after f.children e.children u.branches a b gone in
           let counts : counts_after (number_in s.machine m) (does s (ahead s u p r e) q u.last m).raises (counts_after (number_in s.machine r) e.raises u.counts) ≡ counts_after (number_in s.machine m) f.raises u.counts =
-              ap (λ (z : Effect). counts_after (number_in s.machine m) z.raises (counts_after (number_in s.machine r) e.raises u.counts)) same
-              ∙ ap (λ (z : List ℕ). counts_after (number_in s.machine m) f.raises z) (counts-are (number_in s.machine r) e.raises u.counts never) in
+          ap (λ (z : Effect). counts_after (number_in s.machine m) z.raises (counts_after (number_in s.machine r) e.raises u.counts)) same
+          ∙ ap (λ (z : List ℕ). counts_after (number_in s.machine m) f.raises z) (counts-are (number_in s.machine r) e.raises u.counts never) in
           let outcome : outcome_after (does s (ahead s u p r e) q u.last m).outcome (outcome_after e.outcome u.outcome) ≡ outcome_after f.outcome u.outcome =
-              ap (λ (z : Effect). outcome_after z.outcome (outcome_after e.outcome u.outcome)) same
-              ∙ ap (λ (z : Outcome). outcome_after f.outcome z) (none-over e.outcome quiet.silent u.outcome) in
+          ap (λ (z : Effect). outcome_after z.outcome (outcome_after e.outcome u.outcome)) same
+          ∙ ap (λ (z : Outcome). outcome_after f.outcome z) (none-over e.outcome quiet.silent u.outcome) in
           inl (λ i. record { branches = branches i; counts = counts i; events = []; last = u.last; deadline = u.deadline; outcome = outcome i })
       by (inr idles) =
           let branches : branches_after q f.after f.children u.branches ≡ u.branches =
-              ap (λ (z : Effect). branches_after q z.after z.children u.branches) idles
-              ∙ nothing-changes q m u.branches (all-are q m u.branches w.each h.there) in
+          ap (λ (z : Effect). branches_after q z.after z.children u.branches) idles
+          ∙ nothing-changes q m u.branches (all-are q m u.branches w.each h.there) in
           let counts : counts_after (number_in s.machine m) f.raises u.counts ≡ u.counts = ap (λ (z : Effect). counts_after (number_in s.machine m) z.raises u.counts) idles in
           let outcome : outcome_after f.outcome u.outcome ≡ u.outcome = ap (λ (z : Effect). outcome_after z.outcome u.outcome) idles in
           inr (λ i. record { branches = branches i; counts = counts i; events = sym w.untold i; last = u.last; deadline = u.deadline; outcome = outcome i })

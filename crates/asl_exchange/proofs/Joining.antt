@@ -1,6 +1,5 @@
 -- A branch that waits for others reads of them only what they have come to.
 use Rattle.std.proofs.Common.{ℕ, ◌≡◌, ◌≤◌, ◌+◌, ◌==◌, ◌&&◌, Bool, true, false, not, List, [], ◌∷◌, ◌++◌, refl, sym, ◌∙◌, ap, arith, cond, length, map, Some, None, Option}
-use Rattle.std.specs.Prelude.{is_some}
 use Rattle.std.proofs.lemmas.Bool.{and_parts, and_from, both_ways, false_from_ne_true, eqb-true, eq-eqb}
 use Rattle.std.proofs.lemmas.Grind.{flat_map-append}
 use Rattle.std.proofs.lemmas.List.{map-append}
@@ -24,9 +23,6 @@ use Rattle.asl_exchange.proofs.Fewer.{AllAt}
 use Rattle.asl_exchange.proofs.Leaving.{Under, under, stays}
 
 -- ---- the first error among those directly under a place
-
-
-
 
 error-append : (xs ys : List Record) → first_error (xs ++ ys) ≡ option_or (first_error xs) (first_error ys)
 error-append [] ys = refl

@@ -1,32 +1,27 @@
 -- A step that invokes nothing and doesn't fail may be taken before all others.
-use Rattle.std.proofs.Common.{ℕ, ◌≡◌, ◌⊎◌, inl, inr, ◌≤◌, ◌==◌, Bool, true, false, not, List, [], ◌∷◌, ◌++◌, refl, sym, ◌∙◌, ap, subst, arith, cond, length, max, Some, None, Option}
+use Rattle.std.proofs.Common.{ℕ, ◌≡◌, ◌⊎◌, inl, inr, ◌≤◌, Bool, true, false, List, [], refl, sym, ◌∙◌, ap, subst, arith, length, Some, None, Option}
 use Rattle.std.specs.Prelude.{is_some, nat_lt}
 use Rattle.std.specs.List.{list_any, list_all}
-use Rattle.std.proofs.lemmas.Bool.{both_ways, ltb-false, not-false}
+use Rattle.std.proofs.lemmas.Bool.{both_ways}
 use Rattle.asl_json.specs.Data.{Data}
 use Rattle.asl_json.specs.declared.value.Json.{Json}
 use Rattle.asl_history.specs.Places.{is_prefix}
-use Rattle.asl_steps.specs.Bounds.{is_forked, are_kept}
-use Rattle.asl_steps.specs.Records.{is_done, is_failed}
+use Rattle.asl_steps.specs.Bounds.{are_kept}
+use Rattle.asl_steps.specs.Records.{is_failed}
 use Rattle.asl_steps.specs.Rows.{idle}
-use Rattle.asl_steps.specs.declared.effect.Children.{Children}
-use Rattle.asl_steps.specs.declared.effect.Children.TheVariants.{Kept, Removed, Forked as Made}
+use Rattle.asl_steps.specs.declared.effect.Children.TheVariants.{Removed}
 use Rattle.asl_steps.specs.declared.effect.Effect.{Effect}
 use Rattle.asl_steps.specs.declared.effect.Ended.{Ended}
-use Rattle.asl_steps.specs.declared.record.ErrorOut.{ErrorOut}
 use Rattle.asl_steps.specs.declared.record.Record.{Record}
 use Rattle.asl_steps.specs.declared.record.Record.TheVariants.{New, Ready, Pausing, Again, Forked, Done, Failed}
-use Rattle.asl_kinds.specs.Forks.{first_error, error_in}
-use Rattle.asl_frames.specs.Branches.{Branch, record_at, children_at, is_stopped, is_busy, branches_after}
-use Rattle.asl_frames.specs.Turns.{limit_of, is_crowded}
-use Rattle.asl_frames.specs.Earliest.{due_from}
+use Rattle.asl_frames.specs.Branches.{record_at, children_at, branches_after}
 use Rattle.asl_run.specs.Bare.{bare}
 use Rattle.asl_run.specs.World.{World, is_over, is_late, outcome_after, counts_after, world_with}
-use Rattle.asl_run.specs.Refusals.{refusal_if_full, refusal_by}
+use Rattle.asl_run.specs.Refusals.{refusal_by}
 use Rattle.asl_setup.specs.declared.setup.Setup.{Setup}
-use Rattle.asl_exec.specs.Steps.{facts_of, number_in, object_in, invokes_by, limits_in, seen_at, effect_in}
+use Rattle.asl_exec.specs.Steps.{facts_of, number_in, object_in, invokes_by, seen_at, effect_in}
 use Rattle.asl_exec.specs.Exchanges.{IsOneEach, invoked_by, are_one_name}
-use Rattle.asl_exec.proofs.Going.{does, next, slots_at, IsReady, record-after}
+use Rattle.asl_exec.proofs.Going.{does, next, slots_at, IsReady}
 use Rattle.asl_exec.proofs.Accepting.{effect-bounded, seen-is}
 use Rattle.asl_exchange.proofs.Apart.{IsApart, apart-sym}
 use Rattle.asl_exchange.proofs.Leaving.{record-stays, children-stay, forker-stays, iteration-stays, branches-commute}
@@ -34,11 +29,9 @@ use Rattle.asl_exchange.proofs.Fewer.{all-at, not-stopped, not-crowded, is_undon
 use Rattle.asl_exchange.proofs.Changing.{ready-later, undone-by, raises-apart}
 use Rattle.asl_exchange.proofs.OneEach.{one-after}
 use Rattle.asl_exchange.proofs.Telling.{Differ, count-stays}
-use Rattle.asl_exchange.proofs.Effects.{effect-made, effect-takes, effect-same, waiting}
-use Rattle.asl_exchange.proofs.Rooted.{is_joining, joins_at, joins_in, IsRooted, rooted-above, some-joins, below}
-use Rattle.asl_exchange.proofs.Rooting.{IsFit, rooted-after, one-place}
-use Rattle.asl_exchange.proofs.Families.{child-done, failed-stops, stopped-under, stopped-by-child}
-use Rattle.asl_exchange.proofs.Joining.{error-stays, absorbs, nothing-changes, all-are}
+use Rattle.asl_exchange.proofs.Effects.{effect-made, effect-takes}
+use Rattle.asl_exchange.proofs.Rooted.{is_joining, IsRooted}
+use Rattle.asl_exchange.proofs.Rooting.{IsFit, rooted-after}
 
 -- what a branch does is such a step
 pub record IsQuiet (s : Setup) (r : Record) (e : Effect) : Type 0 where
@@ -167,16 +160,16 @@ module _ (s : Setup) (u : World) (p q : List ℕ) (r m : Record) (e : Effect) (q
       let raises = unraised s u p r e w.so quiet in
       let same = same-ahead in
       let branches : branches_after q (does s (ahead s u p r e) q u.last m).after (does s (ahead s u p r e) q u.last m).children (branches_after p e.after e.children u.branches) ≡ branches_after p e.after e.children (branches_after q f.after f.children u.branches) =
-          ap (λ (z : Effect). branches_after q z.after z.children (branches_after p e.after e.children u.branches)) same
-          ∙ branches-commute p q e.after f.after e.children f.children u.branches a in
+      ap (λ (z : Effect). branches_after q z.after z.children (branches_after p e.after e.children u.branches)) same
+      ∙ branches-commute p q e.after f.after e.children f.children u.branches a in
       let counts : counts_after (number_in s.machine m) (does s (ahead s u p r e) q u.last m).raises (counts_after (number_in s.machine r) e.raises u.counts) ≡ counts_after (number_in s.machine r) e.raises (counts_after (number_in s.machine m) f.raises u.counts) =
-          ap (λ (z : Effect). counts_after (number_in s.machine m) z.raises (counts_after (number_in s.machine r) e.raises u.counts)) same
-          ∙ ap (λ (z : List ℕ). counts_after (number_in s.machine m) f.raises z) (counts-are (number_in s.machine r) e.raises u.counts raises)
-          ∙ sym (counts-are (number_in s.machine r) e.raises (counts_after (number_in s.machine m) f.raises u.counts) raises) in
+      ap (λ (z : Effect). counts_after (number_in s.machine m) z.raises (counts_after (number_in s.machine r) e.raises u.counts)) same
+      ∙ ap (λ (z : List ℕ). counts_after (number_in s.machine m) f.raises z) (counts-are (number_in s.machine r) e.raises u.counts raises)
+      ∙ sym (counts-are (number_in s.machine r) e.raises (counts_after (number_in s.machine m) f.raises u.counts) raises) in
       let outcome : outcome_after (does s (ahead s u p r e) q u.last m).outcome (outcome_after e.outcome u.outcome) ≡ outcome_after e.outcome (outcome_after f.outcome u.outcome) =
-          ap (λ (z : Effect). outcome_after z.outcome (outcome_after e.outcome u.outcome)) same
-          ∙ ap (λ (z : Rattle.asl_run.specs.declared.outcome.Outcome.Outcome). outcome_after f.outcome z) (none-over e.outcome quiet.silent u.outcome)
-          ∙ sym (none-over e.outcome quiet.silent (outcome_after f.outcome u.outcome)) in
+      ap (λ (z : Effect). outcome_after z.outcome (outcome_after e.outcome u.outcome)) same
+      ∙ ap (λ (z : Rattle.asl_run.specs.declared.outcome.Outcome.Outcome). outcome_after f.outcome z) (none-over e.outcome quiet.silent u.outcome)
+      ∙ sym (none-over e.outcome quiet.silent (outcome_after f.outcome u.outcome)) in
       λ i. record { branches = branches i; counts = counts i; events = []; last = u.last; deadline = u.deadline; outcome = outcome i }
 
 -- ---- what holds of each effect
@@ -196,7 +189,7 @@ fit s u q now m = record { made = effect-made (object_in s.machine m) (facts_of 
     by (Forked n x since uses items) h k j =
         let P : Record → Type 0 = λ o. are_kept (does s u q now o).children ≡ true → is_joining (does s u q now o).after ≡ true in
         let f : P (Forked n x since uses items) = kept-so (does s u q now (Forked n x since uses items)) n x since uses items
-            (effect-takes (facts_of s) (seen_at s.machine s.case u q now (Forked n x since uses items)) n x since uses items (object_in s.machine (Forked n x since uses items)) (children_at q u.branches)) in
+        (effect-takes (facts_of s) (seen_at s.machine s.case u q now (Forked n x since uses items)) n x since uses items (object_in s.machine (Forked n x since uses items)) (children_at q u.branches)) in
         subst P (sym h) f k
     by (Done x) h k j = let y : false ≡ true = rw h at j in absurd (cc)
     by (Failed e) h k j = let y : false ≡ true = rw h at j in absurd (cc)

@@ -1,7 +1,7 @@
 -- Branches have branches under them only while they wait for these, whatever happens at a place.
-use Rattle.std.proofs.Common.{ℕ, ◌≡◌, ◌+◌, ◌==◌, ◌&&◌, Bool, true, false, not, List, [], ◌∷◌, ◌++◌, refl, sym, ◌∙◌, ap, subst, cond, append_assoc, Some, None, Option}
+use Rattle.std.proofs.Common.{ℕ, ◌≡◌, ◌+◌, ◌==◌, ◌&&◌, Bool, true, false, not, List, [], ◌∷◌, ◌++◌, refl, sym, ◌∙◌, ap, subst, cond, append_assoc, Some}
 use Rattle.std.specs.Prelude.{is_some}
-use Rattle.std.proofs.lemmas.Bool.{and_parts, and_from, and_right, both_ways, false_from_ne_true, eqb-true, eq-eqb}
+use Rattle.std.proofs.lemmas.Bool.{and_parts, and_right, both_ways, false_from_ne_true, eqb-true}
 use Rattle.std.proofs.lemmas.List.Elements.{filter-append}
 use Rattle.std.specs.List.{filter}
 use Rattle.asl_json.specs.private.SameLaws.{bytes_refl}
@@ -10,9 +10,9 @@ use Rattle.asl_steps.specs.Bounds.{is_forked, are_kept}
 use Rattle.asl_steps.specs.declared.effect.Children.{Children}
 use Rattle.asl_steps.specs.declared.effect.Children.TheVariants.{Kept, Removed, Forked as Made}
 use Rattle.asl_steps.specs.declared.record.Record.{Record}
-use Rattle.asl_frames.specs.Branches.{Branch, same_place, first_of, record_at, numbered, made, family, branch_after, branches_after}
+use Rattle.asl_frames.specs.Branches.{Branch, same_place, record_at, numbered, made, family, branch_after, branches_after}
 use Rattle.asl_frames.proofs.Linking.{same-eq}
-use Rattle.asl_exchange.proofs.Apart.{prefix-self, prefix-append}
+use Rattle.asl_exchange.proofs.Apart.{prefix-append}
 use Rattle.asl_exchange.proofs.Leaving.{record-stays}
 use Rattle.asl_exchange.proofs.Rooted.{is_joining, joins_in, joins_at, IsRooted, below}
 

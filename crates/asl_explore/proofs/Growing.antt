@@ -1,18 +1,14 @@
 -- What was met stays met as a search goes on.
 use Rattle.std.proofs.Common.{ℕ, ◌≡◌, ◌<◌, ◌≤◌, ◌+◌, ◌++◌, ◌∙◌, ap, sym, refl, subst, arith, Bool, true, false, List, [], ◌∷◌, length, get_or}
 use Rattle.std.specs.Prelude.{nat_lt}
-use Rattle.std.specs.List.{All, AllWithin, Contains}
+use Rattle.std.specs.List.{All, Contains}
 use Rattle.std.proofs.lemmas.Bool.Decides.{nat_tests}
 use Rattle.std.proofs.lemmas.List.{append-nil, append_assoc, length-append, get_or_append_left, get_or_push}
 use Rattle.std.proofs.lemmas.List.Elements.{Contains-append_left}
 use Rattle.asl_run.specs.World.{World}
 use Rattle.asl_run.specs.Bare.{bare}
 use Rattle.asl_run.specs.declared.outcome.Outcome.{Outcome}
-use Rattle.asl_setup.specs.declared.setup.Setup.{Setup}
-use Rattle.asl_exec.specs.Steps.{step}
-use Rattle.asl_explore.specs.Orders.{due}
-use Rattle.asl_explore.specs.declared.orders.Orders.{Orders}
-use Rattle.asl_explore.specs.Searches.{IsMet, IsExpanded, IsLater, AreDistinct}
+use Rattle.asl_explore.specs.Searches.{IsMet, IsLater, AreDistinct}
 
 pub met-later : (ws vs : List World) (os us : List Outcome) (w : World) → IsLater ws os vs us → IsMet ws os w → IsMet vs us w
 met-later ws vs os us w l m = record {

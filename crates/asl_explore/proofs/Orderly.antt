@@ -1,13 +1,11 @@
 -- Orders of worlds without their histories, in which no branch is late; a quiet step may be taken first in each.
-use Rattle.std.proofs.Common.{ℕ, ◌≡◌, ◌⊎◌, inl, inr, ◌≤◌, ◌+◌, Bool, true, false, List, [], ◌∷◌, refl, sym, ◌∙◌, ap, subst, arith, length, max, Some, None, Option}
+use Rattle.std.proofs.Common.{ℕ, ◌≡◌, ◌⊎◌, inl, inr, ◌≤◌, Bool, true, false, List, [], ◌∷◌, refl, sym, ◌∙◌, ap, subst, arith, length, max, Some, None, Option}
 use Rattle.std.specs.Prelude.{is_some, ⊤}
-use Rattle.std.proofs.lemmas.Bool.{both_ways}
 use Rattle.asl_history.specs.Places.{is_prefix}
 use Rattle.asl_steps.specs.declared.effect.Effect.{Effect}
 use Rattle.asl_steps.specs.declared.record.Record.{Record}
 use Rattle.asl_steps.specs.declared.record.Record.TheVariants.{New, Ready, Pausing, Again, Forked, Done, Failed}
 use Rattle.asl_frames.specs.Branches.{record_at, is_stopped}
-use Rattle.asl_frames.specs.Earliest.{due_from}
 use Rattle.asl_run.specs.Bare.{bare}
 use Rattle.asl_run.specs.World.{World, is_over, is_late, world_with}
 use Rattle.asl_run.specs.Refusals.{refusal_of}

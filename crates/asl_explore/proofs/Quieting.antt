@@ -1,5 +1,5 @@
 -- What is known of a quiet step once it was taken.
-use Rattle.std.proofs.Common.{ℕ, ◌≡◌, ◌<◌, ◌∙◌, ap, sym, refl, subst, Bool, true, false, not, List, length, get_or, Option, Some, None}
+use Rattle.std.proofs.Common.{ℕ, ◌≡◌, ◌<◌, ◌∙◌, ap, sym, subst, Bool, true, not, List, length, get_or, Some}
 use Rattle.std.proofs.lemmas.Bool.{not-true}
 use Rattle.asl_steps.specs.declared.record.Record.{Record}
 use Rattle.asl_frames.specs.Branches.{record_at}

@@ -1,7 +1,7 @@
 -- A search that expanded worlds by quiet steps alone, each to a world of a higher number, left out nothing.
-use Rattle.std.proofs.Common.{ℕ, zero, suc, ◌≡◌, ◌<◌, ◌≤◌, ◌+◌, ◌⊎◌, inl, inr, Bool, true, false, List, [], ◌∷◌, ◌++◌, refl, sym, ◌∙◌, ap, subst, arith, length, get_or, max, Some, None, Option}
-use Rattle.std.specs.Prelude.{is_some, is_none}
-use Rattle.std.specs.List.{All, Contains}
+use Rattle.std.proofs.Common.{ℕ, zero, suc, ◌≡◌, ◌<◌, ◌≤◌, ◌+◌, ◌⊎◌, inl, inr, Bool, true, false, List, [], ◌∷◌, refl, sym, ◌∙◌, ap, subst, arith, length, get_or, max, Some, None, Option}
+use Rattle.std.specs.Prelude.{is_none}
+use Rattle.std.specs.List.{Contains}
 use Rattle.std.proofs.lemmas.Bool.{cond_both, both_ways}
 use Rattle.std.proofs.lemmas.List.{get_or_read}
 use Rattle.asl_steps.specs.declared.effect.Effect.{Effect}
@@ -15,16 +15,16 @@ use Rattle.asl_run.specs.declared.outcome.Outcome.{Outcome}
 use Rattle.asl_setup.specs.declared.setup.Setup.{Setup}
 use Rattle.asl_exec.specs.Exchanges.{IsOneEach}
 use Rattle.asl_exec.specs.Steps.{limits_in, refusal_in, moved_on, stepped, step, opening}
-use Rattle.asl_exec.proofs.Going.{does, next, GoesOn, so-goes, step-is}
+use Rattle.asl_exec.proofs.Going.{does, GoesOn, so-goes, step-is}
 use Rattle.asl_exchange.proofs.OneEach.{one-each, one-stepped}
 use Rattle.asl_exchange.proofs.Rooted.{IsRooted}
-use Rattle.asl_exchange.proofs.Pending.{IsQuiet, IsPending, ahead, after, none-over, rooted-next, each-next}
+use Rattle.asl_exchange.proofs.Pending.{IsQuiet, IsPending, ahead, none-over, rooted-next, each-next}
 use Rattle.asl_explore.specs.declared.orders.Orders.{Orders}
 use Rattle.asl_explore.specs.declared.orders.Orders.TheVariants.{Every, Prompt}
 use Rattle.asl_explore.specs.Orders.{due, after_order, AreTried, IsWhole}
 use Rattle.asl_explore.specs.Searches.{IsMet, IsExpanded, IsReduced, IsTakenOn, AreTakenOn}
 use Rattle.asl_explore.proofs.Bare.{step-bare, over-refuses}
-use Rattle.asl_explore.proofs.Orderly.{go, after_bare, ArePrompt, Order, quiet-first}
+use Rattle.asl_explore.proofs.Orderly.{go, after_bare, ArePrompt, quiet-first}
 use Rattle.asl_explore.proofs.Whole.{closed-whole}
 
 -- ---- what holds of each world without its history
@@ -128,8 +128,15 @@ module _ (s : Setup) (ws : List World) (os : List Outcome) (E : World → Type 0
         let e = does s w p w.last r in
         let quiet : IsQuiet s r e = record { mute = x.quiet.mute r g.is_ready.there; silent = g.silent; whole = g.whole } in
         let pending : IsPending s w p r e = record {
-          running = running; early = g.is_ready.early; untold = good.untold; there = g.is_ready.there; ready = g.is_ready.ready;
-          so = refl; rooted = good.rooted; each = good.each } in
+          running = running;
+          early = g.is_ready.early;
+          untold = good.untold;
+          there = g.is_ready.there;
+          ready = g.is_ready.ready;
+          so = refl;
+          rooted = good.rooted;
+          each = good.each;
+        } in
         let o = quiet-first s p r e quiet E (closed p r e quiet) ps w pending prompt ends in
         let is : bare (step s w p w.last) ≡ ahead s w p r e = ap bare (step-is s w p w.last w.last r same g.is_ready).1 in
         let l = x.later in

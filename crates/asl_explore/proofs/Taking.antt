@@ -1,17 +1,16 @@
 -- Of the first worlds of a search enough steps were taken.
-use Rattle.std.proofs.Common.{ℕ, ◌≡◌, ◌<◌, ◌≤◌, ◌+◌, ◌⊎◌, inl, inr, ◌∙◌, sym, refl, subst, arith, Bool, true, false, List, length, get_or}
+use Rattle.std.proofs.Common.{ℕ, ◌≡◌, ◌<◌, ◌≤◌, ◌+◌, inl, inr, ◌∙◌, sym, refl, subst, arith, Bool, true, false, List, length, get_or}
 use Rattle.std.specs.Prelude.{nat_lt}
 use Rattle.std.specs.List.{AllWithin, HoldsAt}
 use Rattle.std.proofs.lemmas.List.Elements.{AllWithin-more}
 use Rattle.std.proofs.lemmas.Bool.Decides.{nat_tests}
 use Rattle.asl_run.specs.World.{World}
-use Rattle.asl_run.specs.Bare.{bare}
 use Rattle.asl_run.specs.declared.outcome.Outcome.{Outcome}
 use Rattle.asl_setup.specs.declared.setup.Setup.{Setup}
 use Rattle.asl_exec.specs.Steps.{step, opening}
 use Rattle.asl_explore.specs.Orders.{due, IsWhole}
 use Rattle.asl_explore.specs.declared.orders.Orders.{Orders}
-use Rattle.asl_explore.specs.Searches.{IsMet, IsExpanded, IsReduced, IsTakenOn, AreTakenOn, IsLater, StandsAt}
+use Rattle.asl_explore.specs.Searches.{IsMet, IsTakenOn, AreTakenOn, IsLater}
 use Rattle.asl_explore.proofs.Growing.{met-later, later-at, later-length}
 use Rattle.asl_explore.proofs.Reduced.{taken-whole}
 

@@ -1,7 +1,7 @@
 -- Where no branch ever waits, every order is one in which no branch is late.
-use Rattle.std.proofs.Common.{ℕ, ◌≡◌, ◌<◌, ◌≤◌, ◌⊎◌, inl, inr, Bool, true, false, List, [], ◌∷◌, ◌++◌, refl, sym, ◌∙◌, ap, subst, arith, length, get_or, max, Some, None, Option}
+use Rattle.std.proofs.Common.{ℕ, ◌≡◌, ◌<◌, ◌≤◌, ◌⊎◌, inl, inr, Bool, true, false, List, [], ◌∷◌, ◌++◌, refl, sym, ◌∙◌, ap, subst, arith, length, max, Some, None, Option}
 use Rattle.std.specs.Prelude.{is_some, is_none, nat_lt}
-use Rattle.std.specs.List.{All, Contains}
+use Rattle.std.specs.List.{Contains}
 use Rattle.std.proofs.lemmas.Bool.{cond_both, both_ways}
 use Rattle.std.proofs.lemmas.Bool.Decides.{nat_tests}
 use Rattle.std.proofs.lemmas.List.{get_or_read}
@@ -10,25 +10,23 @@ use Rattle.asl_steps.specs.Records.{is_done, is_failed}
 use Rattle.asl_steps.specs.declared.effect.Effect.{Effect}
 use Rattle.asl_steps.specs.declared.record.Record.{Record}
 use Rattle.asl_steps.specs.declared.record.Record.TheVariants.{New, Ready, Pausing, Again, Forked, Done, Failed}
-use Rattle.asl_frames.specs.Branches.{record_at, is_stopped, forker_at}
+use Rattle.asl_frames.specs.Branches.{record_at, forker_at}
 use Rattle.asl_frames.specs.Earliest.{due_from}
 use Rattle.asl_frames.specs.Turns.{limit_of}
 use Rattle.asl_run.specs.Bare.{bare}
 use Rattle.asl_run.specs.World.{World, is_over, is_late, timed_out}
 use Rattle.asl_run.specs.declared.outcome.Outcome.{Outcome}
 use Rattle.asl_run.specs.declared.refusal.Refusal.{Refusal}
-use Rattle.asl_run.proofs.Accepting.{has_place}
 use Rattle.asl_setup.specs.declared.setup.Setup.{Setup}
 use Rattle.asl_exec.specs.Steps.{limits_in, refusal_in, moved_on, stepped, step, opening, deadline_of}
 use Rattle.asl_exec.proofs.Accepting.{step_refused}
 use Rattle.asl_exec.proofs.Going.{IsReady}
-use Rattle.asl_exchange.proofs.Apart.{IsApart}
 use Rattle.asl_exchange.proofs.Fewer.{not-stopped}
 use Rattle.asl_exchange.proofs.Leaving.{record-stays}
 use Rattle.asl_exchange.proofs.Rooted.{is_joining, rooted-above, below}
 use Rattle.asl_exchange.proofs.Rooting.{one-place}
 use Rattle.asl_exchange.proofs.Pending.{IsQuiet, IsPending, ahead, none-over}
-use Rattle.asl_exchange.proofs.Inline.{IsGoing, none-under, ready-due}
+use Rattle.asl_exchange.proofs.Inline.{none-under, ready-due}
 use Rattle.asl_explore.specs.declared.orders.Orders.TheVariants.{Every, Prompt}
 use Rattle.asl_explore.specs.Orders.{due_of, due, after_order, IsPrompt, AreTried, IsWhole}
 use Rattle.asl_explore.specs.Searches.{IsMet, AreTakenOn, Waits, NoneWaits}
@@ -160,8 +158,7 @@ module _ (s : Setup) (w : World) (p : List ℕ) (none : w.deadline ≡ None) (ne
   prompt : IsPrompt s w p
   prompt =
       let x = so-ready s w p (due w p) accepted early in
-      let e = at-last in
-      (
+      let e = at-last in (
         (ap is_some x.1.there, bare-accepts w p (due w p) (limit_of (limits_in s.machine) (forker_at p w.branches)) accepted),
         λ q may. let l = due-least w.last (record_at q w.branches) in omega (arith, e, l),
       )

@@ -1,4 +1,4 @@
-use Rattle.std.proofs.Common.{[], ◌⊎◌, inl, arith, subst, get_or}
+use Rattle.std.proofs.Common.{[], inl, arith, subst, get_or}
 use Rattle.std.proofs.lemmas.List.{length-map}
 use Rattle.std.proofs.lemmas.Result.{IfOk-weaker}
 use Rattle.asl_run.specs.Bare.{bare}

@@ -1,8 +1,7 @@
-use Rattle.std.proofs.Common.{List, subst, sym, arith}
+use Rattle.std.proofs.Common.{List, subst, sym}
 use Rattle.asl_explore.specs.declared.met.Node.{Node}
 use Rattle.asl_explore.specs.Searches.{worlds_of, IsLater}
 use Rattle.asl_explore.proofs.Growing.{later-same}
-use Rattle.asl_explore.proofs.Expanding.{stands-behind}
 use Rattle.asl_explore.proofs.met.Met.put.Goals as goal
 
 pub returns-in-Some-clause-later : goal.returns-in-Some-clause-later
