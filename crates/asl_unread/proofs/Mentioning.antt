@@ -1,12 +1,12 @@
 -- What no text may read by its bytes, no text reads.
-use Rattle.std.proofs.Common.{◌≡◌, ◌⊎◌, inl, inr, ℕ, List, [], ◌∷◌, ◌++◌, Bool, true, false, ◌&&◌, ◌||◌, refl, sym, ap, ◌∙◌, cond, Option, Some, None}
+use Rattle.std.proofs.Common.{◌≡◌, inl, inr, ℕ, List, [], ◌∷◌, ◌++◌, Bool, true, false, ◌&&◌, refl, sym, ap, ◌∙◌, Some}
 use Rattle.std.specs.Prelude.{Result, Ok, Err}
 use Rattle.std.proofs.lemmas.Bool.{true≢false, or_parts, or_from, and_left, and_right, eq-eqb}
 use Rattle.std.specs.Cmp.Lexicographic.{same_text}
 use Rattle.asl_json.specs.Data.{Data, null, boolean, number, text, list, dict, Chain, no_items, item, Pairs, no_members, member}
-use Rattle.asl_json.specs.Parts.{Joined, Spaced, Behind, Parts, MoreParts}
+use Rattle.asl_json.specs.Parts.{Spaced, Parts, MoreParts}
 use Rattle.asl_json.specs.Same.{bytes_eq}
-use Rattle.asl_path.specs.Grammar.{SpellsDotted, SpellsStep, SpellsSteps, SpellsPath}
+use Rattle.asl_path.specs.Grammar.{SpellsStep, SpellsSteps, SpellsPath}
 use Rattle.asl_path.specs.declared.step.Root.{Root}
 use Rattle.asl_path.specs.declared.step.Root.TheVariants.{Input, Context}
 use Rattle.asl_path.specs.declared.step.Step.{Step}
