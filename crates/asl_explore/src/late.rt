@@ -72,7 +72,7 @@ pub(crate) fn late_among(
     if found.len() < 2 || !any_waits(alloc, nodes)? {
         return Ok(Vec::new(alloc));
     }
-    let Some(prompt) = search(execution, alloc, Orders::Prompt, limit, &Unwatched)? else {
+    let Some(prompt) = search(execution, alloc, Orders::Prompt, true, limit, &Unwatched)? else {
         return Ok(Vec::new(alloc));
     };
     if !prompt.complete {
