@@ -11,7 +11,7 @@ use std::{env, io};
 const FORMATS: [&str; 3] = ["text", "junit", "json"];
 
 /// The words for the formats of runs.
-const RUN_FORMATS: [&str; 5] = ["text", "json", "aws", "steps", "tree"];
+const RUN_FORMATS: [&str; 6] = ["text", "json", "aws", "steps", "tree", "data"];
 
 /// The words for the languages of graphs.
 const LANGUAGES: [&str; 2] = ["mermaid", "dot"];
@@ -123,6 +123,8 @@ pub enum RunFormat {
     Steps,
     /// What happened at each state, for a person.
     Tree,
+    /// The same, with what each state made of its data, stage by stage.
+    Data,
 }
 
 /// The words of `run`.
@@ -322,6 +324,7 @@ fn run_format_of(word: Option<&str>) -> RunFormat {
         Some("aws") => RunFormat::Aws,
         Some("steps") => RunFormat::Steps,
         Some("tree") => RunFormat::Tree,
+        Some("data") => RunFormat::Data,
         _ => RunFormat::Text,
     }
 }
