@@ -3,7 +3,7 @@ use Rattle.std.specs.Prelude.{ℕ, Bool, List, Option, Some, None}
 use Rattle.asl_setup.specs.Emulations.{Texts}
 use Rattle.asl_exec.specs.Emulations.{IsRunOf}
 use Rattle.asl_outputs.specs.declared.format.Format.{Format}
-use Rattle.asl_outputs.specs.declared.format.Format.TheVariants.{Json, Aws, Steps, Tree}
+use Rattle.asl_outputs.specs.declared.format.Format.TheVariants.{Json, Aws, Steps, Tree, Data}
 use Rattle.asl_outputs.specs.Told.{IsToldRunOf}
 use Rattle.asl_host.specs.declared.words.RunFormat.{RunFormat}
 use Rattle.asl_host.specs.declared.words.RunFormat.TheVariants as word
@@ -15,6 +15,7 @@ format_of word.Json = Some Json
 format_of word.Aws = Some Aws
 format_of word.Steps = Some Steps
 format_of word.Tree = Some Tree
+format_of word.Data = Some Data
 
 -- a run prints this text in the format
 abbrev pub IsRunIn : Option Format → Texts → ℕ → List ℕ → Bool → Type 0

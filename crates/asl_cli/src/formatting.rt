@@ -21,6 +21,7 @@ fn format_of(format: RunFormat) -> Option<Format>
         RunFormat::Aws => Some(Format::Aws),
         RunFormat::Steps => Some(Format::Steps),
         RunFormat::Tree => Some(Format::Tree),
+        RunFormat::Data => Some(Format::Data),
     }
 }
 

@@ -11,7 +11,6 @@ use crate::reporting::{percent_of, text_of};
 use asl_def::Machine;
 use asl_exec::Setup;
 use asl_json::Json;
-use asl_trace::twin_of;
 use std::alloc::{AllocError, Global};
 use std::marker::Model;
 
@@ -20,7 +19,6 @@ use std::marker::Model;
 pub struct Coverage {
     points: Vec<Point>,
     plan: Plan,
-    twin: Machine,
     mocks: Json,
 }
 
@@ -30,7 +28,6 @@ impl Drop for Coverage {
         let Coverage {
             points: _points,
             plan: _plan,
-            twin: _twin,
             mocks: _mocks,
         } = self;
     }
@@ -66,13 +63,11 @@ impl Coverage {
     /// What tests of a machine with this mock file can cover, of which nothing is covered yet. The error is that memory ran out.
     pub fn new(alloc: Global, machine: &Machine, mocks: Json) -> Result<Coverage, AllocError> {
         let definition = machine.json(alloc)?;
-        let twin = twin_of(alloc, machine, &definition)?;
         let listing = Listing::of(alloc, &definition, &mocks)?;
         let (points, plan) = listing.into_parts();
         Ok(Coverage {
             points,
             plan,
-            twin,
             mocks,
         })
     }
@@ -81,7 +76,6 @@ impl Coverage {
     fn seen_in(&self, alloc: Global, setup: Setup, case: &str) -> Result<Vec<usize>, AllocError> {
         let sight = Sight {
             plan: &self.plan,
-            twin: &self.twin,
             case: case_in(&self.mocks, setup.name_of_machine.as_str(), case),
         };
         sight.seen_in(alloc, setup)

@@ -1,22 +1,19 @@
 // What an execution covers.
 use crate::plan::{Plan, Spots};
-use asl_def::Machine;
 use asl_exec::{Execution, Refusal, Setup, StepAt};
 use asl_history::{Event, EventKind};
 use asl_json::{Json, Name};
 use asl_steps::{Context, Facts};
-use asl_trace::{Deciding, decided_at};
+use asl_trace::{Deciding, Staged, decided_at};
 use std::alloc::{AllocError, Global};
 
 /// At most so many steps are taken, as in the run of a test.
 const MOST_STEPS: u32 = 10_000;
 
-/// What is needed to see what an execution covers: the numbers of points, the machine without what handles errors, and the case of the
-/// mock file, where there is one.
+/// What is needed to see what an execution covers: the numbers of points, and the case of the mock file, where there is one.
 #[derive(Clone, Copy)]
 pub(crate) struct Sight<'a> {
     pub(crate) plan: &'a Plan,
-    pub(crate) twin: &'a Machine,
     pub(crate) case: Option<&'a Json>,
 }
 
@@ -133,11 +130,12 @@ impl<'a> Sight<'a> {
     ) -> Result<Before, AllocError> {
         let state = state_at(execution, at)?;
         let count = count_of(execution, &state);
+        let decided = decided_at(alloc, execution, Staged::Handling, context, at)?;
         Ok(Before {
             state,
             count,
             told: execution.history().len(),
-            deciding: decided_at(alloc, execution, self.twin, context, at)?.deciding,
+            deciding: decided.deciding,
         })
     }
 

@@ -10,17 +10,18 @@ use Rattle.asl_exec.specs.Steps.{opening}
 use Rattle.asl_formats.specs.JsonLines.{json_lines_text}
 use Rattle.asl_formats.specs.Aws.{aws_text}
 use Rattle.asl_outputs.specs.declared.format.Format.{Format}
-use Rattle.asl_outputs.specs.declared.format.Format.TheVariants.{Json, Aws, Steps, Tree}
+use Rattle.asl_outputs.specs.declared.format.Format.TheVariants.{Json, Aws, Steps, Tree, Data}
 use Rattle.asl_setup.specs.StepsFile.{steps_file}
 use Rattle.asl_outputs.specs.Taken.{taken_by}
 
--- this text, of an execution that took these steps to this world. Of the tree nothing is said here: its
--- lines of a step are what asl_tree's definitions say
+-- this text, of an execution that took these steps to this world. Of the tree nothing is said here, with
+-- changes or with stages: its lines of a step are what the definitions of asl_tree and asl_stages say
 abbrev pub Tells : Format → List StepAt → World → List ℕ → Type 0
 Tells Json ss w text = text ≡ json_lines_text w.events
 Tells Aws ss w text = text ≡ aws_text w.events
 Tells Steps ss w text = text ≡ steps_file ss
 Tells Tree ss w text = ⊤
+Tells Data ss w text = ⊤
 
 -- the text is what the run that the texts spell prints, and says whether the execution has succeeded
 -- then; where no file names steps, those that come next are taken, at most so many

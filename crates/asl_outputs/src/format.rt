@@ -11,6 +11,7 @@ use crate::treeing::tree_by;
 use asl_exec::{Execution, StepAt};
 use asl_formats::{aws_json, lines_of_json};
 use asl_setup::put_steps;
+use asl_trace::Shows;
 use std::alloc::{AllocError, Global};
 
 /// How a run is printed.
@@ -24,6 +25,8 @@ pub enum Format {
     Steps,
     /// What happened at each state, for a person.
     Tree,
+    /// The same, with what each state made of its data, stage by stage.
+    Data,
 }
 
 /// Takes the steps of a list in order, and without a list those that come next, at most so many; what the run prints. The error is that
@@ -57,6 +60,7 @@ pub(crate) fn printed(
             put_steps(&mut out, &steps)?;
             Ok(out)
         }
-        Format::Tree => tree_by(alloc, execution, steps, limit),
+        Format::Tree => tree_by(alloc, Shows::Changes, execution, steps, limit),
+        Format::Data => tree_by(alloc, Shows::Stages, execution, steps, limit),
     }
 }

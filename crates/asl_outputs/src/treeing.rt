@@ -7,7 +7,7 @@ ghost use Rattle.asl_exec.specs.Steps.{world_after};
 ghost use Rattle.asl_exec.specs.Views.{setup_of, world_of};
 
 use asl_exec::{Execution, StepAt};
-use asl_trace::Tree;
+use asl_trace::{Shows, Tree};
 use std::alloc::{AllocError, Global};
 
 /// Takes the step that comes next, where one does, and tells of it. Which it was. The error is that memory ran out.
@@ -54,10 +54,11 @@ fn tell_listed(
     Ok(())
 }
 
-/// Takes the steps of a list in order; without a list those that come next, at most so many. Tells what happened at each state. The error
-/// is that memory ran out.
+/// Takes the steps of a list in order; without a list those that come next, at most so many. Tells what happened at each state, and this
+/// of its data. The error is that memory ran out.
 pub(crate) fn tree_by(
     alloc: Global,
+    shows: Shows,
     execution: &mut Execution,
     steps: Option<Vec<StepAt>>,
     limit: u32,
@@ -65,7 +66,7 @@ pub(crate) fn tree_by(
     ensures { OnOk result (world_of execution.new
         ≡ world_by limit (setup_of execution.old) (world_of execution.old) (steps_in steps)) }
 {
-    let mut tree = Tree::open(alloc, execution)?;
+    let mut tree = Tree::open(alloc, execution, shows)?;
     match steps {
         None => tell_driven(&mut tree, execution, limit)?,
         Some(steps) => tell_listed(&mut tree, execution, &steps)?,

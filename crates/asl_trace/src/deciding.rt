@@ -1,12 +1,13 @@
 // What decides in a step.
+use crate::sides::policy_of;
 use asl_data::{Fault, taken};
-use asl_def::Machine;
 use asl_exec::{Execution, StepAt};
 use asl_handle::{Decision, Policy};
 use asl_kinds::StateKind;
-use asl_parts::{Catcher, Catchers, Completion};
+use asl_parts::{Catcher, Catchers};
+use asl_stages::{Stage, raised_in, stages_of};
 use asl_states::{Choice, State};
-use asl_steps::{Context, ErrorOut, Record, Visit};
+use asl_steps::{Context, ErrorOut, Visit};
 use std::alloc::{AllocError, Global};
 
 /// What decides in a step what becomes of the branch. Numbers count from 0.
@@ -26,40 +27,49 @@ pub enum Deciding {
     Catcher(usize),
 }
 
-/// What decides in a step, and the error that the state raises in it, where it may have retriers and catchers.
+/// Of which states the stages of their data are wanted.
+#[derive(Clone, Copy, PartialEq, Eq)]
+pub enum Staged {
+    /// Of those that may have retriers and catchers: what decides there is asked of the error that they raise.
+    Handling,
+    /// Of all.
+    All,
+}
+
+/// What decides in a step, and the stages of the state's data in it, where they are wanted.
 #[derive(Drop)]
 pub struct Decided {
     pub deciding: Deciding,
-    pub raised: Option<ErrorOut>,
+    pub stages: Vec<Stage>,
 }
 
-/// That this decides in a step in which no error is raised.
-fn without_error(deciding: Deciding) -> Decided {
+/// That nothing decides.
+fn undecided(alloc: Global) -> Decided {
     Decided {
-        deciding,
-        raised: None,
+        deciding: Deciding::Nothing,
+        stages: Vec::new(alloc),
     }
 }
 
-/// What decides in a step of the branch that is at the place. The twin is the execution's machine without what handles errors, and the
-/// context is the execution's; it is written over. The error is that memory ran out.
+/// What decides in a step of the branch that is at the place. The context is the execution's; it is written over. The error is that
+/// memory ran out.
 pub fn decided_at(
     alloc: Global,
     execution: &Execution,
-    twin: &Machine,
+    staged: Staged,
     context: &mut Context,
     at: &StepAt,
 ) -> Result<Decided, AllocError> {
     let world = execution.world();
     if world.is_late(at.moment) {
-        return Ok(without_error(Deciding::Nothing));
+        return Ok(undecided(alloc));
     }
     let Some(frame) = world.frame_at(&at.place) else {
-        return Ok(without_error(Deciding::Nothing));
+        return Ok(undecided(alloc));
     };
     let current = frame.held();
     let Some((number, state)) = execution.setup().machine.find(current.name()) else {
-        return Ok(without_error(Deciding::Nothing));
+        return Ok(undecided(alloc));
     };
     let children = frame.child_records(alloc)?;
     let visit = Visit {
@@ -73,30 +83,35 @@ pub fn decided_at(
         case: &execution.setup().case,
         moment: world.present(at.moment),
     };
-    by_state(alloc, state, twin, &visit, context)
+    by_state(alloc, state, staged, &visit, context)
+}
+
+/// Whether states of this type may have retriers and catchers.
+fn handles(state: &State) -> bool {
+    match state {
+        State::Task(_) | State::Parallel(_) | State::Map(_) => true,
+        _ => false,
+    }
 }
 
 /// The same of a step in this state.
 fn by_state(
     alloc: Global,
     state: &State,
-    twin: &Machine,
+    staged: Staged,
     visit: &Visit,
     context: &mut Context,
 ) -> Result<Decided, AllocError> {
-    match state {
-        State::Choice(choice) => by_rules(alloc, choice, visit, context),
-        State::Task(task) => by_handlers(alloc, task.completion(), twin, visit, context),
-        State::Parallel(parallel) => by_handlers(
-            alloc,
-            parallel.completion(),
-            twin,
-            visit,
-            context,
-        ),
-        State::Map(map) => by_handlers(alloc, map.completion(), twin, visit, context),
-        _ => Ok(without_error(Deciding::Next)),
-    }
+    let stages = if staged == Staged::All || handles(state) {
+        stages_of(alloc, state, visit, context)?
+    } else {
+        Vec::new(alloc)
+    };
+    let deciding = match state {
+        State::Choice(choice) => by_rules(alloc, choice, visit, context)?,
+        _ => by_error(raised_in(&stages), state, visit),
+    };
+    Ok(Decided { deciding, stages })
 }
 
 /// The first rule of a Choice that holds, else `Default`.
@@ -105,9 +120,9 @@ fn by_rules(
     choice: &Choice,
     visit: &Visit,
     context: &mut Context,
-) -> Result<Decided, AllocError> {
+) -> Result<Deciding, AllocError> {
     let Some(input) = visit.current.entering() else {
-        return Ok(without_error(Deciding::Nothing));
+        return Ok(Deciding::Nothing);
     };
     let value = match taken(
         alloc,
@@ -118,54 +133,37 @@ fn by_rules(
         context,
     ) {
         Ok(value) => value,
-        Err(Fault::Raised(_)) => return Ok(without_error(Deciding::Nothing)),
+        Err(Fault::Raised(_)) => return Ok(Deciding::Nothing),
         Err(Fault::Memory) => return Err(AllocError),
     };
     context.show(alloc, visit)?;
     for (number, rule) in choice.choices().as_slice().iter().enumerate() {
         match rule.rule.holds(value.get(), context.shown()) {
-            Ok(true) => return Ok(without_error(Deciding::Rule(number))),
+            Ok(true) => return Ok(Deciding::Rule(number)),
             Ok(false) => {}
-            Err(_) => return Ok(without_error(Deciding::Nothing)),
+            Err(_) => return Ok(Deciding::Nothing),
         }
     }
-    Ok(without_error(Deciding::Default))
+    Ok(Deciding::Default)
 }
 
-/// `Next`, or what handles the error that the state raises: that with which it fails in the twin.
-fn by_handlers(
-    alloc: Global,
-    completion: &Completion,
-    twin: &Machine,
-    visit: &Visit,
-    context: &mut Context,
-) -> Result<Decided, AllocError> {
-    let Some((_, state)) = twin.find(visit.current.name()) else {
-        return Ok(without_error(Deciding::Nothing));
-    };
-    let effect = state.visit(alloc, visit, context)?;
-    match &effect.after {
-        Record::Failed(error) => Ok(Decided {
-            deciding: handler_of(error, completion, visit),
-            raised: Some(error.try_clone(alloc)?),
-        }),
-        _ => Ok(without_error(Deciding::Next)),
+/// `Next`, or what handles the error that the state raises.
+fn by_error(error: Option<&ErrorOut>, state: &State, visit: &Visit) -> Deciding {
+    match error {
+        Some(error) => handler_of(error, policy_of(state), visit),
+        None => Deciding::Next,
     }
 }
 
 /// What handles an error.
-fn handler_of(error: &ErrorOut, completion: &Completion, visit: &Visit) -> Deciding {
+fn handler_of(error: &ErrorOut, policy: Policy<'_>, visit: &Visit) -> Deciding {
     let name = match &error.error {
         Some(name) => name.as_str(),
         None => "",
     };
-    let policy = Policy {
-        retriers: completion.retry(),
-        catchers: completion.catch(),
-    };
     match policy.decide(name, visit.current.uses(), visit.moment) {
         Decision::Again { retrier, .. } => Deciding::Retrier(retrier),
-        Decision::Caught { catcher } => number_of(catcher, completion.catch()),
+        Decision::Caught { catcher } => number_of(catcher, policy.catchers),
         Decision::Unhandled => Deciding::Nothing,
     }
 }

@@ -3,25 +3,43 @@ ghost use Rattle.std.specs.Prelude.{◌≡◌, OnOk};
 ghost use Rattle.asl_exec.specs.Steps.{step};
 ghost use Rattle.asl_exec.specs.Views.{setup_of, world_of};
 
-use crate::deciding::{Decided, Deciding, decided_at};
+use crate::deciding::{Decided, Deciding, Staged, decided_at};
 use crate::sides::{kind_of, policy_of};
 use crate::stopping::put_stopped_under;
-use crate::twin::twin_of;
-use asl_def::Machine;
 use asl_diff::put_short;
 use asl_exec::{Execution, Outcome, Setup, StepAt};
-use asl_json::{Name, put};
+use asl_json::{Json, Name, put};
 use asl_run::put_step;
+use asl_stages::{Stage, put_stages, put_whole, raised_in};
 use asl_steps::{Context, ErrorOut, Facts, Record, error_output};
 use asl_time::Moment;
-use asl_tree::{Happening, put_happening, put_timed_out};
+use asl_tree::{Happening, put_happening, put_row, put_timed_out, under};
 use std::alloc::{AllocError, Global};
+
+/// What is told of a state's data.
+#[derive(Clone, Copy, PartialEq, Eq)]
+pub enum Shows {
+    /// What is otherwise in its output than in its raw input.
+    Changes,
+    /// What each stage of it gives.
+    Stages,
+}
+
+impl Shows {
+    /// Of which states the stages are wanted.
+    fn staged(self) -> Staged {
+        match self {
+            Shows::Changes => Staged::Handling,
+            Shows::Stages => Staged::All,
+        }
+    }
+}
 
 /// The lines of an execution's steps so far, and what is needed to tell the next one.
 pub struct Tree {
     alloc: Global,
     out: String,
-    twin: Machine,
+    shows: Shows,
     context: Context,
 }
 
@@ -31,7 +49,7 @@ impl Drop for Tree {
         let Tree {
             alloc: _alloc,
             out: _out,
-            twin: _twin,
+            shows: _shows,
             context: _context,
         } = self;
     }
@@ -82,21 +100,44 @@ fn rule_in(deciding: Deciding) -> Option<usize> {
     }
 }
 
+/// Appends an input: the whole of it where stages are shown.
+fn put_input(
+    alloc: Global,
+    out: &mut String,
+    shows: Shows,
+    input: &Json,
+) -> Result<(), AllocError> {
+    match shows {
+        Shows::Changes => put_short(alloc, out, input),
+        Shows::Stages => put_whole(alloc, out, input),
+    }
+}
+
+/// Appends the lines of a step with these stages.
+fn put_staged(
+    alloc: Global,
+    out: &mut String,
+    step: &Happening,
+    stages: &[Stage],
+) -> Result<(), AllocError> {
+    put_row(alloc, out, step)?;
+    let lead = under(alloc, step.place)?;
+    put_stages(alloc, out, lead.as_str(), stages)
+}
+
 impl Tree {
     /// The line of the input of an execution that no step was taken of yet. The error is that memory ran out.
-    pub fn open(alloc: Global, execution: &Execution) -> Result<Tree, AllocError> {
+    pub fn open(alloc: Global, execution: &Execution, shows: Shows) -> Result<Tree, AllocError> {
         let setup = execution.setup();
-        let definition = setup.machine.json(alloc)?;
-        let twin = twin_of(alloc, &setup.machine, &definition)?;
         let context = Context::new(alloc, facts_of(alloc, setup)?)?;
         let mut out = String::new(alloc);
         out.push_str("input ")?;
-        put_short(alloc, &mut out, setup.input.get())?;
+        put_input(alloc, &mut out, shows, setup.input.get())?;
         out.push('\n')?;
         Ok(Tree {
             alloc,
             out,
-            twin,
+            shows,
             context,
         })
     }
@@ -112,7 +153,8 @@ impl Tree {
         let record = frame.held().try_clone(alloc)?;
         let count = count_of(execution, record.name());
         put_stopped_under(alloc, &mut self.out, execution.setup().start, now, frame)?;
-        let decided = decided_at(alloc, execution, &self.twin, &mut self.context, at)?;
+        let staged = self.shows.staged();
+        let decided = decided_at(alloc, execution, staged, &mut self.context, at)?;
         Ok(Some(Before {
             record,
             count,
@@ -145,10 +187,13 @@ impl Tree {
             before: &before.record,
             after: frame.held(),
             branches: frame.children().len(),
-            raised: before.decided.raised.as_ref(),
+            raised: raised_in(&before.decided.stages),
             rule: rule_in(before.decided.deciding),
         };
-        put_happening(self.alloc, &mut self.out, &step)
+        match self.shows {
+            Shows::Changes => put_happening(self.alloc, &mut self.out, &step),
+            Shows::Stages => put_staged(self.alloc, &mut self.out, &step, &before.decided.stages),
+        }
     }
 
     /// A step that is refused, with the line that a run prints.
@@ -200,7 +245,7 @@ impl Tree {
         let Tree {
             alloc: _alloc,
             mut out,
-            twin: _twin,
+            shows: _shows,
             context: _context,
         } = self;
         put_status(alloc, &mut out, execution.outcome())?;

@@ -65,8 +65,8 @@ fn put_spaces(out: &mut String, n: usize) -> Result<(), AllocError>
     Ok(())
 }
 
-/// Appends a text in a column of so many bytes.
-fn put_padded(out: &mut String, width: usize, text: &str) -> Result<(), AllocError>
+/// Appends a text in a column of so many bytes; a longer one is as long as it is. The error is that memory ran out.
+pub fn put_padded(out: &mut String, width: usize, text: &str) -> Result<(), AllocError>
     ensures { OnOk result (string_bytes out.new ≡ string_bytes out.old ++ padded width text.now) }
 {
     out.push_str(text)?;
@@ -97,8 +97,8 @@ pub(crate) fn put_lead(
     put_place(alloc, out, place)
 }
 
-/// What stands before a line that belongs to the one of this place.
-pub(crate) fn under(alloc: Global, place: &Place) -> Result<String, AllocError>
+/// What stands before a line that belongs to the one of this place. The error is that memory ran out.
+pub fn under(alloc: Global, place: &Place) -> Result<String, AllocError>
     ensures { IfOk result (λ t. string_bytes t ≡ under place.now) }
 {
     let mut out = String::new(alloc);

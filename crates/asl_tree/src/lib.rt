@@ -10,5 +10,6 @@ mod happening;
 mod lines;
 mod outcome;
 
+pub use columns::{put_padded, under};
 pub use happening::Happening;
-pub use lines::{put_happening, put_stopped, put_timed_out};
+pub use lines::{put_happening, put_row, put_stopped, put_timed_out};

@@ -52,7 +52,8 @@ fn put_end(alloc: Global, out: &mut String, step: &Happening) -> Result<(), Allo
     put_ended(out, outcome.as_str(), goes.as_str())
 }
 
-fn put_row(alloc: Global, out: &mut String, step: &Happening) -> Result<(), AllocError>
+/// Appends the first line of a step: what became of the state, and where its branch goes on. The error is that memory ran out.
+pub fn put_row(alloc: Global, out: &mut String, step: &Happening) -> Result<(), AllocError>
     ensures { OnOk result (string_bytes out.new ≡ string_bytes out.old ++ row (seen_in step.now)) }
 {
     put_lead(alloc, out, step.start, step.moment, step.place)?;

@@ -1,0 +1,4 @@
+pub mod Stages
+pub mod Kinds
+pub mod Laws
+pub mod Lines
