@@ -10,7 +10,7 @@ use Rattle.asl_setup.specs.declared.setup.Setup.{Setup}
 use Rattle.asl_exec.specs.Steps.{step, opening}
 use Rattle.asl_explore.specs.Orders.{due, IsWhole}
 use Rattle.asl_explore.specs.declared.orders.Orders.{Orders}
-use Rattle.asl_explore.specs.Searches.{IsMet, IsTakenOn, AreTakenOn, IsLater}
+use Rattle.asl_explore.specs.Searches.{IsMet, IsExpanded, IsTakenOn, AreTakenOn, IsLater}
 use Rattle.asl_explore.proofs.Growing.{met-later, later-at, later-length}
 use Rattle.asl_explore.proofs.Reduced.{taken-whole}
 

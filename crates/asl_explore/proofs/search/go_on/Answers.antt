@@ -1,4 +1,4 @@
-use Rattle.std.proofs.Common.{inl, absurd, ◌≡◌, true, false, sym, ◌∙◌}
+use Rattle.std.proofs.Common.{inl}
 use Rattle.std.proofs.lemmas.Result.{IfOk-weaker}
 use Rattle.asl_explore.proofs.search.go_on.Goals as goal
 
