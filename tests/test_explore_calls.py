@@ -82,12 +82,18 @@ class Telling(Searches):
         told = self.told(mapped(ONE_TASK), "[0,0]", mocked({"T": FOR_EVER}))
         self.assertEqual([one.calls for one in told.found], [[]])
 
-    def test_calls_change_nothing_else(self):
+    def test_calls_change_no_outcome(self):
+        """With them each branch steps in each world that is met, so there may be more worlds, and more that is remarkable."""
         for folder, chosen, given, _ in example_cases():
             words = [f"{folder}/definition.json", f"{folder}/mocks.json", chosen, given]
-            plain, counted = run_program("explore", *words), run_program("explore", *words, "--calls")
-            left = "".join(line for line in counted.stdout.splitlines(True) if not line.startswith("calls "))
-            self.assertEqual((plain.stdout, plain.returncode), (left, counted.returncode), chosen)
+            runs = [run_program("explore", *words), run_program("explore", *words, "--calls")]
+            plain, counted = [explored(ran.stdout) for ran in runs]
+            self.assertEqual(runs[0].returncode, runs[1].returncode, chosen)
+            self.assertEqual(*[sorted((one.outcome, one.late) for one in told.found) for told in (plain, counted)], chosen)
+            self.assertEqual((plain.search, plain.notes), (counted.search, counted.notes), chosen)
+            self.assertEqual(*[[it for it in told.remarks if it.startswith("never ")] for told in (plain, counted)], chosen)
+            self.assertLessEqual(set(plain.remarks), set(counted.remarks), chosen)
+            self.assertLessEqual(plain.worlds, counted.worlds, chosen)
 
     def test_each_bound_is_met_by_an_order_and_none_is_beyond(self):
         chance = random.Random(47)
