@@ -1,0 +1,4 @@
+mod Each
+mod Overlapping
+mod Naming
+mod Answering
