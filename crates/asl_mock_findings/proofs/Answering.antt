@@ -13,7 +13,7 @@ use Rattle.asl_mock.specs.declared.key.Span.{Span}
 use Rattle.asl_mock_findings.specs.Warnings.{has_number, is_answered, begins_bare, has_gap}
 use Rattle.asl_mock_findings.specs.private.Tops.{reached}
 
-or_true : (b : Bool) → (b || true) ≡ true
+pub or_true : (b : Bool) → (b || true) ≡ true
 or_true true = refl
 or_true false = refl
 

@@ -2,3 +2,4 @@ mod Each
 mod Overlapping
 mod Naming
 mod Answering
+mod Gaps
