@@ -1,0 +1,5 @@
+mod Each
+mod Overlapping
+mod Naming
+mod Answering
+mod Gaps

@@ -1,0 +1,4 @@
+pub mod Places
+pub mod Warnings
+pub mod Laws
+pub mod private

@@ -1,0 +1,4 @@
+-- Words that only proofs need.
+pub mod Known
+pub mod Spots
+pub mod Tops
