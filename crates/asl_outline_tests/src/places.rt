@@ -93,9 +93,37 @@ fn are_found(alloc: Global, text: &str, places: &[&[usize]]) -> bool {
 fn many_places_are_found_as_each_is(rt: HostRuntime) -> Result<(), Fail> {
     let alloc = rt.alloc();
     assert!(rt; are_found(alloc, TEXT, &[]));
-    assert!(rt; are_found(alloc, TEXT, &[&[], &[0], &[0, 0], &[0, 2], &[0, 3], &[1], &[1, 0], &[4]]));
-    assert!(rt; are_found(alloc, TEXT, &[&[4], &[1, 0], &[1], &[0, 3], &[0, 1], &[0, 3], &[0, 4], &[5], &[2]]));
-    assert!(rt; are_found(alloc, TEXT, &[&[5, 1], &[0, 9, 1], &[0, 2], &[1, 0, 0], &[1, 0], &[1, 0]]));
+    assert!(rt;
+        are_found(
+            alloc,
+            TEXT,
+            &[&[], &[0], &[0, 0], &[0, 2], &[0, 3], &[1], &[1, 0], &[4]]
+        )
+    );
+    assert!(rt;
+        are_found(
+            alloc,
+            TEXT,
+            &[
+                &[4],
+                &[1, 0],
+                &[1],
+                &[0, 3],
+                &[0, 1],
+                &[0, 3],
+                &[0, 4],
+                &[5],
+                &[2]
+            ]
+        )
+    );
+    assert!(rt;
+        are_found(
+            alloc,
+            TEXT,
+            &[&[5, 1], &[0, 9, 1], &[0, 2], &[1, 0, 0], &[1, 0], &[1, 0]]
+        )
+    );
     Ok(())
 }
 
