@@ -1,6 +1,6 @@
 #!/bin/bash
 # Starts the program. Where tools/build hasn't built it yet, or a source has changed since, this runs the sources as they are by
-# `rt try`, which compiles them and proves nothing. Help and version are answered at once: tools/front compares them with
+# `rt try`, which compiles them and proves nothing. Help and version are answered at once: tests/front compares them with
 # the program's.
 set -euo pipefail
 top=$(dirname "$(readlink -f "$0")")

@@ -15,6 +15,8 @@ LINES = {
         "into": rf"({ID}) -\.-> ({ID})",
         "box": rf'subgraph ({ID}) \["({MERMAID_LABEL})"\]',
         "close": r"end",
+        "style": r"classDef taken stroke-width:4px",
+        "taken": rf"class ({ID}) taken",
     },
     "dot": {
         "mark": rf"({ID}) \[shape=point\];",
@@ -23,6 +25,7 @@ LINES = {
         "into": rf"({ID}) -> ({ID}) \[style=dotted\];",
         "box": rf"subgraph cluster_({ID}) \{{",
         "close": r"\}",
+        "taken": rf"({ID}) \[penwidth=4\];",
     },
 }
 LABELLED = {
@@ -34,12 +37,14 @@ ENTITY = {"mermaid": r"#([0-9]+);", "dot": r"&#([0-9]+);"}
 
 
 class Graph(NamedTuple):
-    """What a graph draws: states by identifier, transitions, marks, and the boxes around each; boxes by identifier with their labels."""
+    """What a graph draws: states by identifier, transitions, where machines begin, and the boxes around each; boxes by identifier with their
+    labels; the identifiers of the states that are marked, in order."""
 
     states: dict
     edges: list
     marks: dict
     boxes: dict
+    taken: list
 
 
 def plain(language, label):
@@ -66,7 +71,7 @@ def lines_in(language, text):
 
 def graph_of(language, text):
     """The graph that a text draws. A line that isn't of the language fails."""
-    graph, around = Graph({}, [], {}, {}), []
+    graph, around, styled = Graph({}, [], {}, {}, []), [], language == "dot"
     lines = iter(lines_in(language, text))
     pattern, order = LABELLED[language]
     for line in lines:
@@ -89,6 +94,12 @@ def graph_of(language, text):
             label = found[2] if language == "mermaid" else re.fullmatch(rf'label="({DOT_LABEL})";', next(lines))[1]
             graph.boxes[found[1]] = (plain(language, label), tuple(around))
             around.append(found[1])
+        elif kind == "style":
+            assert not styled and not around, line
+            styled = True
+        elif kind == "taken":
+            assert styled and not around and found[1] in graph.states, line
+            graph.taken.append(found[1])
         else:
             around.pop()
     assert not around, text

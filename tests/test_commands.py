@@ -339,7 +339,17 @@ class CommandTest(ProgramTest):
         longest = self.file("longest", 16_777_216 * " ")
         self.assert_ran(["check", longest], 2, "", "fault: definition: F1 Json J5 Size\n")
         longer = self.file("longer", 16_777_217 * " ")
-        self.assert_ran(["check", longer], 2, "", f"fault: file {longer}: it has more than 16777216 bytes\n")
+        definition, mocks, chosen, given = self.files
+        for words in [
+            ["check", longer],
+            ["lint", definition, longer],
+            ["run", definition, longer, chosen, given],
+            ["explore", definition, mocks, chosen, longer],
+            ["run", *self.files, "--steps", longer],
+            ["debug", *self.files, longer],
+            ["test", definition, mocks, longer],
+        ]:
+            self.assert_ran(words, 2, "", f"fault: file {longer}: it has more than 16777216 bytes\n")
 
     def written(self, room, stream, words):
         """The status of a command one of whose streams is a file that has room for so many bytes; and what the file has then."""

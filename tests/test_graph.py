@@ -1,12 +1,13 @@
-"""The graphs of definitions: what each language draws is what the definition says, whatever its names are."""
+"""The graphs of definitions: what each language draws is what the definition says, whatever its names are; and which states a run marks there."""
 import glob
 import json
 import os
+import re
 import tempfile
 
 from definitions import answer
 from graphs import graph_of, named
-from program import TOP, ProgramTest, run_program
+from program import TOP, ProgramTest, answered, run_program
 
 LANGUAGES = ["mermaid", "dot"]
 
@@ -112,3 +113,109 @@ class GraphTest(ProgramTest):
             run_program("graph", path).stdout,
             'flowchart TD\ni((" "))\ni --> s_P\ns_P["P<br/>Pass"]\ns_P --> s_S\ns_S["S<br/>Succeed"]\n',
         )
+
+
+def entered(history):
+    """The names of the states that a history enters, each once."""
+    names = [json.JSONDecoder().raw_decode(found[1])[0] for found in re.finditer(r"^[0-9]+ [0-9]+ \S+ \S+ [A-Za-z]+StateEntered (.*)$", history, re.M)]
+    return list(dict.fromkeys(names))
+
+
+class MarkedTest(ProgramTest):
+    def assert_marked(self, *words, ends=(0, 1)):
+        """In both languages the states are marked that the run of these words enters, and nothing else is otherwise than without marks."""
+        definition, *others = words
+        history = run_program("run", *words)
+        self.assertIn(history.returncode, ends)
+        for language in LANGUAGES:
+            ran = run_program("graph", definition, "--run", *others, "--format", language)
+            self.assertEqual((ran.returncode, ran.stderr), (0, ""))
+            graph = graph_of(language, ran.stdout)
+            self.assertEqual([named(key[2:]) for key in graph.taken], entered(history.stdout))
+            bare = run_program("graph", definition, "--format", language).stdout
+            self.assertEqual(graph_of(language, bare), graph._replace(taken=[]))
+
+    def on_files(self, definition, mocks, given):
+        """The names of the files of these texts, which are there till the test ends."""
+        room = self.enterContext(tempfile.TemporaryDirectory(prefix="asl-test-"))
+        names = []
+        for name, text in [("definition", definition), ("mocks", mocks), ("input", given)]:
+            names.append(os.path.join(room, name))
+            with open(names[-1], "w", encoding="utf-8") as file:
+                file.write(text)
+        return names
+
+    def test_the_examples(self):
+        for path in glob.glob(f"{TOP}/examples/*/*.driven.txt"):
+            folder, case = os.path.dirname(path), os.path.basename(path).removesuffix(".driven.txt")
+            given = f"{folder}/{case}.input.json" if os.path.exists(f"{folder}/{case}.input.json") else f"{folder}/input.json"
+            with self.subTest(path):
+                self.assert_marked(f"{folder}/definition.json", f"{folder}/mocks.json", f"{os.path.basename(folder)}#{case}", given)
+
+    def test_names_of_any_characters(self):
+        states = {name: {"Type": "Pass", "Next": follower} for name, follower in zip(NAMES, NAMES[1:] + ["last"])}
+        states["last"] = {"Type": "Succeed"}
+        definition, mocks, given = self.on_files(json.dumps({"StartAt": NAMES[0], "States": states}), "{}", "{}")
+        self.assert_marked(definition, mocks, "M", given)
+
+    def test_a_state_is_marked_once(self):
+        # The Task is retried and the loop goes round twice; the Fail isn't entered.
+        states = {
+            "W": {"Type": "Task", "Resource": "r", "Retry": [{"ErrorEquals": ["E"]}], "Next": "C"},
+            "C": {"Type": "Choice", "Choices": [{"Variable": "$.n", "NumericEquals": 2, "Next": "S"}], "Default": "W"},
+            "S": {"Type": "Succeed"},
+            "F": {"Type": "Fail"},
+        }
+        mocks = answered('"0":{"Throw":{"Error":"E"}},"1":{"Return":{"n":1}},"2":{"Return":{"n":2}}')
+        definition, mocks, given = self.on_files(json.dumps({"StartAt": "W", "States": states}), mocks, "{}")
+        ran = run_program("graph", definition, "--run", mocks, "M#c", given)
+        self.assertEqual(ran.stdout[-len(marks := "classDef taken stroke-width:4px\nclass s_W taken\nclass s_C taken\nclass s_S taken\n"):], marks)
+        dot = run_program("graph", definition, "--run", mocks, "M#c", given, "--format", "dot")
+        self.assertTrue(dot.stdout.endswith("s_W [penwidth=4];\ns_C [penwidth=4];\ns_S [penwidth=4];\n}\n"))
+
+    def test_a_run_that_does_not_end(self):
+        definition, mocks, given = self.on_files('{"StartAt":"P","States":{"P":{"Type":"Pass","Next":"P"},"Q":{"Type":"Succeed"}}}', "{}", "{}")
+        ran = run_program("graph", definition, "--run", mocks, "M", given)
+        self.assertEqual((ran.returncode, ran.stdout.splitlines()[-1]), (0, "class s_P taken"))
+
+    def test_faults_are_those_of_the_run(self):
+        good = ('{"StartAt":"P","States":{"P":{"Type":"Succeed"}}}', "{}", "{}")
+        for place, text in [(0, "{"), (0, '{"StartAt":"P","States":{}}'), (1, "["), (1, "[]"), (2, "")]:
+            texts = list(good)
+            texts[place] = text
+            definition, mocks, given = self.on_files(*texts)
+            told = run_program("run", definition, mocks, "M", given)
+            ran = run_program("graph", definition, "--run", mocks, "M", given)
+            self.assertEqual((ran.returncode, ran.stdout, ran.stderr), (2, "", told.stderr), text)
+        definition, mocks, given = self.on_files(*good)
+        for words in [("/nowhere", mocks, "M", given), (definition, "/nowhere", "M", given), (definition, mocks, "M", "/nowhere"), (definition, mocks, "M#c", given)]:
+            told = run_program("run", *words)
+            ran = run_program("graph", words[0], "--run", *words[1:])
+            self.assertEqual((ran.returncode, ran.stdout, ran.stderr), (2, "", told.stderr), words)
+
+    def test_options_stand_for_words(self):
+        folder = f"{TOP}/examples/hello"
+        words = [f"{folder}/definition.json", "--run", f"{folder}/mocks.json", "M", f"{folder}/input.json"]
+        usual = run_program("graph", *words)
+        self.assertEqual((usual.returncode, usual.stdout.splitlines()[-1]), (0, "class s_S taken"))
+        for other in [
+            [words[0], "--mocks", words[2], "--case", "M", "--input", words[4], "--run"],
+            [words[0], words[2], "M", words[4], "--run"],
+            [words[0], "--run", words[2], "M", "--input", words[4]],
+        ]:
+            self.assertEqual(run_program("graph", *other).stdout, usual.stdout, other)
+
+    def test_words_that_are_refused(self):
+        folder = f"{TOP}/examples/hello"
+        definition, mocks, given = (f"{folder}/{name}.json" for name in ("definition", "mocks", "input"))
+        for words in [
+            ["--run"],
+            ["--run", mocks, "M"],
+            [mocks, "M", given],
+            ["--mocks", mocks],
+            ["--run", mocks, "M", given, "--input", given],
+            ["--run", "--mocks", mocks, "--case", "M"],
+        ]:
+            ran = run_program("graph", definition, *words)
+            self.assertEqual((ran.returncode, ran.stdout), (2, ""), words)
+            self.assertIn("Usage: asl graph", ran.stderr)

@@ -1,4 +1,4 @@
-"""Limits: each at its value, and one past it, in each command that reads a definition."""
+"""Limits: each at its value, and one past it, in each command that reads the text."""
 import os
 import tempfile
 
@@ -38,9 +38,8 @@ def named(name):
     return '{"StartAt":"%s","States":{"%s":{"Type":"Succeed"}}}' % (name, name)
 
 
-def padded(length):
-    """The text of a definition of so many bytes."""
-    text = machine('"Type":"Succeed"')
+def padded(length, text=machine('"Type":"Succeed"')):
+    """The text, by itself that of a definition, with so many bytes."""
     return text + (length - len(text)) * " "
 
 
@@ -82,6 +81,24 @@ LIMITS = [
         "F7 Range /States/S/MaxConcurrency",
     ),
 ]
+
+
+def other_texts(value):
+    """A mock file, an input and a suite that have this value: each by the name of its file, with the byte at which the value begins."""
+    begun = {
+        "mocks": '{"StateMachines":{},"MockedResponses":{"r":{"0":{"Return":%s}}}}',
+        "input": "%s",
+        "tests": '[{"machine":"M","case":"","input":%s,"status":"SUCCEEDED"}]',
+    }
+    return {name: (text % value, text.index("%s")) for name, text in begun.items()}
+
+
+# How the fault of each of them begins that is read as no JSON text, the commands that read it, and at which depth the value stands in it.
+OTHERS = {
+    "mocks": ("mocks: M1 Json", ("run", "debug", "explore", "test"), 4),
+    "input": ("input:", ("run", "debug", "explore"), 0),
+    "tests": ("expectations: X1 Json", ("test",), 2),
+}
 
 
 class Limits(ProgramTest):
@@ -130,6 +147,44 @@ class Limits(ProgramTest):
                     self.assertEqual((ran.stderr, ran.returncode), ("", 1 if name else 0), what)
                     self.assertEqual(f"error {name}: " in ran.stdout, name is not None, what)
                     self.assertEqual(" error " in ran.stdout, name is not None, what)
+
+    def other_limits(self):
+        """The file and the text of each limit of JSON in a text beside the definition, and the fault of the text, if it is past the limit."""
+        values = [("1." + 38 * "0", None), ("1." + 39 * "0", "J4 Number"), ("0.000000001", None), ("0.0000000001", "J4 Number")]
+        values += [("999999999999999999", None), ("1000000000000000000", "J4 Number")]
+        for value, fault in values:
+            for name, (text, at) in other_texts(value).items():
+                yield name, text, fault and f"{fault} {at}"
+        for name, (_, _, depth) in OTHERS.items():
+            for more in (0, 1):
+                brackets = 64 - depth + more
+                text, at = other_texts(brackets * "[" + brackets * "]")[name]
+                yield name, text, f"J3 Depth {at + brackets - 1}" if more else None
+                text, _ = other_texts("1")[name]
+                yield name, padded(1_048_576 + more, text), "J5 Size" if more else None
+
+    def test_each_limit_of_the_other_texts_in_each_command(self):
+        with tempfile.TemporaryDirectory(prefix="asl-test-") as room:
+
+            def file(name, text):
+                with open(os.path.join(room, name), "w", encoding="utf-8") as out:
+                    out.write(text)
+
+            usual = {"definition": machine('"Type":"Succeed"'), "mocks": "{}", "input": "1", "steps": "", "tests": "[]"}
+            for name, text, fault in self.other_limits():
+                for usual_name, usual_text in usual.items():
+                    file(usual_name, usual_text)
+                file(name, text)
+                begins, commands, _ = OTHERS[name]
+                told = f"fault: {begins} {fault}\n" if fault else ""
+                for words in self.commands(room):
+                    if words[0] in commands:
+                        ran = run_program(*words)
+                        self.assertEqual(ran.stderr, told, (name, words[0], text[:80]))
+                        self.assertEqual(ran.returncode == 2, bool(told), (name, words[0], text[:80]))
+                if name == "mocks":
+                    ran = run_program("lint", os.path.join(room, "definition"), os.path.join(room, "mocks"))
+                    self.assertEqual((ran.stderr, " error M1: " in ran.stdout), ("", bool(fault)), text[:80])
 
     def test_a_range_has_at_most_1000_items(self):
         for last, status in [(1000, "SUCCEEDED"), (1001, "FAILED")]:

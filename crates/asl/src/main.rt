@@ -3,7 +3,7 @@
 #![tactic(auto)]
 
 use asl_cli::{Progress, refuse_words, run_words};
-use asl_host::{HostFiles, Stream, Typed, given, tell_fault};
+use asl_host::{HostFiles, Screen, Stream, Typed, given, tell_fault};
 use std::io::{BufReader, IsTerminal};
 use std::process::ExitCode;
 use std::sync::Wait;
@@ -33,6 +33,7 @@ fn program<R: Threads + Wait + Sync>(handle: &R, rt: HostRuntime) -> u8 {
         None
     };
     let mut input = Typed::new(reader, prompt);
+    let screen = Screen::new(&rt, rt.stdin().is_terminal(), rt.stdout().is_terminal());
     let progress = Progress::new(&rt, rt.stderr().is_terminal());
     match given(&rt) {
         Ok(words) => run_words(
@@ -40,6 +41,7 @@ fn program<R: Threads + Wait + Sync>(handle: &R, rt: HostRuntime) -> u8 {
             &progress,
             alloc,
             words.as_slice(),
+            screen,
             &mut files,
             &mut input,
             &mut out,

@@ -7,14 +7,14 @@ use Rattle.asl_json.specs.Wrong.{ReadsAs}
 use Rattle.asl_json.proofs.Faulting.{same_value}
 use Rattle.asl_json.proofs.Passing.{text_read}
 use Rattle.asl_json.proofs.Round.{compact_is_text, no_text_is_shorter}
-use Rattle.asl_schema.specs.declared.sort.Sort.TheVariants.{Definition}
-use Rattle.asl_schema.specs.Canon.{canonical}
-use Rattle.asl_schema.specs.Faults.{Accepted}
+use Rattle.asl_def_table.specs.declared.sort.Sort.TheVariants.{Definition}
+use Rattle.asl_def_table.specs.Canon.{canonical}
+use Rattle.asl_def_table.specs.Faults.{Accepted}
 use Rattle.asl_json.specs.Sound.{KeysDiffer}
-use Rattle.asl_judge.proofs.CanonicalAccepted.{accepted_canonical}
-use Rattle.asl_judge.proofs.CanonicalTwice.{canonical_twice}
-use Rattle.asl_judge.proofs.CanonicalLength.{no_longer, no_deeper}
-use Rattle.asl_judge.proofs.CanonicalKeys.{keys_canon}
+use Rattle.asl_def_canonical.proofs.Accepted.{accepted_canonical}
+use Rattle.asl_def_canonical.proofs.Twice.{canonical_twice}
+use Rattle.asl_def_canonical.proofs.Length.{no_longer, no_deeper}
+use Rattle.asl_def_canonical.proofs.Keys.{keys_canon}
 use Rattle.asl_check.specs.Judged.{IsMachineOf}
 use Rattle.asl_json.specs.Sound.{IsSound}
 use Rattle.asl_check.proofs.CanonicalSound.{sound_canon}

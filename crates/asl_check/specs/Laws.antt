@@ -3,8 +3,8 @@ use Rattle.std.specs.Prelude.{◌≡◌, ◌≤◌, ℕ, List, length}
 use Rattle.asl_json.specs.Data.{Data, depth}
 use Rattle.asl_json.specs.Compact.{compact}
 use Rattle.asl_json.specs.Limits.{max_len, max_depth}
-use Rattle.asl_schema.specs.Canon.{canonical}
-use Rattle.asl_schema.specs.Faults.{Accepted}
+use Rattle.asl_def_table.specs.Canon.{canonical}
+use Rattle.asl_def_table.specs.Faults.{Accepted}
 use Rattle.asl_check.specs.Judged.{IsMachineOf}
 
 -- what is printed for a machine that a text spells is accepted as that machine

@@ -2,7 +2,7 @@
 use Rattle.std.specs.Prelude.{ℕ, List, ◌++◌, codes}
 use Rattle.asl_json.specs.FaultText.{fault_text}
 use Rattle.asl_json.specs.Pointers.{with_pointer}
-use Rattle.asl_schema.specs.Demands.{words_of}
+use Rattle.asl_def_table.specs.Demands.{words_of}
 use Rattle.asl_check.specs.declared.fault.Fault.{Fault}
 use Rattle.asl_check.specs.declared.fault.Fault.TheVariants.{Json, Definition, OutOfMemory}
 

@@ -2,8 +2,8 @@
 ghost use Rattle.std.specs.Prelude.{◌≡◌, IfOk, string_bytes};
 ghost use Rattle.asl_check.specs.Lines.{fault_line};
 
+use asl_def_table::FaultKind;
 use asl_json::{JsonFault, Pointer};
-use asl_schema::FaultKind;
 use std::alloc::{AllocError, Global};
 use std::error::Error;
 use std::fmt;

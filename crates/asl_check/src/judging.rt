@@ -3,8 +3,8 @@ ghost use Rattle.std.specs.Prelude.{◌≡◌, IfOk, IfErr};
 ghost use Rattle.asl_json.specs.Data.{Data};
 ghost use Rattle.asl_json.specs.View.{data_of};
 ghost use Rattle.asl_json.specs.Wrong.{ReadsAs};
-ghost use Rattle.asl_schema.specs.Faults.{Accepted};
-ghost use Rattle.asl_schema.specs.Canon.{canonical};
+ghost use Rattle.asl_def_table.specs.Faults.{Accepted};
+ghost use Rattle.asl_def_table.specs.Canon.{canonical};
 ghost use Rattle.asl_check.specs.Judged.{IsDefinition, IsMachineOf, IsFaultOf, IsUnread, IsFaulty};
 
 use crate::fault::Fault;

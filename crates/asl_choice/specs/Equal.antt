@@ -3,7 +3,7 @@
 use Rattle.std.specs.Prelude.{List, Bool, false, ◌&&◌}
 use Rattle.asl_json.specs.Data.{pairs}
 use Rattle.asl_json.specs.Same.{bool_eq, bytes_eq, equal_members}
-use Rattle.asl_schema.specs.Canon.{Named}
+use Rattle.asl_def_table.specs.Canon.{Named}
 use Rattle.asl_choice.specs.declared.operator.Order.{Order}
 use Rattle.asl_choice.specs.declared.operator.Property.{Property}
 use Rattle.asl_choice.specs.declared.comparison.Comparison.{Comparison}

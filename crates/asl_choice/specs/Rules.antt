@@ -2,11 +2,11 @@
 use Rattle.std.specs.Prelude.{◌≡◌, ℕ, List, [], ◌∷◌, ◌++◌, Bool, true, ◌&&◌, Option, None, codes, map, option_map}
 use Rattle.asl_json.specs.Data.{Data, boolean, number, text, list, dict, chain, Pairs, pairs}
 use Rattle.asl_json.specs.Same.{bytes_eq}
-use Rattle.asl_schema.specs.declared.sort.Sort.{Sort}
-use Rattle.asl_schema.specs.declared.sort.Sort.TheVariants as sort
-use Rattle.asl_schema.specs.Members.{Group, exactly_one, shape_of, operators, connectives, inner_rule_rows}
-use Rattle.asl_schema.specs.Canon.{Named, opt, picked_at}
-use Rattle.asl_schema.specs.Clean.{IsCleanInside, IsThere}
+use Rattle.asl_def_table.specs.declared.sort.Sort.{Sort}
+use Rattle.asl_def_table.specs.declared.sort.Sort.TheVariants as sort
+use Rattle.asl_def_table.specs.Members.{Group, exactly_one, shape_of, operators, connectives, inner_rule_rows}
+use Rattle.asl_def_table.specs.Canon.{Named, opt, picked_at}
+use Rattle.asl_def_table.specs.Clean.{IsCleanInside, IsThere}
 use Rattle.asl_choice.specs.declared.operator.Order.{Order}
 use Rattle.asl_choice.specs.declared.operator.Order.TheVariants as order
 use Rattle.asl_choice.specs.declared.operator.Property.{Property}

@@ -1,7 +1,7 @@
 -- The texts of a run that files may give.
 use Rattle.std.proofs.Common.{ℕ, ◌≡◌, List, sym, subst}
 use Rattle.std.specs.Prelude.{Option, Some, None}
-use Rattle.asl_setup.specs.Emulations.{Texts}
+use Rattle.asl_run_setup.specs.Emulations.{Texts}
 use Rattle.asl_host.specs.Reading.{Lacks}
 use Rattle.asl_host.specs.declared.words.SetupWords.{SetupWords}
 use Rattle.asl_cli.specs.declared.fault.CommandFault.{CommandFault}

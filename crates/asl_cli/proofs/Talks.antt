@@ -2,19 +2,23 @@
 use Rattle.std.proofs.Common.{ℕ, Bool, false, Result, Ok, Err, OnErr, ◌≡◌, ◌⊎◌, inl, inr, List, [], ◌∷◌, ◌++◌, true, refl, sym, ◌∙◌, ap, append_assoc, append-nil}
 use Rattle.std.proofs.lemmas.Grind.{flat_map-append}
 use Rattle.asl_host.specs.Outcomes.{fault_line, IsWhole, IsBroken, IsPrinted, IsTold}
-use Rattle.asl_host.proofs.Breaking.{broken_rest}
-use Rattle.asl_console.specs.Answers.{Console, IsAnswer}
-use Rattle.asl_console.specs.Talks.{given_lines, IsReplied, AreReplied, IsTalk}
+use Rattle.asl_host.proofs.Breaking.{broken_first, broken_rest}
+use Rattle.asl_run_world.specs.World.{World}
+use Rattle.asl_run_world.specs.Lines.{end_text}
+use Rattle.asl_session_console.specs.declared.telling.Look.{Look}
+use Rattle.asl_session_console.specs.declared.telling.Look.TheVariants.{Transcript, Tree, Colours}
+use Rattle.asl_session_console.specs.Answers.{Console}
+use Rattle.asl_session_console.specs.Telling.{Answers, IsEndText}
+use Rattle.asl_session_console.specs.Talks.{given_lines, IsReplied, AreReplied, IsTalk}
 use Rattle.asl_cli.specs.Talking.{AreAnswered, IsTalked, IsTalkedInPart, IsEnd, IsInputFault, IsConversed}
-use Rattle.asl_run.specs.Lines.{end_text}
 use Rattle.asl_session.specs.Sessions.{world_in}
 use Rattle.std.specs.Prelude.{codes}
 
 -- ---- one line more
 
-replied-more : (c d e : Console) (ls : List (List ℕ)) (l text t : List ℕ) → AreReplied c ls text d → IsReplied d l t e → AreReplied c (ls ++ l ∷ []) (text ++ t) e
-replied-more c d e [] l text t h r = (t, [], e, rw h.1 at r, rw h.0 (sym (append-nil t)), (refl, refl))
-replied-more c d e (k ∷ ks) l text t (first, rest, m, one, text_is, more) r = (first, rest ++ t, m, one, rw text_is (append_assoc first rest t), replied-more m d e ks l rest t more r)
+replied-more : (look : Look) (c d e : Console) (ls : List (List ℕ)) (l text t : List ℕ) → AreReplied look c ls text d → IsReplied look d l t e → AreReplied look c (ls ++ l ∷ []) (text ++ t) e
+replied-more look c d e [] l text t h r = (t, [], e, rw h.1 at r, rw h.0 (sym (append-nil t)), (refl, refl))
+replied-more look c d e (k ∷ ks) l text t (first, rest, m, one, text_is, more) r = (first, rest ++ t, m, one, rw text_is (append_assoc first rest t), replied-more look m d e ks l rest t more r)
 
 given-more : (ls : List (List ℕ)) (l start mid end : List ℕ) → mid ≡ start ++ given_lines ls → end ≡ mid ++ (l ++ 10 ∷ []) → end ≡ start ++ given_lines (ls ++ l ∷ [])
 given-more ls l start mid end one two =
@@ -27,8 +31,8 @@ written-more taken failures old mid new a b one two = (
   two.1 ∙ one.1,
 )
 
-pub answered-none : {I O : Type 0} (given : I → List ℕ) (taken : O → List ℕ) (failures : O → ℕ) (c : Console) (input : I) (out : O) → AreAnswered given taken failures c c input input out out
-answered-none given taken failures c input out = record {
+pub answered-none : {I O : Type 0} (given : I → List ℕ) (taken : O → List ℕ) (failures : O → ℕ) (look : Look) (c : Console) (input : I) (out : O) → AreAnswered given taken failures look c c input input out out
+answered-none given taken failures look c input out = record {
   lines = [];
   text = [];
   given_is = sym (append-nil (given input));
@@ -36,22 +40,22 @@ answered-none given taken failures c input out = record {
   written = (sym (append-nil (taken out)), refl);
 }
 
-pub answered-more : {I O : Type 0} (given : I → List ℕ) (taken : O → List ℕ) (failures : O → ℕ) (c d e : Console) (i j k : I) (o p q : O) (l t : List ℕ)
-    → AreAnswered given taken failures c d i j o p → given k ≡ given j ++ (l ++ 10 ∷ []) → IsReplied d l t e → IsWhole taken failures p q t → AreAnswered given taken failures c e i k o q
-answered-more given taken failures c d e i j k o p q l t h g r w = record {
+pub answered-more : {I O : Type 0} (given : I → List ℕ) (taken : O → List ℕ) (failures : O → ℕ) (look : Look) (c d e : Console) (i j k : I) (o p q : O) (l t : List ℕ)
+    → AreAnswered given taken failures look c d i j o p → given k ≡ given j ++ (l ++ 10 ∷ []) → IsReplied look d l t e → IsWhole taken failures p q t → AreAnswered given taken failures look c e i k o q
+answered-more given taken failures look c d e i j k o p q l t h g r w = record {
   lines = h.lines ++ l ∷ [];
   text = h.text ++ t;
   given_is = given-more h.lines l (given i) (given j) (given k) h.given_is g;
-  replied = replied-more c d e h.lines l h.text t h.replied r;
+  replied = replied-more look c d e h.lines l h.text t h.replied r;
   written = written-more taken failures o p q h.text t h.written w;
 }
 
 -- ---- the end
 
 -- no line comes any more
-pub talked-all : {I O : Type 0} (given : I → List ℕ) (taken : O → List ℕ) (failures : O → ℕ) (c d : Console) (i j k : I) (o p : O)
-    → AreAnswered given taken failures c d i j o p → given k ≡ given j → IsTalked given taken failures c d i k o p
-talked-all given taken failures c d i j k o p h g = record {
+pub talked-all : {I O : Type 0} (given : I → List ℕ) (taken : O → List ℕ) (failures : O → ℕ) (look : Look) (c d : Console) (i j k : I) (o p : O)
+    → AreAnswered given taken failures look c d i j o p → given k ≡ given j → IsTalked given taken failures look c d i k o p
+talked-all given taken failures look c d i j k o p h g = record {
   lines = h.lines;
   text = h.text;
   given_is = g ∙ h.given_is;
@@ -59,32 +63,32 @@ talked-all given taken failures c d i j k o p h g = record {
   written = h.written;
 }
 
-quit-is : (c d e : Console) (ls : List (List ℕ)) (l text t : List ℕ) → AreReplied c ls text d → IsAnswer d l t true e → IsTalk c (ls ++ l ∷ []) (text ++ t) e
-quit-is c d e ls l text t h a = inr (record { before = ls; told = text; here = d; line = l; answer = t; replied = h; quits = a; lines_are = refl; text_is = refl })
+quit-is : (look : Look) (c d e : Console) (ls : List (List ℕ)) (l text t : List ℕ) → AreReplied look c ls text d → Answers look d l t true e → IsTalk look c (ls ++ l ∷ []) (text ++ t) e
+quit-is look c d e ls l text t h a = inr (record { before = ls; told = text; here = d; line = l; answer = t; replied = h; quits = a; lines_are = refl; text_is = refl })
 
 -- the line was the last one
-pub talked-last : {I O : Type 0} (given : I → List ℕ) (taken : O → List ℕ) (failures : O → ℕ) (c d e : Console) (i j k : I) (o p q : O) (l t : List ℕ)
-    → AreAnswered given taken failures c d i j o p → given k ≡ given j ++ (l ++ 10 ∷ []) → IsAnswer d l t true e → IsWhole taken failures p q t → IsTalked given taken failures c e i k o q
-talked-last given taken failures c d e i j k o p q l t h g a w = record {
+pub talked-last : {I O : Type 0} (given : I → List ℕ) (taken : O → List ℕ) (failures : O → ℕ) (look : Look) (c d e : Console) (i j k : I) (o p q : O) (l t : List ℕ)
+    → AreAnswered given taken failures look c d i j o p → given k ≡ given j ++ (l ++ 10 ∷ []) → Answers look d l t true e → IsWhole taken failures p q t → IsTalked given taken failures look c e i k o q
+talked-last given taken failures look c d e i j k o p q l t h g a w = record {
   lines = h.lines ++ l ∷ [];
   text = h.text ++ t;
   given_is = given-more h.lines l (given i) (given j) (given k) h.given_is g;
-  talk = quit-is c d e h.lines l h.text t h.replied a;
+  talk = quit-is look c d e h.lines l h.text t h.replied a;
   written = written-more taken failures o p q h.text t h.written w;
 }
 
-last-talk : (c d e : Console) (ls : List (List ℕ)) (l text t : List ℕ) → AreReplied c ls text d → IsReplied d l t e ⊎ IsAnswer d l t true e → IsTalk c (ls ++ l ∷ []) (text ++ t) e
-last-talk c d e ls l text t h (inl r) = inl (replied-more c d e ls l text t h r)
-last-talk c d e ls l text t h (inr a) = quit-is c d e ls l text t h a
+last-talk : (look : Look) (c d e : Console) (ls : List (List ℕ)) (l text t : List ℕ) → AreReplied look c ls text d → IsReplied look d l t e ⊎ Answers look d l t true e → IsTalk look c (ls ++ l ∷ []) (text ++ t) e
+last-talk look c d e ls l text t h (inl r) = inl (replied-more look c d e ls l text t h r)
+last-talk look c d e ls l text t h (inr a) = quit-is look c d e ls l text t h a
 
 -- the answer was written in part
-pub talked-in-part : {I O : Type 0} (given : I → List ℕ) (taken : O → List ℕ) (failures : O → ℕ) (c d e : Console) (i j k : I) (o p q : O) (l t : List ℕ)
-    → AreAnswered given taken failures c d i j o p → given k ≡ given j ++ (l ++ 10 ∷ []) → IsReplied d l t e ⊎ IsAnswer d l t true e → IsBroken taken failures p q t → IsTalkedInPart given taken failures c e i k o q
-talked-in-part given taken failures c d e i j k o p q l t h g a b = record {
+pub talked-in-part : {I O : Type 0} (given : I → List ℕ) (taken : O → List ℕ) (failures : O → ℕ) (look : Look) (c d e : Console) (i j k : I) (o p q : O) (l t : List ℕ)
+    → AreAnswered given taken failures look c d i j o p → given k ≡ given j ++ (l ++ 10 ∷ []) → IsReplied look d l t e ⊎ Answers look d l t true e → IsBroken taken failures p q t → IsTalkedInPart given taken failures look c e i k o q
+talked-in-part given taken failures look c d e i j k o p q l t h g a b = record {
   lines = h.lines ++ l ∷ [];
   text = h.text ++ t;
   given_is = given-more h.lines l (given i) (given j) (given k) h.given_is g;
-  talk = last-talk c d e h.lines l h.text t h.replied a;
+  talk = last-talk look c d e h.lines l h.text t h.replied a;
   broken = broken_rest taken failures o p q h.text t h.written b;
 }
 
@@ -96,27 +100,40 @@ printed-behind taken failures old mid new a b status w (inr h) = inr (broken_res
 -- ---- one answer
 
 -- an answer ends the talk, or doesn't
-pub either : (c d : Console) (l t : List ℕ) (quits : Bool) → IsAnswer c l t quits d → IsReplied c l t d ⊎ IsAnswer c l t true d
-either c d l t false a = inl (inl a)
-either c d l t true a = inr a
+pub either : (look : Look) (c d : Console) (l t : List ℕ) (quits : Bool) → Answers look c l t quits d → IsReplied look c l t d ⊎ Answers look c l t true d
+either look c d l t false a = inl (inl a)
+either look c d l t true a = inr a
 
-pub goes_on : (c d : Console) (l t : List ℕ) (quits : Bool) → quits ≡ false → IsAnswer c l t quits d → IsReplied c l t d
-goes_on c d l t quits e a = inl (rw e at a)
+pub goes_on : (look : Look) (c d : Console) (l t : List ℕ) (quits : Bool) → quits ≡ false → Answers look c l t quits d → IsReplied look c l t d
+goes_on look c d l t quits e a = inl (rw e at a)
 
 -- ---- a whole conversation
 
-pub conversed : {I O E : Type 0} (given : I → List ℕ) (taken : O → List ℕ) (failures : O → ℕ) (err_taken : E → List ℕ) (err_failures : E → ℕ) (c d : Console) (i j : I) (o p q : O) (x y : E) (status : ℕ)
-    → IsTalked given taken failures c d i j o p → IsEnd taken failures err_taken err_failures d p q x y status → IsConversed given taken failures err_taken err_failures c i j o q x y status
-conversed given taken failures err_taken err_failures c d i j o p q x y status h (inl e) = inl (h.lines, h.text, d, h.given_is, h.talk, e.0, printed-behind taken failures o p q h.text (end_text (world_in d.session)) status h.written e.1)
-conversed given taken failures err_taken err_failures c d i j o p q x y status h (inr e) = inr (h.lines, h.text, d, codes "OutOfMemory", h.given_is, h.talk, rw e.0 h.written, inr refl, e.1, e.2)
+pub conversed : {I O E : Type 0} (given : I → List ℕ) (taken : O → List ℕ) (failures : O → ℕ) (err_taken : E → List ℕ) (err_failures : E → ℕ) (look : Look) (c d : Console) (i j : I) (o p q : O) (x y : E) (status : ℕ)
+    → IsTalked given taken failures look c d i j o p → IsEnd taken failures err_taken err_failures look d p q x y status → IsConversed given taken failures err_taken err_failures look c i j o q x y status
+conversed given taken failures err_taken err_failures look c d i j o p q x y status h (inl (end, is, same, printed)) = inl (h.lines, h.text, end, d, h.given_is, h.talk, is, same, printed-behind taken failures o p q h.text end status h.written printed)
+conversed given taken failures err_taken err_failures look c d i j o p q x y status h (inr e) = inr (h.lines, h.text, d, codes "OutOfMemory", h.given_is, h.talk, rw e.0 h.written, inr refl, e.1, e.2)
 
 -- no further line could be read
-pub unread : {I O E : Type 0} (given : I → List ℕ) (taken : O → List ℕ) (failures : O → ℕ) (err_taken : E → List ℕ) (err_failures : E → ℕ) (c d : Console) (i j : I) (o p : O) (x y : E) (t : List ℕ)
-    → IsTalked given taken failures c d i j o p → IsInputFault t → IsTold err_taken err_failures x y (fault_line t) → IsConversed given taken failures err_taken err_failures c i j o p x y 2
-unread given taken failures err_taken err_failures c d i j o p x y t h f told = inr (h.lines, h.text, d, t, h.given_is, h.talk, h.written, f, refl, told)
+pub unread : {I O E : Type 0} (given : I → List ℕ) (taken : O → List ℕ) (failures : O → ℕ) (err_taken : E → List ℕ) (err_failures : E → ℕ) (look : Look) (c d : Console) (i j : I) (o p : O) (x y : E) (t : List ℕ)
+    → IsTalked given taken failures look c d i j o p → IsInputFault t → IsTold err_taken err_failures x y (fault_line t) → IsConversed given taken failures err_taken err_failures look c i j o p x y 2
+unread given taken failures err_taken err_failures look c d i j o p x y t h f told = inr (h.lines, h.text, d, t, h.given_is, h.talk, h.written, f, refl, told)
+
+-- behind each talk something may stand
+some-end : (look : Look) (w : World) → (e : List ℕ) × IsEndText look w e
+some-end Transcript w = (end_text w, refl)
+some-end Tree w = ([], tt)
+some-end Colours w = ([], tt)
+
+-- an answer was written in part
+pub broken-off : {I O E : Type 0} (given : I → List ℕ) (taken : O → List ℕ) (failures : O → ℕ) (err_taken : E → List ℕ) (err_failures : E → ℕ) (look : Look) (c d : Console) (i j : I) (o p : O) (x : E)
+    → IsTalkedInPart given taken failures look c d i j o p → IsConversed given taken failures err_taken err_failures look c i j o p x x 2
+broken-off given taken failures err_taken err_failures look c d i j o p x h =
+    let e = some-end look (world_in d.session) in
+    inl (h.lines, h.text, e.0, d, h.given_is, h.talk, e.1, refl, inr (broken_first taken failures o p h.text e.0 h.broken, refl))
 
 -- the answer was written in part
-pub reply-broken : {T E O : Type 0} (r : Result T E) (taken : O → List ℕ) (failures : O → ℕ) (o p : O) (c d : Console) (l t : List ℕ) (quits : Bool)
-    → IsAnswer c l t quits d → IsBroken taken failures o p t → OnErr r ((x : List ℕ) × (IsReplied c l x d ⊎ IsAnswer c l x true d) × IsBroken taken failures o p x)
-reply-broken (Ok x) taken failures o p c d l t quits a b = (cc)
-reply-broken (Err e) taken failures o p c d l t quits a b = (t, either c d l t quits a, b)
+pub reply-broken : {T E O : Type 0} (r : Result T E) (taken : O → List ℕ) (failures : O → ℕ) (look : Look) (o p : O) (c d : Console) (l t : List ℕ) (quits : Bool)
+    → Answers look c l t quits d → IsBroken taken failures o p t → OnErr r ((x : List ℕ) × (IsReplied look c l x d ⊎ Answers look c l x true d) × IsBroken taken failures o p x)
+reply-broken (Ok x) taken failures look o p c d l t quits a b = (cc)
+reply-broken (Err e) taken failures look o p c d l t quits a b = (t, either look c d l t quits a, b)

@@ -1,13 +1,17 @@
 -- What the program does: what it writes to its two sinks, and the status that it ends with. A sink
 -- is seen by what it has taken and how often it has failed, before and after.
-use Rattle.std.specs.Prelude.{ℕ, Bool, List, [], ◌∷◌, ◌++◌, ◌≡◌, ◌⊎◌, Option, Some, None, codes}
-use Rattle.asl_setup.specs.declared.setup.Setup.{Setup}
-use Rattle.asl_console.specs.Answers.{first_console}
+use Rattle.std.specs.Prelude.{ℕ, Bool, true, false, List, [], ◌∷◌, ◌++◌, ◌≡◌, ◌⊎◌, Option, Some, None, codes}
+use Rattle.asl_run_setup.specs.declared.setup.Setup.{Setup}
+use Rattle.asl_session_console.specs.declared.telling.Look.{Look}
+use Rattle.asl_session_console.specs.declared.telling.Look.TheVariants.{Transcript, Tree, Colours}
+use Rattle.asl_session_console.specs.Answers.{first_console}
 use Rattle.asl_cli.specs.declared.fault.CommandFault.{CommandFault}
 use Rattle.asl_host.specs.Reading.{Lacks}
 use Rattle.asl_host.specs.declared.words.DefinitionWords.{DefinitionWords}
 use Rattle.asl_host.specs.declared.words.SetupWords.{SetupWords}
 use Rattle.asl_host.specs.declared.words.RunWords.{RunWords}
+use Rattle.asl_host.specs.declared.words.DebugFormat.{DebugFormat}
+use Rattle.asl_host.specs.declared.words.DebugFormat.TheVariants as format
 use Rattle.asl_host.specs.declared.words.DebugWords.{DebugWords}
 use Rattle.asl_host.specs.Outcomes.{status_of, fault_line, IsPrinted, IsTold}
 use Rattle.asl_cli.specs.Faults.{steps_name, IsEmulated, IsRunReason, script_name, IsBegun, IsDebugText, IsDebugReason, IsJudged, IsForm, IsNewerForm, IsDefinitionReason, Tells}
@@ -33,27 +37,33 @@ IsRan out_taken out_failures err_taken err_failures gives lacks w =
     (λ text status. (good : Bool) × IsEmulated gives w text good × (status ≡ status_of good))
     (IsRunReason gives lacks w.setup (steps_name w))
 
+-- how the steps of lines are told
+abbrev pub look_of : DebugFormat → Bool → Look
+look_of format.Text coloured = Transcript
+look_of format.Tree true = Colours
+look_of format.Tree false = Tree
+
 -- a session was opened for these words, and its lines were answered; or it wasn't, which was told
 abbrev pub IsTyped : {I O E : Type 0} → (I → List ℕ) → (O → List ℕ) → (O → ℕ) → (E → List ℕ)
     → (E → ℕ) → (List ℕ → List ℕ → Type 0) → Lacks
-    → SetupWords → I → I → O → O → E → E → ℕ → Type 0
-IsTyped given out_taken out_failures err_taken err_failures gives lacks w input input_after out
-    out_after err err_after status =
+    → SetupWords → Look → I → I → O → O → E → E → ℕ → Type 0
+IsTyped given out_taken out_failures err_taken err_failures gives lacks w look input input_after
+    out out_after err err_after status =
     ((s : Setup) × IsBegun gives w s
-    × IsConversed given out_taken out_failures err_taken err_failures (first_console s) input
+    × IsConversed given out_taken out_failures err_taken err_failures look (first_console s) input
     input_after out out_after err err_after status)
     ⊎ ((r : CommandFault) × (t : List ℕ) × IsRunReason gives lacks w None r × Tells r t
     × (out_after ≡ out) × (status ≡ 2) × IsTold err_taken err_failures err err_after (fault_line t))
 
 abbrev pub IsDebuggedBy : {I O E : Type 0} → (I → List ℕ) → (O → List ℕ) → (O → ℕ) → (E → List ℕ)
     → (E → ℕ) → (List ℕ → List ℕ → Type 0) → Lacks
-    → SetupWords → Option (List ℕ) → I → I → O → O → E → E → ℕ → Type 0
-IsDebuggedBy given out_taken out_failures err_taken err_failures gives lacks w None input
+    → SetupWords → Look → Option (List ℕ) → I → I → O → O → E → E → ℕ → Type 0
+IsDebuggedBy given out_taken out_failures err_taken err_failures gives lacks w look None input
     input_after out out_after err err_after status =
-    IsTyped given out_taken out_failures err_taken err_failures gives lacks w input input_after out
-    out_after err err_after status
-IsDebuggedBy given out_taken out_failures err_taken err_failures gives lacks w (Some name) input
-    input_after out out_after err err_after status =
+    IsTyped given out_taken out_failures err_taken err_failures gives lacks w look input
+    input_after out out_after err err_after status
+IsDebuggedBy given out_taken out_failures err_taken err_failures gives lacks w look (Some name)
+    input input_after out out_after err err_after status =
     IsDone out_taken out_failures err_taken err_failures
     (λ text wanted. IsDebugText gives w name text × (wanted ≡ 0))
     (IsDebugReason gives lacks w name) out out_after err err_after status
@@ -65,7 +75,7 @@ abbrev pub IsDebugged : {I O E : Type 0} → (I → List ℕ) → (O → List �
     → DebugWords → I → I → O → O → E → E → ℕ → Type 0
 IsDebugged given out_taken out_failures err_taken err_failures gives lacks w =
     IsDebuggedBy given out_taken out_failures err_taken err_failures gives lacks w.setup
-    (script_name w)
+    (look_of w.format w.coloured) (script_name w)
 
 -- the check of these words: a definition was passed and `ok` was printed
 abbrev pub IsChecked : {O E : Type 0} → (O → List ℕ) → (O → ℕ) → (E → List ℕ) → (E → ℕ)

@@ -1,8 +1,8 @@
 -- What the command `explore` finds, prints and tells.
 use Rattle.std.specs.Prelude.{ℕ, zero, suc, Bool, true, false, List, Option, Some, None, ◌≡◌, ◌⊎◌, slice_get, codes}
 use Rattle.std.specs.List.{All}
-use Rattle.asl_setup.specs.declared.setup.Setup.{Setup}
-use Rattle.asl_setup.specs.StepsFile.{steps_file}
+use Rattle.asl_run_setup.specs.declared.setup.Setup.{Setup}
+use Rattle.asl_run_setup.specs.StepsFile.{steps_file}
 use Rattle.asl_explore.specs.declared.found.Found.{Found}
 use Rattle.asl_explore.specs.declared.found.Explored.{Explored}
 use Rattle.asl_explore.specs.Orders.{IsWhole}

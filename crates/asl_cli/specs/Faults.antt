@@ -3,19 +3,19 @@ use Rattle.std.specs.Prelude.{ℕ, Bool, Option, Some, None, option_map, string_
 use Rattle.asl_json.specs.Data.{Data}
 use Rattle.asl_json.specs.Compact.{compact}
 use Rattle.asl_json.specs.Wrong.{ReadsAs}
-use Rattle.asl_schema.specs.Canon.{canonical}
-use Rattle.asl_schema.specs.Faults.{Accepted}
+use Rattle.asl_def_table.specs.Canon.{canonical}
+use Rattle.asl_def_table.specs.Faults.{Accepted}
 use Rattle.asl_def.specs.Upgraded.{upgraded}
 use Rattle.asl_check.specs.Judged.{IsDefinition, IsMachineOf, IsFaultOf}
 use Rattle.asl_check.specs.Lines.{fault_line as definition_fault_line}
 use Rattle.asl_check.specs.declared.fault.Fault.{Fault}
 use Rattle.asl_check.specs.declared.fault.Fault.TheVariants as fault
-use Rattle.asl_expect.specs.Lines.{expect_line}
-use Rattle.asl_setup.specs.declared.fault.EmulateFault.{EmulateFault}
-use Rattle.asl_setup.specs.declared.setup.Setup.{Setup}
-use Rattle.asl_chosen.specs.Chosen.{IsChosen}
-use Rattle.asl_setup.specs.Emulations.{Texts, run_texts, Accepts, IsRefused}
-use Rattle.asl_setup.specs.Texts.{Unless, refusal_line}
+use Rattle.asl_suite_expect.specs.Lines.{expect_line}
+use Rattle.asl_run_setup.specs.declared.fault.EmulateFault.{EmulateFault}
+use Rattle.asl_run_setup.specs.declared.setup.Setup.{Setup}
+use Rattle.asl_mock_chosen.specs.Chosen.{IsChosen}
+use Rattle.asl_run_setup.specs.Emulations.{Texts, run_texts, Accepts, IsRefused}
+use Rattle.asl_run_setup.specs.Texts.{Unless, refusal_line}
 use Rattle.asl_session.specs.declared.script_file.ScriptFault.{ScriptFault}
 use Rattle.asl_session.specs.declared.script_file.ScriptFault.TheVariants as script
 use Rattle.asl_session.specs.Scripts.{IsScriptRun, IsScriptFault, script_refusal}
@@ -131,7 +131,7 @@ pub record IsEmulated (gives : List ℕ → List ℕ → Type 0) (w : RunWords) 
     (good : Bool) : Type 0 where
   pub texts : Texts
   pub given : AreGiven gives w.setup (steps_name w) texts
-  pub is_run : IsRunIn (format_of w.format) texts most_steps text good
+  pub is_run : IsRunIn (format_of w.format) w.coloured texts most_steps text good
 
 -- ---- a session
 

@@ -1,14 +1,18 @@
--- The graph of a definition that a file holds.
-use Rattle.std.specs.Prelude.{ℕ, List, ◌≡◌}
+-- The graph of a definition that a file holds, or of a run of it.
+use Rattle.std.specs.Prelude.{ℕ, List, ◌≡◌, Option, Some, None}
 use Rattle.asl_json.specs.Data.{Data}
 use Rattle.asl_graph.specs.declared.language.Language.{Language}
 use Rattle.asl_graph.specs.declared.language.Language.TheVariants.{Mermaid, Dot}
 use Rattle.asl_graph.specs.Graphs.{graph_text}
+use Rattle.asl_run_setup.specs.Emulations.{Texts}
+use Rattle.asl_run_outputs.specs.Marked.{IsMarkedRunOf}
 use Rattle.asl_host.specs.Reading.{Lacks}
+use Rattle.asl_host.specs.declared.words.SetupWords.{SetupWords}
 use Rattle.asl_host.specs.declared.words.GraphFormat.{GraphFormat}
 use Rattle.asl_host.specs.declared.words.GraphFormat.TheVariants as format
 use Rattle.asl_host.specs.declared.words.GraphWords.{GraphWords}
-use Rattle.asl_cli.specs.Faults.{IsAccepted, IsDefinitionReason}
+use Rattle.asl_cli.specs.declared.fault.CommandFault.{CommandFault}
+use Rattle.asl_cli.specs.Faults.{AreGiven, most_steps, IsRunReason, IsAccepted, IsDefinitionReason}
 use Rattle.asl_cli.specs.Answers.{IsDone}
 
 abbrev pub language_of : GraphFormat → Language
@@ -16,11 +20,36 @@ language_of format.Mermaid = Mermaid
 language_of format.Dot = Dot
 
 -- the file that the words name may give a definition of a machine with this graph
-pub record IsGraph (gives : List ℕ → List ℕ → Type 0) (w : GraphWords) (graph : List ℕ) : Type 0
+pub record IsDefinitionGraph (gives : List ℕ → List ℕ → Type 0) (w : GraphWords) (graph : List ℕ) : Type 0
   where
     pub machine : Data
     pub accepted : IsAccepted gives w.definition machine
     pub drawn : graph ≡ graph_text (language_of w.format) machine
+
+-- the files that the words name may give the texts of a run with this graph, in which the states are
+-- marked that it enters
+pub record IsRunGraph (gives : List ℕ → List ℕ → Type 0) (w : SetupWords) (language : Language)
+    (graph : List ℕ) : Type 0 where
+  pub texts : Texts
+  pub given : AreGiven gives w None texts
+  pub is_run : IsMarkedRunOf language texts most_steps graph
+
+-- the graph of the definition, or that of a run
+abbrev pub IsGraphBy : (List ℕ → List ℕ → Type 0) → GraphWords → Option SetupWords → List ℕ → Type 0
+IsGraphBy gives w None graph = IsDefinitionGraph gives w graph
+IsGraphBy gives w (Some r) graph = IsRunGraph gives r (language_of w.format) graph
+
+abbrev pub IsGraph : (List ℕ → List ℕ → Type 0) → GraphWords → List ℕ → Type 0
+IsGraph gives w graph = IsGraphBy gives w w.run graph
+
+-- why there is none: that of a definition, or that of a run
+abbrev pub IsGraphReasonBy : (List ℕ → List ℕ → Type 0) → Lacks → GraphWords → Option SetupWords
+    → CommandFault → Type 0
+IsGraphReasonBy gives lacks w None r = IsDefinitionReason gives lacks w.definition r
+IsGraphReasonBy gives lacks w (Some s) r = IsRunReason gives lacks s None r
+
+abbrev pub IsGraphReason : (List ℕ → List ℕ → Type 0) → Lacks → GraphWords → CommandFault → Type 0
+IsGraphReason gives lacks w r = IsGraphReasonBy gives lacks w w.run r
 
 -- the graph of these words: it was printed
 abbrev pub IsDrawn : {O E : Type 0} → (O → List ℕ) → (O → ℕ) → (E → List ℕ) → (E → ℕ)
@@ -28,5 +57,4 @@ abbrev pub IsDrawn : {O E : Type 0} → (O → List ℕ) → (O → ℕ) → (E 
     → GraphWords → O → O → E → E → ℕ → Type 0
 IsDrawn out_taken out_failures err_taken err_failures gives lacks w =
     IsDone out_taken out_failures err_taken err_failures
-    (λ text status. IsGraph gives w text × (status ≡ 0))
-    (IsDefinitionReason gives lacks w.definition)
+    (λ text status. IsGraph gives w text × (status ≡ 0)) (IsGraphReason gives lacks w)

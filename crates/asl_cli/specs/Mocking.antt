@@ -1,7 +1,7 @@
 -- A mock file for a definition that a file holds.
 use Rattle.std.specs.Prelude.{ℕ, List, ◌≡◌}
 use Rattle.asl_json.specs.Data.{Data}
-use Rattle.asl_sample.specs.Files.{sample_text}
+use Rattle.asl_mock_sample.specs.Files.{sample_text}
 use Rattle.asl_host.specs.Reading.{Lacks}
 use Rattle.asl_host.specs.declared.words.MocksWords.{MocksWords}
 use Rattle.asl_cli.specs.Faults.{IsAccepted, IsDefinitionReason}

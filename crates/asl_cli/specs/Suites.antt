@@ -4,16 +4,16 @@ use Rattle.std.specs.List.{list_all}
 use Rattle.asl_check.specs.Judged.{IsDefinition, IsMachineOf}
 use Rattle.asl_mock.specs.Told.{IsMockFile}
 use Rattle.asl_mock.specs.Answers.{Machines}
-use Rattle.asl_expect.specs.Told.{IsExpectationsFile, IsAnswer as IsExpectAnswer}
-use Rattle.asl_expect.specs.Shards.{every}
-use Rattle.asl_expect.specs.declared.expectation.Expectation.{Expectation}
-use Rattle.asl_expect.specs.declared.fault.ExpectFault.{ExpectFault}
-use Rattle.asl_expect.specs.declared.fault.ExpectFault.TheVariants as expect
-use Rattle.asl_setup.specs.Texts.{IsDefinitionFault, IsMockFault}
-use Rattle.asl_setup.specs.declared.fault.EmulateFault.{EmulateFault}
-use Rattle.asl_setup.specs.declared.fault.EmulateFault.TheVariants as setup
-use Rattle.asl_coverage.specs.declared.point.Point.{Point}
-use Rattle.asl_coverage.specs.Points.{percent_of, coverage_text}
+use Rattle.asl_suite_expect.specs.Told.{IsExpectationsFile, IsAnswer as IsExpectAnswer}
+use Rattle.asl_suite_expect.specs.Shards.{every}
+use Rattle.asl_suite_expect.specs.declared.expectation.Expectation.{Expectation}
+use Rattle.asl_suite_expect.specs.declared.fault.ExpectFault.{ExpectFault}
+use Rattle.asl_suite_expect.specs.declared.fault.ExpectFault.TheVariants as expect
+use Rattle.asl_run_setup.specs.Texts.{IsDefinitionFault, IsMockFault}
+use Rattle.asl_run_setup.specs.declared.fault.EmulateFault.{EmulateFault}
+use Rattle.asl_run_setup.specs.declared.fault.EmulateFault.TheVariants as setup
+use Rattle.asl_suite_coverage.specs.declared.point.Point.{Point}
+use Rattle.asl_suite_coverage.specs.Points.{percent_of, coverage_text}
 use Rattle.asl_suite.specs.Cases.{reports_of}
 use Rattle.asl_suite.specs.Reports.{is_passed, report_text}
 use Rattle.asl_suite.specs.declared.suite.Suite.{Suite}

@@ -1,7 +1,7 @@
 // The program behind its words, files and streams.
 ghost use Rattle.std.specs.Prelude.{◌≡◌, ◌⊎◌, List, ℕ, string_bytes, IfOk, IfErr};
 ghost use Rattle.asl_host.specs.Outcomes.{status_of, IsPrinted, IsTold};
-ghost use Rattle.asl_setup.specs.Views.{texts_of};
+ghost use Rattle.asl_run_setup.specs.Views.{texts_of};
 ghost use Rattle.asl_cli.specs.Answers.{IsRan, IsAnswered};
 ghost use Rattle.asl_cli.specs.Formats.{format_of, IsRunIn};
 ghost use Rattle.asl_cli.specs.Faults.{most_steps, steps_name, IsEmulated, IsTextsReason, IsRunReason};
@@ -23,11 +23,11 @@ use asl_exec::Emulated;
 use asl_explore::Watch;
 use asl_history::Sink;
 use asl_host::{
-    Files, GivenFault, Input, RunFormat, RunWords, Words, malformed_word, read_words, tell_fault,
-    write_piece,
+    Files, GivenFault, Input, RunFormat, RunWords, Screen, Words, malformed_word, read_words,
+    tell_fault, write_piece,
 };
-use asl_setup::{EmulateFault, RunTexts};
-use asl_workers::Gate;
+use asl_run_setup::{EmulateFault, RunTexts};
+use asl_threads_gate::Gate;
 use clap::Error;
 use clap::error::ErrorKind;
 use std::alloc::Global;
@@ -40,12 +40,13 @@ pub(crate) const GOOD: u8 = 0;
 /// The status where an execution didn't end in success, or a test isn't `ok`.
 pub(crate) const FAILED: u8 = 1;
 /// So many steps are taken at most where no file names them.
-const MOST_STEPS: u32 = 10_000;
+pub(crate) const MOST_STEPS: u32 = 10_000;
 
 /// The status where a command line, a file or its content is refused, or a write fails.
 pub(crate) const REFUSED: u8 = 2;
 
-/// The whole program: does what the words ask for, of which the first is the program's name, and tells its status.
+/// The whole program: does what the words ask for, of which the first is the program's name, where answers are read on this screen, and
+/// tells its status.
 pub fn run_words<
     R: Threads + Wait + Sync,
     G: Gate + Watch + Sync,
@@ -59,6 +60,7 @@ pub fn run_words<
     gate: &G,
     alloc: Global,
     words: &[S],
+    screen: Screen,
     files: &mut F,
     input: &mut I,
     out: &mut O,
@@ -71,7 +73,7 @@ pub fn run_words<
         ⊎ ((files.new ≡ files.old) × IsAnswered O.taken O.failures E.taken E.failures
         out.old out.new err.old err.new result) }
 {
-    match read_words(alloc, words) {
+    match read_words(alloc, words, screen) {
         Ok(words) => obey(rt, gate, alloc, &words, files, input, out, err),
         Err(error) => answer_words(alloc, &error, out, err),
     }
@@ -151,7 +153,7 @@ fn emulate_files<'a, F: Files>(
     let texts = read_texts(alloc, files, &words.setup)?;
     let steps = read_named(alloc, files, words.steps)?;
     let given = texts.of_run(steps.as_deref());
-    match emulate_given(alloc, words.format, &given) {
+    match emulate_given(alloc, words.format, words.coloured, &given) {
         Ok(emulated) => Ok(emulated),
         Err(refusal) => Err(refusal),
     }
@@ -161,13 +163,14 @@ fn emulate_files<'a, F: Files>(
 fn emulate_given<'a>(
     alloc: Global,
     format: RunFormat,
+    is_coloured: bool,
     texts: &RunTexts<'_>,
 ) -> Result<Emulated, CommandFault<'a>>
-    ensures run { IfOk result (λ e. IsRunIn (format_of format) (texts_of texts.now) most_steps
-        (string_bytes e.text) e.good) }
+    ensures run { IfOk result (λ e. IsRunIn (format_of format) is_coloured (texts_of texts.now)
+        most_steps (string_bytes e.text) e.good) }
     ensures refused { IfErr result (IsTextsReason (texts_of texts.now)) }
 {
-    match emulate_in(alloc, format, texts, MOST_STEPS) {
+    match emulate_in(alloc, format, is_coloured, texts, MOST_STEPS) {
         Ok(emulated) => Ok(emulated),
         Err(EmulateFault::OutOfMemory) => Err(CommandFault::OutOfMemory),
         Err(fault) => Err(CommandFault::Emulation(fault)),

@@ -1,10 +1,10 @@
 // What the tests of a suite cover.
-use asl_coverage::Coverage;
-use asl_expect::Expectation;
 use asl_json::{Json, JsonFault, Txt, read};
 use asl_mock::Case;
-use asl_setup::Setup;
+use asl_run_setup::Setup;
 use asl_suite::Suite;
+use asl_suite_coverage::Coverage;
+use asl_suite_expect::Expectation;
 use asl_time::Moment;
 use std::alloc::{AllocError, Global};
 

@@ -1,9 +1,9 @@
 // The command `debug`.
 ghost use Rattle.std.specs.Prelude.{◌≡◌, None, IfOk, IfErr, string_bytes};
-ghost use Rattle.asl_setup.specs.Emulations.{Accepts};
-ghost use Rattle.asl_setup.specs.declared.setup.Setup.{Setup};
-ghost use Rattle.asl_console.specs.Answers.{first_console};
-ghost use Rattle.asl_cli.specs.Answers.{IsDone, IsTyped, IsDebugged};
+ghost use Rattle.asl_run_setup.specs.Emulations.{Accepts};
+ghost use Rattle.asl_run_setup.specs.declared.setup.Setup.{Setup};
+ghost use Rattle.asl_session_console.specs.Answers.{first_console};
+ghost use Rattle.asl_cli.specs.Answers.{look_of, IsDone, IsTyped, IsDebugged};
 ghost use Rattle.asl_session.specs.Scripts.{IsScriptRun};
 ghost use Rattle.asl_cli.specs.Faults.{read_texts, IsBegun, IsRunReason, IsTextsReason, IsScriptReason, IsDebugText, IsDebugReason};
 
@@ -11,11 +11,11 @@ use crate::command::{REFUSED, print_good};
 use crate::fault::CommandFault;
 use crate::reading::{SetupTexts, read_file, read_texts};
 use crate::talking::converse;
-use asl_console::Console;
 use asl_history::Sink;
-use asl_host::{DebugWords, Files, Input, SetupWords};
+use asl_host::{DebugFormat, DebugWords, Files, Input, SetupWords};
+use asl_run_setup::{EmulateFault, Setup};
 use asl_session::{ScriptFault, run_script};
-use asl_setup::{EmulateFault, Setup};
+use asl_session_console::{Look, Teller};
 use std::alloc::{AllocError, Global};
 
 /// The command `debug`: runs an execution by the commands of a script and prints what it replied and did. Without a script, it answers
@@ -33,7 +33,21 @@ pub fn debug<F: Files, I: Input, O: Sink, E: Sink>(
 {
     match words.script {
         Some(script) => debug_by(alloc, &words.setup, script, files, out, err),
-        None => debug_typed(alloc, &words.setup, files, input, out, err),
+        None => {
+            let look = look_of(words.format, words.coloured);
+            debug_typed(alloc, &words.setup, look, files, input, out, err)
+        }
+    }
+}
+
+/// How the steps of lines are told.
+fn look_of(format: DebugFormat, coloured: bool) -> Look
+    ensures { result ≡ look_of format coloured }
+{
+    match format {
+        DebugFormat::Text => Look::Transcript,
+        DebugFormat::Tree if coloured => Look::Colours,
+        DebugFormat::Tree => Look::Tree,
     }
 }
 
@@ -97,16 +111,17 @@ fn run_by<'a>(alloc: Global, setup: Setup, script: &[u8]) -> Result<String, Comm
 fn debug_typed<F: Files, I: Input, O: Sink, E: Sink>(
     alloc: Global,
     words: &SetupWords<'_>,
+    look: Look,
     files: &mut F,
     input: &mut I,
     out: &mut O,
     err: &mut E,
 ) -> u8
     ensures { IsTyped I.given O.taken O.failures E.taken E.failures (F.gives files.old)
-        (F.lacks files.old) words.now input.old input.new out.old out.new err.old err.new result }
+        (F.lacks files.old) words.now look input.old input.new out.old out.new err.old err.new result }
 {
     match open_session(alloc, words, files) {
-        Ok(console) => converse(alloc, console, input, out, err),
+        Ok(console) => converse(alloc, console, look, input, out, err),
         Err(fault) => {
             fault.write(alloc, err);
             REFUSED
@@ -119,7 +134,7 @@ fn open_session<'a, F: Files>(
     alloc: Global,
     words: &SetupWords<'a>,
     files: &mut F,
-) -> Result<Console, CommandFault<'a>>
+) -> Result<Teller, CommandFault<'a>>
     ensures opened { IfOk result (λ c. (s : Setup)
         × IsBegun (F.gives files.old) words.now s × (c ≡ first_console s)) }
     ensures refused { IfErr result
@@ -127,7 +142,7 @@ fn open_session<'a, F: Files>(
 {
     let texts = read_texts(alloc, files, words)?;
     let setup = setup_of(alloc, &texts)?;
-    match Console::open(alloc, setup) {
+    match Teller::open(alloc, setup) {
         Ok(console) => Ok(console),
         Err(AllocError) => Err(CommandFault::OutOfMemory),
     }

@@ -1,7 +1,7 @@
 // The command `explore`.
 ghost use Rattle.std.specs.Prelude.{◌≡◌, List, ℕ, None, IfOk, IfErr, string_bytes};
 ghost use Rattle.std.specs.Option.{option_copied};
-ghost use Rattle.asl_setup.specs.StepsFile.{steps_file};
+ghost use Rattle.asl_run_setup.specs.StepsFile.{steps_file};
 ghost use Rattle.asl_explore.specs.Reports.{explored_text};
 ghost use Rattle.asl_host.specs.Outcomes.{status_of, IsPrinted, IsTold};
 ghost use Rattle.asl_cli.specs.Exploring.{IsExplored, IsFoundFor, IsShown, AreAllShown, IsOneShown, numbered, orders_for};
@@ -14,7 +14,7 @@ use crate::reading::read_texts;
 use asl_explore::{Explored, Found, Orders, Watch, explore as search, is_good, put_explored};
 use asl_history::Sink;
 use asl_host::{ExploreWords, Files, missing_outcome, tell_fault, write_piece};
-use asl_setup::put_steps;
+use asl_run_setup::put_steps;
 use std::alloc::{AllocError, Global};
 
 /// The command `explore`: tries every order of an execution's branches, and prints each outcome with an order that ends in it, or the

@@ -5,11 +5,11 @@ ghost use Rattle.asl_terminal.specs.Shown.{shown};
 ghost use Rattle.asl_cli.specs.Faults.{reason_text, Tells};
 
 use asl_check::Fault;
-use asl_expect::ExpectFault;
 use asl_history::Sink;
 use asl_host::{Unreadable, tell_fault};
+use asl_run_setup::EmulateFault;
 use asl_session::ScriptFault;
-use asl_setup::EmulateFault;
+use asl_suite_expect::ExpectFault;
 use asl_terminal::put_shown;
 use std::alloc::{AllocError, Global};
 use std::error::Error;

@@ -1,15 +1,16 @@
 // Runs in the format that is asked for.
 ghost use Rattle.std.specs.Prelude.{◌≡◌, IfOk, IfErr, string_bytes};
-ghost use Rattle.asl_setup.specs.Emulations.{IsRefused};
-ghost use Rattle.asl_setup.specs.Texts.{Unless};
-ghost use Rattle.asl_setup.specs.Views.{texts_of};
-ghost use Rattle.asl_cli.specs.Formats.{format_of, IsRunIn};
+ghost use Rattle.asl_run_setup.specs.Emulations.{IsRefused};
+ghost use Rattle.asl_run_setup.specs.Texts.{Unless};
+ghost use Rattle.asl_run_setup.specs.Views.{texts_of};
+ghost use Rattle.asl_cli.specs.Formats.{format_of, IsPlainRunIn, IsShown, IsRunIn};
 
 use asl_exec::{Emulated, emulate_texts};
 use asl_host::RunFormat;
-use asl_outputs::{Format, emulate_as};
-use asl_setup::{EmulateFault, RunTexts};
-use std::alloc::Global;
+use asl_run_outputs::{Format, emulate_as};
+use asl_run_setup::{EmulateFault, RunTexts};
+use asl_view_colour::coloured;
+use std::alloc::{AllocError, Global};
 
 /// The format that isn't the usual text, where one is asked for.
 fn format_of(format: RunFormat) -> Option<Format>
@@ -26,13 +27,13 @@ fn format_of(format: RunFormat) -> Option<Format>
 }
 
 /// Runs an execution by the steps of a file, where there is one, else by those that come next, at most so many.
-pub(crate) fn emulate_in(
+fn emulate_plain(
     alloc: Global,
     format: RunFormat,
     texts: &RunTexts<'_>,
     limit: u32,
 ) -> Result<Emulated, EmulateFault>
-    ensures run { IfOk result (λ e. IsRunIn (format_of format) (texts_of texts.now) limit
+    ensures run { IfOk result (λ e. IsPlainRunIn (format_of format) (texts_of texts.now) limit
         (string_bytes e.text) e.good) }
     ensures fault { IfErr result (Unless (IsRefused (texts_of texts.now))) }
 {
@@ -40,4 +41,32 @@ pub(crate) fn emulate_in(
         None => emulate_texts(alloc, texts, limit),
         Some(format) => emulate_as(alloc, format, texts, limit),
     }
+}
+
+/// A text in colours, or as it is.
+fn shown_as(alloc: Global, is_coloured: bool, text: String) -> Result<String, AllocError>
+    ensures { IfOk result (λ t. IsShown is_coloured (string_bytes text) (string_bytes t)) }
+{
+    if is_coloured {
+        coloured(alloc, text.as_str())
+    } else {
+        Ok(text)
+    }
+}
+
+/// Runs an execution so, and shows what it prints in colours, or as it is.
+pub(crate) fn emulate_in(
+    alloc: Global,
+    format: RunFormat,
+    is_coloured: bool,
+    texts: &RunTexts<'_>,
+    limit: u32,
+) -> Result<Emulated, EmulateFault>
+    ensures run { IfOk result (λ e. IsRunIn (format_of format) is_coloured (texts_of texts.now)
+        limit (string_bytes e.text) e.good) }
+    ensures fault { IfErr result (Unless (IsRefused (texts_of texts.now))) }
+{
+    let Emulated { text, good } = emulate_plain(alloc, format, texts, limit)?;
+    let text = shown_as(alloc, is_coloured, text)?;
+    Ok(Emulated { text, good })
 }

@@ -1,19 +1,25 @@
 // The command `graph`.
-ghost use Rattle.std.specs.Prelude.{◌≡◌, IfOk, IfErr, string_bytes};
+ghost use Rattle.std.specs.Prelude.{◌≡◌, None, IfOk, IfErr, string_bytes};
 ghost use Rattle.asl_graph.specs.Graphs.{graph_text};
-ghost use Rattle.asl_cli.specs.Graphing.{language_of, IsGraph, IsDrawn};
-ghost use Rattle.asl_cli.specs.Faults.{IsDefinitionReason};
+ghost use Rattle.asl_run_setup.specs.Views.{texts_of};
+ghost use Rattle.asl_run_outputs.specs.Marked.{IsMarkedRunOf};
+ghost use Rattle.asl_cli.specs.Graphing.{language_of, IsDefinitionGraph, IsRunGraph, IsGraph, IsGraphReason, IsDrawn};
+ghost use Rattle.asl_cli.specs.Faults.{most_steps, IsTextsReason, IsRunReason, IsDefinitionReason};
 
 use crate::checking::machine_in;
-use crate::command::{REFUSED, print_good};
+use crate::command::{MOST_STEPS, REFUSED, print_good};
 use crate::fault::CommandFault;
+use crate::reading::read_texts;
 use asl_def::Machine;
 use asl_graph::Language;
 use asl_history::Sink;
-use asl_host::{Files, GraphFormat, GraphWords};
+use asl_host::{Files, GraphFormat, GraphWords, SetupWords};
+use asl_run_outputs::emulate_marked;
+use asl_run_setup::{EmulateFault, RunTexts};
 use std::alloc::{AllocError, Global};
 
-/// The command `graph`: prints the graph of a definition without faults, else tells the first fault.
+/// The command `graph`: prints the graph of a definition without faults, else tells the first fault. Where a run is asked for, the states
+/// that it enters are marked.
 pub fn graph<F: Files, O: Sink, E: Sink>(
     alloc: Global,
     words: &GraphWords<'_>,
@@ -33,13 +39,67 @@ pub fn graph<F: Files, O: Sink, E: Sink>(
     }
 }
 
-/// Reads the file, and writes the graph of the definition that it holds.
+/// The graph that the words ask for.
 fn graph_in<'a, F: Files>(
     alloc: Global,
     words: &GraphWords<'a>,
     files: &mut F,
 ) -> Result<String, CommandFault<'a>>
     ensures graph { IfOk result (λ t. IsGraph (F.gives files.old) words.now (string_bytes t)) }
+    ensures refused { IfErr result
+        (IsGraphReason (F.gives files.old) (F.lacks files.old) words.now) }
+{
+    match &words.run {
+        None => definition_graph(alloc, words, files),
+        Some(setup) => run_graph(alloc, language_of(words.format), setup, files),
+    }
+}
+
+/// Reads the files, in the order of the words of a run, and writes the graph in which the states are marked that it enters.
+fn run_graph<'a, F: Files>(
+    alloc: Global,
+    language: Language,
+    words: &SetupWords<'a>,
+    files: &mut F,
+) -> Result<String, CommandFault<'a>>
+    ensures graph { IfOk result
+        (λ t. IsRunGraph (F.gives files.old) words.now language (string_bytes t)) }
+    ensures refused { IfErr result
+        (IsRunReason (F.gives files.old) (F.lacks files.old) words.now None) }
+{
+    let texts = read_texts(alloc, files, words)?;
+    let given = texts.of_run(None);
+    match graph_given(alloc, language, &given) {
+        Ok(text) => Ok(text),
+        Err(refusal) => Err(refusal),
+    }
+}
+
+/// The graph of the run that was read.
+fn graph_given<'a>(
+    alloc: Global,
+    language: Language,
+    texts: &RunTexts<'_>,
+) -> Result<String, CommandFault<'a>>
+    ensures run { IfOk result
+        (λ t. IsMarkedRunOf language (texts_of texts.now) most_steps (string_bytes t)) }
+    ensures refused { IfErr result (IsTextsReason (texts_of texts.now)) }
+{
+    match emulate_marked(alloc, language, texts, MOST_STEPS) {
+        Ok(text) => Ok(text),
+        Err(EmulateFault::OutOfMemory) => Err(CommandFault::OutOfMemory),
+        Err(fault) => Err(CommandFault::Emulation(fault)),
+    }
+}
+
+/// Reads the file, and writes the graph of the definition that it holds.
+fn definition_graph<'a, F: Files>(
+    alloc: Global,
+    words: &GraphWords<'a>,
+    files: &mut F,
+) -> Result<String, CommandFault<'a>>
+    ensures graph { IfOk result
+        (λ t. IsDefinitionGraph (F.gives files.old) words.now (string_bytes t)) }
     ensures refused { IfErr result
         (IsDefinitionReason (F.gives files.old) (F.lacks files.old) words.now.definition) }
 {

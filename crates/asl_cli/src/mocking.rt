@@ -1,6 +1,6 @@
 // The command `mocks`.
 ghost use Rattle.std.specs.Prelude.{◌≡◌, IfOk, IfErr, string_bytes};
-ghost use Rattle.asl_sample.specs.Files.{sample_text};
+ghost use Rattle.asl_mock_sample.specs.Files.{sample_text};
 ghost use Rattle.asl_cli.specs.Mocking.{IsSample, IsSampled};
 ghost use Rattle.asl_cli.specs.Faults.{IsDefinitionReason};
 
@@ -10,7 +10,7 @@ use crate::fault::CommandFault;
 use asl_def::Machine;
 use asl_history::Sink;
 use asl_host::{Files, MocksWords};
-use asl_sample::sample;
+use asl_mock_sample::sample;
 use std::alloc::{AllocError, Global};
 
 /// The command `mocks`: prints a mock file to begin with for a definition without faults, else tells the first fault.

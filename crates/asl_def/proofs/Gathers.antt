@@ -6,15 +6,15 @@ use Rattle.asl_json.specs.Data.{Data, Pairs, member, Chain, null, boolean, numbe
 use Rattle.asl_json.specs.Same.{bytes_eq}
 use Rattle.asl_json.specs.Meaning.{value_at}
 use Rattle.asl_json.specs.View.{unpaired-pairs}
-use Rattle.asl_schema.specs.declared.sort.Sort.{Sort}
-use Rattle.asl_schema.specs.declared.sort.Sort.TheVariants as sort
-use Rattle.asl_schema.specs.declared.sort.Kind.{Kind}
-use Rattle.asl_schema.specs.declared.sort.Kind.TheVariants as kind
-use Rattle.asl_schema.specs.Members.{Row, Shape, kind_rows, state_shape, shape_of, shape_in, sort_at, kind_named, definition_rows, machine_rows, item_processor_rows, task_rows, pass_rows, choice_rows, wait_rows, parallel_rows, map_rows, succeed_rows, fail_rows}
-use Rattle.asl_schema.specs.Canon.{Named, opt, kept, kept_at, canon, canon_members, picked_at, kind_text}
+use Rattle.asl_def_table.specs.declared.sort.Sort.{Sort}
+use Rattle.asl_def_table.specs.declared.sort.Sort.TheVariants as sort
+use Rattle.asl_def_table.specs.declared.sort.Kind.{Kind}
+use Rattle.asl_def_table.specs.declared.sort.Kind.TheVariants as kind
+use Rattle.asl_def_table.specs.Members.{Row, Shape, kind_rows, state_shape, shape_of, shape_in, sort_at, kind_named, definition_rows, machine_rows, item_processor_rows, task_rows, pass_rows, choice_rows, wait_rows, parallel_rows, map_rows, succeed_rows, fail_rows}
+use Rattle.asl_def_table.specs.Canon.{Named, opt, kept, kept_at, canon, canon_members, picked_at, kind_text}
 use Rattle.asl_def.specs.Machines.{holds_states, all_states, states_of_members}
 use Rattle.asl_def.specs.private.Built.{canon_rows}
-use Rattle.asl_states.proofs.Canonical.{kind_is, typed, kept_so, machine_is, item_processor_is, definition_is}
+use Rattle.asl_def_states.proofs.Canonical.{kind_is, typed, kept_so, machine_is, item_processor_is, definition_is}
 
 leaf : (s : Sort) (d : Data) → holds_states s ≡ false → all_states s d ≡ []
 leaf s null e = refl

@@ -7,28 +7,28 @@ use Rattle.std.proofs.lemmas.List.{map-append}
 use Rattle.asl_json.specs.Data.{Data, text, number, list, dict, item, Pairs, member, chain, pairs}
 use Rattle.asl_json.specs.Same.{bytes_eq}
 use Rattle.asl_json.specs.Meaning.{value_at}
-use Rattle.asl_schema.specs.declared.sort.Sort.TheVariants as sort
-use Rattle.asl_schema.specs.declared.sort.Kind.{Kind}
-use Rattle.asl_schema.specs.declared.sort.Kind.TheVariants as kind
-use Rattle.asl_schema.specs.Members.{Shape, shape_of, state_shape, sort_at, kind_named, definition_rows, machine_rows, item_processor_rows, parallel_rows, map_rows}
-use Rattle.asl_schema.specs.Canon.{Named, opt, present}
-use Rattle.asl_judge.proofs.CanonicalAmounts.{both_are}
-use Rattle.asl_members.specs.declared.processor.ProcessorConfig.{ProcessorConfig}
-use Rattle.asl_members.specs.Shown.{path_shown, config_shown}
-use Rattle.asl_parts.specs.declared.body.Body.{Body}
-use Rattle.asl_parts.specs.declared.heading.Heading.{Heading}
-use Rattle.asl_parts.specs.Parts.{Slots, object, common_members, completion_members}
-use Rattle.asl_parts.specs.Bodies.{body_members, body_of, bodies_of, processor_members, processor_of, machine_members, machine_of, IsWithin}
-use Rattle.asl_states.specs.declared.parallel.Parallel.{Parallel as ParallelState}
-use Rattle.asl_states.specs.declared.map.Map.{Map as MapState}
-use Rattle.asl_states.specs.declared.processor.Selector.{Selector}
-use Rattle.asl_states.specs.declared.processor.Selector.TheVariants.{Parameters, ItemSelector}
-use Rattle.asl_states.specs.declared.processor.Processor.{Processor}
-use Rattle.asl_states.specs.declared.processor.Processor.TheVariants.{Iterator, ItemProcessor}
-use Rattle.asl_states.specs.declared.state.State.{State}
-use Rattle.asl_states.specs.declared.state.State.TheVariants.{Task, Pass, Choice, Wait, Parallel, Map, Succeed, Fail}
-use Rattle.asl_states.specs.Newer.{newer_processor, newer_selector, newer_map, newer_state}
-use Rattle.asl_states.specs.Show.{task_members, pass_members, choice_members, wait_members, succeed_members, fail_members, parallel_members, parallel_object, map_members, map_object, parameters_shown, item_selector_shown, body_in, machine_shown, as_iterator, as_item_processor, state_of, shown, StateIsWithin, AreInOrder}
+use Rattle.asl_def_table.specs.declared.sort.Sort.TheVariants as sort
+use Rattle.asl_def_table.specs.declared.sort.Kind.{Kind}
+use Rattle.asl_def_table.specs.declared.sort.Kind.TheVariants as kind
+use Rattle.asl_def_table.specs.Members.{Shape, shape_of, state_shape, sort_at, kind_named, definition_rows, machine_rows, item_processor_rows, parallel_rows, map_rows}
+use Rattle.asl_def_table.specs.Canon.{Named, opt, present}
+use Rattle.asl_def_canonical.proofs.Amounts.{both_are}
+use Rattle.asl_def_members.specs.declared.processor.ProcessorConfig.{ProcessorConfig}
+use Rattle.asl_def_members.specs.Shown.{path_shown, config_shown}
+use Rattle.asl_def_parts.specs.declared.body.Body.{Body}
+use Rattle.asl_def_parts.specs.declared.heading.Heading.{Heading}
+use Rattle.asl_def_parts.specs.Parts.{Slots, object, common_members, completion_members}
+use Rattle.asl_def_parts.specs.Bodies.{body_members, body_of, bodies_of, processor_members, processor_of, machine_members, machine_of, IsWithin}
+use Rattle.asl_def_states.specs.declared.parallel.Parallel.{Parallel as ParallelState}
+use Rattle.asl_def_states.specs.declared.map.Map.{Map as MapState}
+use Rattle.asl_def_states.specs.declared.processor.Selector.{Selector}
+use Rattle.asl_def_states.specs.declared.processor.Selector.TheVariants.{Parameters, ItemSelector}
+use Rattle.asl_def_states.specs.declared.processor.Processor.{Processor}
+use Rattle.asl_def_states.specs.declared.processor.Processor.TheVariants.{Iterator, ItemProcessor}
+use Rattle.asl_def_states.specs.declared.state.State.{State}
+use Rattle.asl_def_states.specs.declared.state.State.TheVariants.{Task, Pass, Choice, Wait, Parallel, Map, Succeed, Fail}
+use Rattle.asl_def_states.specs.Newer.{newer_processor, newer_selector, newer_map, newer_state}
+use Rattle.asl_def_states.specs.Show.{task_members, pass_members, choice_members, wait_members, succeed_members, fail_members, parallel_members, parallel_object, map_members, map_object, parameters_shown, item_selector_shown, body_in, machine_shown, as_iterator, as_item_processor, state_of, shown, StateIsWithin, AreInOrder}
 use Rattle.asl_def.specs.Machines.{holds_states}
 use Rattle.asl_def.specs.Upgraded.{renamed, newer_value, newer_items, newer_members, upgraded, newer_row, newer_rows}
 use Rattle.asl_def.specs.private.Table.{newer_entry, newer_entries}

@@ -6,7 +6,7 @@ use Rattle.asl_json.specs.Data.{Data, Pairs, no_members, member}
 use Rattle.asl_json.specs.Same.{bytes_eq}
 use Rattle.asl_json.specs.Meaning.{value_at}
 use Rattle.asl_json.proofs.Knowing.{bytes_eq-flip}
-use Rattle.asl_schema.specs.Members.{Shape, sort_at}
+use Rattle.asl_def_table.specs.Members.{Shape, sort_at}
 use Rattle.asl_def.specs.Upgraded.{newer, newer_value, newer_members}
 use Rattle.asl_def.proofs.Newer.{by_name}
 

@@ -8,13 +8,13 @@ use Rattle.std.proofs.lemmas.List.{append-nil, map-append, take-append-le, drop-
 use Rattle.asl_json.specs.Data.{Data, pairs}
 use Rattle.asl_json.specs.Meaning.{value_at}
 use Rattle.asl_json.specs.Distinct.{has_key}
-use Rattle.asl_states.specs.declared.state.State.{State}
-use Rattle.asl_states.specs.declared.state.State.TheVariants.{Task, Pass, Choice, Wait, Parallel, Map, Succeed, Fail}
-use Rattle.asl_parts.specs.declared.body.Body.{Body}
+use Rattle.asl_def_states.specs.declared.state.State.{State}
+use Rattle.asl_def_states.specs.declared.state.State.TheVariants.{Task, Pass, Choice, Wait, Parallel, Map, Succeed, Fail}
+use Rattle.asl_def_parts.specs.declared.body.Body.{Body}
 use Rattle.asl_def.specs.Machines.{number_at}
-use Rattle.asl_schema.specs.Canon.{Named}
-use Rattle.asl_parts.specs.Bodies.{body_of, bodies_of, IsWithin, AreWithin}
-use Rattle.asl_states.specs.Show.{state_of, shown, body_in, StateIsWithin, AreInOrder}
+use Rattle.asl_def_table.specs.Canon.{Named}
+use Rattle.asl_def_parts.specs.Bodies.{body_of, bodies_of, IsWithin, AreWithin}
+use Rattle.asl_def_states.specs.Show.{state_of, shown, body_in, StateIsWithin, AreInOrder}
 
 -- what goes on behind does not change what is shown
 slice-append : (t r : List Named) (b : Body) → IsWithin (length t) b → take b.count (drop b.first (t ++ r)) ≡ take b.count (drop b.first t)

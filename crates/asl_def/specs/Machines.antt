@@ -4,10 +4,10 @@ use Rattle.asl_json.specs.Data.{Data, null, boolean, number, text, list, dict, C
 use Rattle.asl_json.specs.Same.{bytes_eq}
 use Rattle.asl_json.specs.Meaning.{value_at}
 use Rattle.asl_json.specs.View.{unpaired}
-use Rattle.asl_schema.specs.declared.sort.Sort.{Sort}
-use Rattle.asl_schema.specs.declared.sort.Sort.TheVariants as sort
-use Rattle.asl_schema.specs.Members.{Shape, shape_in, sort_at, item_sort}
-use Rattle.asl_schema.specs.Canon.{Named}
+use Rattle.asl_def_table.specs.declared.sort.Sort.{Sort}
+use Rattle.asl_def_table.specs.declared.sort.Sort.TheVariants as sort
+use Rattle.asl_def_table.specs.Members.{Shape, shape_in, sort_at, item_sort}
+use Rattle.asl_def_table.specs.Canon.{Named}
 
 -- what states stand in
 abbrev pub holds_states : Sort → Bool

@@ -3,7 +3,7 @@ use Rattle.std.specs.Prelude.{List, [], Option, Some, None, codes}
 use Rattle.asl_json.specs.Data.{Data, null, boolean, number, text, list, dict}
 use Rattle.asl_json.specs.Meaning.{value_in}
 use Rattle.asl_json.specs.View.{unpaired}
-use Rattle.asl_schema.specs.Canon.{Named}
+use Rattle.asl_def_table.specs.Canon.{Named}
 
 -- the members of an object
 abbrev pub members_in : Option Data → List Named

@@ -4,11 +4,11 @@ ghost use Rattle.asl_json.specs.Data.{pairs};
 ghost use Rattle.asl_json.specs.Distinct.{AreDistinct, has_key};
 ghost use Rattle.asl_json.specs.Meaning.{value_at};
 ghost use Rattle.asl_def.specs.Machines.{number_at};
-ghost use Rattle.asl_states.specs.Show.{state_of, StateIsWithin};
+ghost use Rattle.asl_def_states.specs.Show.{state_of, StateIsWithin};
 ghost use Rattle.asl_def.specs.Upgraded.{newer_rows};
 ghost use Rattle.asl_def.specs.private.Table.{newer_entries};
 
-use asl_states::State;
+use asl_def_states::State;
 use indexmap::IndexMap;
 use std::alloc::{AllocError, Global};
 use std::marker::Model;

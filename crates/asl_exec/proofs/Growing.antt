@@ -3,13 +3,13 @@ use Rattle.std.proofs.Common.{ℕ, ◌≡◌, ◌∙◌, Bool, true, false, List
 use Rattle.std.specs.Prelude.{is_none}
 use Rattle.asl_history.specs.declared.event.Event.{Event}
 use Rattle.asl_history.specs.Events.{event_after}
-use Rattle.asl_steps.specs.declared.effect.Draft.{Draft}
-use Rattle.asl_steps.specs.declared.record.Record.{Record}
-use Rattle.asl_frames.specs.Branches.{record_at}
-use Rattle.asl_run.specs.declared.refusal.Refusal.{Refusal}
-use Rattle.asl_run.specs.World.{World, events_after, is_late}
-use Rattle.asl_setup.specs.declared.setup.Setup.{Setup}
-use Rattle.asl_setup.specs.declared.step_at.StepAt.{StepAt}
+use Rattle.asl_step_rows.specs.declared.effect.Draft.{Draft}
+use Rattle.asl_step_rows.specs.declared.record.Record.{Record}
+use Rattle.asl_run_frames.specs.Branches.{record_at}
+use Rattle.asl_run_world.specs.declared.refusal.Refusal.{Refusal}
+use Rattle.asl_run_world.specs.World.{World, events_after, is_late}
+use Rattle.asl_run_setup.specs.declared.setup.Setup.{Setup}
+use Rattle.asl_run_setup.specs.declared.step_at.StepAt.{StepAt}
 use Rattle.asl_exec.specs.Steps.{facts_of, effect_in, seen_at, refusal_in, moved_on, step, world_after}
 use Rattle.asl_exec.proofs.Accepting.{step_refused, step_taken, step_late}
 

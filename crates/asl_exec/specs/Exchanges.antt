@@ -5,14 +5,14 @@ use Rattle.asl_json.specs.Data.{Data}
 use Rattle.asl_json.specs.Same.{bytes_eq}
 use Rattle.asl_history.specs.Places.{is_prefix}
 use Rattle.asl_history.specs.declared.event.Event.{Event}
-use Rattle.asl_steps.specs.declared.effect.Draft.{Draft}
-use Rattle.asl_steps.specs.declared.record.Record.{Record}
-use Rattle.asl_steps.specs.Records.{state_in, is_failed}
-use Rattle.asl_steps.specs.Rows.{draft}
-use Rattle.asl_frames.specs.Branches.{Branch, same_place, record_at}
-use Rattle.asl_run.specs.World.{World, is_over}
-use Rattle.asl_setup.specs.declared.setup.Setup.{Setup}
-use Rattle.asl_setup.specs.declared.step_at.StepAt.{StepAt}
+use Rattle.asl_step_rows.specs.declared.effect.Draft.{Draft}
+use Rattle.asl_step_rows.specs.declared.record.Record.{Record}
+use Rattle.asl_step_rows.specs.Records.{state_in, is_failed}
+use Rattle.asl_step_rows.specs.Rows.{draft}
+use Rattle.asl_run_frames.specs.Branches.{Branch, same_place, record_at}
+use Rattle.asl_run_world.specs.World.{World, is_over}
+use Rattle.asl_run_setup.specs.declared.setup.Setup.{Setup}
+use Rattle.asl_run_setup.specs.declared.step_at.StepAt.{StepAt}
 use Rattle.asl_exec.specs.Steps.{object_in, invokes_by, refusal_in, step}
 use Rattle.asl_exec.specs.declared.obstacle.Obstacle.{Obstacle}
 use Rattle.asl_exec.specs.declared.obstacle.Obstacle.TheVariants.{OnePlace, Above, TwoMoments, Refused, OneTask, Ends, Fails, NoRoom}

@@ -1,7 +1,7 @@
 -- Laws of runs, over all texts.
 use Rattle.std.specs.Prelude.{◌≡◌, List, ℕ, Bool}
-use Rattle.asl_setup.specs.declared.fault.EmulateFault.{EmulateFault}
-use Rattle.asl_setup.specs.Emulations.{Texts, IsRefused}
+use Rattle.asl_run_setup.specs.declared.fault.EmulateFault.{EmulateFault}
+use Rattle.asl_run_setup.specs.Emulations.{Texts, IsRefused}
 use Rattle.asl_exec.specs.Emulations.{IsRunOf}
 
 -- texts have at most one run

@@ -3,7 +3,7 @@ use Rattle.std.specs.Prelude.{ℕ, List, ◌∷◌, ◌++◌, Some, codes}
 use Rattle.asl_json.specs.Data.{text}
 use Rattle.asl_json.specs.Compact.{compact}
 use Rattle.asl_history.specs.Places.{place_text}
-use Rattle.asl_run.specs.Lines.{reply_text}
+use Rattle.asl_run_world.specs.Lines.{reply_text}
 use Rattle.asl_exec.specs.declared.obstacle.Obstacle.{Obstacle}
 use Rattle.asl_exec.specs.declared.obstacle.Obstacle.TheVariants.{OnePlace, Above, TwoMoments, Refused, OneTask, Ends, Fails, NoRoom}
 

@@ -4,25 +4,25 @@ use Rattle.std.specs.Option.{option_and_then}
 use Rattle.asl_json.specs.Data.{Data}
 use Rattle.asl_json.specs.Meaning.{value_in}
 use Rattle.asl_def.specs.Machines.{state_object, state_number, state_count}
-use Rattle.asl_steps.specs.declared.effect.Effect.{Effect}
-use Rattle.asl_steps.specs.declared.record.Record.{Record}
-use Rattle.asl_steps.specs.declared.facts.Facts.{Facts}
-use Rattle.asl_steps.specs.Rows.{idle}
-use Rattle.asl_steps.specs.Seen.{Seen}
+use Rattle.asl_step_rows.specs.declared.effect.Effect.{Effect}
+use Rattle.asl_step_rows.specs.declared.record.Record.{Record}
+use Rattle.asl_step_rows.specs.declared.facts.Facts.{Facts}
+use Rattle.asl_step_rows.specs.Rows.{idle}
+use Rattle.asl_step_rows.specs.Seen.{Seen}
 use Rattle.asl_kinds.specs.Table.{state_effect, invokes, slots, whole_or_zero}
 use Rattle.asl_kinds.specs.Forks.{start_in}
 use Rattle.asl_kinds.specs.Members.{later}
-use Rattle.asl_members.specs.Retries.{whole_in}
+use Rattle.asl_def_members.specs.Retries.{whole_in}
 use Rattle.asl_mock.specs.Answers.{Case}
-use Rattle.asl_steps.specs.Records.{state_in}
-use Rattle.asl_frames.specs.Branches.{record_at, children_at, forker_at, iteration_at}
-use Rattle.asl_frames.specs.Turns.{Limits}
-use Rattle.asl_run.specs.World.{World, count_of, is_late, world_with, timed_out}
-use Rattle.asl_run.specs.declared.refusal.Refusal.{Refusal}
-use Rattle.asl_run.specs.Refusals.{opening_at}
-use Rattle.asl_run.specs.Picking.{refusal_with}
-use Rattle.asl_setup.specs.declared.setup.Setup.{Setup}
-use Rattle.asl_setup.specs.declared.step_at.StepAt.{StepAt}
+use Rattle.asl_step_rows.specs.Records.{state_in}
+use Rattle.asl_run_frames.specs.Branches.{record_at, children_at, forker_at, iteration_at}
+use Rattle.asl_run_frames.specs.Turns.{Limits}
+use Rattle.asl_run_world.specs.World.{World, count_of, is_late, world_with, timed_out}
+use Rattle.asl_run_world.specs.declared.refusal.Refusal.{Refusal}
+use Rattle.asl_run_world.specs.Refusals.{opening_at}
+use Rattle.asl_run_world.specs.Picking.{refusal_with}
+use Rattle.asl_run_setup.specs.declared.setup.Setup.{Setup}
+use Rattle.asl_run_setup.specs.declared.step_at.StepAt.{StepAt}
 
 -- what stays the same as an execution goes on
 abbrev pub facts_of : Setup → Facts

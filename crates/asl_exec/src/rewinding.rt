@@ -1,13 +1,13 @@
 // Keeping the world of an execution, and coming back to it.
 ghost use Rattle.std.specs.Prelude.{◌≡◌, IfOk, OnOk, OnErr, max};
-ghost use Rattle.asl_run.specs.World.{is_late};
-ghost use Rattle.asl_run.specs.Checkpoints.{world_at, IsCheckpointOf};
+ghost use Rattle.asl_run_world.specs.World.{is_late};
+ghost use Rattle.asl_run_world.specs.Checkpoints.{world_at, IsCheckpointOf};
 ghost use Rattle.asl_exec.specs.Steps.{world_after};
 ghost use Rattle.asl_exec.specs.Views.{setup_of, world_of};
 
 use crate::execution::Execution;
-use asl_run::Checkpoint;
-use asl_setup::StepAt;
+use asl_run_setup::StepAt;
+use asl_run_world::Checkpoint;
 use asl_time::Moment;
 use std::alloc::AllocError;
 use std::mem;

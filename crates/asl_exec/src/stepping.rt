@@ -2,27 +2,27 @@
 ghost use Rattle.std.specs.Prelude.{◌≡◌, ◌⊎◌, [], List, Some, None, option_map, IfOk, IfErr, OnOk, OnErr};
 ghost use Rattle.std.specs.Option.{option_copied};
 ghost use Rattle.asl_def.specs.Machines.{states_of};
-ghost use Rattle.asl_states.specs.Show.{state_of as state_shown};
-ghost use Rattle.asl_schema.specs.Canon.{Named};
-ghost use Rattle.asl_steps.specs.Bounds.{AreFew};
-ghost use Rattle.asl_steps.specs.Seen.{seen};
-ghost use Rattle.asl_frames.specs.Branches.{record_at, children_at};
-ghost use Rattle.asl_frames.specs.Trees.{branches_of, nodes_of, ArePlaced};
+ghost use Rattle.asl_def_states.specs.Show.{state_of as state_shown};
+ghost use Rattle.asl_def_table.specs.Canon.{Named};
+ghost use Rattle.asl_step_rows.specs.Bounds.{AreFew};
+ghost use Rattle.asl_step_rows.specs.Seen.{seen};
+ghost use Rattle.asl_run_frames.specs.Branches.{record_at, children_at};
+ghost use Rattle.asl_run_frames.specs.Trees.{branches_of, nodes_of, ArePlaced};
 ghost use Rattle.asl_exec.specs.Steps.{opening, facts_of, refusal_in, limits_in, deadline_of, step, invokes_by, effect_by, effect_in, number_in, object_in, seen_at};
 ghost use Rattle.asl_kinds.specs.Forks.{start_in};
 ghost use Rattle.asl_exec.specs.Views.{setup_of, world_of};
 
 use crate::execution::Execution;
 use asl_def::Machine;
-use asl_frames::Frame;
+use asl_def_states::State;
 use asl_history::{History, Place};
 use asl_json::Name;
 use asl_kinds::StateKind;
 use asl_mock::Case;
-use asl_run::{Outcome, Refusal, World};
-use asl_setup::Setup;
-use asl_states::State;
-use asl_steps::{Context, Effect, Facts, Record, Visit, idle};
+use asl_run_frames::Frame;
+use asl_run_setup::Setup;
+use asl_run_world::{Outcome, Refusal, World};
+use asl_step_rows::{Context, Effect, Facts, Record, Visit, idle};
 use asl_time::{Moment, add};
 use std::alloc::{AllocError, Global};
 
@@ -231,7 +231,7 @@ pub(crate) fn planned(
 }
 
 /// Whether a state invokes a service, where there is one.
-pub(crate) fn invokes_in(state: Option<&State>) -> bool
+pub fn invokes_in(state: Option<&State>) -> bool
     ensures { (t : List Named)
         → result ≡ invokes_by (option_map (λ s. state_shown t s.now) state.entry) }
 {
@@ -262,10 +262,7 @@ fn effect_of(
 }
 
 /// The state that a branch is in, and its number; neither where the branch has ended.
-pub(crate) fn state_of<'a>(
-    machine: &'a Machine,
-    current: &Record,
-) -> (Option<usize>, Option<&'a State>)
+pub fn state_of<'a>(machine: &'a Machine, current: &Record) -> (Option<usize>, Option<&'a State>)
     ensures number { result.0 ≡ number_in machine.now current.now }
     ensures object { option_map (λ s. state_shown (states_of machine.now) s.now) result.1
         ≡ object_in machine.now current.now }

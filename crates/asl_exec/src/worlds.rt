@@ -5,7 +5,7 @@ ghost use Rattle.asl_exec.specs.Views.{setup_of, world_of};
 
 use crate::execution::Execution;
 use crate::stepping::opening_world;
-use asl_run::World;
+use asl_run_world::World;
 use std::alloc::AllocError;
 
 impl Execution {

@@ -5,14 +5,14 @@ use Rattle.std.specs.List.{All, AllWithin, Contains, HoldsAt}
 use Rattle.std.proofs.lemmas.List.{get_or_read, get_or_push, length-append, length-map}
 use Rattle.std.proofs.lemmas.List.Elements.{AllWithin-more}
 use Rattle.asl_explore.specs.declared.found.Found.{Found}
-use Rattle.asl_steps.specs.declared.record.Record.{Record}
-use Rattle.asl_frames.specs.declared.earliest.Earliest.{Earliest}
-use Rattle.asl_frames.specs.Branches.{record_at}
-use Rattle.asl_run.specs.World.{World, is_over}
-use Rattle.asl_run.specs.Bare.{bare, earliest}
-use Rattle.asl_run.specs.declared.outcome.Outcome.{Outcome}
-use Rattle.asl_run.specs.declared.refusal.Refusal.{Refusal}
-use Rattle.asl_setup.specs.declared.setup.Setup.{Setup}
+use Rattle.asl_step_rows.specs.declared.record.Record.{Record}
+use Rattle.asl_run_frames.specs.declared.earliest.Earliest.{Earliest}
+use Rattle.asl_run_frames.specs.Branches.{record_at}
+use Rattle.asl_run_world.specs.World.{World, is_over}
+use Rattle.asl_run_world.specs.Bare.{bare, earliest}
+use Rattle.asl_run_world.specs.declared.outcome.Outcome.{Outcome}
+use Rattle.asl_run_world.specs.declared.refusal.Refusal.{Refusal}
+use Rattle.asl_run_setup.specs.declared.setup.Setup.{Setup}
 use Rattle.asl_exec.specs.Steps.{step, opening, refusal_in}
 use Rattle.asl_exec.proofs.Accepting.{step_refused}
 use Rattle.asl_explore.specs.declared.met.Node.{Node}

@@ -2,21 +2,21 @@
 use Rattle.std.proofs.Common.{ℕ, ◌≡◌, ◌⊎◌, inl, inr, ◌≤◌, Bool, true, false, List, [], ◌∷◌, refl, sym, ◌∙◌, ap, subst, arith, length, max, Some, None, Option}
 use Rattle.std.specs.Prelude.{is_some, ⊤}
 use Rattle.asl_history.specs.Places.{is_prefix}
-use Rattle.asl_steps.specs.declared.effect.Effect.{Effect}
-use Rattle.asl_steps.specs.declared.record.Record.{Record}
-use Rattle.asl_steps.specs.declared.record.Record.TheVariants.{New, Ready, Pausing, Again, Forked, Done, Failed}
-use Rattle.asl_frames.specs.Branches.{record_at, is_stopped}
-use Rattle.asl_run.specs.Bare.{bare}
-use Rattle.asl_run.specs.World.{World, is_over, is_late, world_with}
-use Rattle.asl_run.specs.Refusals.{refusal_of}
-use Rattle.asl_run.specs.declared.refusal.Refusal.TheVariants.{Over, NoSuchPlace, Stopped}
-use Rattle.asl_setup.specs.declared.setup.Setup.{Setup}
+use Rattle.asl_step_rows.specs.declared.effect.Effect.{Effect}
+use Rattle.asl_step_rows.specs.declared.record.Record.{Record}
+use Rattle.asl_step_rows.specs.declared.record.Record.TheVariants.{New, Ready, Pausing, Again, Forked, Done, Failed}
+use Rattle.asl_run_frames.specs.Branches.{record_at, is_stopped}
+use Rattle.asl_run_world.specs.Bare.{bare}
+use Rattle.asl_run_world.specs.World.{World, is_over, is_late, world_with}
+use Rattle.asl_run_world.specs.Refusals.{refusal_of}
+use Rattle.asl_run_world.specs.declared.refusal.Refusal.TheVariants.{Over, NoSuchPlace, Stopped}
+use Rattle.asl_run_setup.specs.declared.setup.Setup.{Setup}
 use Rattle.asl_exec.specs.Steps.{number_in, refusal_in, step}
 use Rattle.asl_exec.proofs.Going.{IsReady, next, step-is}
-use Rattle.asl_exchange.proofs.Apart.{IsApart}
-use Rattle.asl_exchange.proofs.Rooting.{one-place}
-use Rattle.asl_exchange.proofs.Pending.{IsQuiet, IsPending, ahead, after, ready-ahead, commutes, still-pending}
-use Rattle.asl_exchange.proofs.Inline.{Someone, someone, ready-due, ready-going, none-under, above-ready, above-same}
+use Rattle.asl_run_exchange.proofs.Apart.{IsApart}
+use Rattle.asl_run_exchange.proofs.Rooting.{one-place}
+use Rattle.asl_run_exchange.proofs.Pending.{IsQuiet, IsPending, ahead, after, ready-ahead, commutes, still-pending}
+use Rattle.asl_run_exchange.proofs.Inline.{Someone, someone, ready-due, ready-going, none-under, above-ready, above-same}
 use Rattle.asl_explore.specs.Orders.{due_of, due, MayStep, IsPrompt}
 
 -- ---- such orders

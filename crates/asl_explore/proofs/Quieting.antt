@@ -1,12 +1,12 @@
 -- What is known of a quiet step once it was taken.
 use Rattle.std.proofs.Common.{ℕ, ◌≡◌, ◌<◌, ◌∙◌, ap, sym, subst, Bool, true, not, List, length, get_or, Some}
 use Rattle.std.proofs.lemmas.Bool.{not-true}
-use Rattle.asl_steps.specs.declared.record.Record.{Record}
-use Rattle.asl_frames.specs.Branches.{record_at}
-use Rattle.asl_run.specs.World.{World}
-use Rattle.asl_run.specs.Bare.{bare}
-use Rattle.asl_run.specs.declared.outcome.Outcome.{Outcome}
-use Rattle.asl_setup.specs.declared.setup.Setup.{Setup}
+use Rattle.asl_step_rows.specs.declared.record.Record.{Record}
+use Rattle.asl_run_frames.specs.Branches.{record_at}
+use Rattle.asl_run_world.specs.World.{World}
+use Rattle.asl_run_world.specs.Bare.{bare}
+use Rattle.asl_run_world.specs.declared.outcome.Outcome.{Outcome}
+use Rattle.asl_run_setup.specs.declared.setup.Setup.{Setup}
 use Rattle.asl_exec.specs.Steps.{object_in, invokes_by, step}
 use Rattle.asl_explore.specs.Searches.{IsMute, IsQuietAt, IsReduced, IsLater, StandsAt}
 use Rattle.asl_explore.proofs.Growing.{later-at}

@@ -4,21 +4,21 @@ use Rattle.std.specs.Prelude.{is_none}
 use Rattle.std.specs.List.{Contains}
 use Rattle.std.proofs.lemmas.Bool.{cond_both, both_ways}
 use Rattle.std.proofs.lemmas.List.{get_or_read}
-use Rattle.asl_steps.specs.declared.effect.Effect.{Effect}
-use Rattle.asl_steps.specs.declared.record.Record.{Record}
-use Rattle.asl_frames.specs.Branches.{record_at}
-use Rattle.asl_frames.specs.Turns.{limit_of}
-use Rattle.asl_frames.specs.Branches.{forker_at}
-use Rattle.asl_run.specs.Bare.{bare}
-use Rattle.asl_run.specs.World.{World, is_over, is_late, timed_out}
-use Rattle.asl_run.specs.declared.outcome.Outcome.{Outcome}
-use Rattle.asl_setup.specs.declared.setup.Setup.{Setup}
+use Rattle.asl_step_rows.specs.declared.effect.Effect.{Effect}
+use Rattle.asl_step_rows.specs.declared.record.Record.{Record}
+use Rattle.asl_run_frames.specs.Branches.{record_at}
+use Rattle.asl_run_frames.specs.Turns.{limit_of}
+use Rattle.asl_run_frames.specs.Branches.{forker_at}
+use Rattle.asl_run_world.specs.Bare.{bare}
+use Rattle.asl_run_world.specs.World.{World, is_over, is_late, timed_out}
+use Rattle.asl_run_world.specs.declared.outcome.Outcome.{Outcome}
+use Rattle.asl_run_setup.specs.declared.setup.Setup.{Setup}
 use Rattle.asl_exec.specs.Exchanges.{IsOneEach}
 use Rattle.asl_exec.specs.Steps.{limits_in, refusal_in, moved_on, stepped, step, opening}
 use Rattle.asl_exec.proofs.Going.{does, GoesOn, so-goes, step-is}
-use Rattle.asl_exchange.proofs.OneEach.{one-each, one-stepped}
-use Rattle.asl_exchange.proofs.Rooted.{IsRooted}
-use Rattle.asl_exchange.proofs.Pending.{IsQuiet, IsPending, ahead, none-over, rooted-next, each-next}
+use Rattle.asl_run_exchange.proofs.OneEach.{one-each, one-stepped}
+use Rattle.asl_run_exchange.proofs.Rooted.{IsRooted}
+use Rattle.asl_run_exchange.proofs.Pending.{IsQuiet, IsPending, ahead, none-over, rooted-next, each-next}
 use Rattle.asl_explore.specs.declared.orders.Orders.{Orders}
 use Rattle.asl_explore.specs.declared.orders.Orders.TheVariants.{Every, Prompt}
 use Rattle.asl_explore.specs.Orders.{due, after_order, AreTried, IsWhole}

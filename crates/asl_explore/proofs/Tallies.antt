@@ -6,13 +6,13 @@ use Rattle.std.proofs.lemmas.Bool.Decides.{nat_tests}
 use Rattle.std.proofs.lemmas.List.{get_or_read, get_or-set_other}
 use Rattle.std.proofs.lemmas.Grind.{get_or-set_at}
 use Rattle.std.proofs.lemmas.List.Elements.{All-contains, AllWithin-more}
-use Rattle.asl_steps.specs.declared.record.Record.{Record}
-use Rattle.asl_frames.specs.Branches.{record_at}
-use Rattle.asl_frames.specs.declared.earliest.Earliest.{Earliest}
-use Rattle.asl_run.specs.World.{World, is_over}
-use Rattle.asl_run.specs.Bare.{bare, earliest}
-use Rattle.asl_run.specs.declared.outcome.Outcome.{Outcome}
-use Rattle.asl_setup.specs.declared.setup.Setup.{Setup}
+use Rattle.asl_step_rows.specs.declared.record.Record.{Record}
+use Rattle.asl_run_frames.specs.Branches.{record_at}
+use Rattle.asl_run_frames.specs.declared.earliest.Earliest.{Earliest}
+use Rattle.asl_run_world.specs.World.{World, is_over}
+use Rattle.asl_run_world.specs.Bare.{bare, earliest}
+use Rattle.asl_run_world.specs.declared.outcome.Outcome.{Outcome}
+use Rattle.asl_run_setup.specs.declared.setup.Setup.{Setup}
 use Rattle.asl_def.specs.Machines.{state_count}
 use Rattle.asl_exec.specs.Steps.{step, opening}
 use Rattle.asl_explore.specs.declared.calls.Bounds.{Bounds}

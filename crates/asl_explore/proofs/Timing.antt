@@ -1,9 +1,9 @@
 -- Steps that are taken at the earliest moments.
 use Rattle.std.proofs.Common.{ℕ, ◌≡◌, ◌<◌, ◌+◌, ◌∙◌, ap, sym, subst, List, ◌∷◌, length, get_or, drop}
 use Rattle.std.proofs.lemmas.List.{drop_more}
-use Rattle.asl_run.specs.World.{World}
-use Rattle.asl_setup.specs.declared.setup.Setup.{Setup}
-use Rattle.asl_setup.specs.declared.step_at.StepAt.{StepAt}
+use Rattle.asl_run_world.specs.World.{World}
+use Rattle.asl_run_setup.specs.declared.setup.Setup.{Setup}
+use Rattle.asl_run_setup.specs.declared.step_at.StepAt.{StepAt}
 use Rattle.asl_exec.specs.Steps.{step}
 use Rattle.asl_explore.specs.Orders.{due, timed, places_of}
 

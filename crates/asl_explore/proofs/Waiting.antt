@@ -6,27 +6,27 @@ use Rattle.std.proofs.lemmas.Bool.{cond_both, both_ways}
 use Rattle.std.proofs.lemmas.Bool.Decides.{nat_tests}
 use Rattle.std.proofs.lemmas.List.{get_or_read}
 use Rattle.asl_history.specs.Places.{is_prefix}
-use Rattle.asl_steps.specs.Records.{is_done, is_failed}
-use Rattle.asl_steps.specs.declared.effect.Effect.{Effect}
-use Rattle.asl_steps.specs.declared.record.Record.{Record}
-use Rattle.asl_steps.specs.declared.record.Record.TheVariants.{New, Ready, Pausing, Again, Forked, Done, Failed}
-use Rattle.asl_frames.specs.Branches.{record_at, forker_at}
-use Rattle.asl_frames.specs.Earliest.{due_from}
-use Rattle.asl_frames.specs.Turns.{limit_of}
-use Rattle.asl_run.specs.Bare.{bare}
-use Rattle.asl_run.specs.World.{World, is_over, is_late, timed_out}
-use Rattle.asl_run.specs.declared.outcome.Outcome.{Outcome}
-use Rattle.asl_run.specs.declared.refusal.Refusal.{Refusal}
-use Rattle.asl_setup.specs.declared.setup.Setup.{Setup}
+use Rattle.asl_step_rows.specs.Records.{is_done, is_failed}
+use Rattle.asl_step_rows.specs.declared.effect.Effect.{Effect}
+use Rattle.asl_step_rows.specs.declared.record.Record.{Record}
+use Rattle.asl_step_rows.specs.declared.record.Record.TheVariants.{New, Ready, Pausing, Again, Forked, Done, Failed}
+use Rattle.asl_run_frames.specs.Branches.{record_at, forker_at}
+use Rattle.asl_run_frames.specs.Earliest.{due_from}
+use Rattle.asl_run_frames.specs.Turns.{limit_of}
+use Rattle.asl_run_world.specs.Bare.{bare}
+use Rattle.asl_run_world.specs.World.{World, is_over, is_late, timed_out}
+use Rattle.asl_run_world.specs.declared.outcome.Outcome.{Outcome}
+use Rattle.asl_run_world.specs.declared.refusal.Refusal.{Refusal}
+use Rattle.asl_run_setup.specs.declared.setup.Setup.{Setup}
 use Rattle.asl_exec.specs.Steps.{limits_in, refusal_in, moved_on, stepped, step, opening, deadline_of}
 use Rattle.asl_exec.proofs.Accepting.{step_refused}
 use Rattle.asl_exec.proofs.Going.{IsReady}
-use Rattle.asl_exchange.proofs.Fewer.{not-stopped}
-use Rattle.asl_exchange.proofs.Leaving.{record-stays}
-use Rattle.asl_exchange.proofs.Rooted.{is_joining, rooted-above, below}
-use Rattle.asl_exchange.proofs.Rooting.{one-place}
-use Rattle.asl_exchange.proofs.Pending.{IsQuiet, IsPending, ahead, none-over}
-use Rattle.asl_exchange.proofs.Inline.{none-under, ready-due}
+use Rattle.asl_run_exchange.proofs.Fewer.{not-stopped}
+use Rattle.asl_run_exchange.proofs.Leaving.{record-stays}
+use Rattle.asl_run_exchange.proofs.Rooted.{is_joining, rooted-above, below}
+use Rattle.asl_run_exchange.proofs.Rooting.{one-place}
+use Rattle.asl_run_exchange.proofs.Pending.{IsQuiet, IsPending, ahead, none-over}
+use Rattle.asl_run_exchange.proofs.Inline.{none-under, ready-due}
 use Rattle.asl_explore.specs.declared.orders.Orders.TheVariants.{Every, Prompt}
 use Rattle.asl_explore.specs.Orders.{due_of, due, after_order, IsPrompt, AreTried, IsWhole}
 use Rattle.asl_explore.specs.Searches.{IsMet, AreTakenOn, Waits, NoneWaits}

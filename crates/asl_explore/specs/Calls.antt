@@ -3,9 +3,9 @@ use Rattle.std.specs.Prelude.{ℕ, ◌≡◌, ◌≤◌, ◌<◌, true, length, 
 use Rattle.std.specs.List.{All}
 use Rattle.asl_json.specs.Data.{Data}
 use Rattle.asl_def.specs.Machines.{state_number, state_count}
-use Rattle.asl_run.specs.World.{World, is_over}
-use Rattle.asl_run.specs.declared.outcome.Outcome.{Outcome}
-use Rattle.asl_setup.specs.declared.setup.Setup.{Setup}
+use Rattle.asl_run_world.specs.World.{World, is_over}
+use Rattle.asl_run_world.specs.declared.outcome.Outcome.{Outcome}
+use Rattle.asl_run_setup.specs.declared.setup.Setup.{Setup}
 use Rattle.asl_exec.specs.Steps.{step, opening}
 use Rattle.asl_explore.specs.Orders.{due, IsTried, AreTried, after_order}
 use Rattle.asl_explore.specs.Searches.{IsMet, IsExpanded}

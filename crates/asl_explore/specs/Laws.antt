@@ -1,9 +1,9 @@
 -- Laws of searches.
 use Rattle.std.specs.Prelude.{ℕ, ◌≡◌, ◌⊎◌, List, None}
-use Rattle.asl_run.specs.World.{World}
-use Rattle.asl_run.specs.Bare.{bare}
-use Rattle.asl_run.specs.declared.outcome.Outcome.{Outcome}
-use Rattle.asl_setup.specs.declared.setup.Setup.{Setup}
+use Rattle.asl_run_world.specs.World.{World}
+use Rattle.asl_run_world.specs.Bare.{bare}
+use Rattle.asl_run_world.specs.declared.outcome.Outcome.{Outcome}
+use Rattle.asl_run_setup.specs.declared.setup.Setup.{Setup}
 use Rattle.asl_exec.specs.Steps.{deadline_of, step}
 use Rattle.asl_explore.specs.Orders.{IsWhole}
 use Rattle.asl_explore.specs.declared.orders.Orders.{Orders}

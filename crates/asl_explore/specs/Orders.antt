@@ -2,14 +2,14 @@
 -- may.
 use Rattle.std.specs.Prelude.{ℕ, ◌≡◌, ◌≤◌, ⊤, true, is_some, List, [], ◌∷◌, map, Option, Some, None}
 use Rattle.std.specs.List.{Contains}
-use Rattle.asl_steps.specs.declared.record.Record.{Record}
-use Rattle.asl_frames.specs.Branches.{record_at}
-use Rattle.asl_frames.specs.Earliest.{due_from}
-use Rattle.asl_run.specs.World.{World, is_over}
-use Rattle.asl_run.specs.Bare.{bare}
-use Rattle.asl_run.specs.declared.outcome.Outcome.{Outcome}
-use Rattle.asl_setup.specs.declared.setup.Setup.{Setup}
-use Rattle.asl_setup.specs.declared.step_at.StepAt.{StepAt}
+use Rattle.asl_step_rows.specs.declared.record.Record.{Record}
+use Rattle.asl_run_frames.specs.Branches.{record_at}
+use Rattle.asl_run_frames.specs.Earliest.{due_from}
+use Rattle.asl_run_world.specs.World.{World, is_over}
+use Rattle.asl_run_world.specs.Bare.{bare}
+use Rattle.asl_run_world.specs.declared.outcome.Outcome.{Outcome}
+use Rattle.asl_run_setup.specs.declared.setup.Setup.{Setup}
+use Rattle.asl_run_setup.specs.declared.step_at.StepAt.{StepAt}
 use Rattle.asl_exec.specs.Steps.{step, opening, refusal_in}
 use Rattle.asl_explore.specs.declared.orders.Orders.{Orders}
 use Rattle.asl_explore.specs.declared.orders.Orders.TheVariants.{Every, Prompt}

@@ -5,11 +5,11 @@ use Rattle.std.specs.List.{flat_map, list_all, list_any}
 use Rattle.asl_json.specs.View.{data_of}
 use Rattle.asl_json.specs.Compact.{compact}
 use Rattle.asl_history.specs.Places.{place_text}
-use Rattle.asl_steps.specs.Rows.{error_output}
-use Rattle.asl_run.specs.Lines.{is_success}
-use Rattle.asl_run.specs.declared.outcome.Outcome.{Outcome}
-use Rattle.asl_run.specs.declared.outcome.Outcome.TheVariants.{Running, Succeeded, Failed, TimedOut}
-use Rattle.asl_setup.specs.declared.step_at.StepAt.{StepAt}
+use Rattle.asl_step_rows.specs.Rows.{error_output}
+use Rattle.asl_run_world.specs.Lines.{is_success}
+use Rattle.asl_run_world.specs.declared.outcome.Outcome.{Outcome}
+use Rattle.asl_run_world.specs.declared.outcome.Outcome.TheVariants.{Running, Succeeded, Failed, TimedOut}
+use Rattle.asl_run_setup.specs.declared.step_at.StepAt.{StepAt}
 use Rattle.asl_explore.specs.declared.orders.Orders.{Orders}
 use Rattle.asl_explore.specs.declared.orders.Orders.TheVariants.{Every, Prompt}
 use Rattle.asl_explore.specs.declared.found.Found.{Found}

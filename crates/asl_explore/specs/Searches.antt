@@ -1,13 +1,13 @@
 -- What a search has met.
 use Rattle.std.specs.Prelude.{ℕ, zero, suc, ◌≡◌, ◌⊎◌, ◌<◌, length, get_or, ◌++◌, true, false, ⊤, Bool, nat_lt, List, map, Option, Some, None}
 use Rattle.std.specs.List.{All, AllPairs, Contains}
-use Rattle.asl_steps.specs.declared.record.Record.{Record}
-use Rattle.asl_frames.specs.Branches.{record_at, is_stopped}
-use Rattle.asl_frames.specs.Earliest.{due_from}
-use Rattle.asl_run.specs.World.{World, is_over}
-use Rattle.asl_run.specs.Bare.{bare}
-use Rattle.asl_run.specs.declared.outcome.Outcome.{Outcome}
-use Rattle.asl_setup.specs.declared.setup.Setup.{Setup}
+use Rattle.asl_step_rows.specs.declared.record.Record.{Record}
+use Rattle.asl_run_frames.specs.Branches.{record_at, is_stopped}
+use Rattle.asl_run_frames.specs.Earliest.{due_from}
+use Rattle.asl_run_world.specs.World.{World, is_over}
+use Rattle.asl_run_world.specs.Bare.{bare}
+use Rattle.asl_run_world.specs.declared.outcome.Outcome.{Outcome}
+use Rattle.asl_run_setup.specs.declared.setup.Setup.{Setup}
 use Rattle.asl_exec.specs.Steps.{object_in, invokes_by, step, opening, world_after}
 use Rattle.asl_exec.specs.Exchanges.{goes_on}
 use Rattle.asl_explore.specs.Orders.{due, timed, places_of, MayStep, IsTried, AreTried, after_order}

@@ -1,11 +1,11 @@
 // How often each state is invoked in the orders that end in an outcome.
 ghost use Rattle.std.specs.Prelude.{◌≡◌, ◌<◌, ℕ, true, length, slice_index, slice_index_or, IfOk, IfSome};
-ghost use Rattle.asl_run.specs.declared.outcome.Outcome.{Outcome};
+ghost use Rattle.asl_run_world.specs.declared.outcome.Outcome.{Outcome};
 ghost use Rattle.asl_explore.specs.Searches.{outcomes_of};
 ghost use Rattle.asl_explore.specs.Calls.{IsIn, AreWider, AreKept, IsCounted};
 
 use crate::found::Found;
-use asl_exec::{Outcome, World};
+use asl_run_world::{Outcome, World};
 use std::alloc::{AllocError, Global};
 
 /// At least and at most so often.

@@ -1,7 +1,7 @@
 // Counting how often each state is invoked in the worlds that end an execution.
 ghost use Rattle.std.specs.Prelude.{◌≡◌, true, false, IfOk};
 ghost use Rattle.std.specs.List.{All};
-ghost use Rattle.asl_run.specs.Bare.{bare};
+ghost use Rattle.asl_run_world.specs.Bare.{bare};
 ghost use Rattle.asl_exec.specs.Steps.{step};
 ghost use Rattle.asl_exec.specs.Views.{setup_of};
 ghost use Rattle.asl_explore.specs.Searches.{worlds_of, outcomes_of, is_beyond};
@@ -13,8 +13,10 @@ use crate::met::Node;
 use crate::orders::Orders;
 use crate::search::{bound_in, is_beyond};
 use crate::visiting::{enter, turns_in};
-use asl_exec::{Earliest, Execution, World};
-use asl_setup::StepAt;
+use asl_exec::Execution;
+use asl_run_frames::Earliest;
+use asl_run_setup::StepAt;
+use asl_run_world::World;
 use std::alloc::{AllocError, Global};
 
 /// Takes a step in a world: where it ends the execution, how often each of so many states was invoked is within the bounds of the

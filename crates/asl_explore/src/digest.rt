@@ -1,8 +1,8 @@
 // Digests of worlds, by which they are looked up. Worlds that are alike have one digest; nothing rests on that but speed.
-
-use asl_exec::{Frame, SharedFrame, World};
 use asl_json::Json;
-use asl_steps::Record;
+use asl_run_frames::{Frame, SharedFrame};
+use asl_run_world::World;
+use asl_step_rows::Record;
 
 /// A digest in the making.
 #[derive(Clone, Copy)]

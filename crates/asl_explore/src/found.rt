@@ -4,8 +4,8 @@ use crate::calls::Calls;
 use crate::orders::Orders;
 use crate::remarks::Remarks;
 use crate::states::Stated;
-use asl_exec::Outcome;
-use asl_setup::StepAt;
+use asl_run_setup::StepAt;
+use asl_run_world::Outcome;
 
 /// An outcome, and steps that end in it.
 #[derive(Drop)]

@@ -3,7 +3,7 @@ ghost use Rattle.std.specs.Prelude.{◌≡◌, false, IfOk};
 ghost use Rattle.std.specs.List.{All};
 ghost use Rattle.asl_exec.specs.Views.{setup_of};
 ghost use Rattle.asl_explore.specs.Searches.{AreLate, IsMissing, IsNumbered, NoneWaits, Shows, Waits, worlds_of};
-ghost use Rattle.asl_run.specs.Bare.{bare};
+ghost use Rattle.asl_run_world.specs.Bare.{bare};
 
 use crate::found::Found;
 use crate::met::Node;
@@ -11,7 +11,8 @@ use crate::orders::Orders;
 use crate::search::search;
 use crate::visiting::{is_found, turns_in};
 use crate::watch::Unwatched;
-use asl_exec::{Execution, World};
+use asl_exec::Execution;
+use asl_run_world::World;
 use std::alloc::{AllocError, Global};
 
 /// Whether a branch waits in a world. The error is that memory ran out.

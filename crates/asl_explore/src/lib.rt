@@ -29,7 +29,6 @@ mod telling;
 mod visiting;
 mod watch;
 
-pub use asl_setup::Setup;
 pub use calls::{Bounds, Calls};
 pub use found::{Explored, Found};
 pub use laws::searches_leave_out_nothing;

@@ -1,13 +1,13 @@
 // The worlds that a search met.
 ghost use Rattle.std.specs.Prelude.{◌≡◌, List, ◌∷◌, [], IfOk, IfSome};
-ghost use Rattle.asl_run.specs.Bare.{bare};
-ghost use Rattle.asl_run.specs.declared.outcome.Outcome.{Outcome};
+ghost use Rattle.asl_run_world.specs.Bare.{bare};
+ghost use Rattle.asl_run_world.specs.declared.outcome.Outcome.{Outcome};
 ghost use Rattle.asl_explore.specs.Searches.{worlds_of, IsLater, StandsAt};
 
 use crate::digest::digest_of;
 use crate::table::Table;
-use asl_exec::World;
-use asl_setup::StepAt;
+use asl_run_setup::StepAt;
+use asl_run_world::World;
 use std::alloc::{AllocError, Global};
 
 /// A world that was met, without its history.

@@ -1,15 +1,16 @@
 // Steps at the earliest moments.
 ghost use Rattle.std.specs.Prelude.{◌≡◌, ◌⊎◌, true, IfOk, IfSome, Some};
-ghost use Rattle.asl_frames.specs.Earliest.{due_from};
+ghost use Rattle.asl_run_frames.specs.Earliest.{due_from};
 ghost use Rattle.asl_exec.specs.Steps.{opening, world_after};
 ghost use Rattle.asl_exec.specs.Views.{setup_of, world_of};
 ghost use Rattle.asl_explore.specs.Orders.{due, timed, places_of, MayStep};
 ghost use Rattle.asl_explore.specs.Searches.{IsOpenAt};
 
 use crate::met::Node;
-use asl_exec::{Earliest, Execution, due_from};
+use asl_exec::Execution;
 use asl_history::Place;
-use asl_setup::StepAt;
+use asl_run_frames::{Earliest, due_from};
+use asl_run_setup::StepAt;
 use asl_time::Moment;
 use std::alloc::{AllocError, Global};
 

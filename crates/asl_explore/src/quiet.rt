@@ -1,11 +1,8 @@
 // Steps that need no other one of the same world.
 ghost use Rattle.std.specs.Prelude.{◌≡◌, ◌<◌, List, length, get_or, not, true, option_map, IfOk};
-ghost use Rattle.asl_schema.specs.Canon.{Named};
-ghost use Rattle.asl_states.specs.Show.{state_of as state_shown};
-ghost use Rattle.asl_def.specs.Machines.{states_of};
-ghost use Rattle.asl_frames.specs.Branches.{record_at};
-ghost use Rattle.asl_run.specs.World.{World};
-ghost use Rattle.asl_run.specs.declared.outcome.Outcome.{Outcome};
+ghost use Rattle.asl_run_frames.specs.Branches.{record_at};
+ghost use Rattle.asl_run_world.specs.World.{World};
+ghost use Rattle.asl_run_world.specs.declared.outcome.Outcome.{Outcome};
 ghost use Rattle.asl_exec.specs.Steps.{object_in, invokes_by, step};
 ghost use Rattle.asl_exec.specs.Exchanges.{has_failed};
 ghost use Rattle.asl_exec.specs.Views.{setup_of, world_of};
@@ -14,40 +11,19 @@ ghost use Rattle.asl_explore.specs.Searches.{IsMute, IsQuietAt, IsReduced, IsLat
 use crate::met::Met;
 use crate::visiting::{enter, turns_in};
 use asl_def::Machine;
-use asl_exec::{Earliest, Execution};
+use asl_exec::{Execution, invokes_in, state_of};
 use asl_history::Place;
-use asl_kinds::StateKind;
-use asl_setup::StepAt;
-use asl_states::State;
-use asl_steps::Record;
+use asl_run_frames::Earliest;
+use asl_run_setup::StepAt;
+use asl_step_rows::Record;
 use std::alloc::{AllocError, Global};
-
-/// Whether a state invokes a service, where there is one.
-fn invokes_in(state: Option<&State>) -> bool
-    ensures { (t : List Named)
-        → result ≡ invokes_by (option_map (λ s. state_shown t s.now) state.entry) }
-{
-    match state {
-        Some(state) => state.invokes(),
-        None => false,
-    }
-}
-
-/// The state that a branch is in; none where the branch has ended.
-fn state_of<'a>(machine: &'a Machine, current: &Record) -> Option<&'a State>
-    ensures { option_map (λ s. state_shown (states_of machine.now) s.now) result
-        ≡ object_in machine.now current.now }
-{
-    let name = current.state()?;
-    let (_, state) = machine.find(name.as_str())?;
-    Some(state)
-}
 
 /// Whether a step of a branch that is doing this invokes a service.
 fn invokes(machine: &Machine, current: &Record) -> bool
     ensures { result ≡ invokes_by (object_in machine.now current.now) }
 {
-    invokes_in(state_of(machine, current))
+    let (_, state) = state_of(machine, current);
+    invokes_in(state)
 }
 
 /// Whether a step of the branch at a place invokes nothing.

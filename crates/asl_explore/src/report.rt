@@ -4,18 +4,17 @@ ghost use Rattle.std.specs.Fmt.{decimal};
 ghost use Rattle.std.specs.List.{list_any};
 ghost use Rattle.asl_json.specs.View.{data_of};
 ghost use Rattle.asl_json.specs.Compact.{compact};
-ghost use Rattle.asl_steps.specs.Rows.{error_output};
+ghost use Rattle.asl_step_rows.specs.Rows.{error_output};
 ghost use Rattle.asl_explore.specs.Telling.{are_remarks};
 ghost use Rattle.asl_explore.specs.Reports.{ended_text, place_word, order_line, outcome_line, found_text, late_line, founds_text, number_line, note_text, gap, prompt_note, is_prompt, time_limit_note, clock_note, notes_text, searched_text, explored_text, are_good, is_good};
 
 use crate::found::{Explored, Found};
 use crate::orders::Orders;
 use crate::telling::{are_remarks, put_calls, put_number, put_remarks};
-use asl_exec::Outcome;
 use asl_json::{Json, put};
-use asl_run::is_success;
-use asl_setup::StepAt;
-use asl_steps::{ErrorOut, error_output};
+use asl_run_setup::StepAt;
+use asl_run_world::{Outcome, is_success};
+use asl_step_rows::{ErrorOut, error_output};
 use std::alloc::{AllocError, Global};
 
 /// Appends a word, a number and a line feed. The error is that memory ran out.

@@ -1,8 +1,8 @@
 // A search over the worlds that steps lead to.
 ghost use Rattle.std.specs.Prelude.{◌≡◌, ◌<◌, ◌≤◌, ◌∷◌, [], true, false, length, get_or, slice_index_or, None, IfOk, IfSome};
 ghost use Rattle.std.specs.List.{All, HoldsAt};
-ghost use Rattle.asl_run.specs.Bare.{bare};
-ghost use Rattle.asl_run.specs.World.{World, is_over};
+ghost use Rattle.asl_run_world.specs.Bare.{bare};
+ghost use Rattle.asl_run_world.specs.World.{World, is_over};
 ghost use Rattle.asl_exec.specs.Steps.{deadline_of, opening, step};
 ghost use Rattle.asl_exec.specs.Views.{setup_of};
 ghost use Rattle.asl_explore.specs.Orders.{IsWhole};
@@ -22,9 +22,11 @@ use crate::seeing::{no_remarks, remarks_on};
 use crate::states::states_in;
 use crate::visiting::{enter, turns_in, visit};
 use crate::watch::Watch;
-use asl_exec::{Earliest, Execution, World};
+use asl_exec::Execution;
 use asl_history::Place;
-use asl_setup::{Setup, StepAt};
+use asl_run_frames::Earliest;
+use asl_run_setup::{Setup, StepAt};
+use asl_run_world::World;
 use asl_time::Moment;
 use std::alloc::{AllocError, Global};
 

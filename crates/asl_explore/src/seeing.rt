@@ -7,11 +7,13 @@ use crate::remarks::{Answers, Remarks};
 use crate::search::{bound_in, is_beyond};
 use crate::states::Stated;
 use crate::visiting::{enter, turns_in};
-use asl_exec::{Earliest, Execution, Refusal, World};
+use asl_exec::Execution;
 use asl_json::Name;
 use asl_mock::Case;
-use asl_setup::StepAt;
-use asl_steps::Record;
+use asl_run_frames::Earliest;
+use asl_run_setup::StepAt;
+use asl_run_world::{Refusal, World};
+use asl_step_rows::Record;
 use std::alloc::{AllocError, Global};
 
 /// What was seen of a state.

@@ -1,10 +1,10 @@
 // One step of a search.
 ghost use Rattle.std.specs.Prelude.{◌≡◌, ◌<◌, List, [], true, false, length, slice_index_or, is_some, IfOk, IfSome};
 ghost use Rattle.std.specs.List.{All, Contains};
-ghost use Rattle.asl_frames.specs.Branches.{record_at};
-ghost use Rattle.asl_run.specs.Bare.{bare, earliest};
-ghost use Rattle.asl_run.specs.World.{World, is_over};
-ghost use Rattle.asl_run.specs.declared.outcome.Outcome.{Outcome};
+ghost use Rattle.asl_run_frames.specs.Branches.{record_at};
+ghost use Rattle.asl_run_world.specs.Bare.{bare, earliest};
+ghost use Rattle.asl_run_world.specs.World.{World, is_over};
+ghost use Rattle.asl_run_world.specs.declared.outcome.Outcome.{Outcome};
 ghost use Rattle.asl_exec.specs.Steps.{step};
 ghost use Rattle.asl_exec.specs.Views.{setup_of, world_of};
 ghost use Rattle.asl_explore.specs.Searches.{IsMet, worlds_of, outcomes_of, Shows, AreDistinct, IsLater};
@@ -12,9 +12,11 @@ ghost use Rattle.asl_explore.specs.Searches.{IsMet, worlds_of, outcomes_of, Show
 use crate::found::Found;
 use crate::met::{Met, Node};
 use crate::order::{path, replay};
-use asl_exec::{Earliest, Execution, Outcome, World};
+use asl_exec::Execution;
 use asl_history::Place;
-use asl_setup::StepAt;
+use asl_run_frames::Earliest;
+use asl_run_setup::StepAt;
+use asl_run_world::{Outcome, World};
 use std::alloc::{AllocError, Global};
 
 /// Each branch of a world that runs, with the earliest moment at which it may step; none where the world is over. The error is that

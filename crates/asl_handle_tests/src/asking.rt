@@ -1,8 +1,8 @@
 // Retriers and catchers of a definition, asked what becomes of an error.
 use asl_check::accept;
+use asl_def_parts::{Catcher, Completion};
+use asl_def_states::State;
 use asl_handle::{Decision, Policy};
-use asl_parts::{Catcher, Completion};
-use asl_states::State;
 use asl_time::Moment;
 use std::alloc::Global;
 

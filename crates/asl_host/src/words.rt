@@ -1,7 +1,8 @@
 // The command line.
+use crate::screen::Screen;
 use clap::builder::ValueParser;
 use clap::error::ErrorKind;
-use clap::{Arg, ArgAction, ArgMatches, Command, Error};
+use clap::{Arg, ArgAction, ArgGroup, ArgMatches, Command, Error};
 use std::alloc::{AllocError, Global};
 use std::convert::AsStr;
 use std::rt::Env;
@@ -12,6 +13,9 @@ const FORMATS: [&str; 3] = ["text", "junit", "json"];
 
 /// The words for the formats of runs.
 const RUN_FORMATS: [&str; 6] = ["text", "json", "aws", "steps", "tree", "data"];
+
+/// The words for the formats of what the debugger tells.
+const DEBUG_FORMATS: [&str; 2] = ["text", "tree"];
 
 /// The words for the languages of graphs.
 const LANGUAGES: [&str; 2] = ["mermaid", "dot"];
@@ -91,6 +95,8 @@ pub enum GraphFormat {
 pub struct GraphWords<'a> {
     pub definition: DefinitionWords<'a>,
     pub format: GraphFormat,
+    /// The run of which the states are marked that it enters; none where nothing is run.
+    pub run: Option<SetupWords<'a>>,
 }
 
 /// The words of `mocks`.
@@ -134,6 +140,17 @@ pub struct RunWords<'a> {
     /// The name of a file. Where no file of steps is named, the execution takes the steps that come next.
     pub steps: Option<&'a str>,
     pub format: RunFormat,
+    /// Whether what happened at each state is told in colours.
+    pub coloured: bool,
+}
+
+/// How the debugger tells what the steps of a line do.
+#[derive(Clone, Copy, Debug, PartialEq, Eq)]
+pub enum DebugFormat {
+    /// What was replied to each.
+    Text,
+    /// What happened at each state, and where each branch stands then.
+    Tree,
 }
 
 /// The words of `debug`.
@@ -142,6 +159,10 @@ pub struct DebugWords<'a> {
     pub setup: SetupWords<'a>,
     /// The name of a file. Where no script is named, lines are read that are typed.
     pub script: Option<&'a str>,
+    /// How lines that are typed are answered; a script is told as text.
+    pub format: DebugFormat,
+    /// Whether what happened at each state is told in colours.
+    pub coloured: bool,
 }
 
 /// How the reports of a suite are printed.
@@ -214,9 +235,13 @@ pub fn given<R: Env + AllocGlobal>(rt: &R) -> Result<Vec<String>, GivenFault> {
         .map_err(|_| GivenFault::OutOfMemory)
 }
 
-/// Reads the words, of which the first is the program's name. The error tells of a wrong command line, is help that was
-/// asked for, or want of memory.
-pub fn read_words<'a, S: AsStr>(alloc: Global, words: &'a [S]) -> Result<Words<'a>, Error> {
+/// Reads the words, of which the first is the program's name, where answers are read on this screen. The error tells of a wrong command
+/// line, is help that was asked for, or want of memory.
+pub fn read_words<'a, S: AsStr>(
+    alloc: Global,
+    words: &'a [S],
+    screen: Screen,
+) -> Result<Words<'a>, Error> {
     let mut command = asl_command(alloc)?;
     let matches = command.try_get_matches_from_mut(words)?;
     if let Some(matches) = matches.subcommand_matches("test") {
@@ -228,7 +253,13 @@ pub fn read_words<'a, S: AsStr>(alloc: Global, words: &'a [S]) -> Result<Words<'
             )?),
         };
     }
-    match words_of(&matches) {
+    if tells_a_script_as_tree(&matches) {
+        return Err(command.error(
+            ErrorKind::ArgumentConflict,
+            "a script is told as text: --format tree is for lines that are typed",
+        )?);
+    }
+    match words_of(&matches, screen) {
         Some(words) => Ok(words),
         None => Err(command.error(ErrorKind::MissingSubcommand, "no command was given")?),
     }
@@ -248,7 +279,17 @@ pub fn missing_outcome(alloc: Global) -> Result<Error, Error> {
     Ok(command.error(ErrorKind::ValueValidation, message)?)
 }
 
-fn words_of<'a>(matches: &ArgMatches<'a>) -> Option<Words<'a>> {
+/// Whether `debug` is asked to tell a script in the format that is for lines.
+fn tells_a_script_as_tree(matches: &ArgMatches<'_>) -> bool {
+    match matches.subcommand_matches("debug") {
+        Some(matches) => {
+            script_of(matches).is_some() && matches.get_str("format") == Some("tree")
+        }
+        None => false,
+    }
+}
+
+fn words_of<'a>(matches: &ArgMatches<'a>, screen: Screen) -> Option<Words<'a>> {
     if let Some(matches) = matches.subcommand_matches("check") {
         return Some(Words::Check(definition_words_of(matches)?));
     }
@@ -262,10 +303,7 @@ fn words_of<'a>(matches: &ArgMatches<'a>) -> Option<Words<'a>> {
         return Some(Words::Lint(lint_words_of(matches)?));
     }
     if let Some(matches) = matches.subcommand_matches("debug") {
-        return Some(Words::Debug(DebugWords {
-            setup: setup_words_of(matches)?,
-            script: word_or_option(matches, "SCRIPT", "script"),
-        }));
+        return Some(Words::Debug(debug_words_of(matches, screen)?));
     }
     if let Some(matches) = matches.subcommand_matches("explore") {
         return Some(Words::Explore(ExploreWords {
@@ -280,6 +318,7 @@ fn words_of<'a>(matches: &ArgMatches<'a>) -> Option<Words<'a>> {
         return Some(Words::Graph(GraphWords {
             definition: definition_words_of(matches)?,
             format: graph_format_of(matches.get_str("format")),
+            run: run_of_graph(matches),
         }));
     }
     if let Some(matches) = matches.subcommand_matches("mocks") {
@@ -289,11 +328,56 @@ fn words_of<'a>(matches: &ArgMatches<'a>) -> Option<Words<'a>> {
         }));
     }
     let matches = matches.subcommand_matches("run")?;
+    let format = run_format_of(matches.get_str("format"));
     Some(Words::Run(RunWords {
         setup: setup_words_of(matches)?,
         steps: matches.get_str("steps"),
-        format: run_format_of(matches.get_str("format")),
+        format,
+        coloured: screen.coloured && tells_of_states(format),
     }))
+}
+
+/// Whether a run is printed by what happened at each state.
+fn tells_of_states(format: RunFormat) -> bool {
+    match format {
+        RunFormat::Tree | RunFormat::Data => true,
+        RunFormat::Text | RunFormat::Json | RunFormat::Aws | RunFormat::Steps => false,
+    }
+}
+
+/// The run of which a graph marks the states, where one is asked for.
+fn run_of_graph<'a>(matches: &ArgMatches<'a>) -> Option<SetupWords<'a>> {
+    if matches.get_flag("run") {
+        setup_words_of(matches)
+    } else {
+        None
+    }
+}
+
+/// The script of `debug`, where one is named.
+fn script_of<'a>(matches: &ArgMatches<'a>) -> Option<&'a str> {
+    word_or_option(matches, "SCRIPT", "script")
+}
+
+fn debug_words_of<'a>(matches: &ArgMatches<'a>, screen: Screen) -> Option<DebugWords<'a>> {
+    let script = script_of(matches);
+    let typed = screen.typed && script.is_none();
+    Some(DebugWords {
+        setup: setup_words_of(matches)?,
+        script,
+        format: debug_format_of(matches.get_str("format"), typed),
+        coloured: screen.coloured,
+    })
+}
+
+/// The format that a word names; without a word it is the tree where a person types and reads.
+fn debug_format_of(word: Option<&str>, typed: bool) -> DebugFormat {
+    match word {
+        Some("tree") => DebugFormat::Tree,
+        Some(_) => DebugFormat::Text,
+        None if typed => DebugFormat::Tree,
+        None => DebugFormat::Text,
+    }
 }
 
 fn lint_words_of<'a>(matches: &ArgMatches<'a>) -> Option<LintWords<'a>> {
@@ -479,10 +563,44 @@ fn graph_command<'a>(alloc: Global) -> Result<Command<'a>, AllocError> {
         .value_parser(LANGUAGES.as_slice())
         .default_value("mermaid")
         .help("The language of the graph");
-    Command::new(alloc, "graph")
+    let run = Arg::new(alloc, "run")
+        .long("run")
+        .action(ArgAction::SetTrue)
+        .requires_arg("mock file")?
+        .requires_arg("chosen")?
+        .requires_arg("execution input")?
+        .help("Marks the states that a run of MOCKS, CHOSEN and INPUT enters");
+    let graph = Command::new(alloc, "graph")
         .about("Prints the graph of a definition, for a program that draws it")
-        .arg(definition_word(alloc))?
-        .arg(format)
+        .arg(definition_word(alloc))?;
+    with_run_words(alloc, graph)?.arg(run)?.arg(format)
+}
+
+/// The words for a run, and the options that may stand for them, where `--run` asks for one.
+fn with_run_words<'a>(alloc: Global, command: Command<'a>) -> Result<Command<'a>, AllocError> {
+    let mocks = mocks_word(alloc).requires_arg("run")?;
+    let chosen = chosen_word(alloc).requires_arg("run")?;
+    let input = input_word(alloc).requires_arg("run")?;
+    command
+        .arg(mocks)?
+        .arg(chosen)?
+        .arg(input)?
+        .arg(option(alloc, "mocks", "FILE", "Stands for the word MOCKS").requires_arg("run")?)?
+        .arg(option(alloc, "case", "CHOSEN", "Stands for the word CHOSEN").requires_arg("run")?)?
+        .arg(option(alloc, "input", "FILE", "Stands for the word INPUT").requires_arg("run")?)?
+        .group(one_of(alloc, "mock file", "MOCKS", "mocks")?)?
+        .group(one_of(alloc, "chosen", "CHOSEN", "case")?)?
+        .group(one_of(alloc, "execution input", "INPUT", "input")?)
+}
+
+/// A word, or the option that may stand for it.
+fn one_of<'a>(
+    alloc: Global,
+    name: &'a str,
+    word: &'a str,
+    option: &'a str,
+) -> Result<ArgGroup<'a>, AllocError> {
+    ArgGroup::new(alloc, name).arg(word)?.arg(option)
 }
 
 fn mocks_command<'a>(alloc: Global) -> Result<Command<'a>, AllocError> {
@@ -521,10 +639,20 @@ fn debug_command<'a>(alloc: Global) -> Result<Command<'a>, AllocError> {
         )
         .conflicts_with("script")?;
     let option = option(alloc, "script", "FILE", "Stands for the word SCRIPT");
+    let format = Arg::new(alloc, "format")
+        .long("format")
+        .value_name("FORMAT")
+        .value_parser(DEBUG_FORMATS.as_slice())
+        .help(
+            "How the steps of a line are told: by their replies, or by what happened at each state, which is the default at a terminal",
+        );
     let debug = Command::new(alloc, "debug").about(
         "Debugs an execution and prints its replies, its history and its status",
     );
-    with_setup_words(alloc, debug)?.arg(script)?.arg(option)
+    with_setup_words(alloc, debug)?
+        .arg(script)?
+        .arg(option)?
+        .arg(format)
 }
 
 fn test_command<'a>(alloc: Global) -> Result<Command<'a>, AllocError> {
@@ -603,19 +731,31 @@ fn explore_command<'a>(alloc: Global) -> Result<Command<'a>, AllocError> {
 
 /// The words for what an execution begins with, and the options that may stand for them.
 fn with_setup_words<'a>(alloc: Global, command: Command<'a>) -> Result<Command<'a>, AllocError> {
-    let mocks = Arg::new(alloc, "MOCKS").help("The file of the mocked tasks");
-    let chosen = Arg::new(alloc, "CHOSEN").help(
-        "The machine's name, the machine's and a case's as Machine#Case, or the case's alone where the mock file has one machine",
-    );
-    let input = Arg::new(alloc, "INPUT").help("The file of the execution's input");
     command
         .arg(definition_word(alloc))?
-        .arg(unless_option(mocks, "mocks")?)?
-        .arg(unless_option(chosen, "case")?)?
-        .arg(unless_option(input, "input")?)?
+        .arg(unless_option(mocks_word(alloc), "mocks")?)?
+        .arg(unless_option(chosen_word(alloc), "case")?)?
+        .arg(unless_option(input_word(alloc), "input")?)?
         .arg(option(alloc, "mocks", "FILE", "Stands for the word MOCKS"))?
         .arg(option(alloc, "case", "CHOSEN", "Stands for the word CHOSEN"))?
         .arg(option(alloc, "input", "FILE", "Stands for the word INPUT"))
+}
+
+/// The name of the mock file.
+fn mocks_word<'a>(alloc: Global) -> Arg<'a> {
+    Arg::new(alloc, "MOCKS").help("The file of the mocked tasks")
+}
+
+/// What is chosen of the mock file.
+fn chosen_word<'a>(alloc: Global) -> Arg<'a> {
+    Arg::new(alloc, "CHOSEN").help(
+        "The machine's name, the machine's and a case's as Machine#Case, or the case's alone where the mock file has one machine",
+    )
+}
+
+/// The name of the input's file.
+fn input_word<'a>(alloc: Global) -> Arg<'a> {
+    Arg::new(alloc, "INPUT").help("The file of the execution's input")
 }
 
 /// A word that has to be there where an option that may stand for it isn't, and may not where it is.

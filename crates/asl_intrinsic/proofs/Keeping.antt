@@ -4,12 +4,12 @@ use Rattle.std.specs.Prelude.{nat_lt, nat_le}
 use Rattle.std.proofs.lemmas.List.{length-append, map-append}
 use Rattle.asl_intrinsic.specs.Tree.{Argument, call, arguments, Frame}
 use Rattle.asl_intrinsic.specs.private.View.{tree_of, trees_of}
-use Rattle.asl_functions.specs.Names.{name_of, function_named, takes}
+use Rattle.asl_intrinsic_functions.specs.Names.{name_of, function_named, takes}
 use Rattle.asl_intrinsic.proofs.Naming.{has_its_name}
 use Rattle.asl_intrinsic.specs.Faults.{count, sooner, misfit, own_fault, first_fault, first_faults}
 use Rattle.asl_intrinsic.specs.private.Keeps.{fault_of, fault_in, Keeps}
-use Rattle.asl_functions.specs.declared.function.Function.{Function}
-use Rattle.asl_functions.specs.declared.function.Function.TheVariants.{Format, StringToJson, JsonToString, Array, ArrayPartition, ArrayContains, ArrayRange, ArrayGetItem, ArrayLength, ArrayUnique, Base64Encode, Base64Decode, Hash, JsonMerge, MathAdd, StringSplit}
+use Rattle.asl_intrinsic_functions.specs.declared.function.Function.{Function}
+use Rattle.asl_intrinsic_functions.specs.declared.function.Function.TheVariants.{Format, StringToJson, JsonToString, Array, ArrayPartition, ArrayContains, ArrayRange, ArrayGetItem, ArrayLength, ArrayUnique, Base64Encode, Base64Decode, Hash, JsonMerge, MathAdd, StringSplit}
 use Rattle.asl_intrinsic.specs.declared.expr.CallFault.{CallFault}
 use Rattle.asl_intrinsic.specs.declared.expr.CallFault.TheVariants.{Unknown, Depth, Arity}
 use Rattle.asl_intrinsic.specs.declared.call.Argument as code

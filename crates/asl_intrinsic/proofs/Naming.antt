@@ -3,9 +3,9 @@ use Rattle.std.proofs.Common.{◌≡◌, ℕ, Bool, true, false, cond, List, [],
 use Rattle.std.specs.Prelude.{Option, Some, None}
 use Rattle.std.specs.Cmp.Lexicographic.{same_text}
 use Rattle.asl_json.specs.Same.{bytes_eq}
-use Rattle.asl_functions.specs.declared.function.Function.{Function}
-use Rattle.asl_functions.specs.declared.function.Function.TheVariants.{Format, StringToJson, JsonToString, Array, ArrayPartition, ArrayContains, ArrayRange, ArrayGetItem, ArrayLength, ArrayUnique, Base64Encode, Base64Decode, Hash, JsonMerge, MathAdd, StringSplit}
-use Rattle.asl_functions.specs.Names.{name_of, functions, first_named, function_named}
+use Rattle.asl_intrinsic_functions.specs.declared.function.Function.{Function}
+use Rattle.asl_intrinsic_functions.specs.declared.function.Function.TheVariants.{Format, StringToJson, JsonToString, Array, ArrayPartition, ArrayContains, ArrayRange, ArrayGetItem, ArrayLength, ArrayUnique, Base64Encode, Base64Decode, Hash, JsonMerge, MathAdd, StringSplit}
+use Rattle.asl_intrinsic_functions.specs.Names.{name_of, functions, first_named, function_named}
 
 -- the function of a name has that name
 named_first : (n : List ℕ) (fs : List Function) (g : Function) → first_named n fs ≡ Some g → name_of g ≡ n

@@ -2,13 +2,13 @@
 use Rattle.std.specs.Prelude.{ℕ, ◌==◌, ◌&&◌, Bool, false, List, [], ◌∷◌, Option, Some, None, Ok, Err, if◌then◌else◌}
 use Rattle.asl_json.specs.Data.{Data, text}
 use Rattle.asl_path.specs.Paths.{part_at}
-use Rattle.asl_functions.specs.declared.fault.EvalFault.TheVariants.{PathMissing}
-use Rattle.asl_functions.specs.declared.fault.Reason.TheVariants as reason
-use Rattle.asl_functions.specs.declared.function.Function.{Function}
-use Rattle.asl_functions.specs.Names.{function_named}
-use Rattle.asl_functions.specs.Outcome.{Outcome, and_then, fails}
-use Rattle.asl_functions.specs.Letters.{meant}
-use Rattle.asl_functions.specs.Apply.{apply}
+use Rattle.asl_intrinsic_functions.specs.declared.fault.EvalFault.TheVariants.{PathMissing}
+use Rattle.asl_intrinsic_functions.specs.declared.fault.Reason.TheVariants as reason
+use Rattle.asl_intrinsic_functions.specs.declared.function.Function.{Function}
+use Rattle.asl_intrinsic_functions.specs.Names.{function_named}
+use Rattle.asl_intrinsic_functions.specs.Outcome.{Outcome, and_then, fails}
+use Rattle.asl_intrinsic_functions.specs.Letters.{meant}
+use Rattle.asl_intrinsic_functions.specs.Apply.{apply}
 use Rattle.asl_intrinsic.specs.Tree.{Argument, constant, quoted, path, call, Arguments, none, argument}
 
 -- the first argument as it is written between its apostrophes, where it is such a text

@@ -5,8 +5,8 @@ use Rattle.asl_json.specs.Open.{EndsNumber}
 use Rattle.asl_intrinsic.specs.Tree.{Argument, constant, quoted, path, call, Arguments, none, argument}
 use Rattle.asl_intrinsic.specs.Grammar.{SpellsCall, IsSpelled, IsPrefix, Fits}
 use Rattle.asl_intrinsic.specs.Fronts.{AwaitsArgument}
-use Rattle.asl_functions.specs.Names.{function_named, takes}
-use Rattle.asl_functions.specs.declared.function.Function.{Function}
+use Rattle.asl_intrinsic_functions.specs.Names.{function_named, takes}
+use Rattle.asl_intrinsic_functions.specs.declared.function.Function.{Function}
 use Rattle.asl_intrinsic.specs.declared.expr.CallFault.{CallFault}
 use Rattle.asl_intrinsic.specs.declared.expr.CallFault.TheVariants.{Syntax, Unknown, Depth, Arity, OutOfMemory}
 

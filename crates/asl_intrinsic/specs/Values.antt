@@ -1,9 +1,9 @@
 -- The value of a text that spells a call.
 use Rattle.std.specs.Prelude.{ℕ, List, Result, Ok, Err}
 use Rattle.asl_json.specs.Data.{Data}
-use Rattle.asl_functions.specs.declared.fault.EvalFault.TheVariants.{PathMissing}
+use Rattle.asl_intrinsic_functions.specs.declared.fault.EvalFault.TheVariants.{PathMissing}
 use Rattle.asl_intrinsic.specs.Tree.{Argument}
-use Rattle.asl_functions.specs.Outcome.{Outcome}
+use Rattle.asl_intrinsic_functions.specs.Outcome.{Outcome}
 use Rattle.asl_intrinsic.specs.Calls.{value_of}
 use Rattle.asl_intrinsic.specs.private.Steps.{heard}
 

@@ -1,6 +1,6 @@
 // Calls as they were read.
 
-use asl_functions::Function;
+use asl_intrinsic_functions::Function;
 use asl_json::{Json, Txt};
 use asl_path::RefPath;
 use std::marker::Model;

@@ -3,16 +3,16 @@ ghost use Rattle.std.specs.Prelude.{◌≡◌, Ok, option_map, if◌then◌else�
 ghost use Rattle.asl_json.specs.Data.{text};
 ghost use Rattle.asl_json.specs.View.{data_of};
 ghost use Rattle.asl_path.specs.Paths.{part_at};
-ghost use Rattle.asl_functions.specs.Names.{name_of, function_named};
-ghost use Rattle.asl_functions.specs.Letters.{meant};
-ghost use Rattle.asl_functions.specs.Gives.{Gives};
-ghost use Rattle.asl_functions.specs.Seen.{seen, all_seen};
+ghost use Rattle.asl_intrinsic_functions.specs.Names.{name_of, function_named};
+ghost use Rattle.asl_intrinsic_functions.specs.Letters.{meant};
+ghost use Rattle.asl_intrinsic_functions.specs.Gives.{Gives};
+ghost use Rattle.asl_intrinsic_functions.specs.Seen.{seen, all_seen};
 ghost use Rattle.asl_intrinsic.specs.Tree.{arguments};
 ghost use Rattle.asl_intrinsic.specs.private.View.{tree_of};
 ghost use Rattle.asl_intrinsic.specs.Calls.{apply_named, first_written, is_context, found, value_of, values_of};
 
 use crate::call::{Argument, Arguments};
-use asl_functions::{EvalFault, Function, Value, apply, meaning};
+use asl_intrinsic_functions::{EvalFault, Function, Value, apply, meaning};
 use asl_json::{Json, Txt};
 use asl_path::{RefPath, Root};
 use std::alloc::Global;

@@ -2,7 +2,7 @@
 ghost use Rattle.std.specs.Prelude.{◌≡◌, IfOk, IfErr};
 ghost use Rattle.asl_intrinsic.specs.private.Steps.{heard};
 ghost use Rattle.asl_json.specs.View.{data_of};
-ghost use Rattle.asl_functions.specs.Gives.{Gives};
+ghost use Rattle.asl_intrinsic_functions.specs.Gives.{Gives};
 ghost use Rattle.asl_intrinsic.specs.Tree.{Argument as Tree};
 ghost use Rattle.asl_intrinsic.specs.Grammar.{SpellsCall, Fits};
 ghost use Rattle.asl_intrinsic.specs.Calls.{value_of};
@@ -15,7 +15,7 @@ use crate::call::Argument;
 use crate::frame::Wrong;
 use crate::front::Halt;
 use crate::reading::spelled;
-use asl_functions::EvalFault;
+use asl_intrinsic_functions::EvalFault;
 use asl_json::{Json, Txt};
 use std::alloc::{AllocError, Global};
 use std::marker::Model;

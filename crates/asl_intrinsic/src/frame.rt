@@ -7,7 +7,7 @@ ghost use Rattle.asl_intrinsic.specs.declared.front.Halt.{Halt};
 
 use crate::call::{Argument, Arguments};
 use crate::front::Halt;
-use asl_functions::Function;
+use asl_intrinsic_functions::Function;
 use std::alloc::Global;
 
 /// How many calls may stand in one another.

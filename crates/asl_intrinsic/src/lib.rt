@@ -3,7 +3,7 @@
 //!
 //! `specs/Tree.antt` is a call as a tree, `specs/Grammar.antt` says which texts spell which calls, `specs/Fronts.antt` what stands
 //! open behind the front of one, `specs/Faults.antt` what is wrong with a text, `specs/Calls.antt` what a call's value is; the
-//! functions are those of `asl_functions`. `specs/Laws.antt` says how texts, calls and values go together.
+//! functions are those of `asl_intrinsic_functions`. `specs/Laws.antt` says how texts, calls and values go together.
 //! Modules in reading order: `expr` and `call` are the types; `front`, `leaf`, `frame` and `reading` the reader; `eval` goes
 //! through a call.
 #![tactic(auto)]
@@ -17,6 +17,5 @@ mod laws;
 mod leaf;
 mod reading;
 
-pub use asl_functions::{EvalFault, Reason};
 pub use expr::{CallFault, Expr};
 pub use laws::a_call_has_one_meaning;

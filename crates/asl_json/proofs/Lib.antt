@@ -1,3 +1,4 @@
+pub mod Buffers
 pub mod Texts
 pub mod Numerals
 pub mod Passing

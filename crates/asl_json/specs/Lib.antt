@@ -1,3 +1,4 @@
+pub mod Buffers
 pub mod Data
 pub mod View
 pub mod Number

@@ -6,13 +6,13 @@ ghost use Rattle.asl_json.specs.Grammar.{IsText};
 ghost use Rattle.asl_json.specs.Text.{backslash, is_plain};
 ghost use Rattle.std.specs.Char.{digit_char};
 ghost use Rattle.std.specs.Str.{IsUtf8};
-ghost use Rattle.asl_text.specs.Buffers.{Keeps};
+ghost use Rattle.asl_json.specs.Buffers.{Keeps};
 ghost use Rattle.asl_json.specs.Wrong.{ReadsAs};
 ghost use Rattle.asl_json.specs.Compact.{separator, escaped_control, escaped_byte, escaped, quoted, compact, compact_items, compact_members, IsReadable};
 
 use crate::front::{append, first_byte, split_plain};
+use crate::undo::whole_or_none;
 use crate::value::{Items, Json, Members};
-use asl_text::whole_or_none;
 use std::alloc::{AllocError, Global};
 
 /// The lower-case hexadecimal digit of this value.

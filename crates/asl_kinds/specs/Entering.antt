@@ -1,8 +1,8 @@
 -- A state that is entered, and that something is told.
 use Rattle.std.specs.Prelude.{◌<◌, ◌≡◌, Bool, true, false, length}
-use Rattle.asl_steps.specs.declared.effect.Effect.{Effect}
-use Rattle.asl_steps.specs.declared.record.Record.{Record}
-use Rattle.asl_steps.specs.declared.record.Record.TheVariants.{New, Ready, Pausing, Again, Forked, Done, Failed}
+use Rattle.asl_step_rows.specs.declared.effect.Effect.{Effect}
+use Rattle.asl_step_rows.specs.declared.record.Record.{Record}
+use Rattle.asl_step_rows.specs.declared.record.Record.TheVariants.{New, Ready, Pausing, Again, Forked, Done, Failed}
 
 -- the branch is about to enter its state; not where a state is retried, goes on behind a pause, or joins its branches
 abbrev pub is_entering : Record → Bool

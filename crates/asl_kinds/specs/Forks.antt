@@ -7,18 +7,18 @@ use Rattle.asl_json.specs.View.{data_of, json_of}
 use Rattle.asl_json.specs.Meaning.{value_in}
 use Rattle.asl_json.specs.declared.value.Json.{Json}
 use Rattle.asl_json.specs.declared.value.Json.TheVariants.{Null, Bool, Num, Text, List as ListOf, Dict}
-use Rattle.asl_parts.specs.Texts.{text_in}
-use Rattle.asl_steps.specs.declared.facts.Facts.{Facts}
-use Rattle.asl_steps.specs.Context.{context_of}
-use Rattle.asl_steps.specs.declared.effect.Progress.{Progress}
-use Rattle.asl_steps.specs.declared.effect.Children.TheVariants.{Removed}
-use Rattle.asl_steps.specs.declared.record.ErrorOut.{ErrorOut}
-use Rattle.asl_steps.specs.declared.record.Record.{Record}
-use Rattle.asl_steps.specs.declared.record.Record.TheVariants.{New, Ready, Pausing, Again, Forked, Done, Failed}
-use Rattle.asl_steps.specs.Records.{name_or_none}
-use Rattle.asl_data.specs.Paths.{Given, no_value}
-use Rattle.asl_data.specs.Payload.{filled}
-use Rattle.asl_steps.specs.Seen.{Seen}
+use Rattle.asl_def_parts.specs.Texts.{text_in}
+use Rattle.asl_step_rows.specs.declared.facts.Facts.{Facts}
+use Rattle.asl_step_rows.specs.Context.{context_of}
+use Rattle.asl_step_rows.specs.declared.effect.Progress.{Progress}
+use Rattle.asl_step_rows.specs.declared.effect.Children.TheVariants.{Removed}
+use Rattle.asl_step_rows.specs.declared.record.ErrorOut.{ErrorOut}
+use Rattle.asl_step_rows.specs.declared.record.Record.{Record}
+use Rattle.asl_step_rows.specs.declared.record.Record.TheVariants.{New, Ready, Pausing, Again, Forked, Done, Failed}
+use Rattle.asl_step_rows.specs.Records.{name_or_none}
+use Rattle.asl_step_data.specs.Paths.{Given, no_value}
+use Rattle.asl_step_data.specs.Payload.{filled}
+use Rattle.asl_step_rows.specs.Seen.{Seen}
 use Rattle.asl_kinds.specs.Members.{values_in}
 
 -- ---- a fork

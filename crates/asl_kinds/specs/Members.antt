@@ -4,15 +4,15 @@ use Rattle.asl_json.specs.Data.{Data, null, boolean, number, text, list, dict}
 use Rattle.asl_json.specs.View.{data_of, json_of, unchained}
 use Rattle.asl_json.specs.Meaning.{value_in}
 use Rattle.asl_json.specs.declared.value.Json.{Json}
-use Rattle.asl_parts.specs.Texts.{text_in}
+use Rattle.asl_def_parts.specs.Texts.{text_in}
 use Rattle.asl_handle.specs.Decisions.{delayed}
-use Rattle.asl_steps.specs.declared.record.ErrorOut.{ErrorOut}
+use Rattle.asl_step_rows.specs.declared.record.ErrorOut.{ErrorOut}
 use Rattle.asl_choice.specs.Truth.{Fault, missing, open_escape}
-use Rattle.asl_states.specs.Choosing.{chosen_next}
-use Rattle.asl_data.specs.Paths.{Given, taken, put_into, and_then, failure, no_value}
-use Rattle.asl_data.specs.Delay.{seconds_of, moment_of, seconds_at, moment_at}
-use Rattle.asl_data.specs.Payload.{filled}
-use Rattle.asl_data.specs.Reason.{GivenText, text_or, text_at}
+use Rattle.asl_def_states.specs.Choosing.{chosen_next}
+use Rattle.asl_step_data.specs.Paths.{Given, taken, put_into, and_then, failure, no_value}
+use Rattle.asl_step_data.specs.Delay.{seconds_of, moment_of, seconds_at, moment_at}
+use Rattle.asl_step_data.specs.Payload.{filled}
+use Rattle.asl_step_data.specs.Reason.{GivenText, text_or, text_at}
 
 -- the state that comes next, none where the state ends its branch
 abbrev pub next_in : Data → Option (List ℕ)

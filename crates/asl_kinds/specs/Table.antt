@@ -8,25 +8,25 @@ use Rattle.asl_json.specs.View.{data_of}
 use Rattle.asl_json.specs.Meaning.{value_in}
 use Rattle.asl_json.specs.declared.value.Json.{Json}
 use Rattle.asl_json.specs.declared.value.Json.TheVariants.{Dict, List as ListOf}
-use Rattle.asl_schema.specs.Claims.{item_count}
+use Rattle.asl_def_table.specs.Claims.{item_count}
 use Rattle.asl_history.specs.declared.kind.EventKind.{EventKind}
 use Rattle.asl_history.specs.declared.kind.EventKind.TheVariants.{PassStateEntered, PassStateExited, SucceedStateEntered, SucceedStateExited, FailStateEntered, ChoiceStateEntered, ChoiceStateExited, WaitStateEntered, WaitStateExited, TaskStateEntered, TaskStateExited, TaskScheduled, TaskStarted, TaskSucceeded, TaskFailed, ParallelStateEntered, ParallelStateExited, ParallelStateStarted, ParallelStateSucceeded, ParallelStateFailed, MapStateEntered, MapStateStarted, MapStateSucceeded, MapStateFailed, MapStateExited}
-use Rattle.asl_parts.specs.Texts.{text_in}
-use Rattle.asl_states.specs.Items.{processor_in, selector_in, member_in}
-use Rattle.asl_steps.specs.declared.effect.Effect.{Effect}
-use Rattle.asl_steps.specs.declared.effect.Progress.{Progress}
-use Rattle.asl_steps.specs.declared.facts.Facts.{Facts}
-use Rattle.asl_steps.specs.declared.record.ErrorOut.{ErrorOut}
-use Rattle.asl_steps.specs.Records.{name_or_none, name_in, uses_in, entering_with, beginning_with, pausing_with}
-use Rattle.asl_steps.specs.Seen.{Seen}
-use Rattle.asl_steps.specs.Context.{context_of}
-use Rattle.asl_steps.specs.Rows.{forking, idle, entering, beginning, telling, unstarted, retrying, pausing, leaving, failing, error_output, is_within_limit, over_limit}
+use Rattle.asl_def_parts.specs.Texts.{text_in}
+use Rattle.asl_def_states.specs.Items.{processor_in, selector_in, member_in}
+use Rattle.asl_step_rows.specs.declared.effect.Effect.{Effect}
+use Rattle.asl_step_rows.specs.declared.effect.Progress.{Progress}
+use Rattle.asl_step_rows.specs.declared.facts.Facts.{Facts}
+use Rattle.asl_step_rows.specs.declared.record.ErrorOut.{ErrorOut}
+use Rattle.asl_step_rows.specs.Records.{name_or_none, name_in, uses_in, entering_with, beginning_with, pausing_with}
+use Rattle.asl_step_rows.specs.Seen.{Seen}
+use Rattle.asl_step_rows.specs.Context.{context_of}
+use Rattle.asl_step_rows.specs.Rows.{forking, idle, entering, beginning, telling, unstarted, retrying, pausing, leaving, failing, error_output, is_within_limit, over_limit}
 use Rattle.asl_mock.specs.Answers.{answer_to}
 use Rattle.asl_mock.specs.declared.response.Answer.{Answer}
 use Rattle.asl_mock.specs.declared.response.Answer.TheVariants.{Returns, Throws}
 use Rattle.asl_handle.specs.Decisions.{Handling, again, caught, unhandled, handlers_in, decision}
-use Rattle.asl_data.specs.Paths.{Given, put_into, taken}
-use Rattle.asl_data.specs.Delay.{seconds_of}
+use Rattle.asl_step_data.specs.Paths.{Given, put_into, taken}
+use Rattle.asl_step_data.specs.Delay.{seconds_of}
 use Rattle.asl_kinds.specs.Members.{next_in, effective, pass_output, passed_on, selected, no_answer, fail_error, GivenTarget, choice_output, GivenMoment, wait_until}
 use Rattle.asl_kinds.specs.Forks.{starts_in, ready_at, items_by, iterations, GivenFork, with_items, forked_with, first_error, outputs, gathered}
 

@@ -2,19 +2,19 @@
 ghost use Rattle.std.specs.Prelude.{◌≡◌, IfOk, option_map, codes};
 ghost use Rattle.asl_json.specs.Meaning.{value_in};
 ghost use Rattle.asl_json.specs.View.{data_of};
-ghost use Rattle.asl_parts.specs.Texts.{text_in};
-ghost use Rattle.asl_states.specs.Show.{fail_object, told, told_at};
-ghost use Rattle.asl_steps.specs.Context.{context_of};
-ghost use Rattle.asl_steps.specs.Seen.{seen};
-ghost use Rattle.asl_data.specs.Gives.{Gives};
+ghost use Rattle.asl_def_parts.specs.Texts.{text_in};
+ghost use Rattle.asl_def_states.specs.Show.{fail_object, told, told_at};
+ghost use Rattle.asl_step_rows.specs.Context.{context_of};
+ghost use Rattle.asl_step_rows.specs.Seen.{seen};
+ghost use Rattle.asl_step_data.specs.Gives.{Gives};
 ghost use Rattle.asl_kinds.specs.Members.{reason_by, error_and, fail_error};
 
 use crate::kind::StateKind;
-use asl_data::{Fault, text_at};
+use asl_def_states::{Fail, FailText};
 use asl_history::EventKind;
 use asl_json::{Json, Txt};
-use asl_states::{Fail, FailText};
-use asl_steps::{Context, Effect, ErrorOut, Visit, entering, failing, idle};
+use asl_step_data::{Fault, text_at};
+use asl_step_rows::{Context, Effect, ErrorOut, Visit, entering, failing, idle};
 use std::alloc::{AllocError, Global};
 
 /// The text of an error's name or cause, where there is one.
@@ -83,7 +83,7 @@ fn error(
 
 impl StateKind for Fail {
     ghost use Rattle.std.specs.Prelude.{false};
-    ghost use Rattle.asl_states.specs.Show.{fail_object};
+    ghost use Rattle.asl_def_states.specs.Show.{fail_object};
     ghost use Rattle.asl_kinds.specs.Table.{fail_effect};
     ghost use Rattle.asl_kinds.specs.private.Laws.{fail-lawful};
 

@@ -1,18 +1,18 @@
 // What becomes of a state whose branches have ended.
 ghost use Rattle.std.specs.Prelude.{◌≡◌, map, option_map, IfOk};
-ghost use Rattle.asl_parts.specs.Member.{completion_object};
-ghost use Rattle.asl_steps.specs.Context.{context_of};
-ghost use Rattle.asl_steps.specs.Seen.{seen};
+ghost use Rattle.asl_def_parts.specs.Member.{completion_object};
+ghost use Rattle.asl_step_rows.specs.Context.{context_of};
+ghost use Rattle.asl_step_rows.specs.Seen.{seen};
 ghost use Rattle.asl_kinds.specs.Forks.{forked_with, error_in, first_error, output_in, outputs, gathered};
 ghost use Rattle.asl_kinds.specs.Table.{branch_fails, branches_end, joined};
 
 use crate::making::selected;
 use crate::raising::{raise, settled};
-use asl_data::empty_object;
+use asl_def_parts::Completion;
 use asl_history::EventKind;
 use asl_json::{Items, Json, Shared};
-use asl_parts::Completion;
-use asl_steps::{
+use asl_step_data::empty_object;
+use asl_step_rows::{
     Children, Context, Drafts, Effect, ErrorOut, Progress, Record, Visit, error_output, idle,
     telling,
 };
@@ -39,7 +39,7 @@ fn error_of(branch: &Record) -> Option<&ErrorOut>
 }
 
 /// The error of the first branch that has failed.
-fn first_error<'a>(branches: &'a [&'a Record]) -> Option<&'a ErrorOut>
+pub fn first_error<'a>(branches: &'a [&'a Record]) -> Option<&'a ErrorOut>
     ensures { option_map (λ e. e.now) result ≡ first_error (map (λ r. r.now) branches.now) }
 {
     for branch in branches {
@@ -61,7 +61,7 @@ fn output_of(branch: &Record) -> Option<&Shared>
 }
 
 /// The outputs in the order of the branches; none where one of them hasn't ended well.
-fn outputs(alloc: Global, branches: &[&Record]) -> Result<Option<Items>, AllocError>
+pub fn outputs(alloc: Global, branches: &[&Record]) -> Result<Option<Items>, AllocError>
     ensures { IfOk result (λ o. o ≡ outputs (map (λ r. r.now) branches.now)) }
 {
     let mut outputs = Vec::with_capacity(alloc, branches.len())?;

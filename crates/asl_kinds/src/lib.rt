@@ -20,4 +20,7 @@ mod succeed;
 mod task;
 mod wait;
 
+pub use joining::{first_error, outputs};
 pub use kind::StateKind;
+pub use pass::result_or;
+pub use task::no_answer;

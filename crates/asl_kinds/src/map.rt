@@ -2,24 +2,24 @@
 ghost use Rattle.std.specs.Prelude.{◌≡◌, ◌≤◌, [], ◌∷◌, ◌++◌, List, ℕ, length, Ok, Some, IfOk, OnOk, codes, option_map};
 ghost use Rattle.asl_json.specs.View.{data_of};
 ghost use Rattle.asl_json.specs.Meaning.{value_in};
-ghost use Rattle.asl_states.specs.Show.{map_object};
-ghost use Rattle.asl_steps.specs.Context.{context_of};
-ghost use Rattle.asl_steps.specs.Seen.{seen};
-ghost use Rattle.asl_data.specs.Gives.{Gives};
-ghost use Rattle.asl_data.specs.Paths.{taken};
+ghost use Rattle.asl_def_states.specs.Show.{map_object};
+ghost use Rattle.asl_step_rows.specs.Context.{context_of};
+ghost use Rattle.asl_step_rows.specs.Seen.{seen};
+ghost use Rattle.asl_step_data.specs.Gives.{Gives};
+ghost use Rattle.asl_step_data.specs.Paths.{taken};
 ghost use Rattle.asl_kinds.specs.Forks.{listed, item_input, iterations};
 ghost use Rattle.asl_kinds.specs.Table.{length_body, fork_of, map_forks, map_with};
-ghost use Rattle.asl_steps.specs.Bounds.{AreFew};
-ghost use Rattle.asl_steps.specs.declared.record.Record.TheVariants.{New};
+ghost use Rattle.asl_step_rows.specs.Bounds.{AreFew};
+ghost use Rattle.asl_step_rows.specs.declared.record.Record.TheVariants.{New};
 
 use crate::joining::{forked, join};
 use crate::kind::StateKind;
 use crate::raising::{count_of, raise};
-use asl_data::{Fault, filled, missing, part_of, taken};
+use asl_def_states::Map;
 use asl_history::EventKind;
 use asl_json::{Dec, Json, Members, Name, Shared, SharedItems, Txt};
-use asl_states::Map;
-use asl_steps::{
+use asl_step_data::{Fault, filled, missing, part_of, taken};
+use asl_step_rows::{
     Context, Effect, Progress, Record, Records, Visit, beginning, forking, idle, telling,
 };
 use asl_template::Template;
@@ -211,7 +211,7 @@ fn begins(
 
 impl StateKind for Map {
     ghost use Rattle.std.specs.Prelude.{[], false};
-    ghost use Rattle.asl_states.specs.Show.{map_object};
+    ghost use Rattle.asl_def_states.specs.Show.{map_object};
     ghost use Rattle.asl_kinds.specs.Table.{map_effect, limit_in};
     ghost use Rattle.asl_json.specs.Meaning.{value_in};
     ghost use Rattle.std.specs.Prelude.{codes};

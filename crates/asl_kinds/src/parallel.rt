@@ -1,21 +1,22 @@
 // Parallel (ASL, "Parallel State").
 ghost use Rattle.std.specs.Prelude.{◌≡◌, ◌≤◌, ◌^◌, [], map, length, Ok, Some, IfOk};
-ghost use Rattle.asl_states.specs.Show.{parallel_object};
-ghost use Rattle.asl_steps.specs.Bounds.{AreFew};
-ghost use Rattle.asl_steps.specs.Context.{context_of};
-ghost use Rattle.asl_steps.specs.declared.record.Record.TheVariants.{Ready};
-ghost use Rattle.asl_steps.specs.Seen.{seen};
+ghost use Rattle.asl_def_states.specs.Show.{parallel_object};
+ghost use Rattle.asl_step_rows.specs.Bounds.{AreFew};
+ghost use Rattle.asl_step_rows.specs.Context.{context_of};
+ghost use Rattle.asl_step_rows.specs.declared.record.Record.TheVariants.{Ready};
+ghost use Rattle.asl_step_rows.specs.Seen.{seen};
 ghost use Rattle.asl_kinds.specs.Table.{parallel_forks, parallel_with};
 
 use crate::joining::{forked, join};
 use crate::kind::StateKind;
 use crate::making::effective;
 use crate::raising::{count_of, raise};
-use asl_data::{Fault, empty_object};
+use asl_def_parts::Bodies;
+use asl_def_states::Parallel;
 use asl_history::EventKind;
 use asl_json::{Name, Shared, SharedItems};
-use asl_states::{Bodies, Parallel};
-use asl_steps::{
+use asl_step_data::{Fault, empty_object};
+use asl_step_rows::{
     Context, Effect, Progress, Record, Records, Visit, beginning, forking, idle, telling,
 };
 use std::alloc::{AllocError, Global};
@@ -93,7 +94,7 @@ fn begins(
 
 impl StateKind for Parallel {
     ghost use Rattle.std.specs.Prelude.{[], false};
-    ghost use Rattle.asl_states.specs.Show.{parallel_object};
+    ghost use Rattle.asl_def_states.specs.Show.{parallel_object};
     ghost use Rattle.asl_kinds.specs.Table.{parallel_effect};
     ghost use Rattle.asl_kinds.specs.private.Laws.{parallel-bounded};
 

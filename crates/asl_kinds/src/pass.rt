@@ -1,24 +1,28 @@
 // Pass (ASL, "Pass State").
 ghost use Rattle.std.specs.Prelude.{◌≡◌, IfOk, option_map};
 ghost use Rattle.asl_json.specs.View.{data_of};
-ghost use Rattle.asl_states.specs.Show.{pass_object};
-ghost use Rattle.asl_steps.specs.Context.{context_of};
-ghost use Rattle.asl_steps.specs.Seen.{seen};
-ghost use Rattle.asl_data.specs.Gives.{Gives};
+ghost use Rattle.asl_def_states.specs.Show.{pass_object};
+ghost use Rattle.asl_step_rows.specs.Context.{context_of};
+ghost use Rattle.asl_step_rows.specs.Seen.{seen};
+ghost use Rattle.asl_step_data.specs.Gives.{Gives};
 ghost use Rattle.asl_kinds.specs.Members.{pass_output, result_or};
 
 use crate::kind::StateKind;
 use crate::making::{effective, placed};
 use crate::passing::{passed, target};
-use asl_data::{Fault, copied};
+use asl_def_states::Pass;
 use asl_history::EventKind;
 use asl_json::{Json, Shared};
-use asl_states::Pass;
-use asl_steps::{Context, Effect, Visit, entering, idle};
+use asl_step_data::{Fault, copied};
+use asl_step_rows::{Context, Effect, Visit, entering, idle};
 use std::alloc::{AllocError, Global};
 
 /// The result of a Pass that has one, else its effective input.
-fn result_or(alloc: Global, given: Option<&Json>, effective: Shared) -> Result<Shared, AllocError>
+pub fn result_or(
+    alloc: Global,
+    given: Option<&Json>,
+    effective: Shared,
+) -> Result<Shared, AllocError>
     ensures { IfOk result (λ v. v
         ≡ result_or (option_map (λ w. data_of w.now) given.entry) effective) }
 {
@@ -49,7 +53,7 @@ fn output(
 
 impl StateKind for Pass {
     ghost use Rattle.std.specs.Prelude.{false};
-    ghost use Rattle.asl_states.specs.Show.{pass_object};
+    ghost use Rattle.asl_def_states.specs.Show.{pass_object};
     ghost use Rattle.asl_kinds.specs.Table.{pass_effect};
     ghost use Rattle.asl_kinds.specs.private.Laws.{pass-lawful};
 

@@ -1,17 +1,17 @@
 // States that are left in the step that enters them.
 ghost use Rattle.std.specs.Prelude.{◌≡◌, IfOk, option_map};
-ghost use Rattle.asl_parts.specs.Parts.{next_shown};
-ghost use Rattle.asl_parts.specs.Texts.{text_in};
-ghost use Rattle.asl_steps.specs.Seen.{seen};
-ghost use Rattle.asl_data.specs.Paths.{Given};
-ghost use Rattle.asl_data.specs.Gives.{Gives};
+ghost use Rattle.asl_def_parts.specs.Parts.{next_shown};
+ghost use Rattle.asl_def_parts.specs.Texts.{text_in};
+ghost use Rattle.asl_step_rows.specs.Seen.{seen};
+ghost use Rattle.asl_step_data.specs.Paths.{Given};
+ghost use Rattle.asl_step_data.specs.Gives.{Gives};
 ghost use Rattle.asl_kinds.specs.Table.{passed};
 
-use asl_data::Fault;
+use asl_def_parts::Transition;
 use asl_history::EventKind;
 use asl_json::Shared;
-use asl_states::Transition;
-use asl_steps::{Effect, Progress, Visit, failing, leaving};
+use asl_step_data::Fault;
+use asl_step_rows::{Effect, Progress, Visit, failing, leaving};
 use std::alloc::{AllocError, Global};
 
 /// The name of the state that comes next; none where the state ends its branch.

@@ -2,24 +2,24 @@
 ghost use Rattle.std.specs.Prelude.{◌≡◌, None, IfOk, codes, option_map};
 ghost use Rattle.asl_json.specs.Data.{list, chain};
 ghost use Rattle.asl_json.specs.Meaning.{value_in};
-ghost use Rattle.asl_parts.specs.Member.{completion_object};
-ghost use Rattle.asl_schema.specs.Claims.{item_count};
+ghost use Rattle.asl_def_parts.specs.Member.{completion_object};
+ghost use Rattle.asl_def_table.specs.Claims.{item_count};
 ghost use Rattle.asl_handle.specs.Decisions.{caught, handlers_in};
-ghost use Rattle.asl_steps.specs.Seen.{seen};
-ghost use Rattle.asl_parts.specs.Parts.{catcher_object};
-ghost use Rattle.asl_data.specs.Paths.{Given};
-ghost use Rattle.asl_data.specs.Gives.{Gives};
+ghost use Rattle.asl_step_rows.specs.Seen.{seen};
+ghost use Rattle.asl_def_parts.specs.Parts.{catcher_object};
+ghost use Rattle.asl_step_data.specs.Paths.{Given};
+ghost use Rattle.asl_step_data.specs.Gives.{Gives};
 ghost use Rattle.asl_kinds.specs.Members.{next_in};
 ghost use Rattle.asl_kinds.specs.Table.{error_name, handled, raised, settled};
 
 use crate::passing::{passed, target};
-use asl_data::{Fault, put_into};
+use asl_def_members::Retriers;
+use asl_def_parts::{Catcher, Completion};
 use asl_handle::{Decision, Policy};
 use asl_history::EventKind;
 use asl_json::Shared;
-use asl_members::Retriers;
-use asl_parts::{Catcher, Completion};
-use asl_steps::{Effect, ErrorOut, Progress, Visit, error_output, failing, leaving, retrying};
+use asl_step_data::{Fault, put_into};
+use asl_step_rows::{Effect, ErrorOut, Progress, Visit, error_output, failing, leaving, retrying};
 use std::alloc::{AllocError, Global};
 
 /// The name of an error; empty where it has none.

@@ -1,13 +1,13 @@
 // A state of any type.
 use crate::kind::StateKind;
-use asl_states::State;
-use asl_steps::{Context, Effect, Visit};
+use asl_def_states::State;
+use asl_step_rows::{Context, Effect, Visit};
 use std::alloc::{AllocError, Global};
 
 /// A state does what its kind says. It doesn't depend on the states of the machines inside it: the law `any_table` of `Laws`.
 impl StateKind for State {
     ghost use Rattle.std.specs.Prelude.{[]};
-    ghost use Rattle.asl_states.specs.Show.{state_of};
+    ghost use Rattle.asl_def_states.specs.Show.{state_of};
     ghost use Rattle.asl_kinds.specs.Table.{state_effect, invokes, slots};
     ghost use Rattle.asl_kinds.specs.private.Laws.{state-bounded};
 

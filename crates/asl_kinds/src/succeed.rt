@@ -1,18 +1,18 @@
 // Succeed (ASL, "Succeed State").
 ghost use Rattle.std.specs.Prelude.{◌≡◌};
-ghost use Rattle.asl_states.specs.Show.{succeed_object};
-ghost use Rattle.asl_steps.specs.Context.{context_of};
-ghost use Rattle.asl_steps.specs.Seen.{seen};
-ghost use Rattle.asl_data.specs.Gives.{Gives};
+ghost use Rattle.asl_def_states.specs.Show.{succeed_object};
+ghost use Rattle.asl_step_rows.specs.Context.{context_of};
+ghost use Rattle.asl_step_rows.specs.Seen.{seen};
+ghost use Rattle.asl_step_data.specs.Gives.{Gives};
 ghost use Rattle.asl_kinds.specs.Members.{passed_on};
 
 use crate::kind::StateKind;
 use crate::passing::passed;
-use asl_data::{Fault, taken};
+use asl_def_states::Succeed;
 use asl_history::EventKind;
 use asl_json::Shared;
-use asl_states::Succeed;
-use asl_steps::{Context, Effect, Visit, entering, idle};
+use asl_step_data::{Fault, taken};
+use asl_step_rows::{Context, Effect, Visit, entering, idle};
 use std::alloc::{AllocError, Global};
 
 /// What a Succeed gives for a raw input.
@@ -47,7 +47,7 @@ fn output(
 
 impl StateKind for Succeed {
     ghost use Rattle.std.specs.Prelude.{false};
-    ghost use Rattle.asl_states.specs.Show.{succeed_object};
+    ghost use Rattle.asl_def_states.specs.Show.{succeed_object};
     ghost use Rattle.asl_kinds.specs.Table.{succeed_effect};
     ghost use Rattle.asl_kinds.specs.private.Laws.{succeed-lawful};
 

@@ -1,20 +1,20 @@
 // Task (ASL, "Task State"): the test case answers in the service's place.
 ghost use Rattle.std.specs.Prelude.{◌≡◌, IfOk, option_map};
-ghost use Rattle.asl_states.specs.Show.{task_object};
-ghost use Rattle.asl_steps.specs.Context.{context_of};
-ghost use Rattle.asl_steps.specs.Seen.{seen};
+ghost use Rattle.asl_def_states.specs.Show.{task_object};
+ghost use Rattle.asl_step_rows.specs.Context.{context_of};
+ghost use Rattle.asl_step_rows.specs.Seen.{seen};
 ghost use Rattle.asl_kinds.specs.Members.{no_answer};
 ghost use Rattle.asl_kinds.specs.Table.{invoked, task_fails, task_returns, task_answered};
 
 use crate::kind::StateKind;
 use crate::making::{effective, selected};
 use crate::raising::{raise, settled};
-use asl_data::{Fault, copied, empty_object, raised};
+use asl_def_states::Task;
 use asl_history::EventKind;
 use asl_json::{Json, Shared, clone_text};
 use asl_mock::{Answer, answer};
-use asl_states::Task;
-use asl_steps::{
+use asl_step_data::{Fault, copied, empty_object, raised};
+use asl_step_rows::{
     Context, Effect, ErrorOut, Progress, Visit, beginning, error_output, idle, is_within_limit,
     over_limit, telling,
 };
@@ -44,7 +44,7 @@ fn invoked(
 }
 
 /// No answer of the test case is for this invocation.
-fn no_answer(alloc: Global) -> Result<ErrorOut, AllocError>
+pub fn no_answer(alloc: Global) -> Result<ErrorOut, AllocError>
     ensures { IfOk result (λ e. e ≡ no_answer) }
 {
     match raised(alloc, "States.Runtime", "no mocked answer") {
@@ -141,7 +141,7 @@ fn answered(
 
 impl StateKind for Task {
     ghost use Rattle.std.specs.Prelude.{true};
-    ghost use Rattle.asl_states.specs.Show.{task_object};
+    ghost use Rattle.asl_def_states.specs.Show.{task_object};
     ghost use Rattle.asl_kinds.specs.Table.{task_effect};
     ghost use Rattle.asl_kinds.specs.private.Laws.{task-lawful};
 

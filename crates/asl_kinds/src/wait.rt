@@ -1,20 +1,20 @@
 // Wait (ASL, "Wait State").
 ghost use Rattle.std.specs.Prelude.{◌≡◌, ◌≤◌, IfOk, Ok, option_map, codes};
 ghost use Rattle.asl_json.specs.View.{data_of};
-ghost use Rattle.asl_states.specs.Show.{wait_object};
-ghost use Rattle.asl_steps.specs.Context.{context_of};
-ghost use Rattle.asl_steps.specs.Seen.{seen};
-ghost use Rattle.asl_data.specs.Gives.{Gives};
-ghost use Rattle.asl_data.specs.Paths.{no_value};
+ghost use Rattle.asl_def_states.specs.Show.{wait_object};
+ghost use Rattle.asl_step_rows.specs.Context.{context_of};
+ghost use Rattle.asl_step_rows.specs.Seen.{seen};
+ghost use Rattle.asl_step_data.specs.Gives.{Gives};
+ghost use Rattle.asl_step_data.specs.Paths.{no_value};
 ghost use Rattle.asl_kinds.specs.Members.{moment_or, later, until_in, wait_until, passed_on};
 
 use crate::kind::StateKind;
 use crate::passing::{passed, target};
-use asl_data::{Fault, missing, moment_at, seconds_at, taken};
+use asl_def_states::{Delay, Wait};
 use asl_history::EventKind;
 use asl_json::{Json, Shared};
-use asl_states::{Delay, Wait};
-use asl_steps::{Context, Effect, Visit, entering, failing, idle, pausing, unstarted};
+use asl_step_data::{Fault, missing, moment_at, seconds_at, taken};
+use asl_step_rows::{Context, Effect, Visit, entering, failing, idle, pausing, unstarted};
 use asl_time::{Moment, add};
 use std::alloc::{AllocError, Global};
 
@@ -107,7 +107,7 @@ fn output(
 
 impl StateKind for Wait {
     ghost use Rattle.std.specs.Prelude.{false};
-    ghost use Rattle.asl_states.specs.Show.{wait_object};
+    ghost use Rattle.asl_def_states.specs.Show.{wait_object};
     ghost use Rattle.asl_kinds.specs.Table.{wait_effect};
     ghost use Rattle.asl_kinds.specs.private.Laws.{wait-lawful};
 

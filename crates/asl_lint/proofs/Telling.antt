@@ -4,16 +4,16 @@ use Rattle.std.specs.Prelude.{Option, map}
 use Rattle.std.proofs.lemmas.List.{reverse-append, map-append, drop_more, append-nil}
 use Rattle.std.proofs.lemmas.List.Elements.{All-append}
 use Rattle.asl_json.specs.Data.{Data}
-use Rattle.asl_outline.specs.declared.span.Node.{Node}
-use Rattle.asl_outline.specs.Standing.{AllFind}
-use Rattle.asl_schema.specs.declared.fault.Step.{Step}
-use Rattle.asl_schema.specs.declared.fault.FaultKind.{FaultKind}
-use Rattle.asl_schema.specs.First.{Found as Fault}
-use Rattle.asl_schema.specs.Faults.{claims_of}
-use Rattle.asl_findings.specs.Told.{AreTold}
-use Rattle.asl_warnings.specs.declared.warning.WarningKind.{WarningKind}
-use Rattle.asl_warnings.specs.Kinds.{Noted as Warned}
-use Rattle.asl_warnings.specs.Warnings.{warnings_of}
+use Rattle.asl_json_outline.specs.declared.span.Node.{Node}
+use Rattle.asl_json_outline.specs.Standing.{AllFind}
+use Rattle.asl_def_table.specs.declared.fault.Step.{Step}
+use Rattle.asl_def_table.specs.declared.fault.FaultKind.{FaultKind}
+use Rattle.asl_def_table.specs.First.{Found as Fault}
+use Rattle.asl_def_table.specs.Faults.{claims_of}
+use Rattle.asl_lint_faults.specs.Told.{AreTold}
+use Rattle.asl_lint_warnings.specs.declared.warning.WarningKind.{WarningKind}
+use Rattle.asl_lint_warnings.specs.Kinds.{Noted as Warned}
+use Rattle.asl_lint_warnings.specs.Warnings.{warnings_of}
 use Rattle.asl_lint.specs.declared.rule.Rule.TheVariants as rule
 use Rattle.asl_lint.specs.declared.finding.Found.{Found}
 use Rattle.asl_lint.specs.declared.finding.Finding.{Finding}

@@ -1,15 +1,15 @@
 -- What is found in a definition.
 use Rattle.std.specs.Prelude.{◌≡◌, ℕ, ◌-◌, List, [], ◌∷◌, ◌++◌, Bool, true, false, ◌&&◌, not, length, map, reverse, take, if◌then◌else◌}
 use Rattle.asl_json.specs.Data.{Data}
-use Rattle.asl_schema.specs.declared.fault.Step.{Step}
-use Rattle.asl_schema.specs.declared.fault.FaultKind.TheVariants as fault
-use Rattle.asl_schema.specs.First.{Found}
-use Rattle.asl_schema.specs.Faults.{claims_of}
-use Rattle.asl_findings.specs.Told.{AreTold}
-use Rattle.asl_warnings.specs.declared.warning.WarningKind.{WarningKind}
-use Rattle.asl_warnings.specs.declared.warning.WarningKind.TheVariants as warning
-use Rattle.asl_warnings.specs.Kinds.{Noted as Warned}
-use Rattle.asl_warnings.specs.Warnings.{warnings_of}
+use Rattle.asl_def_table.specs.declared.fault.Step.{Step}
+use Rattle.asl_def_table.specs.declared.fault.FaultKind.TheVariants as fault
+use Rattle.asl_def_table.specs.First.{Found}
+use Rattle.asl_def_table.specs.Faults.{claims_of}
+use Rattle.asl_lint_faults.specs.Told.{AreTold}
+use Rattle.asl_lint_warnings.specs.declared.warning.WarningKind.{WarningKind}
+use Rattle.asl_lint_warnings.specs.declared.warning.WarningKind.TheVariants as warning
+use Rattle.asl_lint_warnings.specs.Kinds.{Noted as Warned}
+use Rattle.asl_lint_warnings.specs.Warnings.{warnings_of}
 use Rattle.asl_lint.specs.declared.rule.Rule.{Rule}
 use Rattle.asl_lint.specs.declared.rule.Rule.TheVariants as rule
 use Rattle.asl_lint.specs.declared.rule.MockRule.{MockRule}

@@ -3,11 +3,11 @@ use Rattle.std.specs.Prelude.{ℕ, ◌-◌, List, [], ◌∷◌, ◌≡◌, ◌�
 use Rattle.std.specs.List.{All}
 use Rattle.std.specs.List.Sorted.{IsPermutation}
 use Rattle.asl_json.specs.Data.{Data}
-use Rattle.asl_outline.specs.declared.span.Span.{Span}
-use Rattle.asl_outline.specs.declared.span.Node.{Node}
-use Rattle.asl_outline.specs.Places.{place, place_at}
-use Rattle.asl_outline.specs.Position.{IsPosition}
-use Rattle.asl_outline.specs.Standing.{Finds}
+use Rattle.asl_json_outline.specs.declared.span.Span.{Span}
+use Rattle.asl_json_outline.specs.declared.span.Node.{Node}
+use Rattle.asl_json_outline.specs.Places.{place, place_at}
+use Rattle.asl_json_outline.specs.Position.{IsPosition}
+use Rattle.asl_json_outline.specs.Standing.{Finds}
 use Rattle.asl_lint.specs.declared.rule.Rule.{Rule}
 use Rattle.asl_lint.specs.declared.part.Part.{Part}
 use Rattle.asl_lint.specs.declared.part.Part.TheVariants.{Key, Value, End}

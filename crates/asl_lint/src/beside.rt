@@ -6,9 +6,11 @@ ghost use Rattle.asl_lint.specs.private.Founds.{noted};
 use crate::finding::Found;
 use crate::mock_faults::Walk;
 use crate::rule::{MockRule, Rule};
-use asl_advice::{EFFORT, Search, State, States, kind_word, members_in, put_name, put_separator};
+use asl_def_table::Kind;
 use asl_json::{Json, Member};
-use asl_schema::Kind;
+use asl_lint_words::{
+    EFFORT, Search, State, States, kind_word, members_in, put_name, put_separator,
+};
 use std::alloc::{AllocError, Global};
 use std::collections::HashSet;
 

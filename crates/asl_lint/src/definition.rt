@@ -1,17 +1,17 @@
 // What is found in a definition.
 ghost use Rattle.std.specs.Prelude.{◌≡◌, ◌++◌, IfOk, OnOk, map, reverse};
 ghost use Rattle.asl_json.specs.View.{data_of};
-ghost use Rattle.asl_warnings.specs.Warnings.{warnings_of};
+ghost use Rattle.asl_lint_warnings.specs.Warnings.{warnings_of};
 ghost use Rattle.asl_lint.specs.Findings.{numbers, of_fault, of_warning, is_of_ways, is_kept, is_faulty, told_of, warnings_told, AreFound};
 ghost use Rattle.asl_lint.specs.private.Founds.{noted};
 
 use crate::finding::Found;
 use crate::rule::Rule;
-use asl_advice::{EFFORT, States, put_fault, put_warning, standing_at};
-use asl_findings::every_fault;
+use asl_def_table::{Fault, FaultKind, Step};
 use asl_json::Json;
-use asl_schema::{Fault, FaultKind, Step};
-use asl_warnings::{Warning, WarningKind, every_warning};
+use asl_lint_faults::every_fault;
+use asl_lint_warnings::{Warning, WarningKind, every_warning};
+use asl_lint_words::{EFFORT, States, put_fault, put_warning, standing_at};
 use std::alloc::{AllocError, Global};
 
 /// The numbers of these steps, from the last to the first.

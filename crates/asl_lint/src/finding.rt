@@ -4,7 +4,7 @@ ghost use Rattle.std.specs.List.{list_any};
 ghost use Rattle.asl_lint.specs.Reports.{counts, is_good};
 
 use crate::rule::{Rule, Severity};
-use asl_outline::{Position, Span};
+use asl_json_outline::{Position, Span};
 
 /// A finding that isn't placed yet: its place is the numbers of members and items, from the outermost value in.
 #[derive(Drop)]

@@ -6,9 +6,9 @@ ghost use Rattle.asl_lint.specs.Places.{IsAt};
 use crate::finding::Finding;
 use crate::placing::position_of;
 use crate::rule::Rule;
-use asl_advice::put_name;
 use asl_json::JsonFault;
-use asl_outline::Span;
+use asl_json_outline::Span;
+use asl_lint_words::put_name;
 use std::alloc::{AllocError, Global};
 
 /// The byte at which a text is no JSON.

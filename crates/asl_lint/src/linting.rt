@@ -14,8 +14,8 @@ use crate::json_faults::unread;
 use crate::mock_faults::{Walk, walk_file};
 use crate::placing::placed;
 use crate::rule::{MockRule, Rule};
-use asl_advice::States;
 use asl_json::{Json, JsonFault, read};
+use asl_lint_words::States;
 use std::alloc::{AllocError, Global};
 
 /// What is judged: the text of a definition, and that of a mock file where there is one, of which the machine of this name is meant, or the only

@@ -2,8 +2,8 @@
 use crate::finding::Found;
 use crate::mocks::walk_response;
 use crate::rule::{MockRule, Rule};
-use asl_advice::{EFFORT, members_in, put_name};
 use asl_json::{Json, Member};
+use asl_lint_words::{EFFORT, members_in, put_name};
 use std::alloc::{AllocError, Global};
 use std::collections::HashSet;
 

@@ -1,8 +1,8 @@
 // The numbers of the answers of a response.
 use crate::mock_faults::{Walk, walk_answer};
 use crate::rule::MockRule;
-use asl_advice::put_name;
 use asl_json::Member;
+use asl_lint_words::put_name;
 use asl_mock::Span;
 use std::alloc::AllocError;
 

@@ -2,8 +2,8 @@
 ghost use Rattle.std.specs.Prelude.{◌≡◌, if◌then◌else◌};
 ghost use Rattle.asl_lint.specs.Reports.{is_mock_error, is_error};
 
-use asl_schema::FaultKind;
-use asl_warnings::WarningKind;
+use asl_def_table::FaultKind;
+use asl_lint_warnings::WarningKind;
 
 /// How bad a finding is.
 #[derive(Clone, Copy, Debug, PartialEq, Eq)]

@@ -1,9 +1,9 @@
 // Findings in SARIF. (Static Analysis Results Interchange Format, version 2.1.0, OASIS.)
 use crate::finding::{Finding, Report};
 use crate::rule::{MockRule, Rule};
+use asl_def_table::FaultKind;
 use asl_json::put_quoted;
-use asl_schema::FaultKind;
-use asl_warnings::WarningKind;
+use asl_lint_warnings::WarningKind;
 use std::alloc::{AllocError, Global};
 
 /// What stands before the rules.

@@ -1,14 +1,14 @@
 // Executions over a plain list of branches. A step looks through the whole list, builds it anew, and finds the event before a new one
 // by a walk back. So little code does what the tree of frames does with less work: both have to tell the same, step by step.
 use asl_def::Machine;
-use asl_exec::{Execution, Next, Outcome, Refusal};
+use asl_def_states::State;
+use asl_exec::Execution;
 use asl_history::{EventKind, History, Place, line};
 use asl_json::{Json, Name, Shared, SharedItems, read, write};
 use asl_kinds::StateKind;
-use asl_run::put_step;
-use asl_setup::Setup;
-use asl_states::State;
-use asl_steps::{
+use asl_run_setup::Setup;
+use asl_run_world::{Next, Outcome, Refusal, put_step};
+use asl_step_rows::{
     Children, Context, Draft, Drafts, Effect, Ended, Facts, Record, Visit, error_output, idle,
     zeros,
 };

@@ -1,7 +1,8 @@
 // What the branches of a Parallel are doing, step by step.
 use crate::opened::opened;
 use crate::shown::{place_of, record_text, view};
-use asl_exec::{Execution, Frame};
+use asl_exec::Execution;
+use asl_run_frames::Frame;
 use asl_time::Moment;
 use std::test::Fail;
 

@@ -1,6 +1,7 @@
 // Runs without a file of steps: each step is the one that comes next.
 use crate::opened::opened;
-use asl_exec::{Ended, Execution, Next};
+use asl_exec::{Ended, Execution};
+use asl_run_world::Next;
 use std::test::Fail;
 
 /// What comes next, as a text: the place of a step, or the milliseconds of a moment.

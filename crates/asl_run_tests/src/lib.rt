@@ -3,7 +3,7 @@
 //! `stepping` is a file of steps and single steps, `branches` what branches are doing, `driven` runs without a file of steps,
 //! `swapping` which steps may change places, and `time_limit` an execution whose history is full before its time is over. `opened`
 //! has executions to try, `shown` records as texts. What the program prints of whole runs is tried in `tests/` at the top; what
-//! waits for fewer crates, in crates of its own: values and histories in `asl_tests`, definitions in `asl_definition_tests`.
+//! waits for fewer crates, in crates of its own: values and histories in `asl_tests`, definitions in `asl_def_tests`.
 //! `asl_listed_tests` compares executions with those of a second form.
 #![tactic(auto)]
 

@@ -1,6 +1,6 @@
 // Executions to try.
 use asl_exec::Execution;
-use asl_setup::Setup;
+use asl_run_setup::Setup;
 use std::test::Fail;
 
 /// An execution of this definition on this input, without mocks.

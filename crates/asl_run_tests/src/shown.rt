@@ -2,7 +2,7 @@
 use asl_exec::Execution;
 use asl_history::Place;
 use asl_json::{Name, Shared, SharedItems, put};
-use asl_steps::{ErrorOut, Record, Uses, error_output};
+use asl_step_rows::{ErrorOut, Record, Uses, error_output};
 use asl_time::Moment;
 use std::alloc::Global;
 use std::test::Fail;

@@ -1,9 +1,9 @@
 // A file of steps that is read, and an execution that is stepped and viewed.
 use crate::opened::opened;
 use crate::shown::view;
-use asl_exec::Refusal;
 use asl_history::Place;
-use asl_setup::read_steps;
+use asl_run_setup::read_steps;
+use asl_run_world::Refusal;
 use asl_time::Moment;
 use std::test::Fail;
 

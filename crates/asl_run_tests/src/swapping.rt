@@ -1,7 +1,7 @@
 // Which steps may change places, and the first reason why others may not.
 use crate::shown::place_of;
 use asl_exec::{Execution, put_obstacle};
-use asl_setup::{Setup, StepAt};
+use asl_run_setup::{Setup, StepAt};
 use asl_time::Moment;
 use std::test::Fail;
 

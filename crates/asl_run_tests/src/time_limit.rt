@@ -1,7 +1,8 @@
 // An execution whose history is full before its time is over.
 use crate::opened::opened;
-use asl_exec::{Ended, Next, Outcome, Refusal};
+use asl_exec::Ended;
 use asl_history::Place;
+use asl_run_world::{Next, Outcome, Refusal};
 use asl_time::Moment;
 use std::test::Fail;
 

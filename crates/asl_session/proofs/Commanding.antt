@@ -14,9 +14,9 @@ use Rattle.asl_json.specs.declared.fault.JsonFault.{JsonFault}
 use Rattle.asl_json.specs.declared.fault.JsonFault.TheVariants.{OutOfMemory}
 use Rattle.asl_history.specs.Places.{place_text}
 use Rattle.std.proofs.Math.Nat.{pow-le-pow_right}
-use Rattle.asl_setup.specs.declared.step_at.StepAt.{StepAt}
-use Rattle.asl_setup.specs.StepsFile.{IsStepLine}
-use Rattle.asl_setup.proofs.StepLines.{place_ascii}
+use Rattle.asl_run_setup.specs.declared.step_at.StepAt.{StepAt}
+use Rattle.asl_run_setup.specs.StepsFile.{IsStepLine}
+use Rattle.asl_run_setup.proofs.StepLines.{place_ascii}
 use Rattle.asl_session.specs.Scripts.{IsNamed, IsPlaceText, count_in, IsCommandLine}
 use Rattle.asl_session.specs.declared.command.Command.{Command}
 use Rattle.asl_session.specs.declared.command.Command.TheVariants.{Step, Break, Clear, Resume, Show, Back}

@@ -2,10 +2,10 @@
 use Rattle.std.proofs.Common.{ℕ, ◌≡◌, ◌∙◌, List, Some, sym, ap, arith}
 use Rattle.std.specs.Prelude.{codes}
 use Rattle.asl_json.specs.Data.{text}
-use Rattle.asl_setup.specs.FileLines.{lines_in}
-use Rattle.asl_setup.proofs.OneReading.{one_place, one_step}
-use Rattle.asl_setup.proofs.OneRun.{one_value}
-use Rattle.asl_setup.proofs.LinesRead.{one_list}
+use Rattle.asl_run_setup.specs.FileLines.{lines_in}
+use Rattle.asl_run_setup.proofs.OneReading.{one_place, one_step}
+use Rattle.asl_run_setup.proofs.OneRun.{one_value}
+use Rattle.asl_run_setup.proofs.LinesRead.{one_list}
 use Rattle.asl_session.specs.Scripts.{IsNamed, IsPlaceText, count_in, IsBehind, IsCommandLine, IsScript}
 use Rattle.asl_session.proofs.Commanding.{same-rest, letters}
 use Rattle.asl_session.specs.declared.command.Command.{Command}

@@ -6,10 +6,10 @@ use Rattle.asl_json.specs.Data.{text}
 use Rattle.asl_json.specs.Number.{digits_value}
 use Rattle.asl_json.specs.Wrong.{ReadsAs}
 use Rattle.asl_history.specs.Places.{IsPlace, place_text}
-use Rattle.asl_run.specs.Lines.{end_text}
-use Rattle.asl_setup.specs.declared.setup.Setup.{Setup}
-use Rattle.asl_setup.specs.FileLines.{lines_in, AreSpelled, IsFirstBadLine}
-use Rattle.asl_setup.specs.StepsFile.{IsStepLine}
+use Rattle.asl_run_world.specs.Lines.{end_text}
+use Rattle.asl_run_setup.specs.declared.setup.Setup.{Setup}
+use Rattle.asl_run_setup.specs.FileLines.{lines_in, AreSpelled, IsFirstBadLine}
+use Rattle.asl_run_setup.specs.StepsFile.{IsStepLine}
 use Rattle.asl_session.specs.Sessions.{Session, begun_at, opened, world_in, reply_to, next_session, session_after}
 use Rattle.asl_session.specs.ReplyLines.{answer_line}
 use Rattle.asl_session.specs.declared.command.Command.{Command}

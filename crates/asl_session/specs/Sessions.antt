@@ -4,13 +4,13 @@ use Rattle.std.specs.List.{filter, list_any}
 use Rattle.std.specs.Cmp.Lexicographic.{pointwise}
 use Rattle.asl_history.specs.Places.{is_prefix}
 use Rattle.asl_def.specs.Machines.{state_object}
-use Rattle.asl_steps.specs.declared.record.Record.{Record}
-use Rattle.asl_steps.specs.declared.record.Record.TheVariants.{New, Ready, Pausing, Again, Forked, Done, Failed}
-use Rattle.asl_frames.specs.Branches.{record_at}
-use Rattle.asl_run.specs.World.{World, is_late}
-use Rattle.asl_run.specs.declared.refusal.Refusal.{Refusal}
-use Rattle.asl_setup.specs.declared.setup.Setup.{Setup}
-use Rattle.asl_setup.specs.declared.step_at.StepAt.{StepAt}
+use Rattle.asl_step_rows.specs.declared.record.Record.{Record}
+use Rattle.asl_step_rows.specs.declared.record.Record.TheVariants.{New, Ready, Pausing, Again, Forked, Done, Failed}
+use Rattle.asl_run_frames.specs.Branches.{record_at}
+use Rattle.asl_run_world.specs.World.{World, is_late}
+use Rattle.asl_run_world.specs.declared.refusal.Refusal.{Refusal}
+use Rattle.asl_run_setup.specs.declared.setup.Setup.{Setup}
+use Rattle.asl_run_setup.specs.declared.step_at.StepAt.{StepAt}
 use Rattle.asl_exec.specs.Steps.{opening, world_after, refusal_in}
 use Rattle.asl_session.specs.declared.command.Command.{Command}
 use Rattle.asl_session.specs.declared.command.Command.TheVariants.{Step, Break, Clear, Resume, Show, Back}

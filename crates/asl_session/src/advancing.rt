@@ -4,8 +4,8 @@ ghost use Rattle.asl_session.specs.Advancing.{after_steps, AreTaken, IsStop};
 
 use crate::session::Session;
 use asl_json::Name;
-use asl_run::Refusal;
-use asl_setup::StepAt;
+use asl_run_setup::StepAt;
+use asl_run_world::Refusal;
 use std::alloc::AllocError;
 
 /// Why no further step was taken.

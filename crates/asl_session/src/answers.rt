@@ -1,14 +1,13 @@
 // The lines of replies.
 ghost use Rattle.std.specs.Prelude.{◌≡◌, ◌++◌, ◌∷◌, [], OnOk, OnErr, string_bytes};
 ghost use Rattle.std.specs.Fmt.{decimal};
-ghost use Rattle.asl_text.specs.Buffers.{Keeps};
+ghost use Rattle.asl_json.specs.Buffers.{Keeps};
 ghost use Rattle.asl_session.specs.ReplyLines.{answer_text, answer_line};
 
 use crate::reply::Reply;
 use crate::showing::record_json;
-use asl_json::{put, put_quoted};
-use asl_run::put_reply;
-use asl_text::whole_or_none;
+use asl_json::{put, put_quoted, whole_or_none};
+use asl_run_world::put_reply;
 use itoa::Buffer;
 use std::alloc::{AllocError, Global};
 

@@ -3,7 +3,7 @@ ghost use Rattle.std.specs.Prelude.{◌≡◌, IfOk};
 
 use asl_history::Place;
 use asl_json::Name;
-use asl_setup::StepAt;
+use asl_run_setup::StepAt;
 use std::alloc::AllocError;
 
 /// What a session is told.

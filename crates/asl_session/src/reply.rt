@@ -4,8 +4,8 @@ ghost use Rattle.asl_session.specs.Replies.{is_plain};
 
 use crate::advancing::Stop;
 use asl_json::Name;
-use asl_run::Refusal;
-use asl_steps::Record;
+use asl_run_world::Refusal;
+use asl_step_rows::Record;
 use std::alloc::{AllocError, Global};
 
 /// What a session replies to a command.

@@ -11,7 +11,7 @@ ghost use Rattle.asl_session.specs.Scripts.{IsNamed, IsPlaceText, count_in, IsCo
 use crate::command::Command;
 use asl_history::Place;
 use asl_json::{Json, JsonFault, Name, read};
-use asl_setup::{read_step, split_line};
+use asl_run_setup::{read_step, split_line};
 use std::alloc::{AllocError, AllocFailed, Global};
 use std::error::Error;
 use std::{fmt, str};

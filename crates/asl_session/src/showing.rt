@@ -6,7 +6,7 @@ ghost use Rattle.asl_time.specs.StampText.{stamp_of};
 ghost use Rattle.asl_session.specs.ReplyLines.{uses_data, record_data};
 
 use asl_json::{Dec, Items, Json, Name, Shared, SharedItems, Txt};
-use asl_steps::{Record, error_output};
+use asl_step_rows::{Record, error_output};
 use asl_time::{Moment, put_stamp};
 use std::alloc::{AllocError, Global};
 

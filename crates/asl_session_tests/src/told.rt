@@ -1,6 +1,6 @@
 // Sessions and commands of texts, and texts of replies.
+use asl_run_setup::{Setup, StepAt, read_steps};
 use asl_session::{Command, Reply, Session, Stop, put_answer, read_command};
-use asl_setup::{Setup, StepAt, read_steps};
 use std::test::Fail;
 
 /// A loop of three states, twice.

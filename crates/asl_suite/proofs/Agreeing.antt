@@ -10,14 +10,14 @@ use Rattle.asl_json.specs.declared.value.Json.{Json}
 use Rattle.asl_history.specs.declared.event.Event.{Event}
 use Rattle.asl_mock.specs.Answers.{Case}
 use Rattle.asl_mock.specs.declared.fault.CaseFault.{CaseFault}
-use Rattle.asl_run.specs.World.{World, is_over}
-use Rattle.asl_run.specs.declared.outcome.Outcome.{Outcome}
-use Rattle.asl_run.specs.declared.outcome.Outcome.TheVariants.{Running, Succeeded, Failed, TimedOut}
-use Rattle.asl_setup.specs.Chosen.{case_or_empty}
-use Rattle.asl_expect.specs.Differences.{difference}
-use Rattle.asl_expect.specs.declared.difference.Difference.{Difference}
-use Rattle.asl_expect.specs.declared.expectation.Expectation.{Expectation}
-use Rattle.asl_expect.specs.declared.expectation.Visit.{Visit}
+use Rattle.asl_run_world.specs.World.{World, is_over}
+use Rattle.asl_run_world.specs.declared.outcome.Outcome.{Outcome}
+use Rattle.asl_run_world.specs.declared.outcome.Outcome.TheVariants.{Running, Succeeded, Failed, TimedOut}
+use Rattle.asl_run_setup.specs.Chosen.{case_or_empty}
+use Rattle.asl_suite_expect.specs.Differences.{difference}
+use Rattle.asl_suite_expect.specs.declared.difference.Difference.{Difference}
+use Rattle.asl_suite_expect.specs.declared.expectation.Expectation.{Expectation}
+use Rattle.asl_suite_expect.specs.declared.expectation.Visit.{Visit}
 use Rattle.asl_suite.specs.Cases.{is_wanted, is_output, is_visited, verdict_on, test_setup, driven_within, step_limit, report_by, report_on}
 use Rattle.asl_suite.specs.Reasons.{output_difference, first_unmet, by_visits, by_output, by_status, reason_in, reason_by, reason_for, verdict_by}
 use Rattle.asl_suite.specs.declared.suite.Suite.{Suite}

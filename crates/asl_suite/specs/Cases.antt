@@ -10,17 +10,17 @@ use Rattle.asl_history.specs.declared.kind.EventKind.{EventKind}
 use Rattle.asl_history.specs.declared.kind.EventKind.TheVariants.{PassStateEntered, TaskStateEntered, ChoiceStateEntered, WaitStateEntered, SucceedStateEntered, FailStateEntered, ParallelStateEntered, MapStateEntered}
 use Rattle.asl_mock.specs.Answers.{Case}
 use Rattle.asl_mock.specs.declared.fault.CaseFault.{CaseFault}
-use Rattle.asl_run.specs.World.{World, is_over}
-use Rattle.asl_run.specs.declared.outcome.Outcome.{Outcome}
-use Rattle.asl_run.specs.declared.outcome.Outcome.TheVariants.{Running, Succeeded, Failed, TimedOut}
-use Rattle.asl_setup.specs.Chosen.{name_or_run, case_or_empty}
-use Rattle.asl_setup.specs.declared.setup.Setup.{Setup}
+use Rattle.asl_run_world.specs.World.{World, is_over}
+use Rattle.asl_run_world.specs.declared.outcome.Outcome.{Outcome}
+use Rattle.asl_run_world.specs.declared.outcome.Outcome.TheVariants.{Running, Succeeded, Failed, TimedOut}
+use Rattle.asl_run_setup.specs.Chosen.{name_or_run, case_or_empty}
+use Rattle.asl_run_setup.specs.declared.setup.Setup.{Setup}
 use Rattle.asl_exec.specs.Steps.{opening}
 use Rattle.asl_exec.specs.Driving.{driven}
-use Rattle.asl_expect.specs.declared.expectation.Expectation.{Expectation}
-use Rattle.asl_expect.specs.declared.expectation.Visit.{Visit}
-use Rattle.asl_expect.specs.declared.expectation.Wanted.{Wanted}
-use Rattle.asl_expect.specs.declared.expectation.Wanted.TheVariants as wanted
+use Rattle.asl_suite_expect.specs.declared.expectation.Expectation.{Expectation}
+use Rattle.asl_suite_expect.specs.declared.expectation.Visit.{Visit}
+use Rattle.asl_suite_expect.specs.declared.expectation.Wanted.{Wanted}
+use Rattle.asl_suite_expect.specs.declared.expectation.Wanted.TheVariants as wanted
 use Rattle.asl_suite.specs.declared.suite.Suite.{Suite}
 use Rattle.asl_suite.specs.declared.case_report.CaseReport.{CaseReport}
 use Rattle.asl_suite.specs.declared.case_report.Verdict.{Verdict}

@@ -8,14 +8,14 @@ use Rattle.asl_history.specs.declared.kind.EventKind.{EventKind}
 use Rattle.asl_history.specs.declared.kind.EventKind.TheVariants.{TaskScheduled, TaskFailed}
 use Rattle.asl_mock.specs.Answers.{Case, answer_to}
 use Rattle.asl_mock.specs.declared.fault.CaseFault.{CaseFault}
-use Rattle.asl_run.specs.World.{World, is_over}
-use Rattle.asl_run.specs.declared.outcome.Outcome.{Outcome}
-use Rattle.asl_run.specs.declared.outcome.Outcome.TheVariants.{Running, Succeeded, Failed, TimedOut}
-use Rattle.asl_setup.specs.Chosen.{case_or_empty}
-use Rattle.asl_expect.specs.Differences.{first_difference}
-use Rattle.asl_expect.specs.declared.difference.Difference.{Difference}
-use Rattle.asl_expect.specs.declared.expectation.Expectation.{Expectation}
-use Rattle.asl_expect.specs.declared.expectation.Visit.{Visit}
+use Rattle.asl_run_world.specs.World.{World, is_over}
+use Rattle.asl_run_world.specs.declared.outcome.Outcome.{Outcome}
+use Rattle.asl_run_world.specs.declared.outcome.Outcome.TheVariants.{Running, Succeeded, Failed, TimedOut}
+use Rattle.asl_run_setup.specs.Chosen.{case_or_empty}
+use Rattle.asl_suite_expect.specs.Differences.{first_difference}
+use Rattle.asl_suite_expect.specs.declared.difference.Difference.{Difference}
+use Rattle.asl_suite_expect.specs.declared.expectation.Expectation.{Expectation}
+use Rattle.asl_suite_expect.specs.declared.expectation.Visit.{Visit}
 use Rattle.asl_suite.specs.Cases.{is_wanted, entries, is_visited, test_setup, driven_within, step_limit}
 use Rattle.asl_suite.specs.declared.suite.Suite.{Suite}
 use Rattle.asl_suite.specs.declared.case_report.Verdict.{Verdict}

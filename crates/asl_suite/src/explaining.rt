@@ -9,11 +9,12 @@ use crate::judging::{entries, is_visited, is_wanted};
 use crate::reason::{Invocation, Reason};
 use crate::running::{case_of, driven, setup_of, step_limit};
 use crate::suite::Suite;
-use asl_exec::{Execution, Outcome};
-use asl_expect::{Difference, Expectation, Visit, first_difference};
+use asl_exec::Execution;
 use asl_history::{Event, EventKind};
 use asl_json::{Json, Pointer, Txt};
 use asl_mock::{Case, answer};
+use asl_run_world::Outcome;
+use asl_suite_expect::{Difference, Expectation, Visit, first_difference};
 use std::alloc::{AllocError, Global};
 
 fn is_failure(kind: EventKind) -> bool

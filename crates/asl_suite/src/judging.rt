@@ -5,10 +5,11 @@ ghost use Rattle.asl_exec.specs.Views.{world_of};
 ghost use Rattle.asl_suite.specs.Cases.{status_of, is_wanted, has_output, is_output, is_entered, enters, entries, is_visited, verdict_on};
 
 use crate::case_report::{Status, Verdict};
-use asl_exec::{Execution, Outcome};
-use asl_expect::{Expectation, Visit, Wanted};
+use asl_exec::Execution;
 use asl_history::{Event, EventKind};
 use asl_json::{Json, same};
+use asl_run_world::Outcome;
+use asl_suite_expect::{Expectation, Visit, Wanted};
 
 /// How an execution ended.
 pub(crate) fn status_of(outcome: &Outcome) -> Status

@@ -1,8 +1,8 @@
 // Why a test isn't passed.
-use asl_exec::Outcome;
-use asl_expect::{Difference, Visit, Wanted};
 use asl_json::Txt;
 use asl_mock::CaseFault;
+use asl_run_world::Outcome;
+use asl_suite_expect::{Difference, Visit, Wanted};
 
 /// An invocation of a task.
 pub struct Invocation {

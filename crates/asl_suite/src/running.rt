@@ -2,17 +2,17 @@
 ghost use Rattle.std.specs.Prelude.{◌≡◌, ◌<◌, length, Ok, Some, IfOk, slice_get};
 ghost use Rattle.std.specs.Option.{option_map};
 ghost use Rattle.asl_exec.specs.Views.{world_of};
-ghost use Rattle.asl_setup.specs.Chosen.{name_or_run, case_or_empty};
+ghost use Rattle.asl_run_setup.specs.Chosen.{name_or_run, case_or_empty};
 ghost use Rattle.asl_suite.specs.Cases.{step_limit, test_setup, driven_within, judged, no_case, report_by, report_within, report_on};
 
 use crate::case_report::{CaseReport, Status, Verdict};
 use crate::judging::{status_of, verdict_on};
 use crate::suite::Suite;
 use asl_exec::Execution;
-use asl_expect::Expectation;
 use asl_json::Txt;
 use asl_mock::{Case, CaseFault, Mocks};
-use asl_setup::Setup;
+use asl_run_setup::Setup;
+use asl_suite_expect::Expectation;
 use asl_time::Moment;
 use std::alloc::{AllocError, Global};
 

@@ -1,6 +1,6 @@
 // Expectations files: what they spell, and which fault is answered.
-use asl_expect::{ExpectFault, Expectation, Expectations, Visit, Wanted};
 use asl_json::{Json, write};
+use asl_suite_expect::{ExpectFault, Expectation, Expectations, Visit, Wanted};
 use std::alloc::{AllocError, Global};
 use std::test::Fail;
 

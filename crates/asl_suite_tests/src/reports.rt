@@ -1,9 +1,9 @@
 // What is reported of tests.
 use asl_check::accept;
 use asl_def::Machine;
-use asl_expect::Expectations;
 use asl_mock::Mocks;
 use asl_suite::{CaseReport, Suite, report, run_case};
+use asl_suite_expect::Expectations;
 use std::alloc::Global;
 use std::test::Fail;
 

@@ -5,10 +5,10 @@ use Rattle.asl_json.specs.Data.{Data, null, boolean, number, text, list, dict, C
 use Rattle.asl_path.specs.Paths.{part_at}
 use Rattle.asl_intrinsic.specs.Calls.{is_context}
 use Rattle.asl_intrinsic.specs.Values.{ev}
-use Rattle.asl_functions.specs.declared.fault.EvalFault.{EvalFault}
-use Rattle.asl_functions.specs.declared.fault.EvalFault.TheVariants.{Fails, PathMissing, OutOfMemory as NoMemory}
-use Rattle.asl_functions.specs.declared.fault.Reason.{Reason}
-use Rattle.asl_functions.specs.declared.fault.Reason.TheVariants as reason
+use Rattle.asl_intrinsic_functions.specs.declared.fault.EvalFault.{EvalFault}
+use Rattle.asl_intrinsic_functions.specs.declared.fault.EvalFault.TheVariants.{Fails, PathMissing, OutOfMemory as NoMemory}
+use Rattle.asl_intrinsic_functions.specs.declared.fault.Reason.{Reason}
+use Rattle.asl_intrinsic_functions.specs.declared.fault.Reason.TheVariants as reason
 use Rattle.asl_template.specs.Names.{name_before, name_of}
 use Rattle.asl_template.specs.declared.fill.FillFault.{FillFault}
 use Rattle.asl_template.specs.declared.fill.FillFault.TheVariants.{PathFails, IntrinsicFails, OutOfMemory}

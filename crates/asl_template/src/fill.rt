@@ -12,7 +12,8 @@ ghost use Rattle.asl_template.specs.Filling.{found, word_of, called, computed, c
 
 use crate::name::marked;
 use crate::part::{Field, Fields, Part, Parts};
-use asl_intrinsic::{EvalFault, Expr, Reason};
+use asl_intrinsic::Expr;
+use asl_intrinsic_functions::{EvalFault, Reason};
 use asl_json::{Items, Json, Members, Txt};
 use asl_path::RefPath;
 use std::alloc::{AllocError, AllocFailed, Global};

@@ -1,7 +1,7 @@
 // `serde_json` as the program that reads the formats for other programs.
 use crate::history::add;
-use asl_formats::{aws_json, lines_of_json};
 use asl_history::{Event, EventKind, History};
+use asl_history_formats::{aws_json, lines_of_json};
 use serde_json::Value;
 use std::alloc::Global;
 use std::test::Fail;

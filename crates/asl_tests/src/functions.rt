@@ -1,5 +1,6 @@
 // What no clause says of calls: values of outside vectors and of worked examples, and that each function succeeds with ample memory.
-use asl_intrinsic::{CallFault, EvalFault, Expr, Reason};
+use asl_intrinsic::{CallFault, Expr};
+use asl_intrinsic_functions::{EvalFault, Reason};
 use asl_json::{Json, read, write};
 use std::alloc::Global;
 use std::test::Fail;

@@ -1,8 +1,8 @@
 -- A run in which nothing but steps is told is one list of steps.
 use Rattle.std.proofs.Common.{◌≡◌, ◌∙◌, ℕ, Bool, true, false, List, [], ◌∷◌, Option, Some, None, refl, sym, ap}
 use Rattle.std.specs.Prelude.{map, is_none, if◌then◌else◌}
-use Rattle.asl_run.specs.declared.refusal.Refusal.{Refusal}
-use Rattle.asl_setup.specs.declared.step_at.StepAt.{StepAt}
+use Rattle.asl_run_world.specs.declared.refusal.Refusal.{Refusal}
+use Rattle.asl_run_setup.specs.declared.step_at.StepAt.{StepAt}
 use Rattle.asl_exec.specs.Steps.{opening, step, world_after, refusal_in}
 use Rattle.asl_exec.proofs.Accepting.{step_refused}
 use Rattle.asl_exec.proofs.Growing.{after-append}

@@ -1,11 +1,11 @@
 -- Laws of shared runs, over all records.
 use Rattle.std.specs.Prelude.{◌≡◌, List, [], ◌∷◌, map, None}
 use Rattle.std.specs.Bool.{Decides}
-use Rattle.asl_setup.specs.declared.setup.Setup.{Setup}
-use Rattle.asl_setup.specs.declared.step_at.StepAt.{StepAt}
-use Rattle.asl_steps.specs.declared.record.Record.{Record}
-use Rattle.asl_steps.specs.contracts.record.RecordPartialEq.TheImpl as records
-use Rattle.asl_run.specs.World.{World}
+use Rattle.asl_run_setup.specs.declared.setup.Setup.{Setup}
+use Rattle.asl_run_setup.specs.declared.step_at.StepAt.{StepAt}
+use Rattle.asl_step_rows.specs.declared.record.Record.{Record}
+use Rattle.asl_step_rows.specs.contracts.record.RecordPartialEq.TheImpl as records
+use Rattle.asl_run_world.specs.World.{World}
 use Rattle.asl_exec.specs.Steps.{opening, step, world_after, refusal_in}
 use Rattle.asl_session.specs.Sessions.{world_in, reply_to_step}
 use Rattle.asl_session.specs.declared.command.Command.{Command}

@@ -1,10 +1,10 @@
 -- What a worker does in a turn, and what it adds to a seat.
 use Rattle.std.specs.Prelude.{ℕ, ◌≡◌, ◌≤◌, ◌⊎◌, List, ◌++◌, length, Bool, true, false, nat_lt, if◌then◌else◌, Option, Some, None}
 use Rattle.std.specs.List.{AllPass, AllZip}
-use Rattle.asl_frames.specs.Turns.{Limits}
-use Rattle.asl_run.specs.World.{World}
-use Rattle.asl_run.specs.Picking.{Pick, Ended, Filled, Place, Moment, pick, first_at}
-use Rattle.asl_setup.specs.declared.setup.Setup.{Setup}
+use Rattle.asl_run_frames.specs.Turns.{Limits}
+use Rattle.asl_run_world.specs.World.{World}
+use Rattle.asl_run_world.specs.Picking.{Pick, Ended, Filled, Place, Moment, pick, first_at}
+use Rattle.asl_run_setup.specs.declared.setup.Setup.{Setup}
 use Rattle.asl_exec.specs.Steps.{limits_in}
 use Rattle.asl_session.specs.Sessions.{world_in, reply_to}
 use Rattle.asl_session.specs.Laws.{is_step}

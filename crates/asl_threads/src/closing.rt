@@ -7,8 +7,8 @@ use crate::row::Row;
 use crate::run::SharedRun;
 use crate::seat::Seat;
 use crate::shared::Shared;
+use asl_run_setup::Setup;
 use asl_session::Session;
-use asl_setup::Setup;
 use std::sync::Mutex;
 
 /// What a closed run leaves: all commands with their replies, in the order in which they were carried out, and the session behind them.

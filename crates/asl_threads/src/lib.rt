@@ -16,7 +16,6 @@ mod seat;
 mod serving;
 mod shared;
 
-pub use asl_gate::Gate;
 pub use clock::Clock;
 pub use closing::{Cause, CloseFault, Ended, RunRecord};
 pub use driving::drive_shared;

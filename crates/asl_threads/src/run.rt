@@ -6,7 +6,7 @@ ghost use Rattle.asl_threads.specs.Closing.{run_view};
 use crate::closing::Ended;
 use crate::seat::Seat;
 use crate::shared::Shared;
-use asl_setup::Setup;
+use asl_run_setup::Setup;
 use std::alloc::{AllocError, Global};
 use std::marker::Model;
 use std::sync::Mutex;
@@ -38,7 +38,7 @@ impl Model for SharedRun {
     ghost Value = { RunView };
 
     ghost use Rattle.std.specs.Coded.{codes};
-    ghost use Rattle.asl_setup.specs.contracts.setup.Setup as setup_row;
+    ghost use Rattle.asl_run_setup.specs.contracts.setup.Setup as setup_row;
 
     ghost coded = { Prim.hlevel (codes, setup_row.the_row.coded) };
 

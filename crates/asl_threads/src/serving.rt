@@ -3,7 +3,7 @@ ghost use Rattle.std.specs.Prelude.{◌<◌, ◌+◌, ◌^◌, length};
 ghost use Rattle.std.specs.List.{AllZip};
 
 use crate::clock::Clock;
-use asl_gate::Gate;
+use asl_threads_gate::Gate;
 use core::thread::Stack;
 use std::alloc::Global;
 use std::marker::PhantomData;

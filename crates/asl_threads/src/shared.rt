@@ -4,8 +4,8 @@ ghost use Rattle.asl_session.specs.Sessions.{reply_to};
 
 use crate::row::Row;
 use crate::seat::{Entry, Seat};
+use asl_run_setup::Setup;
 use asl_session::{Command, Reply, Session};
-use asl_setup::Setup;
 use std::alloc::{AllocError, Global};
 use std::marker::Model;
 
@@ -58,7 +58,7 @@ impl Model for Shared {
     ghost Value = { SharedView };
 
     ghost use Rattle.std.specs.Coded.{codes};
-    ghost use Rattle.asl_setup.specs.contracts.setup.Setup as setup_row;
+    ghost use Rattle.asl_run_setup.specs.contracts.setup.Setup as setup_row;
     ghost use Rattle.asl_threads.specs.contracts.row.Row as row_row;
 
     ghost coded = { Prim.hlevel (codes, setup_row.the_row.coded, row_row.the_row.coded) };

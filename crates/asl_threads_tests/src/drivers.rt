@@ -2,8 +2,9 @@
 use crate::told::{BRANCHES, LOOP, WAIT, closed, command, opened, taken};
 use crate::workers::{Counting, Looking, Meeting, Still};
 use asl_json::write;
-use asl_run::Outcome;
-use asl_threads::{Clock, Gate, RunRecord, Seat, SharedRun, drive_shared};
+use asl_run_world::Outcome;
+use asl_threads::{Clock, RunRecord, Seat, SharedRun, drive_shared};
+use asl_threads_gate::Gate;
 use asl_time::Moment;
 use std::alloc::Global;
 use std::sync::Wait;

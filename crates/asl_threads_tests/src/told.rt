@@ -1,8 +1,8 @@
 // Runs and commands of texts, and texts of replies.
 ghost use Rattle.std.specs.Prelude.{◌≤◌};
 
+use asl_run_setup::Setup;
 use asl_session::{Command, put_answer, read_command};
-use asl_setup::Setup;
 use asl_threads::{ApplyFault, Cause, CloseFault, Ended, RunRecord, Seat, Shared, SharedRun};
 use std::alloc::Global;
 use std::sync::Wait;

@@ -7,17 +7,17 @@ use Rattle.asl_json.specs.Same.{bytes_eq}
 use Rattle.asl_json.specs.Meaning.{value_at, count}
 use Rattle.asl_json.specs.Distinct.{Members}
 use Rattle.asl_json.specs.View.{unpaired}
-use Rattle.asl_schema.specs.declared.sort.Sort.{Sort}
-use Rattle.asl_schema.specs.declared.sort.Sort.TheVariants as sort
-use Rattle.asl_schema.specs.declared.sort.Kind.{Kind}
-use Rattle.asl_schema.specs.Members.{Shape, shape_of, shape_in, sort_at, kind_named}
-use Rattle.asl_schema.specs.Claims.{Spot, under, heres, step, demands, claims, at_member, at_item, inside, member_claims, item_claims, row_claims, group_demands, is_object, is_nonempty, outside}
-use Rattle.asl_schema.specs.States.{states_in, unique_claims}
-use Rattle.asl_schema.specs.First.{Each, Hold}
-use Rattle.asl_schema.specs.Clean.{IsClean, IsCleanAmong}
-use Rattle.asl_schema.specs.Canon.{Named}
-use Rattle.asl_schema.specs.Faults.{Accepted}
-use Rattle.asl_schema.proofs.Inside.{each_left, each_right, each_under, object_hold}
+use Rattle.asl_def_table.specs.declared.sort.Sort.{Sort}
+use Rattle.asl_def_table.specs.declared.sort.Sort.TheVariants as sort
+use Rattle.asl_def_table.specs.declared.sort.Kind.{Kind}
+use Rattle.asl_def_table.specs.Members.{Shape, shape_of, shape_in, sort_at, kind_named}
+use Rattle.asl_def_table.specs.Claims.{Spot, under, heres, step, demands, claims, at_member, at_item, inside, member_claims, item_claims, row_claims, group_demands, is_object, is_nonempty, outside}
+use Rattle.asl_def_table.specs.States.{states_in, unique_claims}
+use Rattle.asl_def_table.specs.First.{Each, Hold}
+use Rattle.asl_def_table.specs.Clean.{IsClean, IsCleanAmong}
+use Rattle.asl_def_table.specs.Canon.{Named}
+use Rattle.asl_def_table.specs.Faults.{Accepted}
+use Rattle.asl_def_table.proofs.Inside.{each_left, each_right, each_under, object_hold}
 use Rattle.asl_def.specs.Machines.{holds_states, all_states, states_of_items, states_of_members, states_of, state_object}
 
 abbrev pub AreClean : List Named → Type 0

@@ -9,27 +9,27 @@ use Rattle.asl_json.specs.Same.{bytes_eq}
 use Rattle.asl_json.specs.Meaning.{value_at, value_in}
 use Rattle.asl_json.specs.declared.value.Json.{Json}
 use Rattle.asl_json.specs.declared.value.Json.TheVariants.{Dict}
-use Rattle.asl_schema.specs.declared.sort.Sort.TheVariants as sort
-use Rattle.asl_schema.specs.declared.sort.Kind.{Kind}
-use Rattle.asl_schema.specs.declared.sort.Kind.TheVariants as kind
-use Rattle.asl_schema.specs.Members.{Shape, shape_of, state_shape, sort_at, kind_named, is_among, machine_rows, parallel_rows, map_rows}
-use Rattle.asl_schema.specs.Clean.{IsClean, IsCleanInside}
-use Rattle.asl_schema.specs.Claims.{item_count}
-use Rattle.asl_schema.proofs.Typed.{kind_inside, type_is}
-use Rattle.asl_schema.proofs.Ways.{processor_one, selector_one}
+use Rattle.asl_def_table.specs.declared.sort.Sort.TheVariants as sort
+use Rattle.asl_def_table.specs.declared.sort.Kind.{Kind}
+use Rattle.asl_def_table.specs.declared.sort.Kind.TheVariants as kind
+use Rattle.asl_def_table.specs.Members.{Shape, shape_of, state_shape, sort_at, kind_named, is_among, machine_rows, parallel_rows, map_rows}
+use Rattle.asl_def_table.specs.Clean.{IsClean, IsCleanInside}
+use Rattle.asl_def_table.specs.Claims.{item_count}
+use Rattle.asl_def_table.proofs.Typed.{kind_inside, type_is}
+use Rattle.asl_def_table.proofs.Ways.{processor_one, selector_one}
 use Rattle.asl_history.specs.declared.kind.EventKind.TheVariants.{ParallelStateEntered, ParallelStateExited, ParallelStateStarted, ParallelStateSucceeded, ParallelStateFailed, MapStateEntered, MapStateStarted, MapStateSucceeded, MapStateFailed, MapStateExited}
 use Rattle.asl_history.specs.declared.kind.EventKind.{EventKind}
-use Rattle.asl_parts.specs.Texts.{text_in}
-use Rattle.asl_parts.specs.Member.{completion_names}
-use Rattle.asl_states.specs.Items.{processor_in, selector_in}
-use Rattle.asl_steps.specs.declared.effect.Progress.{Progress}
-use Rattle.asl_steps.specs.declared.facts.Facts.{Facts}
-use Rattle.asl_steps.specs.Records.{name_or_none, beginning_with}
-use Rattle.asl_steps.specs.Seen.{Seen}
-use Rattle.asl_steps.specs.Context.{context_of}
-use Rattle.asl_steps.specs.Rows.{forking, beginning, telling}
+use Rattle.asl_def_parts.specs.Texts.{text_in}
+use Rattle.asl_def_parts.specs.Member.{completion_names}
+use Rattle.asl_def_states.specs.Items.{processor_in, selector_in}
+use Rattle.asl_step_rows.specs.declared.effect.Progress.{Progress}
+use Rattle.asl_step_rows.specs.declared.facts.Facts.{Facts}
+use Rattle.asl_step_rows.specs.Records.{name_or_none, beginning_with}
+use Rattle.asl_step_rows.specs.Seen.{Seen}
+use Rattle.asl_step_rows.specs.Context.{context_of}
+use Rattle.asl_step_rows.specs.Rows.{forking, beginning, telling}
 use Rattle.asl_handle.specs.Decisions.{handlers_in}
-use Rattle.asl_data.specs.Paths.{Given}
+use Rattle.asl_step_data.specs.Paths.{Given}
 use Rattle.asl_kinds.specs.Members.{effective_by, effective}
 use Rattle.asl_kinds.specs.Forks.{GivenFork, start_in, starts_in, ready_at, forked_with}
 use Rattle.asl_kinds.specs.Table.{length_body, iteration_start, fork_with, fork_of, map_forks, map_joins, map_with, map_effect, limit_in, settled, fork_settled, parallel_forks, parallel_joins, parallel_with, parallel_effect, effect_by_type, state_effect, is_invoking_type, invokes, slots_by_type, slots}

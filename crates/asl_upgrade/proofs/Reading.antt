@@ -5,17 +5,17 @@ use Rattle.asl_json.specs.Compact.{compact}
 use Rattle.asl_json.specs.Limits.{max_len, max_depth}
 use Rattle.asl_json.specs.Wrong.{ReadsAs}
 use Rattle.asl_json.specs.Sound.{IsSound, KeysDiffer}
-use Rattle.asl_schema.specs.declared.sort.Sort.TheVariants.{Definition}
-use Rattle.asl_schema.specs.Claims.{claims, outside}
-use Rattle.asl_schema.specs.First.{Hold}
-use Rattle.asl_schema.specs.States.{states_in, unique_claims}
-use Rattle.asl_schema.specs.Canon.{canonical}
-use Rattle.asl_schema.specs.Faults.{Accepted}
-use Rattle.asl_schema.proofs.Inside.{each_left}
-use Rattle.asl_judge.proofs.CanonicalAccepted.{accepted_canonical}
-use Rattle.asl_judge.proofs.CanonicalTwice.{canonical_twice}
-use Rattle.asl_judge.proofs.CanonicalLength.{no_deeper}
-use Rattle.asl_judge.proofs.CanonicalKeys.{keys_canon}
+use Rattle.asl_def_table.specs.declared.sort.Sort.TheVariants.{Definition}
+use Rattle.asl_def_table.specs.Claims.{claims, outside}
+use Rattle.asl_def_table.specs.First.{Hold}
+use Rattle.asl_def_table.specs.States.{states_in, unique_claims}
+use Rattle.asl_def_table.specs.Canon.{canonical}
+use Rattle.asl_def_table.specs.Faults.{Accepted}
+use Rattle.asl_def_table.proofs.Inside.{each_left}
+use Rattle.asl_def_canonical.proofs.Accepted.{accepted_canonical}
+use Rattle.asl_def_canonical.proofs.Twice.{canonical_twice}
+use Rattle.asl_def_canonical.proofs.Length.{no_deeper}
+use Rattle.asl_def_canonical.proofs.Keys.{keys_canon}
 use Rattle.asl_check.specs.Judged.{IsMachineOf}
 use Rattle.asl_check.proofs.CanonicalSound.{sound_canon}
 use Rattle.asl_check.proofs.Limiting.{allowed_depth, allowed_keys}

@@ -4,30 +4,30 @@ use Rattle.std.proofs.Common.{◌≡◌, ℕ, zero, suc, ◌+◌, List, [], ◌�
 use Rattle.std.specs.Prelude.{Option, Some, None, is_none, is_some, option_map, if◌then◌else◌}
 use Rattle.std.specs.Option.{option_and_then}
 use Rattle.asl_json.specs.Data.{Data}
-use Rattle.asl_schema.specs.declared.sort.Sort.TheVariants as sort
-use Rattle.asl_schema.specs.Clean.{IsClean}
-use Rattle.asl_schema.specs.Faults.{Accepted}
-use Rattle.asl_members.specs.Retries.{whole_in}
+use Rattle.asl_def_table.specs.declared.sort.Sort.TheVariants as sort
+use Rattle.asl_def_table.specs.Clean.{IsClean}
+use Rattle.asl_def_table.specs.Faults.{Accepted}
+use Rattle.asl_def_members.specs.Retries.{whole_in}
 use Rattle.asl_mock.specs.Answers.{Case}
-use Rattle.asl_parts.specs.Texts.{text_in}
-use Rattle.asl_steps.specs.declared.facts.Facts.{Facts}
-use Rattle.asl_steps.specs.declared.record.Record.{Record}
-use Rattle.asl_steps.specs.Records.{name_or_none, state_in}
-use Rattle.asl_steps.specs.Seen.{Seen}
+use Rattle.asl_def_parts.specs.Texts.{text_in}
+use Rattle.asl_step_rows.specs.declared.facts.Facts.{Facts}
+use Rattle.asl_step_rows.specs.declared.record.Record.{Record}
+use Rattle.asl_step_rows.specs.Records.{name_or_none, state_in}
+use Rattle.asl_step_rows.specs.Seen.{Seen}
 use Rattle.asl_kinds.specs.Members.{later}
 use Rattle.asl_kinds.specs.Table.{slots, whole_or_zero}
 use Rattle.asl_def.specs.Machines.{state_object, state_number}
 use Rattle.asl_def.specs.Upgraded.{newer_value, upgraded}
 use Rattle.asl_def.proofs.NewerStates.{count_upgraded, object_upgraded, number_upgraded, start_upgraded, timeout_upgraded}
-use Rattle.asl_frames.specs.Branches.{record_at, children_at, forker_at, iteration_at}
-use Rattle.asl_frames.specs.Turns.{Limits}
-use Rattle.asl_frames.specs.Trees.{one_if}
-use Rattle.asl_run.specs.World.{World, count_of, is_late, timed_out, world_with}
-use Rattle.asl_run.specs.Lines.{step_line, end_text}
-use Rattle.asl_run.specs.Picking.{refusal_with, pick}
-use Rattle.asl_run.specs.Refusals.{opening_at}
-use Rattle.asl_setup.specs.declared.setup.Setup.{Setup}
-use Rattle.asl_setup.specs.declared.step_at.StepAt.{StepAt}
+use Rattle.asl_run_frames.specs.Branches.{record_at, children_at, forker_at, iteration_at}
+use Rattle.asl_run_frames.specs.Turns.{Limits}
+use Rattle.asl_run_frames.specs.Trees.{one_if}
+use Rattle.asl_run_world.specs.World.{World, count_of, is_late, timed_out, world_with}
+use Rattle.asl_run_world.specs.Lines.{step_line, end_text}
+use Rattle.asl_run_world.specs.Picking.{refusal_with, pick}
+use Rattle.asl_run_world.specs.Refusals.{opening_at}
+use Rattle.asl_run_setup.specs.declared.setup.Setup.{Setup}
+use Rattle.asl_run_setup.specs.declared.step_at.StepAt.{StepAt}
 use Rattle.asl_exec.specs.Steps.{facts_of, number_in, object_in, invokes_by, limits_in, seen_at, effect_by, effect_in, moved_on, stepped, refusal_in, step, deadline_of, opening, world_after}
 use Rattle.asl_exec.specs.RunText.{step_lines}
 use Rattle.asl_exec.specs.Driving.{Chosen, chosen_by, chosen, after, driven, driven_steps}

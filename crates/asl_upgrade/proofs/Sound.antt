@@ -6,7 +6,7 @@ use Rattle.std.specs.Str.{IsUtf8}
 use Rattle.std.specs.Cmp.Lexicographic.{same_text}
 use Rattle.std.proofs.lemmas.Str.{IsUtf8-nil}
 use Rattle.asl_check.proofs.Cutting.{utf8_cons}
-use Rattle.asl_judge.proofs.CanonicalAmounts.{both_are}
+use Rattle.asl_def_canonical.proofs.Amounts.{both_are}
 use Rattle.asl_json.specs.Data.{Data, null, boolean, number, text, list, dict, Chain, no_items, item, Pairs, no_members, member, depth, items_depth, members_depth}
 use Rattle.asl_json.specs.Same.{bytes_eq}
 use Rattle.asl_json.specs.Meaning.{value_at, count}
@@ -14,15 +14,15 @@ use Rattle.asl_json.specs.Distinct.{Members, has_key, AreDistinct}
 use Rattle.asl_json.specs.View.{unpaired}
 use Rattle.asl_json.specs.Sound.{IsSound, AreSoundItems, AreSoundMembers, KeysDiffer, KeysDifferInItems, KeysDifferInMembers}
 use Rattle.asl_json.proofs.Knowing.{has_key-push}
-use Rattle.asl_schema.specs.declared.sort.Sort.{Sort}
-use Rattle.asl_schema.specs.declared.sort.Sort.TheVariants as sort
-use Rattle.asl_schema.specs.declared.sort.Kind.{Kind}
-use Rattle.asl_schema.specs.declared.sort.Kind.TheVariants as kind
-use Rattle.asl_schema.specs.Members.{Group, Shape, shape_in, sort_at, item_sort, state_shape, kind_named, processor_group, selector_group, transition}
-use Rattle.asl_schema.specs.Claims.{Spot, under, heres, step, demands, claims, at_member, at_item, inside, member_claims, item_claims, row_claims, group_demands, is_object, is_nonempty, counts, any_counts, is_doubled, is_twice}
-use Rattle.asl_schema.specs.First.{Each, Hold}
-use Rattle.asl_schema.proofs.Inside.{each_left, each_right, each_under, own_hold, object_hold}
-use Rattle.asl_schema.proofs.Deciding.{not_true, neither_is}
+use Rattle.asl_def_table.specs.declared.sort.Sort.{Sort}
+use Rattle.asl_def_table.specs.declared.sort.Sort.TheVariants as sort
+use Rattle.asl_def_table.specs.declared.sort.Kind.{Kind}
+use Rattle.asl_def_table.specs.declared.sort.Kind.TheVariants as kind
+use Rattle.asl_def_table.specs.Members.{Group, Shape, shape_in, sort_at, item_sort, state_shape, kind_named, processor_group, selector_group, transition}
+use Rattle.asl_def_table.specs.Claims.{Spot, under, heres, step, demands, claims, at_member, at_item, inside, member_claims, item_claims, row_claims, group_demands, is_object, is_nonempty, counts, any_counts, is_doubled, is_twice}
+use Rattle.asl_def_table.specs.First.{Each, Hold}
+use Rattle.asl_def_table.proofs.Inside.{each_left, each_right, each_under, own_hold, object_hold}
+use Rattle.asl_def_table.proofs.Deciding.{not_true, neither_is}
 use Rattle.asl_def.specs.Machines.{holds_states}
 use Rattle.asl_def.specs.Upgraded.{newer, renamed, names_map, map_in, newer_value, newer_items, newer_members}
 use Rattle.asl_def.proofs.Newer.{by_name, IsOther, other_name, items_leaf, members_leaf, map_shape}

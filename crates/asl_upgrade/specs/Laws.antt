@@ -3,13 +3,13 @@ use Rattle.std.specs.Prelude.{◌≡◌, ◌≤◌, ℕ, List, length}
 use Rattle.asl_json.specs.Data.{Data}
 use Rattle.asl_json.specs.Compact.{compact}
 use Rattle.asl_json.specs.Limits.{max_len}
-use Rattle.asl_schema.specs.Canon.{canonical}
-use Rattle.asl_schema.specs.Faults.{Accepted}
+use Rattle.asl_def_table.specs.Canon.{canonical}
+use Rattle.asl_def_table.specs.Faults.{Accepted}
 use Rattle.asl_def.specs.Upgraded.{upgraded}
 use Rattle.asl_check.specs.Judged.{IsMachineOf}
-use Rattle.asl_run.specs.World.{World}
-use Rattle.asl_setup.specs.declared.setup.Setup.{Setup}
-use Rattle.asl_setup.specs.declared.step_at.StepAt.{StepAt}
+use Rattle.asl_run_world.specs.World.{World}
+use Rattle.asl_run_setup.specs.declared.setup.Setup.{Setup}
+use Rattle.asl_run_setup.specs.declared.step_at.StepAt.{StepAt}
 use Rattle.asl_exec.specs.Steps.{refusal_in, step, opening, world_after}
 use Rattle.asl_exec.specs.RunText.{run_text}
 use Rattle.asl_exec.specs.Driving.{driven, driven_steps}

@@ -1,9 +1,9 @@
 // Laws of upgraded machines.
 ghost use Rattle.std.specs.Prelude.{List};
-ghost use Rattle.asl_setup.specs.declared.step_at.StepAt.{StepAt};
+ghost use Rattle.asl_run_setup.specs.declared.step_at.StepAt.{StepAt};
 ghost use Rattle.asl_upgrade.specs.Laws.{RunsAlike, UpgradedStays, UpgradedIsAccepted, UpgradedIsCanonical, UpgradedIsRead, UpgradedStepsAlike, UpgradedRunsAlike, UpgradedDrivesAlike};
 
-use asl_setup::Setup;
+use asl_run_setup::Setup;
 
 /// What a definition keeps in the newer spelling. The laws have no code.
 pub fn an_upgraded_definition_is_accepted()

@@ -1,9 +1,9 @@
 -- A table of states as a clause sees it: names and canonical objects.
 use Rattle.std.specs.Prelude.{List, [], map, String}
-use Rattle.asl_schema.specs.Canon.{Named}
-use Rattle.asl_states.specs.declared.state.State.{State}
-use Rattle.asl_states.specs.Newer.{newer_state}
-use Rattle.asl_states.specs.Show.{shown, AreInOrder}
+use Rattle.asl_def_table.specs.Canon.{Named}
+use Rattle.asl_def_states.specs.declared.state.State.{State}
+use Rattle.asl_def_states.specs.Newer.{newer_state}
+use Rattle.asl_def_states.specs.Show.{shown, AreInOrder}
 use Rattle.asl_def.specs.declared.table.Table.TheInside.{Inside}
 
 abbrev pub named : Inside → List Named

@@ -1,7 +1,7 @@
 -- What a clause sees of a call.
 use Rattle.std.specs.Prelude.{List, map}
 use Rattle.asl_json.specs.View.{data_of}
-use Rattle.asl_functions.specs.Names.{name_of}
+use Rattle.asl_intrinsic_functions.specs.Names.{name_of}
 use Rattle.asl_intrinsic.specs.Tree as tree
 use Rattle.asl_intrinsic.specs.declared.call.Argument.{Argument}
 use Rattle.asl_intrinsic.specs.declared.call.Argument.TheVariants.{Constant, Quoted, Path, Call}

@@ -7,25 +7,25 @@ use Rattle.asl_json.specs.declared.value.Json.{Json}
 use Rattle.asl_json.specs.declared.value.Json.TheVariants.{Dict}
 use Rattle.asl_history.specs.declared.kind.EventKind.{EventKind}
 use Rattle.asl_history.specs.declared.kind.EventKind.TheVariants.{PassStateEntered, PassStateExited, SucceedStateEntered, SucceedStateExited, FailStateEntered, ChoiceStateEntered, ChoiceStateExited, WaitStateEntered, TaskStateEntered, TaskStateExited, TaskScheduled, TaskStarted, TaskSucceeded, TaskFailed, ParallelStateEntered, ParallelStateStarted, ParallelStateExited, MapStateEntered, MapStateStarted, MapStateExited}
-use Rattle.asl_states.specs.declared.state.State.{State}
-use Rattle.asl_states.specs.declared.state.State.TheVariants as state
-use Rattle.asl_states.specs.Show.{state_of}
-use Rattle.asl_steps.specs.declared.effect.Effect.{Effect}
-use Rattle.asl_steps.specs.declared.effect.Progress.{Progress}
-use Rattle.asl_steps.specs.declared.effect.Draft.{Draft}
-use Rattle.asl_steps.specs.declared.facts.Facts.{Facts}
-use Rattle.asl_steps.specs.declared.record.ErrorOut.{ErrorOut}
-use Rattle.asl_steps.specs.declared.record.Record.{Record}
-use Rattle.asl_steps.specs.declared.record.Record.TheVariants.{New, Ready, Pausing, Again, Forked, Done, Failed}
-use Rattle.asl_steps.specs.Records.{name_in, uses_in, entering_with, beginning_with}
-use Rattle.asl_steps.specs.Seen.{Seen}
-use Rattle.asl_steps.specs.Context.{context_of}
-use Rattle.asl_steps.specs.Rows.{leaving, left, failing, entering, beginning, beginning_by, telling, is_within_limit, over_limit, error_output}
+use Rattle.asl_def_states.specs.declared.state.State.{State}
+use Rattle.asl_def_states.specs.declared.state.State.TheVariants as state
+use Rattle.asl_def_states.specs.Show.{state_of}
+use Rattle.asl_step_rows.specs.declared.effect.Effect.{Effect}
+use Rattle.asl_step_rows.specs.declared.effect.Progress.{Progress}
+use Rattle.asl_step_rows.specs.declared.effect.Draft.{Draft}
+use Rattle.asl_step_rows.specs.declared.facts.Facts.{Facts}
+use Rattle.asl_step_rows.specs.declared.record.ErrorOut.{ErrorOut}
+use Rattle.asl_step_rows.specs.declared.record.Record.{Record}
+use Rattle.asl_step_rows.specs.declared.record.Record.TheVariants.{New, Ready, Pausing, Again, Forked, Done, Failed}
+use Rattle.asl_step_rows.specs.Records.{name_in, uses_in, entering_with, beginning_with}
+use Rattle.asl_step_rows.specs.Seen.{Seen}
+use Rattle.asl_step_rows.specs.Context.{context_of}
+use Rattle.asl_step_rows.specs.Rows.{leaving, left, failing, entering, beginning, beginning_by, telling, is_within_limit, over_limit, error_output}
 use Rattle.asl_mock.specs.Answers.{answer_to}
 use Rattle.asl_mock.specs.declared.response.Answer.{Answer}
 use Rattle.asl_mock.specs.declared.response.Answer.TheVariants.{Returns, Throws}
 use Rattle.asl_handle.specs.Decisions.{Handling, again, caught, unhandled, decision}
-use Rattle.asl_data.specs.Paths.{Given, put_into}
+use Rattle.asl_step_data.specs.Paths.{Given, put_into}
 use Rattle.asl_kinds.specs.Members.{next_in, effective, pass_output, passed_on, selected, no_answer, fail_error, GivenTarget, choice_output, GivenMoment, wait_until}
 use Rattle.asl_kinds.specs.Forks.{GivenFork}
 use Rattle.asl_json.specs.View.{data_of}

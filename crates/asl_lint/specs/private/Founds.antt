@@ -1,6 +1,6 @@
 -- Findings while they are made.
 use Rattle.std.specs.Prelude.{List, [], ◌∷◌, Option, None}
-use Rattle.asl_outline.specs.declared.span.Node.{Node}
+use Rattle.asl_json_outline.specs.declared.span.Node.{Node}
 use Rattle.asl_lint.specs.declared.finding.Found.{Found}
 use Rattle.asl_lint.specs.declared.placing.Spanned.{Spanned}
 use Rattle.asl_lint.specs.Findings.{Noted, part_of}

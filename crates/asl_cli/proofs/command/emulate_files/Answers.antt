@@ -1,5 +1,5 @@
 use Rattle.std.proofs.Common.{◌∙◌, ap}
-use Rattle.asl_setup.specs.Views.{texts_of}
+use Rattle.asl_run_setup.specs.Views.{texts_of}
 use Rattle.asl_cli.specs.Faults.{read_texts}
 use Rattle.asl_cli.proofs.Given.{given-run, given-before, refused-run}
 use Rattle.asl_cli.proofs.command.emulate_files.Goals as goal

@@ -1,6 +1,6 @@
 use Rattle.std.proofs.Common.{◌≡◌, ◌∙◌, ℕ, List, Some, inl, sym, ap, refl, subst}
 use Rattle.asl_explore.specs.declared.found.Found.{Found}
-use Rattle.asl_setup.specs.StepsFile.{steps_file}
+use Rattle.asl_run_setup.specs.StepsFile.{steps_file}
 use Rattle.asl_host.specs.Outcomes.{IsPrinted}
 use Rattle.asl_cli.specs.Exploring.{numbered}
 use Rattle.asl_cli.proofs.exploring.show_one.Goals as goal

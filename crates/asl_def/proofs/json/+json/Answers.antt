@@ -1,6 +1,6 @@
 use Rattle.std.proofs.Common.{◌∙◌, add-one, arith}
 use Rattle.std.specs.Prelude.{string_bytes}
-use Rattle.asl_states.specs.Show.{state_of}
+use Rattle.asl_def_states.specs.Show.{state_of}
 use Rattle.asl_def.proofs.Walks.{walk_begins, next_is_new, walk_goes_on, body_within}
 use Rattle.asl_def.proofs.json.+json.Goals as goal
 

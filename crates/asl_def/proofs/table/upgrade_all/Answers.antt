@@ -1,7 +1,7 @@
 use Rattle.std.proofs.Common.{add-one, ap, sym, ◌∙◌, length, arith}
 use Rattle.std.specs.Prelude.{slice_get}
 use Rattle.indexmap.specs.IndexMap.{set_value_at}
-use Rattle.asl_states.specs.Newer.{newer_state}
+use Rattle.asl_def_states.specs.Newer.{newer_state}
 use Rattle.asl_def.proofs.NewerShown.{newer_next, newer_done, length-first, states_in}
 use Rattle.asl_def.proofs.table.upgrade_all.Goals as goal
 

@@ -1,7 +1,7 @@
 use Rattle.std.proofs.Common.{ap, ◌∙◌}
 use Rattle.std.proofs.lemmas.Result.{IfOk-weaker}
-use Rattle.asl_parts.specs.Texts.{text_in}
-use Rattle.asl_steps.specs.Records.{name_or_none}
+use Rattle.asl_def_parts.specs.Texts.{text_in}
+use Rattle.asl_step_rows.specs.Records.{name_or_none}
 use Rattle.asl_exec.proofs.stepping.start_of.Goals as goal
 
 pub returns : goal.returns

@@ -1,6 +1,6 @@
 use Rattle.std.proofs.Common.{◌≡◌, ◌∙◌, true, false, sym, subst, arith}
-use Rattle.asl_run.specs.Bare.{bare}
-use Rattle.asl_setup.specs.declared.setup.Setup.{Setup}
+use Rattle.asl_run_world.specs.Bare.{bare}
+use Rattle.asl_run_setup.specs.declared.setup.Setup.{Setup}
 use Rattle.asl_exec.specs.Steps.{step}
 use Rattle.asl_exec.specs.Views.{setup_of}
 use Rattle.asl_explore.specs.Searches.{outcomes_of}

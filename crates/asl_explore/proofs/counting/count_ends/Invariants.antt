@@ -1,6 +1,6 @@
 use Rattle.std.proofs.Common.{◌≡◌, true}
 use Rattle.std.specs.List.{AllWithin}
-use Rattle.asl_run.specs.Bare.{bare}
+use Rattle.asl_run_world.specs.Bare.{bare}
 use Rattle.asl_exec.specs.Views.{setup_of}
 use Rattle.asl_explore.specs.Searches.{outcomes_of}
 use Rattle.asl_explore.specs.Calls.{AreKept}

@@ -4,4 +4,4 @@ use Rattle.asl_exec.specs.Steps.{invokes_by}
 use Rattle.asl_explore.proofs.quiet.invokes.Goals as goal
 
 pub returns : goal.returns
-returns c = c.invokes_in.ensures (states_of c.args.machine.now) ∙ ap invokes_by c.state_of.ensures
+returns c = c.invokes_in.ensures (states_of c.args.machine.now) ∙ ap invokes_by c.state_of.ensures.object

@@ -1,6 +1,6 @@
 use Rattle.std.proofs.Common.{[], ◌∙◌, refl, arith}
 use Rattle.std.proofs.lemmas.List.{length-map}
-use Rattle.asl_run.specs.Bare.{bare}
+use Rattle.asl_run_world.specs.Bare.{bare}
 use Rattle.asl_explore.specs.declared.met.Node.{Node}
 use Rattle.asl_explore.specs.Searches.{worlds_of}
 use Rattle.asl_explore.proofs.Growing.{later-same, later-then, later-length}

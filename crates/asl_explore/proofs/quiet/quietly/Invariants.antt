@@ -1,5 +1,5 @@
 use Rattle.std.proofs.Common.{◌≡◌, List}
-use Rattle.asl_run.specs.declared.outcome.Outcome.{Outcome}
+use Rattle.asl_run_world.specs.declared.outcome.Outcome.{Outcome}
 use Rattle.asl_exec.specs.Views.{setup_of}
 use Rattle.asl_explore.specs.Searches.{IsLater, worlds_of}
 use Rattle.asl_explore.proofs.quiet.quietly.Given as goal

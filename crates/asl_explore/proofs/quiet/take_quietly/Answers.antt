@@ -1,7 +1,7 @@
 use Rattle.std.proofs.Common.{[], arith}
 use Rattle.std.proofs.lemmas.Bool.Decides.{nat_tests}
 use Rattle.std.proofs.lemmas.List.{length-map}
-use Rattle.asl_run.specs.Bare.{bare}
+use Rattle.asl_run_world.specs.Bare.{bare}
 use Rattle.asl_exec.specs.Views.{setup_of, world_of}
 use Rattle.asl_explore.specs.declared.met.Node.{Node}
 use Rattle.asl_explore.specs.Searches.{worlds_of}

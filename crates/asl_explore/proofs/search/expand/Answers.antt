@@ -1,7 +1,7 @@
 use Rattle.std.proofs.Common.{◌<◌, ◌≤◌, ◌≡◌, true, false, sym, ◌∙◌, subst, arith, length}
 use Rattle.std.proofs.lemmas.List.{length-map}
-use Rattle.asl_run.specs.World.{World}
-use Rattle.asl_run.specs.Bare.{bare}
+use Rattle.asl_run_world.specs.World.{World}
+use Rattle.asl_run_world.specs.Bare.{bare}
 use Rattle.asl_exec.specs.Views.{setup_of}
 use Rattle.asl_explore.specs.declared.met.Node.{Node}
 use Rattle.asl_explore.specs.Searches.{worlds_of, outcomes_of, IsBound}

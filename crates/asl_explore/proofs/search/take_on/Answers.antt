@@ -1,8 +1,8 @@
 use Rattle.std.proofs.Common.{[], inl, arith, subst, get_or}
 use Rattle.std.proofs.lemmas.List.{length-map}
 use Rattle.std.proofs.lemmas.Result.{IfOk-weaker}
-use Rattle.asl_run.specs.Bare.{bare}
-use Rattle.asl_setup.specs.declared.setup.Setup.{Setup}
+use Rattle.asl_run_world.specs.Bare.{bare}
+use Rattle.asl_run_setup.specs.declared.setup.Setup.{Setup}
 use Rattle.asl_exec.specs.Views.{setup_of}
 use Rattle.asl_explore.specs.declared.met.Node.{Node}
 use Rattle.asl_explore.specs.Searches.{IsTakenOn, worlds_of, outcomes_of}

@@ -1,8 +1,8 @@
 use Rattle.std.proofs.Common.{List, ◌≡◌, ◌∙◌, subst, sym, ap, refl}
 use Rattle.std.specs.List.{All}
-use Rattle.asl_setup.specs.declared.step_at.StepAt.{StepAt}
-use Rattle.asl_frames.proofs.Sameness.{unless}
-use Rattle.asl_run.proofs.Bareness.{outcome_eq, outcome-one}
+use Rattle.asl_run_setup.specs.declared.step_at.StepAt.{StepAt}
+use Rattle.asl_run_frames.proofs.Sameness.{unless}
+use Rattle.asl_run_world.proofs.Bareness.{outcome_eq, outcome-one}
 use Rattle.asl_exec.specs.Steps.{opening, world_after}
 use Rattle.asl_exec.specs.Views.{setup_of, world_of}
 use Rattle.asl_explore.specs.declared.found.Found.{Found}

@@ -2,9 +2,9 @@ use Rattle.std.proofs.Common.{◌<◌, subst, arith, length}
 use Rattle.std.specs.List.{Contains}
 use Rattle.std.proofs.lemmas.List.{length-map}
 use Rattle.std.proofs.lemmas.Result.{IfOk-weaker}
-use Rattle.asl_run.specs.World.{World}
-use Rattle.asl_run.specs.Bare.{bare}
-use Rattle.asl_run.proofs.Picks.{over-is, running-is}
+use Rattle.asl_run_world.specs.World.{World}
+use Rattle.asl_run_world.specs.Bare.{bare}
+use Rattle.asl_run_world.proofs.Picks.{over-is, running-is}
 use Rattle.asl_exec.specs.Views.{setup_of, world_of}
 use Rattle.asl_explore.specs.declared.met.Node.{Node}
 use Rattle.asl_explore.specs.Searches.{worlds_of, outcomes_of}

@@ -4,8 +4,8 @@ use Rattle.asl_json.specs.Data.{Data}
 use Rattle.asl_json.specs.View.{data_of}
 use Rattle.asl_intrinsic.specs.Tree.{arguments}
 use Rattle.asl_intrinsic.specs.private.View.{trees_of}
-use Rattle.asl_functions.specs.Seen.{all_seen}
-use Rattle.asl_functions.specs.Outcome.{and_then}
+use Rattle.asl_intrinsic_functions.specs.Seen.{all_seen}
+use Rattle.asl_intrinsic_functions.specs.Outcome.{and_then}
 use Rattle.asl_intrinsic.specs.Calls.{values_of}
 use Rattle.asl_intrinsic.proofs.call.+eval.Given as goal
 

@@ -1,5 +1,5 @@
 use Rattle.std.proofs.Common.{ap}
-use Rattle.asl_text.proofs.Buffers.{keeps_on, keeps_pushed}
+use Rattle.asl_json.proofs.Buffers.{keeps_on, keeps_pushed}
 use Rattle.asl_json.proofs.writing.+put.Goals as goal
 
 pub put_items-returns-in_err-put_value-clause-kept : goal.put_items-returns-in_err-put_value-clause-kept

@@ -3,7 +3,7 @@ use Rattle.std.proofs.lemmas.List.{append-nil, length-append}
 use Rattle.std.specs.Prelude.{string_bytes}
 use Rattle.asl_json.specs.Compact.{escaped}
 use Rattle.asl_json.specs.private.Leads.{NoPlainFirst}
-use Rattle.asl_text.proofs.Buffers.{keeps_pushed, keeps_as}
+use Rattle.asl_json.proofs.Buffers.{keeps_pushed, keeps_as}
 use Rattle.asl_json.proofs.Fronts.{not_plain_ascii}
 use Rattle.asl_json.proofs.Quoting.{written, written_byte}
 use Rattle.asl_json.proofs.writing.put_escaped.Goals as goal

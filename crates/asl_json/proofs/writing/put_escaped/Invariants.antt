@@ -1,7 +1,7 @@
 use Rattle.std.proofs.Common.{◌≡◌, ◌++◌, length}
 use Rattle.std.specs.Prelude.{string_bytes}
 use Rattle.std.specs.Str.{IsUtf8}
-use Rattle.asl_text.specs.Buffers.{Keeps}
+use Rattle.asl_json.specs.Buffers.{Keeps}
 use Rattle.asl_json.specs.Compact.{escaped}
 use Rattle.asl_json.proofs.writing.put_escaped.Given as goal
 

@@ -1,4 +1,4 @@
-use Rattle.asl_text.proofs.Buffers.{can_cut}
+use Rattle.asl_json.proofs.Buffers.{can_cut}
 use Rattle.asl_json.proofs.writing.put_quoted.Goals as goal
 
 pub whole_or_none-requires : goal.whole_or_none-requires

@@ -1,5 +1,5 @@
 use Rattle.std.proofs.Common.{ap, sym, ◌∙◌}
-use Rattle.asl_states.specs.Show.{wait_object, seconds_shown, seconds_path_shown, timestamp_shown}
+use Rattle.asl_def_states.specs.Show.{wait_object, seconds_shown, seconds_path_shown, timestamp_shown}
 use Rattle.asl_kinds.proofs.Waiting.{until_stamp}
 use Rattle.asl_kinds.proofs.wait.until.Goals as goal
 

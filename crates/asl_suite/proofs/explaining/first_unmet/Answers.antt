@@ -2,7 +2,7 @@ use Rattle.std.proofs.Common.{◌≡◌, ◌<◌, ◌+◌, ℕ, List, ◌∷◌,
 use Rattle.std.specs.Prelude.{Bool, Some}
 use Rattle.std.proofs.lemmas.List.{drop_more}
 use Rattle.asl_history.specs.declared.event.Event.{Event}
-use Rattle.asl_expect.specs.declared.expectation.Visit.{Visit}
+use Rattle.asl_suite_expect.specs.declared.expectation.Visit.{Visit}
 use Rattle.asl_suite.specs.Cases.{is_visited}
 use Rattle.asl_suite.specs.Reasons.{first_unmet}
 use Rattle.asl_suite.proofs.explaining.first_unmet.Goals as goal

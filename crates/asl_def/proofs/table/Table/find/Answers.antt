@@ -1,6 +1,6 @@
 use Rattle.std.proofs.Common.{◌∙◌}
 use Rattle.std.specs.Prelude.{Some, None}
-use Rattle.asl_states.specs.declared.state.State.{State}
+use Rattle.asl_def_states.specs.declared.state.State.{State}
 use Rattle.asl_def.proofs.Tables.{looked_up, number_shown}
 use Rattle.asl_def.proofs.table.Table.find.Goals as goal
 

@@ -1,5 +1,5 @@
 use Rattle.std.proofs.Common.{[], ap, ◌∙◌, sym, subst}
-use Rattle.asl_states.specs.Show.{shown, AreInOrder}
+use Rattle.asl_def_states.specs.Show.{shown, AreInOrder}
 use Rattle.asl_def.proofs.NewerShown.{order_newer, shown_newer}
 use Rattle.asl_def.proofs.table.Table.upgrade.Goals as goal
 

@@ -1,6 +1,6 @@
 use Rattle.std.proofs.Common.{subst}
 use Rattle.asl_json.specs.View.{data_of}
-use Rattle.asl_functions.specs.Gives.{Gives}
+use Rattle.asl_intrinsic_functions.specs.Gives.{Gives}
 use Rattle.asl_intrinsic.proofs.Answering.{meaning}
 use Rattle.asl_intrinsic.proofs.expr.Expr.eval.Goals as goal
 

@@ -1,5 +1,0 @@
-mod Trees
-mod Moves
-mod Asking
-mod Spaces
-mod Answering

@@ -1,0 +1,9 @@
+pub mod Twice
+pub mod Amounts
+pub mod States
+pub mod Length
+pub mod Rows
+pub mod Members
+pub mod Holds
+pub mod Keys
+pub mod Accepted

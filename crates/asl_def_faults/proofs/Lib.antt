@@ -1,0 +1,15 @@
+pub mod Ones
+pub mod Reaching
+pub mod Around
+pub mod Breaking
+pub mod Standing
+pub mod Ordering
+pub mod Rivals
+pub mod Tables
+pub mod Telling
+pub mod Valued
+pub mod Listing
+pub mod Naming
+pub mod First
+pub mod Saying
+pub mod Only

@@ -1,0 +1,11 @@
+use Rattle.std.proofs.Common.{[], refl, ap}
+use Rattle.asl_def_members.specs.Entries.{entries_of}
+use Rattle.asl_def_parts.proofs.Slots.{more}
+use Rattle.asl_def_states.proofs.choice.Choice.json.Goals as goal
+
+pub returns : goal.returns
+returns c =
+    let one = more [] _ _ [] _ _ _ c.in_ok-own.ensures (ap entries_of c.new.ensures.items) refl in
+    let two = more [] _ _ _ _ _ _ c.in_ok-own-2.ensures one refl in
+    let three = more [] _ _ _ _ _ _ c.in_ok-own-3.ensures two c.in_ok-default.ensures in
+    rw (more [] _ _ _ _ _ _ c.in_ok-own-4.ensures three refl) at c.object.ensures

@@ -1,0 +1,9 @@
+use Rattle.std.proofs.Common.{refl}
+use Rattle.asl_def_parts.specs.Parts.{completion_members}
+use Rattle.asl_def_states.specs.Show.{map_members}
+use Rattle.asl_def_parts.specs.Member.{completion_names}
+use Rattle.asl_def_parts.proofs.Owning.{tied}
+use Rattle.asl_def_states.proofs.map.Map.completion.Goals as goal
+
+pub returns : goal.returns
+returns c t k among = tied completion_names (completion_members c.args.self.now.completion) (map_members t c.args.self.now) k among (refl, (refl, (refl, (refl, (refl, (refl, (refl, tt)))))))

@@ -1,0 +1,23 @@
+use Rattle.std.proofs.Common.{refl, [], ◌∷◌}
+use Rattle.std.specs.Prelude.{codes, option_map}
+use Rattle.asl_json.specs.Data.{text}
+use Rattle.asl_def_members.specs.Shown.{path_shown}
+use Rattle.asl_def_states.specs.Show.{map_members}
+use Rattle.asl_def_parts.specs.Member.{path_names, path_of}
+use Rattle.asl_def_parts.proofs.Owning.{own, not_own}
+use Rattle.asl_def_states.proofs.map.Map.path.Goals as goal
+
+pub returns-in-InputPath : goal.returns-in-InputPath
+returns-in-InputPath c t = own path_names path_of c.args.member.now (codes "InputPath") (path_shown c.args.self.now.input_path) _ (map_members t c.args.self.now) c.in-InputPath.is c.field_path.ensures refl refl
+
+pub returns-in-ItemsPath : goal.returns-in-ItemsPath
+returns-in-ItemsPath c t = own path_names path_of c.args.member.now (codes "ItemsPath") (option_map text c.args.self.now.items_path) _ (map_members t c.args.self.now) c.in-ItemsPath.is c.optional_path.ensures refl refl
+
+pub returns-in-ResultPath : goal.returns-in-ResultPath
+returns-in-ResultPath c t = own path_names path_of c.args.member.now (codes "ResultPath") (path_shown c.args.self.now.completion.result_path) _ (map_members t c.args.self.now) c.in-ResultPath.is c.field_path-in-ResultPath.ensures refl refl
+
+pub returns-in-OutputPath : goal.returns-in-OutputPath
+returns-in-OutputPath c t = own path_names path_of c.args.member.now (codes "OutputPath") (path_shown c.args.self.now.completion.output_path) _ (map_members t c.args.self.now) c.in-OutputPath.is c.field_path-in-OutputPath.ensures refl refl
+
+pub returns-in_default : goal.returns-in_default
+returns-in_default c t = not_own path_names path_of (codes "InputPath" ∷ codes "ItemsPath" ∷ codes "ResultPath" ∷ codes "OutputPath" ∷ []) c.args.member.now (map_members t c.args.self.now) refl refl (c.in_default.not-InputPath, (c.in_default.not-ItemsPath, (c.in_default.not-ResultPath, (c.in_default.not-OutputPath, tt))))

@@ -1,0 +1,9 @@
+use Rattle.std.proofs.Common.{refl}
+use Rattle.std.specs.Prelude.{codes}
+use Rattle.asl_def_parts.proofs.Names.{named}
+use Rattle.asl_def_members.specs.Shown.{path_shown}
+use Rattle.asl_def_states.specs.Show.{parallel_members}
+use Rattle.asl_def_states.proofs.parallel.Parallel.input_path.Goals as goal
+
+pub returns : goal.returns
+returns c t = named (codes "InputPath") (path_shown c.args.self.now.input_path) (parallel_members t c.args.self.now) refl

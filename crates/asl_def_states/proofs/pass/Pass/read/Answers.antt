@@ -1,0 +1,39 @@
+use Rattle.std.proofs.Common.{◌∙◌, refl}
+use Rattle.std.specs.Prelude.{codes}
+use Rattle.asl_def_table.specs.declared.sort.Sort.TheVariants.{PathOrNull, PlaceOrNull, Template}
+use Rattle.asl_def_table.specs.declared.sort.Kind.TheVariants.{Pass as PassKind}
+use Rattle.asl_def_table.specs.Members.{pass_rows}
+use Rattle.asl_def_table.specs.Clean.{goes_on}
+use Rattle.asl_def_table.proofs.Templates.{is_template}
+use Rattle.asl_template.specs.Faults.{IsTemplate}
+use Rattle.asl_def_members.specs.Readable.{IsPathOrNull}
+use Rattle.asl_def_members.proofs.Fitting.{path_or_null_fits, place_or_null_fits}
+use Rattle.asl_def_parts.specs.Built.{of_any_type}
+use Rattle.asl_def_states.proofs.Canonical.{pass_shows}
+use Rattle.asl_def_parts.proofs.Fits.{of_any, member_fits}
+use Rattle.asl_def_states.proofs.pass.Pass.read.Goals as goal
+
+pub read-requires : goal.read-requires
+read-requires c = of_any of_any_type PassKind c.args.members.now refl c.requires
+
+pub read-requires-2 : goal.read-requires-2
+unfolding pass_rows
+read-requires-2 c = member_fits PassKind c.args.members.now (codes "InputPath") PathOrNull IsPathOrNull _ refl path_or_null_fits c.requires c.find.ensures
+
+pub read_optional-requires : goal.read_optional-requires
+unfolding pass_rows
+read_optional-requires c = member_fits PassKind c.args.members.now (codes "Parameters") Template IsTemplate _ refl is_template c.requires c.find-2.ensures
+
+pub read-requires-3 : goal.read-requires-3
+unfolding pass_rows
+read-requires-3 c = member_fits PassKind c.args.members.now (codes "ResultPath") PlaceOrNull IsPathOrNull _ refl place_or_null_fits c.requires c.find-4.ensures
+
+pub read-requires-4 : goal.read-requires-4
+unfolding pass_rows
+read-requires-4 c = member_fits PassKind c.args.members.now (codes "OutputPath") PathOrNull IsPathOrNull _ refl path_or_null_fits c.requires c.find-5.ensures
+
+pub read-requires-5 : goal.read-requires-5
+read-requires-5 c = of_any goes_on PassKind c.args.members.now refl c.requires
+
+pub returns : goal.returns
+returns c = pass_shows c.args.members.now _ c.requires c.in_ok-read.ensures.comment c.in_ok-read.ensures.language (c.in_ok-read-2.ensures ∙ c.find.ensures) (c.in_ok-read_optional.ensures ∙ c.find-2.ensures) (c.in_ok-read_optional-2.ensures ∙ c.find-3.ensures) (c.in_ok-read-3.ensures ∙ c.find-4.ensures) (c.in_ok-read-4.ensures ∙ c.find-5.ensures) c.in_ok-read-5.ensures.next c.in_ok-read-5.ensures.end

@@ -1,0 +1,9 @@
+use Rattle.std.proofs.Common.{refl}
+use Rattle.std.specs.Prelude.{codes}
+use Rattle.asl_def_parts.proofs.Names.{named}
+use Rattle.asl_def_members.specs.Shown.{path_shown}
+use Rattle.asl_def_states.specs.Show.{wait_members}
+use Rattle.asl_def_states.proofs.wait.Wait.input_path.Goals as goal
+
+pub returns : goal.returns
+returns c = named (codes "InputPath") (path_shown c.args.self.now.input_path) (wait_members c.args.self.now) refl

@@ -1,0 +1,22 @@
+use Rattle.std.proofs.Common.{refl, [], ◌∷◌}
+use Rattle.std.specs.Prelude.{codes}
+use Rattle.asl_def_members.specs.Shown.{path_shown}
+use Rattle.asl_def_states.specs.Show.{seconds_path_shown, timestamp_path_shown, wait_members}
+use Rattle.asl_def_parts.specs.Member.{path_names, path_of}
+use Rattle.asl_def_parts.proofs.Owning.{own, not_own}
+use Rattle.asl_def_states.proofs.wait.Wait.path.Goals as goal
+
+pub returns-in-InputPath : goal.returns-in-InputPath
+returns-in-InputPath c = own path_names path_of c.args.member.now (codes "InputPath") (path_shown c.args.self.now.input_path) _ (wait_members c.args.self.now) c.in-InputPath.is c.field_path.ensures refl refl
+
+pub returns-in-SecondsPath : goal.returns-in-SecondsPath
+returns-in-SecondsPath c = own path_names path_of c.args.member.now (codes "SecondsPath") (seconds_path_shown c.args.self.now.delay) _ (wait_members c.args.self.now) c.in-SecondsPath.is c.seconds_path.ensures refl refl
+
+pub returns-in-TimestampPath : goal.returns-in-TimestampPath
+returns-in-TimestampPath c = own path_names path_of c.args.member.now (codes "TimestampPath") (timestamp_path_shown c.args.self.now.delay) _ (wait_members c.args.self.now) c.in-TimestampPath.is c.timestamp_path.ensures refl refl
+
+pub returns-in-OutputPath : goal.returns-in-OutputPath
+returns-in-OutputPath c = own path_names path_of c.args.member.now (codes "OutputPath") (path_shown c.args.self.now.output_path) _ (wait_members c.args.self.now) c.in-OutputPath.is c.field_path-in-OutputPath.ensures refl refl
+
+pub returns-in_default : goal.returns-in_default
+returns-in_default c = not_own path_names path_of (codes "InputPath" ∷ codes "SecondsPath" ∷ codes "TimestampPath" ∷ codes "OutputPath" ∷ []) c.args.member.now (wait_members c.args.self.now) refl refl (c.in_default.not-InputPath, (c.in_default.not-SecondsPath, (c.in_default.not-TimestampPath, (c.in_default.not-OutputPath, tt))))

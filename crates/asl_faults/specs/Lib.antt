@@ -1,5 +1,0 @@
-pub mod Parts
-pub mod Order
-pub mod Faults
-pub mod Kinds
-pub mod Laws

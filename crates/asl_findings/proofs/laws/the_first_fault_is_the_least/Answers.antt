@@ -1,5 +1,0 @@
-use Rattle.asl_findings.proofs.Leasts.{first_is_least}
-use Rattle.asl_findings.proofs.laws.the_first_fault_is_the_least.Goals as goal
-
-pub returns : goal.returns
-returns c = λ cs fs first h k. first_is_least cs fs first h k

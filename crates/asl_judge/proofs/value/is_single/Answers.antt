@@ -1,9 +1,0 @@
-use Rattle.std.proofs.Common.{ap, ◌∙◌}
-use Rattle.std.specs.Prelude.{nat_eq}
-use Rattle.asl_json.specs.Data.{chain}
-use Rattle.asl_schema.specs.Claims.{item_count}
-use Rattle.asl_judge.proofs.Counting.{items_counted}
-use Rattle.asl_judge.proofs.value.is_single.Goals as goal
-
-pub returns : goal.returns
-returns c = ap (λ n. nat_eq n 1) (items_counted c.values.result.now ∙ ap (λ ds. item_count (chain ds)) c.values.ensures)

@@ -1,8 +1,0 @@
-use Rattle.std.proofs.Common.{refl}
-use Rattle.asl_schema.specs.Demands.{path}
-use Rattle.asl_schema.specs.declared.fault.FaultKind.TheVariants as kind
-use Rattle.asl_judge.proofs.Answering.{judged}
-use Rattle.asl_judge.proofs.value.path_fault.Goals as goal
-
-pub returns : goal.returns
-returns c = judged (path c.args.text.now) c.in_ok-fits.fits c.unless.result kind.Path c.in_ok-fits.ensures.0 c.in_ok-fits.ensures.1 refl c.unless.ensures

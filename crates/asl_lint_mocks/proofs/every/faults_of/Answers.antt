@@ -1,0 +1,18 @@
+use Rattle.std.proofs.Common.{◌∙◌, ap, subst}
+use Rattle.std.specs.Prelude.{codes, is_some}
+use Rattle.asl_json.specs.Distinct.{Members}
+use Rattle.asl_json.specs.View.{data_of, members_of}
+use Rattle.asl_mock.specs.Answers.{responses_of}
+use Rattle.asl_mock.specs.Faults.{lost_in_machine}
+use Rattle.asl_mock.specs.Places.{in_each}
+use Rattle.asl_mock.specs.Tables.{members_at, value_for}
+use Rattle.asl_lint_mocks.specs.Places.{AreAt, numbers_of}
+use Rattle.asl_lint_mocks.specs.private.Known.{HasNames}
+use Rattle.asl_lint_mocks.proofs.Naming.{known}
+use Rattle.asl_lint_mocks.proofs.every.faults_of.Goals as goal
+
+pub returns-clause-lost_names : goal.returns-clause-lost_names
+returns-clause-lost_names c =
+    let rs = responses_of (members_at (codes "MockedResponses") (data_of c.args.file.now)) in
+    let names : HasNames c.in_ok-names.names rs = λ k. c.in_ok-names.ensures k ∙ known k (members_of c.members_at-responses.result.now) ∙ ap (λ (ms : Members). is_some (value_for k (responses_of ms))) c.members_at-responses.ensures.members in
+    c.in_ok-under_key-3.ensures (lost_in_machine rs) (subst (λ (ms : Members). AreAt ms (numbers_of c.in_ok-lost.lost.items) (in_each (lost_in_machine rs) ms)) c.members_at.ensures.members (c.in_ok-lost.ensures rs names))

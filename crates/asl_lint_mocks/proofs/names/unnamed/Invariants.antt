@@ -1,0 +1,10 @@
+use Rattle.std.proofs.Common.{take}
+use Rattle.asl_json.specs.View.{members_of}
+use Rattle.asl_mock.specs.Places.{in_each}
+use Rattle.std.specs.HashSet.{contains_text}
+use Rattle.asl_mock.specs.Form.{unless}
+use Rattle.asl_lint_mocks.specs.Places.{AreAt, numbers_of}
+use Rattle.asl_lint_mocks.proofs.names.unnamed.Given as goal
+
+abbrev pub invariant-loop-i : goal.invariant-loop-i
+invariant-loop-i l = AreAt (members_of l.responses) (numbers_of l.all.items) (in_each (λ m. unless (contains_text l.named m.0)) (members_of (take l.i l.responses)))

@@ -1,0 +1,84 @@
+// One state by itself.
+ghost use Rattle.std.specs.Prelude.{◌≡◌, option_map};
+ghost use Rattle.asl_json.specs.Data.{pairs};
+ghost use Rattle.asl_json.specs.View.{data_of, members_of};
+ghost use Rattle.asl_def_table.specs.declared.sort.Kind.{Kind};
+ghost use Rattle.asl_lint_warnings.specs.States.{has, is_waiting, is_limited, kind_by, state_kind, heartbeat_kind, member_kind};
+
+use crate::warning::{WarningKind, kind_if};
+use asl_def_table::{Kind, find, kind_named};
+use asl_json::{Json, Member};
+
+fn has(members: &[Member], key: &str) -> bool
+    ensures { result ≡ has key.now (pairs (members_of members.now)) }
+{
+    find(members, key).is_some()
+}
+
+/// Whether a service with this resource gets a token, so that its answer comes later.
+fn is_waiting(resource: Option<&Json>) -> bool
+    ensures { result ≡ is_waiting (option_map (λ v. data_of v.now) resource.entry) }
+{
+    match resource {
+        Some(Json::Text(resource)) => {
+            resource
+                .as_str()
+                .as_bytes()
+                .ends_with(".waitForTaskToken".as_bytes())
+        }
+        _ => false,
+    }
+}
+
+fn is_limited(members: &[Member]) -> bool
+    ensures { result ≡ is_limited (pairs (members_of members.now)) }
+{
+    has(members, "TimeoutSeconds")
+        || has(members, "TimeoutSecondsPath")
+        || has(members, "HeartbeatSeconds")
+        || has(members, "HeartbeatSecondsPath")
+}
+
+fn kind_by(kind: Option<Kind>, members: &[Member]) -> Option<WarningKind>
+    ensures { result ≡ kind_by kind (pairs (members_of members.now)) }
+{
+    match kind {
+        Some(Kind::Choice) => kind_if(!has(members, "Default"), WarningKind::NoDefault),
+        Some(Kind::Task) => {
+            let endless = is_waiting(find(members, "Resource")) && !is_limited(members);
+            kind_if(endless, WarningKind::EndlessWait)
+        }
+        _ => None,
+    }
+}
+
+/// What a state is warned of by itself.
+pub(crate) fn state_kind(members: &[Member]) -> Option<WarningKind>
+    ensures { result ≡ state_kind (pairs (members_of members.now)) }
+{
+    kind_by(kind_named(find(members, "Type")), members)
+}
+
+/// What a heartbeat is warned of beside a time limit.
+fn heartbeat_kind(heartbeat: &Json, limit: Option<&Json>) -> Option<WarningKind>
+    ensures { result ≡ heartbeat_kind (data_of heartbeat.now)
+        (option_map (λ v. data_of v.now) limit.entry) }
+{
+    match (heartbeat, limit) {
+        (Json::Num(heartbeat), Some(Json::Num(limit))) => {
+            let shorter = heartbeat.units() < limit.units();
+            kind_if(!shorter, WarningKind::HeartbeatNotShorter)
+        }
+        _ => None,
+    }
+}
+
+/// What the member of this key and value is warned of, of a state of these members.
+pub(crate) fn member_kind(members: &[Member], key: &str, value: &Json) -> Option<WarningKind>
+    ensures { result ≡ member_kind (pairs (members_of members.now)) key.now (data_of value.now) }
+{
+    if key != "HeartbeatSeconds" {
+        return None;
+    }
+    heartbeat_kind(value, find(members, "TimeoutSeconds"))
+}

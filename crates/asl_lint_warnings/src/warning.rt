@@ -1,0 +1,97 @@
+// A warning at its place.
+ghost use Rattle.std.specs.Prelude.{◌≡◌};
+ghost use Rattle.asl_lint_warnings.specs.Kinds.{name_of, kind_if};
+
+use asl_def_table::Step;
+use std::marker::Model;
+
+/// What a definition is warned of.
+#[derive(Clone, Copy, Debug, PartialEq, Eq)]
+pub enum WarningKind {
+    /// `unreachable-state`: nothing leads to a state.
+    UnreachableState,
+    /// `no-end`: from a state no end can be reached.
+    NoEnd,
+    /// `no-default`: a Choice has no `Default`.
+    NoDefault,
+    /// `endless-wait`: a Task that waits for a token has no time limit.
+    EndlessWait,
+    /// `heartbeat-not-shorter`: a heartbeat isn't shorter than the time limit.
+    HeartbeatNotShorter,
+    /// `unasked-handler`: an earlier retrier or catcher is for each error that this one is for.
+    UnaskedHandler,
+    /// `unknown-error`: no error has this name.
+    UnknownError,
+    /// `forgotten-dollar`: a text of a template looks like a path and is none.
+    ForgottenDollar,
+    /// `unknown-context-member`: the Context Object never has what a path names.
+    UnknownContextMember,
+}
+
+impl WarningKind {
+    /// The name that a warning is told by.
+    pub fn name(self) -> &'static str
+        ensures { result.now ≡ name_of self }
+    {
+        match self {
+            WarningKind::UnreachableState => "unreachable-state",
+            WarningKind::NoEnd => "no-end",
+            WarningKind::NoDefault => "no-default",
+            WarningKind::EndlessWait => "endless-wait",
+            WarningKind::HeartbeatNotShorter => "heartbeat-not-shorter",
+            WarningKind::UnaskedHandler => "unasked-handler",
+            WarningKind::UnknownError => "unknown-error",
+            WarningKind::ForgottenDollar => "forgotten-dollar",
+            WarningKind::UnknownContextMember => "unknown-context-member",
+        }
+    }
+}
+
+/// A warning and its place: the steps to it, the innermost first.
+#[derive(Drop)]
+pub struct Warning {
+    kind: WarningKind,
+    steps: Vec<Step>,
+}
+
+impl Model for Warning {
+    ghost use Rattle.std.specs.Prelude.{List};
+    ghost use Rattle.asl_lint_warnings.specs.declared.warning.WarningKind.{WarningKind};
+    ghost use Rattle.asl_def_table.specs.declared.fault.Step.{Step};
+
+    ghost Value = { WarningKind × List Step };
+
+    ghost view = { λ a. (a.kind, a.steps.items) };
+}
+
+impl Warning {
+    /// A warning at a place, of which the innermost step comes first.
+    pub(crate) fn at(kind: WarningKind, steps: Vec<Step>) -> Warning
+        ensures { result ≡ (kind, steps.items) }
+    {
+        Warning { kind, steps }
+    }
+
+    /// What the definition is warned of.
+    pub fn kind(&self) -> WarningKind
+        ensures { result ≡ self.now.0 }
+    {
+        self.kind
+    }
+
+    /// The steps to its place, the innermost first.
+    pub fn steps_back(&self) -> &[Step]
+        ensures { result.now ≡ self.now.1 }
+    {
+        &self.steps
+    }
+}
+
+pub(crate) fn kind_if(holds: bool, kind: WarningKind) -> Option<WarningKind>
+    ensures { result ≡ kind_if holds kind }
+{
+    if holds {
+        return Some(kind);
+    }
+    None
+}

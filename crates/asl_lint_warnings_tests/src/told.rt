@@ -1,0 +1,197 @@
+// What definitions are warned of: each warning once, beside a definition that comes close and has none.
+use asl_def_table::Step;
+use asl_json::read;
+use asl_lint_warnings::every_warning;
+use std::alloc::{AllocError, Global};
+use std::test::Fail;
+
+/// Appends a slash and a name for each step.
+fn put_place(out: &mut String, steps: &[Step]) -> Result<(), AllocError> {
+    let count = steps.len();
+    for i in 0..count {
+        out.push('/')?;
+        out.push_str(steps[count - 1 - i].name.as_str())?;
+    }
+    Ok(())
+}
+
+/// A line for each warning: its name and its place.
+fn told(alloc: Global, text: &str) -> Result<String, Fail> {
+    let definition = read(alloc, text.as_bytes())?;
+    let mut out = String::new(alloc);
+    for warning in every_warning(alloc, &definition)? {
+        out.push_str(warning.kind().name())?;
+        out.push(' ')?;
+        put_place(&mut out, warning.steps_back())?;
+        out.push('\n')?;
+    }
+    Ok(out)
+}
+
+#[test]
+fn plain(rt: HostRuntime) -> Result<(), Fail> {
+    let out = told(
+        rt.alloc(),
+        r#"{"StartAt":"A","States":{"A":{"Type":"Task","Resource":"r","Next":"B"},"B":{"Type":"Succeed"}}}"#,
+    )?;
+    assert_eq!(rt; out.as_str(), "");
+    Ok(())
+}
+
+#[test]
+fn no_definition(rt: HostRuntime) -> Result<(), Fail> {
+    let out = told(
+        rt.alloc(),
+        r#"[{"States":{"A":{"Type":"Choice"}}},"States.Nothing","$.x"]"#,
+    )?;
+    assert_eq!(rt; out.as_str(), "");
+    Ok(())
+}
+
+#[test]
+fn unreachable(rt: HostRuntime) -> Result<(), Fail> {
+    let out = told(
+        rt.alloc(),
+        r#"{"StartAt":"A","States":{"A":{"Type":"Pass","End":true},"B":{"Type":"Pass","Next":"A"}}}"#,
+    )?;
+    assert_eq!(rt; out.as_str(), "unreachable-state /States/B\n");
+    Ok(())
+}
+
+#[test]
+fn reached_in_each_way(rt: HostRuntime) -> Result<(), Fail> {
+    let out = told(
+        rt.alloc(),
+        r#"{"StartAt":"A","States":{"A":{"Type":"Choice","Choices":[{"Variable":"$.a","IsNull":true,"Next":"C"}],"Default":"D"},"C":{"Type":"Task","Resource":"r","Catch":[{"ErrorEquals":["E"],"Next":"F"}],"Next":"G"},"D":{"Type":"Fail"},"F":{"Type":"Fail"},"G":{"Type":"Succeed"}}}"#,
+    )?;
+    assert_eq!(rt; out.as_str(), "");
+    Ok(())
+}
+
+#[test]
+fn endless(rt: HostRuntime) -> Result<(), Fail> {
+    let out = told(
+        rt.alloc(),
+        r#"{"StartAt":"A","States":{"A":{"Type":"Wait","Seconds":1,"Next":"B"},"B":{"Type":"Pass","Next":"A"}}}"#,
+    )?;
+    assert_eq!(rt; out.as_str(), "no-end /States/A\nno-end /States/B\n");
+    Ok(())
+}
+
+#[test]
+fn ended_by_a_catcher(rt: HostRuntime) -> Result<(), Fail> {
+    let out = told(
+        rt.alloc(),
+        r#"{"StartAt":"A","States":{"A":{"Type":"Task","Resource":"r","Catch":[{"ErrorEquals":["E"],"Next":"F"}],"Next":"A"},"F":{"Type":"Fail"}}}"#,
+    )?;
+    assert_eq!(rt; out.as_str(), "");
+    Ok(())
+}
+
+#[test]
+fn faults_are_no_warnings(rt: HostRuntime) -> Result<(), Fail> {
+    let out = told(
+        rt.alloc(),
+        r#"{"StartAt":"Z","States":{"A":{"Type":"Pass","Next":"Nowhere"},"B":{"Type":"Pass","Next":"A"}}}"#,
+    )?;
+    assert_eq!(rt; out.as_str(), "");
+    Ok(())
+}
+
+#[test]
+fn inner_machine(rt: HostRuntime) -> Result<(), Fail> {
+    let out = told(
+        rt.alloc(),
+        r#"{"StartAt":"A","States":{"A":{"Type":"Map","ItemProcessor":{"StartAt":"I","States":{"I":{"Type":"Pass","End":true},"J":{"Type":"Fail"}}},"End":true}}}"#,
+    )?;
+    assert_eq!(rt;
+        out.as_str(),
+        "unreachable-state /States/A/ItemProcessor/States/J\n"
+    );
+    Ok(())
+}
+
+#[test]
+fn no_default(rt: HostRuntime) -> Result<(), Fail> {
+    let out = told(
+        rt.alloc(),
+        r#"{"StartAt":"A","States":{"A":{"Type":"Choice","Choices":[{"Variable":"$.a","IsNull":true,"Next":"B"}]},"B":{"Type":"Fail"}}}"#,
+    )?;
+    assert_eq!(rt; out.as_str(), "no-default /States/A\n");
+    Ok(())
+}
+
+#[test]
+fn waits(rt: HostRuntime) -> Result<(), Fail> {
+    let out = told(
+        rt.alloc(),
+        r#"{"StartAt":"A","States":{"A":{"Type":"Task","Resource":"q.waitForTaskToken","Next":"B"},"B":{"Type":"Task","Resource":"q.waitForTaskToken","HeartbeatSeconds":5,"End":true}}}"#,
+    )?;
+    assert_eq!(rt; out.as_str(), "endless-wait /States/A\n");
+    Ok(())
+}
+
+#[test]
+fn heartbeats(rt: HostRuntime) -> Result<(), Fail> {
+    let out = told(
+        rt.alloc(),
+        r#"{"StartAt":"A","States":{"A":{"Type":"Task","Resource":"r","HeartbeatSeconds":60,"TimeoutSeconds":6e1,"Next":"B"},"B":{"Type":"Task","Resource":"r","HeartbeatSeconds":59,"TimeoutSeconds":60,"End":true}}}"#,
+    )?;
+    assert_eq!(rt;
+        out.as_str(),
+        "heartbeat-not-shorter /States/A/HeartbeatSeconds\n"
+    );
+    Ok(())
+}
+
+#[test]
+fn handlers(rt: HostRuntime) -> Result<(), Fail> {
+    let out = told(
+        rt.alloc(),
+        r#"{"StartAt":"A","States":{"A":{"Type":"Task","Resource":"r","Retry":[{"ErrorEquals":["E","States.Timeout"]},{"ErrorEquals":["E"]},{"ErrorEquals":["E","F"]},{"ErrorEquals":["States.TaskFailed"]},{"ErrorEquals":["G"]},{"ErrorEquals":["States.ALL"]}],"End":true}}}"#,
+    )?;
+    assert_eq!(rt;
+        out.as_str(),
+        "unasked-handler /States/A/Retry/1\nunasked-handler /States/A/Retry/4\nunasked-handler /States/A/Retry/5\n"
+    );
+    Ok(())
+}
+
+#[test]
+fn errors(rt: HostRuntime) -> Result<(), Fail> {
+    let out = told(
+        rt.alloc(),
+        r#"{"StartAt":"A","States":{"A":{"Type":"Task","Resource":"r","Retry":[{"ErrorEquals":["States.Timeout","States.Timout","Mine.Timout"]}],"End":true}}}"#,
+    )?;
+    assert_eq!(rt;
+        out.as_str(),
+        "unknown-error /States/A/Retry/0/ErrorEquals/1\n"
+    );
+    Ok(())
+}
+
+#[test]
+fn dollars(rt: HostRuntime) -> Result<(), Fail> {
+    let out = told(
+        rt.alloc(),
+        r#"{"StartAt":"A","States":{"A":{"Type":"Pass","Parameters":{"a":"$.a","b.$":"$.b","c":["$$.Execution.Id","$5"],"d":{"e":"$.e"}},"Result":"$.r","End":true}}}"#,
+    )?;
+    assert_eq!(rt;
+        out.as_str(),
+        "forgotten-dollar /States/A/Parameters/a\nforgotten-dollar /States/A/Parameters/c/0\nforgotten-dollar /States/A/Parameters/d/e\n"
+    );
+    Ok(())
+}
+
+#[test]
+fn context(rt: HostRuntime) -> Result<(), Fail> {
+    let out = told(
+        rt.alloc(),
+        r#"{"StartAt":"A","States":{"A":{"Type":"Pass","InputPath":"$$.Execution.Nme","Parameters":{"a.$":"$$.Execution.Input.any[3]","b.$":"$$.Execution.Inputs","c.$":"$$","d.$":"$$.Map.Item.Value.x","e.$":"$.Execution.Nme","f.$":"$$['Execution']['Id']"},"End":true}}}"#,
+    )?;
+    assert_eq!(rt;
+        out.as_str(),
+        "unknown-context-member /States/A/InputPath\nunknown-context-member /States/A/Parameters/b.$\n"
+    );
+    Ok(())
+}

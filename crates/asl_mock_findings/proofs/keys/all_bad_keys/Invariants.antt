@@ -1,9 +1,0 @@
-use Rattle.std.proofs.Common.{take}
-use Rattle.asl_json.specs.View.{members_of}
-use Rattle.asl_mock.specs.Places.{in_each}
-use Rattle.asl_mock.specs.Faults.{bad_keys_in}
-use Rattle.asl_mock_findings.specs.Places.{AreAt, numbers_of}
-use Rattle.asl_mock_findings.proofs.keys.all_bad_keys.Given as goal
-
-abbrev pub invariant-loop-i : goal.invariant-loop-i
-invariant-loop-i l = AreAt (members_of l.responses) (numbers_of l.all.items) (in_each bad_keys_in (members_of (take l.i l.responses)))

@@ -1,7 +1,0 @@
-// Laws: each is a contract, over every value.
-ghost use Rattle.asl_mock_findings.specs.Laws.{GapsAreBelowAnswers};
-
-/// A response has a gap just where a number without an answer is below one that has one. The law has no code.
-pub fn a_gap_is_below_an_answer()
-    ensures { GapsAreBelowAnswers }
-{}

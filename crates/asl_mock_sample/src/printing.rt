@@ -1,0 +1,123 @@
+// The mock file.
+ghost use Rattle.std.specs.Prelude.{◌≡◌, ◌++◌, IfOk, OnOk, string_bytes};
+ghost use Rattle.asl_json.specs.View.{data_of};
+ghost use Rattle.asl_json.specs.Compact.{separator};
+ghost use Rattle.asl_mock_sample.specs.Files.{state_entry, state_entries, return_open, answer_entry, answer_entries, machines_open, case_open, machines_part, responses_open, responses_part, sample_of, sample_text};
+
+use crate::answers::answer_of;
+use crate::call::Call;
+use crate::walking::add_calls;
+use asl_json::{Json, put_quoted};
+use std::alloc::{AllocError, Global};
+
+/// Appends a comma before each part but the first.
+fn separate(out: &mut String, number: usize) -> Result<(), AllocError>
+    ensures { OnOk result (string_bytes out.new ≡ string_bytes out.old ++ separator number) }
+{
+    if number > 0 {
+        out.push(',')?;
+    }
+    Ok(())
+}
+
+fn put_state(out: &mut String, call: &Call) -> Result<(), AllocError>
+    ensures { OnOk result (string_bytes out.new ≡ string_bytes out.old ++ state_entry call.now) }
+{
+    put_quoted(out, call.name.as_str())?;
+    out.push_str(":")?;
+    put_quoted(out, call.name.as_str())
+}
+
+fn put_states(out: &mut String, calls: &[Call]) -> Result<(), AllocError>
+    ensures { OnOk result (string_bytes out.new ≡ string_bytes out.old ++ state_entries 0 calls.now) }
+{
+    for (number, call) in calls.iter().enumerate() {
+        separate(out, number)?;
+        put_state(out, call)?;
+    }
+    Ok(())
+}
+
+/// Appends what stands before the answer to each invocation.
+#[tactic(auto, unfolding(crate::specs::Files::return_open))]
+fn put_return_open(out: &mut String) -> Result<(), AllocError>
+    ensures { OnOk result (string_bytes out.new ≡ string_bytes out.old ++ return_open) }
+{
+    out.push_str(":{\"0-999999999\":{\"Return\":")
+}
+
+fn put_answer(out: &mut String, call: &Call) -> Result<(), AllocError>
+    ensures { OnOk result (string_bytes out.new ≡ string_bytes out.old ++ answer_entry call.now) }
+{
+    put_quoted(out, call.name.as_str())?;
+    put_return_open(out)?;
+    out.push_str(answer_of(call.resource.as_str()))?;
+    out.push_str("}}")
+}
+
+fn put_answers(out: &mut String, calls: &[Call]) -> Result<(), AllocError>
+    ensures { OnOk result (string_bytes out.new ≡ string_bytes out.old ++ answer_entries 0 calls.now) }
+{
+    for (number, call) in calls.iter().enumerate() {
+        separate(out, number)?;
+        put_answer(out, call)?;
+    }
+    Ok(())
+}
+
+/// Appends what stands before the name of the machine.
+#[tactic(auto, unfolding(crate::specs::Files::machines_open))]
+fn put_machines_open(out: &mut String) -> Result<(), AllocError>
+    ensures { OnOk result (string_bytes out.new ≡ string_bytes out.old ++ machines_open) }
+{
+    out.push_str("{\"StateMachines\":{")
+}
+
+/// Appends what stands before the Tasks of the case.
+#[tactic(auto, unfolding(crate::specs::Files::case_open))]
+fn put_case_open(out: &mut String) -> Result<(), AllocError>
+    ensures { OnOk result (string_bytes out.new ≡ string_bytes out.old ++ case_open) }
+{
+    out.push_str(":{\"TestCases\":{\"good\":{")
+}
+
+fn put_machines(out: &mut String, machine: &str, calls: &[Call]) -> Result<(), AllocError>
+    ensures { OnOk result (string_bytes out.new
+        ≡ string_bytes out.old ++ machines_part machine.now calls.now) }
+{
+    put_machines_open(out)?;
+    put_quoted(out, machine)?;
+    put_case_open(out)?;
+    put_states(out, calls)?;
+    out.push_str("}}}},")
+}
+
+/// Appends what stands before the responses.
+#[tactic(auto, unfolding(crate::specs::Files::responses_open))]
+fn put_responses_open(out: &mut String) -> Result<(), AllocError>
+    ensures { OnOk result (string_bytes out.new ≡ string_bytes out.old ++ responses_open) }
+{
+    out.push_str("\"MockedResponses\":{")
+}
+
+fn put_responses(out: &mut String, calls: &[Call]) -> Result<(), AllocError>
+    ensures { OnOk result (string_bytes out.new
+        ≡ string_bytes out.old ++ responses_part calls.now) }
+{
+    put_responses_open(out)?;
+    put_answers(out, calls)?;
+    out.push_str("}}\n")
+}
+
+/// A mock file to begin with, for a definition in canonical form whose machine has this name: one test case, `good`, in which each Task gets
+/// an answer of the shape of its service integration, or an empty object, however often it is invoked. The error is that memory ran out.
+pub fn sample(alloc: Global, machine: &str, definition: &Json) -> Result<String, AllocError>
+    ensures { IfOk result (λ t. string_bytes t ≡ sample_text machine.now (data_of definition.now)) }
+{
+    let mut calls = Vec::new(alloc);
+    add_calls(alloc, &mut calls, definition)?;
+    let mut out = String::new(alloc);
+    put_machines(&mut out, machine, &calls)?;
+    put_responses(&mut out, &calls)?;
+    Ok(out)
+}

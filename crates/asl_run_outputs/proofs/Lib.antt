@@ -1,0 +1,3 @@
+pub mod Taking
+pub mod NamesOnce
+pub mod Telling

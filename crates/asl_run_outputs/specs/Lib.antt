@@ -1,0 +1,5 @@
+pub mod Taken
+pub mod Trees
+pub mod Told
+pub mod Entered
+pub mod Marked

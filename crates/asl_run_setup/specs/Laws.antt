@@ -1,0 +1,18 @@
+-- Laws of the texts of a run, over all texts.
+use Rattle.std.specs.Prelude.{◌≡◌, List, Option}
+use Rattle.asl_run_setup.specs.declared.fault.EmulateFault.{EmulateFault}
+use Rattle.asl_run_setup.specs.declared.setup.Setup.{Setup}
+use Rattle.asl_run_setup.specs.declared.step_at.StepAt.{StepAt}
+use Rattle.asl_run_setup.specs.Emulations.{Texts, Accepts, IsRefused}
+
+-- texts are accepted as one setup and one list of steps at most
+abbrev pub OneEmulation : Type 0
+OneEmulation =
+    (t : Texts) (s u : Setup) (ss us : Option (List StepAt)) → Accepts t s ss → Accepts t u us
+    → (s ≡ u) × (ss ≡ us)
+
+-- texts that are accepted aren't refused
+abbrev pub AcceptedIsNotRefused : Type 0
+AcceptedIsNotRefused =
+    (t : Texts) (s : Setup) (ss : Option (List StepAt)) (f : EmulateFault) → Accepts t s ss
+    → IsRefused t f → ⊥

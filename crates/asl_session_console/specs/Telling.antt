@@ -1,0 +1,50 @@
+-- Answers that tell what happened at each state: of a line that takes steps, the lines of the tree, and then where each branch stands.
+use Rattle.std.specs.Prelude.{ℕ, Bool, true, false, List, ◌++◌, ◌≡◌, ⊤, nat_lt, length}
+use Rattle.asl_run_world.specs.World.{World}
+use Rattle.asl_run_world.specs.Lines.{end_text}
+use Rattle.asl_view_colour.specs.Painted.{IsPainted}
+use Rattle.asl_session_console.specs.declared.telling.Look.{Look}
+use Rattle.asl_session_console.specs.declared.telling.Look.TheVariants.{Transcript, Tree, Colours}
+use Rattle.asl_session_console.specs.Views.{places_text}
+use Rattle.asl_session_console.specs.Answers.{Console, IsAnswer}
+
+-- between the two, steps were taken
+abbrev pub takes_steps : Console → Console → Bool
+takes_steps c d = nat_lt (length c.session.steps) (length d.session.steps)
+
+-- lines are shown so
+abbrev pub AreShown : Look → List ℕ → List ℕ → Type 0
+AreShown Transcript lines shown = shown ≡ lines
+AreShown Tree lines shown = shown ≡ lines
+AreShown Colours lines shown = IsPainted lines shown
+
+-- lines of the steps, and a line for each branch
+abbrev pub IsToldOf : Look → Console → List ℕ → Type 0
+IsToldOf look d text =
+    (lines : List ℕ) × (shown : List ℕ) × AreShown look lines shown
+    × (text ≡ shown ++ places_text d.session)
+
+-- what is told in place of the transcript, where steps were taken
+abbrev pub IsToldBy : Bool → Look → List ℕ → Console → List ℕ → Type 0
+IsToldBy true look transcript d text = IsToldOf look d text
+IsToldBy false look transcript d text = text ≡ transcript
+
+abbrev pub IsToldFor : Look → Console → List ℕ → Console → List ℕ → Type 0
+IsToldFor look c transcript d text = IsToldBy (takes_steps c d) look transcript d text
+
+-- a line was answered, and this was told of it
+abbrev pub IsTold : Look → Console → List ℕ → List ℕ → Bool → Console → Type 0
+IsTold look c line text quits d =
+    (transcript : List ℕ) × IsAnswer c line transcript quits d × IsToldFor look c transcript d text
+
+-- the answer to a line is this text
+abbrev pub Answers : Look → Console → List ℕ → List ℕ → Bool → Console → Type 0
+Answers Transcript c line text quits d = IsAnswer c line text quits d
+Answers Tree c line text quits d = IsTold Tree c line text quits d
+Answers Colours c line text quits d = IsTold Colours c line text quits d
+
+-- what stands behind all answers: the history and the status; where the tree is told the status alone
+abbrev pub IsEndText : Look → World → List ℕ → Type 0
+IsEndText Transcript w text = text ≡ end_text w
+IsEndText Tree w text = ⊤
+IsEndText Colours w text = ⊤

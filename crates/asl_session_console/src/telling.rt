@@ -1,0 +1,233 @@
+// Answers that tell what happened at each state.
+ghost use Rattle.std.specs.Prelude.{◌≡◌, ◌≤◌, ◌++◌, List, ℕ, length, IfOk, OnOk, string_bytes};
+ghost use Rattle.asl_run_world.specs.Lines.{end_text};
+ghost use Rattle.asl_exec.specs.Views.{world_of};
+ghost use Rattle.asl_session_console.specs.Answers.{first_console};
+ghost use Rattle.asl_session_console.specs.Telling.{AreShown, IsToldOf, IsTold, Answers, IsEndText};
+ghost use Rattle.asl_session.specs.Sessions.{world_in};
+
+use crate::console::{Answer, Console};
+use crate::views::put_places;
+use asl_exec::Execution;
+use asl_run_setup::{Setup, StepAt};
+use asl_run_world::put_end;
+use asl_session::Session;
+use asl_view_colour::{coloured, put_coloured};
+use asl_view_trace::{Shows, Tree};
+use std::alloc::{AllocError, Global};
+use std::marker::Model;
+
+/// How the steps that a line takes are told.
+#[derive(Clone, Copy, Debug, PartialEq, Eq)]
+pub enum Look {
+    /// Each with what was replied to it.
+    Transcript,
+    /// As lines of the tree: what happened at each state; behind them where each branch stands.
+    Tree,
+    /// The same in colours.
+    Colours,
+}
+
+/// A console that tells what happened at each state, where that is wanted. Contracts see the console.
+pub struct Teller {
+    console: Console,
+    /// The same execution, stepped anew while its steps are told; none where it isn't as far as the console's.
+    shadow: Option<Execution>,
+    alloc: Global,
+}
+
+impl Drop for Teller {
+    fn drop(self) {
+        let Teller {
+            console: _console,
+            shadow: _shadow,
+            alloc: _alloc,
+        } = self;
+    }
+}
+
+impl Model for Teller {
+    ghost use Rattle.asl_session_console.specs.Answers.{Console};
+
+    ghost Value = { Console };
+
+    ghost use Rattle.std.specs.Coded.{codes};
+    ghost use Rattle.asl_run_setup.specs.contracts.setup.Setup as setup_row;
+    ghost use Rattle.asl_run_setup.specs.contracts.step_at.StepAt as step_row;
+
+    ghost coded = { Prim.hlevel (codes, setup_row.the_row.coded, step_row.the_row.coded) };
+
+    ghost view = { λ t. t.console };
+}
+
+/// Takes steps in order; the lines that tell of them. The error is that memory ran out.
+fn lines_of(
+    alloc: Global,
+    execution: &mut Execution,
+    steps: &[StepAt],
+) -> Result<String, AllocError> {
+    let mut tree = Tree::resume(alloc, execution, Shows::Changes)?;
+    for at in steps {
+        tree.step(execution, at)?;
+    }
+    Ok(tree.into_lines())
+}
+
+/// An execution that has taken the first so many steps of a session. The error is that memory ran out.
+fn replayed(alloc: Global, session: &Session, count: usize) -> Result<Execution, AllocError>
+    requires { count ≤ length session.now.steps }
+{
+    let setup = session.execution().setup().try_clone(alloc)?;
+    let mut execution = Execution::open(alloc, setup)?;
+    for at in &session.steps()[..count] {
+        let _refused = execution.reply(at)?;
+    }
+    Ok(execution)
+}
+
+/// The execution before the steps behind the first so many. Before the first step the session may have begun anew. The error is that
+/// memory ran out.
+fn shadow_at(
+    alloc: Global,
+    kept: Option<Execution>,
+    session: &Session,
+    count: usize,
+) -> Result<Execution, AllocError>
+    requires { count ≤ length session.now.steps }
+{
+    match kept {
+        Some(shadow) if count > 0 => Ok(shadow),
+        _ => replayed(alloc, session, count),
+    }
+}
+
+/// An execution that is as far as before; none where steps were taken back.
+fn kept_where(same: bool, kept: Option<Execution>) -> Option<Execution> {
+    if same { kept } else { None }
+}
+
+/// Appends lines of the tree. The error is that memory ran out.
+fn put_lines(out: &mut String, look: Look, lines: &str) -> Result<(), AllocError>
+    ensures { OnOk result ((shown : List ℕ) × AreShown look lines.now shown
+        × (string_bytes out.new ≡ string_bytes out.old ++ shown)) }
+{
+    match look {
+        Look::Colours => put_coloured(out, lines),
+        Look::Transcript | Look::Tree => out.push_str(lines),
+    }
+}
+
+/// Lines of the tree, and behind them where each branch stands. The error is that memory ran out.
+fn told_of(alloc: Global, look: Look, lines: &str, console: &Console) -> Result<String, AllocError>
+    ensures { IfOk result (λ t. IsToldOf look console.now (string_bytes t)) }
+{
+    let mut text = String::new(alloc);
+    put_lines(&mut text, look, lines)?;
+    put_places(alloc, &mut text, console.session())?;
+    Ok(text)
+}
+
+/// The history of an execution, and its status.
+fn end_of(alloc: Global, execution: &Execution) -> Result<String, AllocError>
+    ensures { IfOk result (λ t. string_bytes t ≡ end_text (world_of execution.now)) }
+{
+    let mut text = String::new(alloc);
+    put_end(alloc, &mut text, execution.world())?;
+    Ok(text)
+}
+
+/// The status of an execution.
+fn status_of(alloc: Global, execution: &Execution) -> Result<String, AllocError> {
+    Tree::resume(alloc, execution, Shows::Changes)?.close(execution)
+}
+
+impl Teller {
+    /// A session of no line. The error is that memory ran out.
+    pub fn open(alloc: Global, setup: Setup) -> Result<Teller, AllocError>
+        ensures { IfOk result (λ t. t ≡ first_console setup) }
+    {
+        let console = Console::open(alloc, setup)?;
+        Ok(Teller {
+            console,
+            shadow: None,
+            alloc,
+        })
+    }
+
+    /// The session as it is now.
+    pub fn session(&self) -> &Session
+        ensures { result.now ≡ self.now.session }
+    {
+        self.console.session()
+    }
+
+    /// What stands behind all answers: the history and the status; where the tree is told the status alone. The error is that memory ran
+    /// out.
+    pub fn end(&self, look: Look) -> Result<String, AllocError>
+        ensures { IfOk result (λ t.
+            IsEndText look (world_in self.now.session) (string_bytes t)) }
+    {
+        let execution = self.session().execution();
+        match look {
+            Look::Transcript => end_of(self.alloc, execution),
+            Look::Tree => status_of(self.alloc, execution),
+            Look::Colours => {
+                let status = status_of(self.alloc, execution)?;
+                coloured(self.alloc, status.as_str())
+            }
+        }
+    }
+
+    /// Answers a line, and tells so of its steps. The error is that memory ran out.
+    pub fn answer(&mut self, look: Look, line: &[u8]) -> Result<Answer, AllocError>
+        ensures { IfOk result (λ a.
+            Answers look self.old line.now (string_bytes a.text) a.quits self.new) }
+    {
+        match look {
+            Look::Transcript => {
+                self.shadow = None;
+                self.console.answer(line)
+            }
+            Look::Tree | Look::Colours => self.tell(look, line),
+        }
+    }
+
+    /// Answers a line, and tells what happened at each state in its steps. The error is that memory ran out.
+    fn tell(&mut self, look: Look, line: &[u8]) -> Result<Answer, AllocError>
+        ensures { IfOk result (λ a.
+            IsTold look self.old line.now (string_bytes a.text) a.quits self.new) }
+    {
+        let kept = self.shadow.take();
+        let before = self.console.session().steps().len();
+        let answer = self.console.answer(line)?;
+        let after = self.console.session().steps().len();
+        if before < after {
+            let text = self.tell_steps(look, kept, before)?;
+            return Ok(Answer {
+                text,
+                quits: answer.quits,
+            });
+        }
+        self.shadow = kept_where(before == after, kept);
+        Ok(answer)
+    }
+
+    /// What is told of the steps behind the first so many. The error is that memory ran out.
+    fn tell_steps(
+        &mut self,
+        look: Look,
+        kept: Option<Execution>,
+        before: usize,
+    ) -> Result<String, AllocError>
+        requires { before ≤ length self.old.session.steps }
+        ensures text { IfOk result (λ t. IsToldOf look self.old (string_bytes t)) }
+        ensures console { self.new ≡ self.old }
+    {
+        let session = self.console.session();
+        let mut shadow = shadow_at(self.alloc, kept, session, before)?;
+        let lines = lines_of(self.alloc, &mut shadow, &session.steps()[before..])?;
+        let text = told_of(self.alloc, look, lines.as_str(), &self.console)?;
+        self.shadow = Some(shadow);
+        Ok(text)
+    }
+}

@@ -1,9 +1,0 @@
-use Rattle.std.proofs.Common.{◌∙◌, refl}
-use Rattle.std.specs.Prelude.{codes, option_map}
-use Rattle.asl_json.specs.Data.{text}
-use Rattle.asl_states.specs.Show.{pass_members}
-use Rattle.asl_parts.proofs.Names.{lent, named}
-use Rattle.asl_states.proofs.pass.Pass.comment.Goals as goal
-
-pub returns : goal.returns
-returns c = lent text c.as_ref.result _ c.as_ref.ensures.value ∙ named (codes "Comment") (option_map text c.args.self.now.common.comment) (pass_members c.args.self.now) refl

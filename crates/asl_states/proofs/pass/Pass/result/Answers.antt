@@ -1,9 +1,0 @@
-use Rattle.std.proofs.Common.{◌∙◌, refl}
-use Rattle.std.specs.Prelude.{codes, option_map}
-use Rattle.asl_json.specs.View.{data_of}
-use Rattle.asl_states.specs.Show.{pass_members}
-use Rattle.asl_parts.proofs.Names.{lent, named}
-use Rattle.asl_states.proofs.pass.Pass.result.Goals as goal
-
-pub returns : goal.returns
-returns c = lent data_of c.as_ref.result _ c.as_ref.ensures.value ∙ named (codes "Result") (option_map data_of c.args.self.now.result) (pass_members c.args.self.now) refl

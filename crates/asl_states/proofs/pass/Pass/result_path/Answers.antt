@@ -1,9 +1,0 @@
-use Rattle.std.proofs.Common.{refl}
-use Rattle.std.specs.Prelude.{codes}
-use Rattle.asl_members.specs.Shown.{path_shown}
-use Rattle.asl_states.specs.Show.{pass_members}
-use Rattle.asl_parts.proofs.Names.{named}
-use Rattle.asl_states.proofs.pass.Pass.result_path.Goals as goal
-
-pub returns : goal.returns
-returns c = named (codes "ResultPath") (path_shown c.args.self.now.result_path) (pass_members c.args.self.now) refl

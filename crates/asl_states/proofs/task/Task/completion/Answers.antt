@@ -1,9 +1,0 @@
-use Rattle.std.proofs.Common.{refl}
-use Rattle.asl_parts.specs.Parts.{completion_members}
-use Rattle.asl_states.specs.Show.{task_members}
-use Rattle.asl_parts.specs.Member.{completion_names}
-use Rattle.asl_parts.proofs.Owning.{tied}
-use Rattle.asl_states.proofs.task.Task.completion.Goals as goal
-
-pub returns : goal.returns
-returns c k among = tied completion_names (completion_members c.args.self.now.completion) (task_members c.args.self.now) k among (refl, (refl, (refl, (refl, (refl, (refl, (refl, tt)))))))

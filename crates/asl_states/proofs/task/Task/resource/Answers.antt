@@ -1,9 +1,0 @@
-use Rattle.std.proofs.Common.{refl}
-use Rattle.std.specs.Prelude.{codes, Some}
-use Rattle.asl_parts.proofs.Names.{named}
-use Rattle.asl_json.specs.Data.{text}
-use Rattle.asl_states.specs.Show.{task_members}
-use Rattle.asl_states.proofs.task.Task.resource.Goals as goal
-
-pub returns : goal.returns
-returns c = named (codes "Resource") (Some (text c.args.self.now.resource)) (task_members c.args.self.now) refl

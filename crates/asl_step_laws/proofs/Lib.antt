@@ -1,0 +1,5 @@
+mod Behind
+mod Rows
+mod Preparation
+mod Placing
+mod Searching

@@ -1,0 +1,38 @@
+-- A plainer test of texts, by their bytes alone: whether a text may read what stands at a chain of keys of the Context Object.
+use Rattle.std.specs.Prelude.{ℕ, List, [], ◌∷◌, drop, Bool, true, false, ◌==◌, ◌&&◌, ◌||◌, if◌then◌else◌, Option, Some, None}
+use Rattle.asl_json.specs.Data.{Data}
+use Rattle.asl_path.specs.Grammar.{full_stop}
+use Rattle.asl_intrinsic.specs.Calls.{is_context}
+use Rattle.asl_template.specs.Filling.{is_path}
+use Rattle.asl_step_unread.specs.Reading.{Keys, some_text}
+
+-- what follows this front of a text; none where the text begins otherwise
+abbrev pub behind : List ℕ → List ℕ → Option (List ℕ)
+behind [] t = Some t
+behind (c ∷ k) [] = None
+behind (c ∷ k) (b ∷ t) = if c == b then behind k t else None
+
+abbrev pub holds_of : (List ℕ → Bool) → Option (List ℕ) → Bool
+holds_of f None = false
+holds_of f (Some t) = f t
+
+-- A path that goes on so behind its root may lead to the keys, to what holds what stands there, or
+-- into it. It doesn't where a dot and another name than the next key come; all else may.
+abbrev pub may_lead : Keys → List ℕ → Bool
+may_lead [] t = true
+may_lead (k ∷ ks) [] = true
+may_lead (k ∷ ks) (c ∷ t) = if c == full_stop then holds_of (may_lead ks) (behind k t) else true
+
+-- two dollars stand somewhere in the text
+abbrev pub has_dollars : List ℕ → Bool
+has_dollars [] = false
+has_dollars (c ∷ t) = is_context (c ∷ t) || has_dollars t
+
+-- a path of the Context Object that may lead there; of a call any path of the Context Object counts
+abbrev pub text_may_read : Keys → List ℕ → Bool
+text_may_read ks t =
+    if is_path t then is_context t && may_lead ks (drop 2 t) else has_dollars t
+
+-- some text of the value may, whatever it stands for
+abbrev pub may_read : Keys → Data → Bool
+may_read ks d = some_text (text_may_read ks) d

@@ -1,0 +1,123 @@
+// Whether a text may read what stands at a chain of keys of the Context Object, by its bytes.
+ghost use Rattle.std.specs.Prelude.{◌≡◌, map, option_map};
+ghost use Rattle.asl_json.specs.Data.{chain, pairs};
+ghost use Rattle.asl_json.specs.View.{data_of};
+ghost use Rattle.asl_intrinsic.specs.Calls.{is_context};
+ghost use Rattle.asl_step_unread.specs.Reading.{some_text_in, some_text_among};
+ghost use Rattle.asl_step_unread.specs.Mentions.{behind as left_behind, may_lead, has_dollars, text_may_read, may_read};
+
+use asl_json::{Items, Json, Members};
+
+/// What follows a key that stands in front.
+fn behind<'a>(key: &[u8], bytes: &'a [u8]) -> Option<&'a [u8]>
+    ensures { option_map (λ t. t.now) result ≡ left_behind key.now bytes.now }
+{
+    let mut rest = bytes;
+    for byte in key {
+        let Some((first, others)) = rest.split_first() else {
+            return None;
+        };
+        if *byte != *first {
+            return None;
+        }
+        rest = others;
+    }
+    Some(rest)
+}
+
+/// Whether a path that goes on so behind its root may lead to the keys, to what holds what stands there, or into it.
+fn may_lead(keys: &[&str], bytes: &[u8]) -> bool
+    ensures { result ≡ may_lead (map (λ k. k.now) keys.now) bytes.now }
+{
+    let mut rest = bytes;
+    for key in keys {
+        let Some((first, others)) = rest.split_first() else {
+            return true;
+        };
+        if *first != b'.' {
+            return true;
+        }
+        let Some(further) = behind(key.as_bytes(), others) else {
+            return false;
+        };
+        rest = further;
+    }
+    true
+}
+
+/// Whether two dollars stand first.
+fn is_context(bytes: &[u8]) -> bool
+    ensures { result ≡ is_context bytes.now }
+{
+    bytes.len() >= 2 && bytes[0] == b'$' && bytes[1] == b'$'
+}
+
+/// Whether two dollars stand somewhere.
+fn has_dollars(bytes: &[u8]) -> bool
+    ensures { result ≡ has_dollars bytes.now }
+{
+    let mut rest = bytes;
+    while let Some((_first, others)) = rest.split_first() {
+        if is_context(rest) {
+            return true;
+        }
+        rest = others;
+    }
+    false
+}
+
+fn text_may_read(keys: &[&str], bytes: &[u8]) -> bool
+    ensures { result ≡ text_may_read (map (λ k. k.now) keys.now) bytes.now }
+{
+    let Some((first, others)) = bytes.split_first() else {
+        return false;
+    };
+    if *first != b'$' {
+        return has_dollars(bytes);
+    }
+    let Some((second, rest)) = others.split_first() else {
+        return false;
+    };
+    *second == b'$' && may_lead(keys, rest)
+}
+
+/// Whether some text of a value may read what stands at a chain of keys of the Context Object. If none may, none reads it, by the law
+/// `a_text_reads_what_it_spells`. Takes no memory. Its cost is the length of the texts.
+#[cycle(may_read)]
+pub fn may_read(keys: &[&str], value: &Json) -> bool
+    ensures { result ≡ may_read (map (λ k. k.now) keys.now) (data_of value.now) }
+{
+    match value {
+        Json::Null | Json::Bool(_) | Json::Num(_) => false,
+        Json::Text(text) => text_may_read(keys, text.as_str().as_bytes()),
+        Json::List(items) => some_item_may_read(keys, items),
+        Json::Dict(members) => some_member_may_read(keys, members),
+    }
+}
+
+#[cycle(may_read)]
+fn some_item_may_read(keys: &[&str], items: &Items) -> bool
+    ensures { result ≡ some_text_in (text_may_read (map (λ k. k.now) keys.now)) (chain items.now) }
+{
+    let values = items.values();
+    for value in values {
+        if may_read(keys, value) {
+            return true;
+        }
+    }
+    false
+}
+
+#[cycle(may_read)]
+fn some_member_may_read(keys: &[&str], members: &Members) -> bool
+    ensures { result
+        ≡ some_text_among (text_may_read (map (λ k. k.now) keys.now)) (pairs members.now) }
+{
+    let pairs = members.members();
+    for member in pairs {
+        if may_read(keys, &member.value) {
+            return true;
+        }
+    }
+    false
+}

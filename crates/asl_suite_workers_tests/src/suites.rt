@@ -1,0 +1,45 @@
+// Suites of one task, and the text of their reports.
+use asl_check::accept;
+use asl_mock::Mocks;
+use asl_suite::{CaseReport, Suite, report};
+use asl_suite_expect::Expectations;
+use std::alloc::Global;
+use std::test::Fail;
+
+/// One task.
+const TASK: &str = r#"{"StartAt":"T","States":{"T":{"Type":"Task","Resource":"r","End":true}}}"#;
+
+/// What the task answers in three cases.
+const MOCKS: &str =
+    r#"{"StateMachines":{"M":{"TestCases":{"A":{"T":"One"},"B":{"T":"Bad"},"C":{}}}},
+ "MockedResponses":{"One":{"0":{"Return":1}},"Bad":{"0":{"Throw":{"Error":"E"}}}}}"#;
+
+/// A suite of these tests.
+pub(crate) fn suite_of(alloc: Global, tests: &str) -> Result<Suite, Fail> {
+    let machine = accept(alloc, TASK.as_bytes()).ok().ok_or("a machine")?;
+    let mocks = Mocks::read(alloc, MOCKS.as_bytes()).ok().ok_or("mocks")?;
+    let tests = Expectations::read(alloc, tests.as_bytes())
+        .ok()
+        .ok_or("tests")?;
+    Ok(Suite {
+        machine,
+        mocks,
+        tests,
+    })
+}
+
+/// So many tests of one case.
+pub(crate) fn alike(alloc: Global, count: usize) -> Result<Suite, Fail> {
+    let mut text = String::new(alloc);
+    for number in 0..count {
+        text.push_str(if number == 0 { "[" } else { "," })?;
+        text.push_str(r#"{"machine":"M","case":"A","input":{},"status":"SUCCEEDED"}"#)?;
+    }
+    text.push(']')?;
+    suite_of(alloc, text.as_str())
+}
+
+/// The text of reports.
+pub(crate) fn text_of(alloc: Global, reports: &[CaseReport]) -> Result<String, Fail> {
+    Ok(report(alloc, reports)?)
+}

@@ -1,0 +1,3 @@
+-- Words that only proofs need.
+pub mod Known
+pub mod Walked

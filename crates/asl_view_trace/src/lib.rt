@@ -1,0 +1,14 @@
+//! What decides in a step, and the tree of an execution: lines that a person reads, of what happened at each state.
+//!
+//! Modules in reading order: `deciding` says what decides in a step before it is taken. `sides` reads of a machine's state what its lines
+//! tell, `stopping` finds the branches that a step stops, and `tree` writes the lines of steps as they are taken.
+#![tactic(auto)]
+
+mod catching;
+mod deciding;
+mod sides;
+mod stopping;
+mod tree;
+
+pub use deciding::{Decided, Deciding, Staged, decided_at};
+pub use tree::{Shows, Tree};

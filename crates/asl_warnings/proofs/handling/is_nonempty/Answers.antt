@@ -1,6 +1,0 @@
-use Rattle.std.proofs.Common.{ap, ◌∙◌, not}
-use Rattle.asl_judge.proofs.Counting.{items_nonempty}
-use Rattle.asl_warnings.proofs.handling.is_nonempty.Goals as goal
-
-pub returns : goal.returns
-returns c = ap not c.is_empty.ensures ∙ items_nonempty c.args.names.now

@@ -1,5 +1,0 @@
-use Rattle.std.proofs.Common.{◌-◌}
-use Rattle.asl_workers.proofs.workers.+serve_from.Given as goal
-
-abbrev pub decreases-serve_from : goal.decreases-serve_from
-decreases-serve_from g l = l.workers - l.worker

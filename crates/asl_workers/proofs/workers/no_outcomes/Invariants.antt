@@ -1,6 +1,0 @@
-use Rattle.std.proofs.Common.{◌≡◌, vec_len}
-use Rattle.asl_workers.specs.Cases.{IsAnswered}
-use Rattle.asl_workers.proofs.workers.no_outcomes.Given as goal
-
-abbrev pub invariant-places : goal.invariant-places
-invariant-places g l = record { count : vec_len l.found ≡ l.counter; found : IsAnswered (g.S.Cases.gives l.suite) l.found.items }
