@@ -1,5 +1,7 @@
 """Runs of the built program, for the tests beside this file."""
+import json
 import os
+import re
 import subprocess
 import tempfile
 import unittest
@@ -23,6 +25,23 @@ def answered(answers):
 def run_program(*words):
     """What the program does for a command line."""
     return subprocess.run([PROGRAM, *words], stdin=subprocess.DEVNULL, capture_output=True, encoding="utf-8", timeout=60)
+
+
+NO_ANSWER = '{"Error":"States.Runtime","Cause":"no mocked answer"}'
+TASK_EVENT = re.compile(r'\d+ \d+ \S+ .*? (TaskScheduled|TaskFailed) ("(?:[^"\\]|\\.)*") (.*)')
+
+
+def noted(text, chosen):
+    """What is told on standard error of a run that prints this text, where no mock throws what a Task without an answer fails with: which answer it lacked."""
+    events = [match.groups() for match in map(TASK_EVENT.fullmatch, text.splitlines()) if match]
+    failed = [number for number, event in enumerate(events) if event[0] == "TaskFailed"]
+    if not text.splitlines()[-1].startswith("status FAILED ") or not failed or events[failed[-1]][2] != NO_ANSWER:
+        return ""
+    name = events[failed[-1]][1]
+    number = sum(event[:2] == ("TaskScheduled", name) for event in events[: failed[-1]]) - 1
+    case = chosen.partition("#")[2]
+    has = f"case {json.dumps(case, ensure_ascii=False)} has" if case else "no case is chosen, so there is"
+    return f"note: {has} no answer {number} of the Task {name}\n"
 
 
 class ProgramTest(unittest.TestCase):
@@ -56,9 +75,9 @@ class ProgramTest(unittest.TestCase):
             return run_program("test", *names, *words)
 
     def told(self, definition, given="{}", steps=None, mocks="{}", chosen="M"):
-        """What a run prints. Its status is 0 just if the execution succeeds."""
+        """What a run prints. Its status is 0 just if the execution succeeds, and it is told which answer lacked, if one did."""
         ran = self.run_texts(definition, mocks, chosen, given, steps)
-        self.assertEqual(ran.stderr, "")
+        self.assertEqual(ran.stderr, noted(ran.stdout, chosen))
         last = ran.stdout.splitlines()[-1]
         self.assertEqual(ran.returncode, 0 if last.startswith("status SUCCEEDED ") else 1, last)
         return ran.stdout

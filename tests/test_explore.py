@@ -6,7 +6,7 @@ import random
 import tempfile
 from typing import NamedTuple
 
-from program import TOP, ProgramTest, run_program
+from program import NO_ANSWER, TOP, ProgramTest, run_program
 
 START = "1970-01-01T00:00:00.000Z"
 
@@ -124,13 +124,21 @@ class Searches(ProgramTest):
                     out.write(text)
             return run_program("explore", names[0], names[1], chosen, names[2], *words)
 
+    def assert_noted(self, ran, told):
+        """On standard error stands which answers lacked, each once, if an outcome is a failure for want of one; and nothing else."""
+        lines = ran.stderr.splitlines()
+        self.assertEqual(bool(lines), f"FAILED {NO_ANSWER}" in told.outcomes, ran.stderr)
+        self.assertEqual(len(set(lines)), len(lines))
+        for line in lines:
+            self.assertRegex(line, r'\Anote: (case ".*" has|no case is chosen, so there is) no answer \d+ of the Task ".*"\Z')
+
 
 class Exploring(Searches):
     def complete(self, definition, given="{}", mocks="{}", chosen="M#c"):
         """What a search found that left out nothing. Its status is 0 just if all succeed."""
         ran = self.explore(definition, given, mocks, chosen)
-        self.assertEqual(ran.stderr, "")
         told = explored(ran.stdout)
+        self.assert_noted(ran, told)
         self.assertEqual(told.search, "search complete")
         self.assertEqual(len(set(told.outcomes)), len(told.outcomes))
         self.assertEqual(ran.returncode, 0 if all(one.startswith("SUCCEEDED ") for one in told.outcomes) else 1)
@@ -232,8 +240,9 @@ class Exploring(Searches):
         """What a search found of the orders in which no branch is late. It says that it tried no others, and marks none."""
         ran = self.explore(definition, given, mocks, chosen, "--prompt")
         told = explored(ran.stdout)
-        self.assertEqual((ran.stderr, told.search, told.notes[0]),
-            ("", "search complete", "note only orders in which no branch is late: one steps only where none may step earlier"))
+        self.assert_noted(ran, told)
+        self.assertEqual((told.search, told.notes[0]),
+            ("search complete", "note only orders in which no branch is late: one steps only where none may step earlier"))
         self.assertEqual([one.late for one in told.found], len(told.found) * [False])
         return told
 

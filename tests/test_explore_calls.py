@@ -45,7 +45,8 @@ class Telling(Searches):
         """What a search says that left out nothing."""
         ran = self.explore(definition, given, mocks, chosen, *words)
         told = explored(ran.stdout)
-        self.assertEqual((ran.stderr, told.search), ("", "search complete"))
+        self.assert_noted(ran, told)
+        self.assertEqual(told.search, "search complete")
         return told
 
     def calls(self, definition, given="{}", mocks="{}", *words):

@@ -15,6 +15,7 @@ use Rattle.asl_host.specs.declared.words.DebugFormat.TheVariants as format
 use Rattle.asl_host.specs.declared.words.DebugWords.{DebugWords}
 use Rattle.asl_host.specs.Outcomes.{status_of, fault_line, IsPrinted, IsTold}
 use Rattle.asl_cli.specs.Faults.{steps_name, IsEmulated, IsRunReason, script_name, IsBegun, IsDebugText, IsDebugReason, IsJudged, IsForm, IsNewerForm, IsDefinitionReason, Tells}
+use Rattle.asl_cli.specs.Noting.{IsNoted}
 use Rattle.asl_cli.specs.Talking.{IsConversed}
 
 -- a command was done: a text that it may print was printed and gave its status, or a fault was told
@@ -28,13 +29,25 @@ IsDone out_taken out_failures err_taken err_failures prints refuses out out_afte
     ⊎ ((r : CommandFault) × (t : List ℕ) × refuses r × Tells r t
     × (out_after ≡ out) × (status ≡ 2) × IsTold err_taken err_failures err err_after (fault_line t))
 
--- the run of these words: what was emulated was printed, and the status is that of its success
+-- the same of a command that may tell something besides, behind the text
+abbrev pub IsDoneNoting : {O E : Type 0} → (O → List ℕ) → (O → ℕ) → (E → List ℕ) → (E → ℕ)
+    → (List ℕ → List ℕ → ℕ → Type 0) → (CommandFault → Type 0) → O → O → E → E → ℕ → Type 0
+IsDoneNoting out_taken out_failures err_taken err_failures prints refuses out out_after err err_after
+    status =
+    ((text : List ℕ) × (note : List ℕ) × (wanted : ℕ) × prints text note wanted
+    × IsNoted err_taken err_failures err err_after note
+    × IsPrinted out_taken out_failures out out_after text wanted status)
+    ⊎ ((r : CommandFault) × (t : List ℕ) × refuses r × Tells r t
+    × (out_after ≡ out) × (status ≡ 2) × IsTold err_taken err_failures err err_after (fault_line t))
+
+-- the run of these words: what was emulated was printed, the status is that of its success, and the
+-- answer that it lacked was told, if it lacked one; or a fault was told
 abbrev pub IsRan : {O E : Type 0} → (O → List ℕ) → (O → ℕ) → (E → List ℕ) → (E → ℕ)
     → (List ℕ → List ℕ → Type 0) → Lacks
     → RunWords → O → O → E → E → ℕ → Type 0
 IsRan out_taken out_failures err_taken err_failures gives lacks w =
-    IsDone out_taken out_failures err_taken err_failures
-    (λ text status. (good : Bool) × IsEmulated gives w text good × (status ≡ status_of good))
+    IsDoneNoting out_taken out_failures err_taken err_failures
+    (λ text note status. (good : Bool) × IsEmulated gives w text good note × (status ≡ status_of good))
     (IsRunReason gives lacks w.setup (steps_name w))
 
 -- how the steps of lines are told

@@ -16,6 +16,7 @@ use Rattle.asl_host.specs.declared.words.ExploreWords.{ExploreWords}
 use Rattle.asl_host.specs.Outcomes.{status_of, fault_line, IsPrinted, IsTold}
 use Rattle.asl_cli.specs.declared.fault.CommandFault.{CommandFault}
 use Rattle.asl_cli.specs.Faults.{IsBegun, IsRunReason, Tells}
+use Rattle.asl_cli.specs.Noting.{notes_for, IsNoted}
 
 -- ---- what is found
 
@@ -26,19 +27,21 @@ orders_for false = Every
 -- what a search may find for the setup that the files may give: each outcome with steps that end in
 -- it, none twice, and, where nothing was left out, the outcome of every order that is tried; those
 -- that are called late come in no order in which no branch is. If that is wanted, where nothing was
--- left out, how often each state is invoked in an order lies within the bounds of its outcome
-pub record IsFoundFor (gives : List ℕ → List ℕ → Type 0) (w : ExploreWords) (x : Explored) : Type 0
-  where
-    pub setup : Setup
-    pub begins : IsBegun gives w.setup setup
-    pub shown : All (Shows setup) x.found.items
-    pub once : AreDistinct (outcomes_of x.found.items)
-    pub orders : x.orders ≡ orders_for w.prompt
-    pub whole : x.complete ≡ true → IsWhole x.orders setup (outcomes_of x.found.items)
-    pub late : AreLate setup x.found.items x.late.items
-    pub calls : w.calls ≡ true → x.complete ≡ true
-        → AreCounted x.orders setup (outcomes_of x.found.items) x.calls.items
-    pub states : All (IsStated setup.machine) x.states.items
+-- left out, how often each state is invoked in an order lies within the bounds of its outcome. This is
+-- told of the answers that the outcomes lacked
+pub record IsFoundFor (gives : List ℕ → List ℕ → Type 0) (w : ExploreWords) (x : Explored)
+    (notes : List ℕ) : Type 0 where
+  pub setup : Setup
+  pub begins : IsBegun gives w.setup setup
+  pub shown : All (Shows setup) x.found.items
+  pub once : AreDistinct (outcomes_of x.found.items)
+  pub orders : x.orders ≡ orders_for w.prompt
+  pub whole : x.complete ≡ true → IsWhole x.orders setup (outcomes_of x.found.items)
+  pub late : AreLate setup x.found.items x.late.items
+  pub calls : w.calls ≡ true → x.complete ≡ true
+      → AreCounted x.orders setup (outcomes_of x.found.items) x.calls.items
+  pub states : All (IsStated setup.machine) x.states.items
+  pub notes_are : notes ≡ notes_for w.witness begins.texts.chosen setup x.found.items
 
 -- the outcome of a number, from 1
 abbrev pub numbered : List Found → ℕ → Option Found
@@ -53,11 +56,11 @@ IsWanting err_taken err_failures out out_after err err_after status =
     (out_after ≡ out) × (status ≡ 2)
     × IsTold err_taken err_failures err err_after (fault_line (codes "OutOfMemory"))
 
--- all outcomes were printed
+-- all outcomes were printed, and these notes were told
 abbrev pub AreAllShown : {O E : Type 0} → (O → List ℕ) → (O → ℕ) → (E → List ℕ) → (E → ℕ)
-    → Explored → O → O → E → E → ℕ → Type 0
-AreAllShown out_taken out_failures err_taken err_failures x out out_after err err_after status =
-    ((err_after ≡ err)
+    → Explored → List ℕ → O → O → E → E → ℕ → Type 0
+AreAllShown out_taken out_failures err_taken err_failures x notes out out_after err err_after status =
+    (IsNoted err_taken err_failures err err_after notes
     × IsPrinted out_taken out_failures out out_after (explored_text x) (status_of (is_good x)) status)
     ⊎ IsWanting err_taken err_failures out out_after err err_after status
 
@@ -72,10 +75,13 @@ IsOneShown out_taken out_failures err_taken err_failures x n out out_after err e
     ⊎ IsWanting err_taken err_failures out out_after err err_after status
 
 abbrev pub IsShown : {O E : Type 0} → (O → List ℕ) → (O → ℕ) → (E → List ℕ) → (E → ℕ)
-    → Explored → Option ℕ → O → O → E → E → ℕ → Type 0
-IsShown out_taken out_failures err_taken err_failures x None out out_after err err_after status =
-    AreAllShown out_taken out_failures err_taken err_failures x out out_after err err_after status
-IsShown out_taken out_failures err_taken err_failures x (Some n) out out_after err err_after status =
+    → Explored → List ℕ → Option ℕ → O → O → E → E → ℕ → Type 0
+IsShown out_taken out_failures err_taken err_failures x notes None out out_after err err_after
+    status =
+    AreAllShown out_taken out_failures err_taken err_failures x notes out out_after err err_after
+    status
+IsShown out_taken out_failures err_taken err_failures x notes (Some n) out out_after err err_after
+    status =
     IsOneShown out_taken out_failures err_taken err_failures x n out out_after err err_after status
 
 -- the exploration for these words: what was found was printed; or nothing was tried, which was told
@@ -84,8 +90,8 @@ abbrev pub IsExplored : {O E : Type 0} → (O → List ℕ) → (O → ℕ) → 
     → ExploreWords → O → O → E → E → ℕ → Type 0
 IsExplored out_taken out_failures err_taken err_failures gives lacks w out out_after err err_after
     status =
-    ((x : Explored) × IsFoundFor gives w x
-    × IsShown out_taken out_failures err_taken err_failures x w.witness out out_after err err_after
+    ((x : Explored) × (notes : List ℕ) × IsFoundFor gives w x notes
+    × IsShown out_taken out_failures err_taken err_failures x notes w.witness out out_after err err_after
     status)
     ⊎ ((r : CommandFault) × (t : List ℕ) × IsRunReason gives lacks w.setup None r
     × Tells r t

@@ -21,6 +21,7 @@ use Rattle.asl_session.specs.declared.script_file.ScriptFault.TheVariants as scr
 use Rattle.asl_session.specs.Scripts.{IsScriptRun, IsScriptFault, script_refusal}
 use Rattle.asl_terminal.specs.Shown.{shown}
 use Rattle.asl_cli.specs.Formats.{format_of, IsRunIn}
+use Rattle.asl_cli.specs.Noting.{IsNoteBy}
 use Rattle.asl_cli.specs.declared.fault.CommandFault.{CommandFault}
 use Rattle.asl_cli.specs.declared.fault.CommandFault.TheVariants.{File, Definition, Emulation, Script, Expectations, OutOfMemory}
 use Rattle.asl_cli.specs.declared.reading.SetupTexts.{SetupTexts}
@@ -126,12 +127,13 @@ abbrev pub most_steps : ℕ
 most_steps = 10_000
 
 -- the run that the words ask for, of what the files may give, prints this text in the format that they
--- ask for, and is good or not
+-- ask for, and is good or not; this is told of an answer that it lacked
 pub record IsEmulated (gives : List ℕ → List ℕ → Type 0) (w : RunWords) (text : List ℕ)
-    (good : Bool) : Type 0 where
+    (good : Bool) (note : List ℕ) : Type 0 where
   pub texts : Texts
   pub given : AreGiven gives w.setup (steps_name w) texts
   pub is_run : IsRunIn (format_of w.format) w.coloured texts most_steps text good
+  pub note_is : IsNoteBy good texts most_steps note
 
 -- ---- a session
 

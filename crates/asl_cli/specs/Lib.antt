@@ -1,5 +1,6 @@
 pub mod Formats
 pub mod Answers
+pub mod Noting
 pub mod Faults
 pub mod Exploring
 pub mod Suites

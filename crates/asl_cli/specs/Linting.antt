@@ -2,6 +2,7 @@
 use Rattle.std.specs.Prelude.{ℕ, List, Bool, ◌∷◌, ◌≡◌, Option, option_map, string_bytes}
 use Rattle.std.specs.List.{All}
 use Rattle.asl_lint.specs.declared.finding.Report.{Report}
+use Rattle.asl_lint.specs.Linted.{AreLinted}
 use Rattle.asl_lint.specs.Places.{IsAt, AreIn}
 use Rattle.asl_lint.specs.Reports.{is_good}
 use Rattle.asl_host.specs.declared.words.LintWords.{LintWords}
@@ -15,13 +16,18 @@ use Rattle.asl_cli.specs.Faults.{IsGiven, AreUnread, named}
 abbrev pub mocks_name : LintWords → Option (List ℕ)
 mocks_name w = option_map (λ name. name.now) w.mocks
 
--- these texts were judged: each finding stands at its line and its column, and whether nothing is
--- wrong is said of these findings
-pub record IsJudged (definition : List ℕ) (mocks : Option (List ℕ)) (strict : Bool) (x : Linted)
-    : Type 0 where
+-- the name of the machine that is meant, where one is named
+abbrev pub machine_name : LintWords → Option (List ℕ)
+machine_name w = option_map (λ name. name.now) w.machine
+
+-- these texts were judged: each finding is told once and no other, and stands at its line and its
+-- column; and whether nothing is wrong is said of these findings
+pub record IsJudged (machine : Option (List ℕ)) (definition : List ℕ) (mocks : Option (List ℕ))
+    (strict : Bool) (x : Linted) : Type 0 where
   pub report : Report
   pub in_definition : All (IsAt definition) report.definition.items
   pub in_mocks : AreIn mocks report.mocks.items
+  pub told : AreLinted machine mocks definition report.definition.items report.mocks.items
   pub good : x.good ≡ is_good strict report
 
 -- what the files may give was judged
@@ -30,7 +36,7 @@ pub record IsLintOf (gives : List ℕ → List ℕ → Type 0) (w : LintWords) (
   pub given : gives w.definition.now definition
   pub mocks : Option (List ℕ)
   pub mocks_given : IsGiven gives (mocks_name w) mocks
-  pub judged : IsJudged definition mocks w.strict x
+  pub judged : IsJudged (machine_name w) definition mocks w.strict x
 
 -- the lint of these words: what was found was printed, and the status is 0 just where nothing is
 -- wrong; or a file can't be read

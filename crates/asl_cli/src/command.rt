@@ -5,6 +5,7 @@ ghost use Rattle.asl_run_setup.specs.Views.{texts_of};
 ghost use Rattle.asl_cli.specs.Answers.{IsRan, IsAnswered};
 ghost use Rattle.asl_cli.specs.Formats.{format_of, IsRunIn};
 ghost use Rattle.asl_cli.specs.Faults.{most_steps, steps_name, IsEmulated, IsTextsReason, IsRunReason};
+ghost use Rattle.asl_cli.specs.Noting.{IsNoted};
 ghost use Rattle.asl_cli.specs.Obeyed.{IsObeyed};
 
 use crate::checking::check;
@@ -15,6 +16,7 @@ use crate::formatting::emulate_in;
 use crate::graphing::graph;
 use crate::linting::lint;
 use crate::mocking::mocks;
+use crate::noting::{Ran, tell_notes, with_note};
 use crate::printing::print;
 use crate::reading::{read_named, read_texts};
 use crate::testing::test;
@@ -131,7 +133,7 @@ pub fn run<F: Files, O: Sink, E: Sink>(
         words.now out.old out.new err.old err.new result }
 {
     match emulate_files(alloc, words, files) {
-        Ok(emulated) => show(&emulated, out),
+        Ok(ran) => show(&ran, out, err),
         Err(refusal) => {
             refusal.write(alloc, err);
             REFUSED
@@ -144,17 +146,18 @@ fn emulate_files<'a, F: Files>(
     alloc: Global,
     words: &RunWords<'a>,
     files: &mut F,
-) -> Result<Emulated, CommandFault<'a>>
-    ensures emulated { IfOk result (λ e. IsEmulated (F.gives files.old) words.now
-        (string_bytes e.text) e.good) }
+) -> Result<Ran, CommandFault<'a>>
+    ensures emulated { IfOk result (λ r. IsEmulated (F.gives files.old) words.now
+        (string_bytes r.emulated.text) r.emulated.good (string_bytes r.note)) }
     ensures refused { IfErr result (IsRunReason (F.gives files.old) (F.lacks files.old)
         words.now.setup (steps_name words.now)) }
 {
     let texts = read_texts(alloc, files, &words.setup)?;
     let steps = read_named(alloc, files, words.steps)?;
     let given = texts.of_run(steps.as_deref());
-    match emulate_given(alloc, words.format, words.coloured, &given) {
-        Ok(emulated) => Ok(emulated),
+    let emulated = emulate_given(alloc, words.format, words.coloured, &given)?;
+    match with_note(alloc, emulated, &given) {
+        Ok(ran) => Ok(ran),
         Err(refusal) => Err(refusal),
     }
 }
@@ -177,8 +180,19 @@ fn emulate_given<'a>(
     }
 }
 
+/// Prints what was emulated, tells what is to be told of it, and whether it ended in success.
+fn show<O: Sink, E: Sink>(ran: &Ran, out: &mut O, err: &mut E) -> u8
+    ensures printed { IsPrinted O.taken O.failures out.old out.new (string_bytes ran.now.emulated.text)
+        (status_of ran.now.emulated.good) result }
+    ensures noted { IsNoted E.taken E.failures err.old err.new (string_bytes ran.now.note) }
+{
+    let status = print_run(&ran.emulated, out);
+    tell_notes(ran.note.as_str(), err);
+    status
+}
+
 /// Prints what was emulated, and tells whether it ended in success.
-fn show<O: Sink>(emulated: &Emulated, out: &mut O) -> u8
+fn print_run<O: Sink>(emulated: &Emulated, out: &mut O) -> u8
     ensures { IsPrinted O.taken O.failures out.old out.new (string_bytes emulated.now.text)
         (status_of emulated.now.good) result }
 {
@@ -231,7 +245,7 @@ pub(crate) fn tell_error<E: Sink>(alloc: Global, error: &Error, err: &mut E)
 }
 
 /// Writes a text as far as the sink takes it.
-fn tell_text<E: Sink>(err: &mut E, text: &str)
+pub(crate) fn tell_text<E: Sink>(err: &mut E, text: &str)
     ensures { IsTold E.taken E.failures err.old err.new text.now }
 {
     let _ = write_piece(err, text);

@@ -1,20 +1,26 @@
 // The command `explore`.
-ghost use Rattle.std.specs.Prelude.{◌≡◌, List, ℕ, None, IfOk, IfErr, string_bytes};
+ghost use Rattle.std.specs.Prelude.{◌≡◌, List, ℕ, None, true, IfOk, IfErr, string_bytes};
+ghost use Rattle.std.specs.List.{All};
 ghost use Rattle.std.specs.Option.{option_copied};
 ghost use Rattle.asl_run_setup.specs.StepsFile.{steps_file};
 ghost use Rattle.asl_explore.specs.Reports.{explored_text};
 ghost use Rattle.asl_host.specs.Outcomes.{status_of, IsPrinted, IsTold};
 ghost use Rattle.asl_cli.specs.Exploring.{IsExplored, IsFoundFor, IsShown, AreAllShown, IsOneShown, numbered, orders_for};
 ghost use Rattle.asl_cli.specs.Faults.{IsRunReason};
+ghost use Rattle.asl_cli.specs.Noting.{notes_for};
+ghost use Rattle.asl_explore.specs.Calls.{AreCounted, IsStated};
+ghost use Rattle.asl_explore.specs.Orders.{IsWhole};
+ghost use Rattle.asl_explore.specs.Searches.{AreDistinct, AreLate, Shows, outcomes_of};
 
 use crate::command::{FAILED, GOOD, REFUSED, print_good, tell_error};
 use crate::debugging::setup_of;
 use crate::fault::CommandFault;
+use crate::noting::{notes_of, tell_notes};
 use crate::reading::read_texts;
 use asl_explore::{Explored, Found, Orders, Watch, explore as search, is_good, put_explored};
 use asl_history::Sink;
 use asl_host::{ExploreWords, Files, missing_outcome, tell_fault, write_piece};
-use asl_run_setup::put_steps;
+use asl_run_setup::{Setup, put_steps};
 use std::alloc::{AllocError, Global};
 
 /// The command `explore`: tries every order of an execution's branches, and prints each outcome with an order that ends in it, or the
@@ -31,12 +37,19 @@ pub fn explore<W: Watch, F: Files, O: Sink, E: Sink>(
         (F.lacks files.old) words.now out.old out.new err.old err.new result }
 {
     match explore_files(watch, alloc, words, files) {
-        Ok(explored) => show(alloc, &explored, words.witness, out, err),
+        Ok(searched) => show(alloc, &searched, words.witness, out, err),
         Err(refusal) => {
             refusal.write(alloc, err);
             REFUSED
         }
     }
+}
+
+/// What was found, and what is told of answers that were lacking.
+#[derive(Drop)]
+pub struct Searched {
+    pub explored: Explored,
+    pub notes: String,
 }
 
 /// The orders that are tried: those in which no branch is late, if only these are wanted.
@@ -56,44 +69,76 @@ fn explore_files<'a, W: Watch, F: Files>(
     alloc: Global,
     words: &ExploreWords<'a>,
     files: &mut F,
-) -> Result<Explored, CommandFault<'a>>
-    ensures found { IfOk result (IsFoundFor (F.gives files.old) words.now) }
+) -> Result<Searched, CommandFault<'a>>
+    ensures found { IfOk result (λ r. IsFoundFor (F.gives files.old) words.now r.explored
+        (string_bytes r.notes)) }
     ensures refused { IfErr result
         (IsRunReason (F.gives files.old) (F.lacks files.old) words.now.setup None) }
 {
     let texts = read_texts(alloc, files, &words.setup)?;
     let setup = setup_of(alloc, &texts)?;
-    let orders = orders_for(words.prompt);
-    match search(alloc, setup, orders, words.calls, words.limit, watch) {
-        Ok(explored) => Ok(explored),
+    match search_from(watch, alloc, words, texts.chosen.as_str(), setup) {
+        Ok(searched) => Ok(searched),
         Err(AllocError) => Err(CommandFault::OutOfMemory),
     }
+}
+
+/// Tries the orders of an execution that begins so, of a case that was chosen by these words.
+fn search_from<W: Watch>(
+    watch: &W,
+    alloc: Global,
+    words: &ExploreWords<'_>,
+    chosen: &str,
+    setup: Setup,
+) -> Result<Searched, AllocError>
+    ensures shown { IfOk result (λ r. All (Shows setup) r.explored.found.items) }
+    ensures once { IfOk result (λ r. AreDistinct (outcomes_of r.explored.found.items)) }
+    ensures orders { IfOk result (λ r. r.explored.orders ≡ orders_for words.now.prompt) }
+    ensures whole { IfOk result (λ r. r.explored.complete ≡ true
+        → IsWhole r.explored.orders setup (outcomes_of r.explored.found.items)) }
+    ensures late { IfOk result (λ r. AreLate setup r.explored.found.items r.explored.late.items) }
+    ensures calls { IfOk result (λ r. words.now.calls ≡ true → r.explored.complete ≡ true
+        → AreCounted r.explored.orders setup (outcomes_of r.explored.found.items)
+        r.explored.calls.items) }
+    ensures states { IfOk result (λ r. All (IsStated setup.machine) r.explored.states.items) }
+    ensures notes { IfOk result (λ r. string_bytes r.notes
+        ≡ notes_for words.now.witness chosen.now setup r.explored.found.items) }
+{
+    let again = setup.try_clone(alloc)?;
+    let orders = orders_for(words.prompt);
+    let explored = search(alloc, setup, orders, words.calls, words.limit, watch)?;
+    let notes = notes_of(alloc, words.witness, chosen, again, &explored.found)?;
+    Ok(Searched { explored, notes })
 }
 
 /// Prints what was found, or the steps of the outcome of this number.
 fn show<O: Sink, E: Sink>(
     alloc: Global,
-    explored: &Explored,
+    searched: &Searched,
     witness: Option<u32>,
     out: &mut O,
     err: &mut E,
 ) -> u8
-    ensures { IsShown O.taken O.failures E.taken E.failures explored.now witness out.old out.new
-        err.old err.new result }
+    ensures { IsShown O.taken O.failures E.taken E.failures searched.now.explored
+        (string_bytes searched.now.notes) witness out.old out.new err.old err.new result }
 {
     match witness {
-        None => show_all(alloc, explored, out, err),
-        Some(number) => show_one(alloc, explored, number, out, err),
+        None => show_all(alloc, searched, out, err),
+        Some(number) => show_one(alloc, &searched.explored, number, out, err),
     }
 }
 
-/// Prints all outcomes, and tells whether nothing was left out and each is a success.
-fn show_all<O: Sink, E: Sink>(alloc: Global, explored: &Explored, out: &mut O, err: &mut E) -> u8
-    ensures { AreAllShown O.taken O.failures E.taken E.failures explored.now out.old out.new
-        err.old err.new result }
+/// Prints all outcomes and tells the notes on them, and whether nothing was left out and each is a success.
+fn show_all<O: Sink, E: Sink>(alloc: Global, searched: &Searched, out: &mut O, err: &mut E) -> u8
+    ensures { AreAllShown O.taken O.failures E.taken E.failures searched.now.explored
+        (string_bytes searched.now.notes) out.old out.new err.old err.new result }
 {
-    match report_of(alloc, explored) {
-        Ok(text) => print_all(text.as_str(), is_good(explored), out),
+    match report_of(alloc, &searched.explored) {
+        Ok(text) => {
+            let status = print_all(text.as_str(), is_good(&searched.explored), out);
+            tell_notes(searched.notes.as_str(), err);
+            status
+        }
         Err(AllocError) => {
             tell_fault(err, "OutOfMemory");
             REFUSED

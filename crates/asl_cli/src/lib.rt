@@ -3,7 +3,7 @@
 //! Modules in reading order: `fault` is why a command isn't done, and its line; `reading` reads the files that words name; `checking` is
 //! the command `check`, `linting` the command `lint`, `printing` the command `print`, `upgrading` the command `upgrade`, `graphing` the command `graph`, `mocking` the command `mocks`,
 //! `debugging` the command `debug`, for which `talking` answers lines, `testing` the command `test`, for which `progress` tells how far it is and
-//! `covering` what is covered; `exploring` the command `explore`; `formatting` runs in the format that is asked for; `command` has the command `run`, and all that a command line may
+//! `covering` what is covered; `exploring` the command `explore`; `noting` tells of answers that were lacking; `formatting` runs in the format that is asked for; `command` has the command `run`, and all that a command line may
 //! ask for.
 #![tactic(auto)]
 
@@ -17,6 +17,7 @@ mod formatting;
 mod graphing;
 mod linting;
 mod mocking;
+mod noting;
 mod printing;
 mod progress;
 mod reading;

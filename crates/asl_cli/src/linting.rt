@@ -67,6 +67,8 @@ fn source_of<'a>(
     ensures definition { result.definition.now ≡ definition.now }
     ensures mocks { option_map (λ b. b.now) result.mocks
         ≡ option_map (λ b. b.now) mocks.entry }
+    ensures machine { option_map (λ k. k.now) result.machine
+        ≡ option_map (λ k. k.now) machine.entry }
 {
     Source {
         definition,
@@ -81,8 +83,8 @@ fn lint_texts(
     words: &LintWords<'_>,
     source: &Source<'_>,
 ) -> Result<Linted, AllocError>
-    ensures { IfOk result (IsJudged source.now.definition.now
-        (option_map (λ b. b.now) source.now.mocks) words.now.strict) }
+    ensures { IfOk result (IsJudged (option_map (λ k. k.now) source.now.machine)
+        source.now.definition.now (option_map (λ b. b.now) source.now.mocks) words.now.strict) }
 {
     let report = asl_lint::lint(alloc, source)?;
     let good = report.is_good(words.strict);

@@ -1,8 +1,7 @@
 -- What is found in a definition, as it is told.
-use Rattle.std.proofs.Common.{◌≡◌, ℕ, ◌+◌, ◌<◌, List, [], ◌∷◌, ◌++◌, Bool, length, get_or, drop, reverse, true, refl, sym, ap, ◌∙◌, append_assoc, arith}
+use Rattle.std.proofs.Common.{◌≡◌, ℕ, ◌+◌, ◌<◌, List, [], ◌∷◌, ◌++◌, Bool, length, get_or, drop, reverse, refl, sym, ap, ◌∙◌, append_assoc}
 use Rattle.std.specs.Prelude.{Option, map}
-use Rattle.std.proofs.lemmas.List.{reverse-append, map-append, drop_more, append-nil}
-use Rattle.std.proofs.lemmas.List.Elements.{All-append}
+use Rattle.std.proofs.lemmas.List.{reverse-append, map-append, drop_more}
 use Rattle.asl_json.specs.Data.{Data}
 use Rattle.asl_json_outline.specs.declared.span.Node.{Node}
 use Rattle.asl_json_outline.specs.Standing.{AllFind}
@@ -19,7 +18,6 @@ use Rattle.asl_lint.specs.declared.finding.Found.{Found}
 use Rattle.asl_lint.specs.declared.finding.Finding.{Finding}
 use Rattle.asl_lint.specs.declared.placing.Spanned.{Spanned}
 use Rattle.asl_lint.specs.Findings.{Noted, numbers, of_fault, of_warning, is_faulty, is_kept, told_of, warnings_told, AreFound, pointed}
-use Rattle.asl_lint.specs.Linted.{Adds, IsUnanswered}
 use Rattle.asl_lint.specs.Places.{AllPoint, Ruled, ruled}
 use Rattle.asl_lint.specs.private.Founds.{noted, spanned, with_nodes}
 
@@ -66,17 +64,4 @@ are_found d fs b old new told faulty own more = record {
   faults = fs;
   told = told;
   parts = more ∙ ap (λ (xs : List Noted). xs ++ warnings_told b (warnings_of d)) own ∙ ap (λ (x : Bool). map of_fault fs ++ warnings_told x (warnings_of d)) faulty;
-}
-
--- ---- Tasks without an answer
-
-pub adds_none : (b : Bool) (ns : List Noted) → Adds b ns ns
-adds_none b ns = record { more = []; parts = sym (append-nil ns); each = λ k d lt. absurd (omega (arith, lt)); alone = λ e. refl }
-
-pub adds_more : (xs ys zs : List Noted) → Adds true xs ys → Adds true ys zs → Adds true xs zs
-adds_more xs ys zs a b = record {
-  more = a.more ++ b.more;
-  parts = b.parts ∙ ap (λ (ns : List Noted). ns ++ b.more) a.parts ∙ append_assoc xs a.more b.more;
-  each = All-append IsUnanswered a.more b.more a.each b.each;
-  alone = λ e. absurd (cc e);
 }

@@ -1,5 +1,6 @@
 pub mod Findings
 pub mod Places
+pub mod Mocks
 pub mod Linted
 pub mod Reports
 pub mod private

@@ -11,7 +11,7 @@ use asl_def_table::{Fault, FaultKind, Step};
 use asl_json::Json;
 use asl_lint_faults::every_fault;
 use asl_lint_warnings::{Warning, WarningKind, every_warning};
-use asl_lint_words::{EFFORT, States, put_fault, put_warning, standing_at};
+use asl_lint_words::{EFFORT, Places, States, put_fault, put_warning};
 use std::alloc::{AllocError, Global};
 
 /// The numbers of these steps, from the last to the first.
@@ -49,18 +49,19 @@ fn number_of(before: &[Fault], fault: &Fault) -> usize {
     number
 }
 
-fn found_of(
+fn found_of<'a>(
     alloc: Global,
-    definition: &Json,
+    places: &mut Places<'a>,
     states: &States<'_>,
-    fault: &Fault,
+    fault: &'a Fault,
     number: usize,
     effort: &mut usize,
 ) -> Result<Found, AllocError>
     ensures { IfOk result (λ f. noted f ≡ of_fault fault.now) }
 {
     let steps = fault.steps_back();
-    let standing = standing_at(definition, steps);
+    places.go(alloc, steps)?;
+    let standing = places.standing();
     let mut message = String::new(alloc);
     put_fault(
         alloc,
@@ -92,16 +93,17 @@ fn is_kept(is_faulty: bool, warning: &Warning) -> bool
     !(is_faulty && is_of_ways(warning.kind()))
 }
 
-fn found_of_warning(
+fn found_of_warning<'a>(
     alloc: Global,
-    definition: &Json,
-    warning: &Warning,
+    places: &mut Places<'a>,
+    warning: &'a Warning,
     effort: &mut usize,
 ) -> Result<Found, AllocError>
     ensures { IfOk result (λ f. noted f ≡ of_warning warning.now) }
 {
     let steps = warning.steps_back();
-    let standing = standing_at(definition, steps);
+    places.go(alloc, steps)?;
+    let standing = places.standing();
     let mut message = String::new(alloc);
     put_warning(alloc, &mut message, warning.kind(), &standing, effort)?;
     Ok(Found {
@@ -112,11 +114,11 @@ fn found_of_warning(
 }
 
 /// Adds a warning, where it is told.
-fn add_warning(
+fn add_warning<'a>(
     alloc: Global,
-    definition: &Json,
+    places: &mut Places<'a>,
     is_faulty: bool,
-    warning: &Warning,
+    warning: &'a Warning,
     found: &mut Vec<Found>,
     effort: &mut usize,
 ) -> Result<(), AllocError>
@@ -124,7 +126,7 @@ fn add_warning(
         ≡ map noted found.old.items ++ told_of (is_kept is_faulty warning.now) warning.now) }
 {
     if is_kept(is_faulty, warning) {
-        found.push(found_of_warning(alloc, definition, warning, effort)?)?;
+        found.push(found_of_warning(alloc, places, warning, effort)?)?;
     }
     Ok(())
 }
@@ -141,8 +143,9 @@ fn add_each(
     ensures { OnOk result (map noted found.new.items
         ≡ map noted found.old.items ++ warnings_told is_faulty warnings.now) }
 {
+    let mut places = Places::of(alloc, definition)?;
     for warning in warnings {
-        add_warning(alloc, definition, is_faulty, warning, found, effort)?;
+        add_warning(alloc, &mut places, is_faulty, warning, found, effort)?;
     }
     Ok(())
 }
@@ -174,9 +177,10 @@ fn found_faults(
     ensures { IfOk result (λ found. map noted found.items ≡ map of_fault faults.now) }
 {
     let mut found = Vec::with_capacity(alloc, faults.len())?;
+    let mut places = Places::of(alloc, definition)?;
     for (i, fault) in faults.iter().enumerate() {
         let number = number_of(&faults[..i], fault);
-        found.push(found_of(alloc, definition, states, fault, number, effort)?)?;
+        found.push(found_of(alloc, &mut places, states, fault, number, effort)?)?;
     }
     Ok(found)
 }

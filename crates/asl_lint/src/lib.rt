@@ -1,18 +1,18 @@
 //! Everything that is wrong or suspicious in a definition and in the mock file beside it, where it stands, and how it is mended.
 //!
 //! Modules in reading order: `rule` and `finding` are what is told, and `part` at what it points; `json_faults` says what is wrong with a text that is no JSON; `placing` finds
-//! lines and columns; `definition` has the findings of a definition, `mock_faults` and `mocks` those of a mock file, `beside` what doesn't fit
-//! between the two, and `linting` all; `lines`, `json_lines` and `sarif_log` are the formats.
+//! lines and columns; `definition` has the findings of a definition, `mocks` those of a mock file, by itself and beside a definition, `mock_words` and `gaps` what
+//! is said of them, and `linting` all; `lines`, `json_lines` and `sarif_log` are the formats.
 #![tactic(auto)]
 
-mod beside;
 mod definition;
 mod finding;
+mod gaps;
 mod json_faults;
 mod json_lines;
 mod lines;
 mod linting;
-mod mock_faults;
+mod mock_words;
 mod mocks;
 mod part;
 mod placing;

@@ -1,17 +1,17 @@
 // Everything that is found in some texts.
-ghost use Rattle.std.specs.Prelude.{option_map, is_some, map, true, IfOk, IfErr, OnOk};
+ghost use Rattle.std.specs.Prelude.{◌≡◌, None, Some, option_map, map, IfOk, IfErr, OnOk};
 ghost use Rattle.std.specs.List.{All};
 ghost use Rattle.asl_json.specs.View.{data_of};
 ghost use Rattle.asl_json.specs.Wrong.{ReadsAs};
-ghost use Rattle.asl_lint.specs.Linted.{Adds, IsJudged, IsLinted, IsUnread};
+ghost use Rattle.asl_lint.specs.Linted.{AreApart, AreJudged, AreLinted, AreMocksJudged, AreMocksLinted, AreUnanswered, IsUnread};
 ghost use Rattle.asl_lint.specs.Places.{IsAt, AreIn};
-ghost use Rattle.asl_lint.specs.private.Founds.{noted};
+ghost use Rattle.asl_lint.specs.private.Founds.{Adds, noted};
 
-use crate::beside::{add_unanswered, walk_beside, walk_unused};
 use crate::definition::found_in;
 use crate::finding::{Finding, Found, Report};
 use crate::json_faults::unread;
-use crate::mock_faults::{Walk, walk_file};
+use crate::mock_words::Beside;
+use crate::mocks::{add_unanswered, found_in_mocks};
 use crate::placing::placed;
 use crate::rule::{MockRule, Rule};
 use asl_json::{Json, JsonFault, read};
@@ -52,35 +52,87 @@ fn value_of(
 pub fn lint(alloc: Global, source: &Source<'_>) -> Result<Report, AllocError>
     ensures definition { IfOk result (λ r. All (IsAt source.now.definition.now) r.definition.items) }
     ensures mocks { IfOk result (λ r. AreIn (option_map (λ b. b.now) source.now.mocks) r.mocks.items) }
-    // Each fault and each warning of the definition is told once, at its place, and nothing else is told of it.
-    ensures told { IfOk result (λ r. IsLinted (is_some source.now.mocks) source.now.definition.now
-        r.definition.items) }
+    // Each fault and each warning is told once, at its place, of the definition and of the mock file, and nothing else.
+    ensures told { IfOk result (λ r. AreLinted (option_map (λ k. k.now) source.now.machine)
+        (option_map (λ b. b.now) source.now.mocks) source.now.definition.now r.definition.items
+        r.mocks.items) }
 {
     match value_of(alloc, Rule::Json, source.definition)? {
         Ok(definition) => lint_definition(alloc, source, &definition),
-        Err(findings) => Ok(Report {
-            definition: findings,
-            mocks: lint_mocks(alloc, source.mocks)?,
-        }),
+        Err(findings) => lint_apart(alloc, source, findings),
     }
 }
 
-/// What is wrong with a mock file by itself.
-fn lint_mocks(alloc: Global, mocks: Option<&[u8]>) -> Result<Vec<Finding>, AllocError>
-    ensures { IfOk result (λ fs. AreIn (option_map (λ b. b.now) mocks.entry) fs.items) }
+/// What is told of a definition that is no JSON text, and of the mock file by itself.
+fn lint_apart(
+    alloc: Global,
+    source: &Source<'_>,
+    findings: Vec<Finding>,
+) -> Result<Report, AllocError>
+    requires at { All (IsAt source.now.definition.now) findings.items }
+    requires unread { IsUnread Rule.Json source.now.definition.now findings.items }
+    ensures definition { IfOk result (λ r. All (IsAt source.now.definition.now) r.definition.items) }
+    ensures mocks { IfOk result (λ r. AreIn (option_map (λ b. b.now) source.now.mocks) r.mocks.items) }
+    ensures told { IfOk result (λ r. AreApart (option_map (λ k. k.now) source.now.machine)
+        (option_map (λ b. b.now) source.now.mocks) source.now.definition.now r.definition.items
+        r.mocks.items) }
 {
-    let Some(text) = mocks else {
-        return Ok(Vec::new(alloc));
-    };
+    let mocks = lint_alone(alloc, source.mocks, source.machine)?;
+    Ok(Report {
+        definition: findings,
+        mocks,
+    })
+}
+
+/// What is wrong with a mock file by itself, where there is one.
+fn lint_alone(
+    alloc: Global,
+    mocks: Option<&[u8]>,
+    machine: Option<&str>,
+) -> Result<Vec<Finding>, AllocError>
+    ensures at { IfOk result (λ fs. AreIn (option_map (λ b. b.now) mocks.entry) fs.items) }
+    ensures told { IfOk result (λ fs. AreMocksLinted (option_map (λ k. k.now) machine.entry) None
+        (option_map (λ b. b.now) mocks.entry) fs.items) }
+{
+    match mocks {
+        Some(text) => lint_text(alloc, text, machine),
+        None => Ok(Vec::new(alloc)),
+    }
+}
+
+/// What is wrong with the text of a mock file by itself.
+fn lint_text(alloc: Global, text: &[u8], machine: Option<&str>) -> Result<Vec<Finding>, AllocError>
+    ensures at { IfOk result (λ fs. All (IsAt text.now) fs.items) }
+    ensures told { IfOk result (λ fs. AreMocksLinted (option_map (λ k. k.now) machine.entry) None
+        (Some text.now) fs.items) }
+{
     match value_of(alloc, Rule::Mock(MockRule::Json), text)? {
         Ok(file) => {
-            let mut walk = Walk::new(alloc);
-            walk_file(&mut walk, &file)?;
-            walk_unused(&mut walk, &file)?;
-            placed(alloc, text, &file, walk.found)
+            let beside = Beside {
+                states: None,
+                machine,
+            };
+            lint_value(alloc, text, &file, beside)
         }
         Err(findings) => Ok(findings),
     }
+}
+
+/// What is wrong with a mock file that a text spells.
+fn lint_value(
+    alloc: Global,
+    text: &[u8],
+    file: &Json,
+    beside: Beside<'_>,
+) -> Result<Vec<Finding>, AllocError>
+    requires { ReadsAs text.now (data_of file.now) }
+    ensures at { IfOk result (λ fs. All (IsAt text.now) fs.items) }
+    ensures told { IfOk result (λ fs. AreMocksJudged (option_map (λ k. k.now) beside.entry.machine)
+        (option_map (λ s. s.now.list.items) beside.entry.states) text.now fs.items) }
+{
+    let found = found_in_mocks(alloc, file, beside)?;
+    let findings = placed(alloc, text, file, found)?;
+    Ok(findings)
 }
 
 /// What is told of a definition that a text spells, and of the mock file beside it.
@@ -92,8 +144,9 @@ fn lint_definition(
     requires { ReadsAs source.now.definition.now (data_of definition.now) }
     ensures definition { IfOk result (λ r. All (IsAt source.now.definition.now) r.definition.items) }
     ensures mocks { IfOk result (λ r. AreIn (option_map (λ b. b.now) source.now.mocks) r.mocks.items) }
-    ensures judged { IfOk result (λ r. IsJudged (is_some source.now.mocks)
-        source.now.definition.now r.definition.items) }
+    ensures judged { IfOk result (λ r. AreJudged (option_map (λ k. k.now) source.now.machine)
+        (option_map (λ b. b.now) source.now.mocks) source.now.definition.now r.definition.items
+        r.mocks.items) }
 {
     let states = States::of(alloc, definition)?;
     let mut found = found_in(alloc, definition, &states)?;
@@ -107,7 +160,6 @@ fn lint_definition(
 
 /// What is wrong with the mock file beside a definition with these states, where there is one. The Tasks that it doesn't answer are added to what is
 /// found in the definition.
-#[tactic(auto, using(crate::proofs::Telling::adds_none))]
 fn lint_beside(
     alloc: Global,
     source: &Source<'_>,
@@ -115,8 +167,11 @@ fn lint_beside(
     found: &mut Vec<Found>,
 ) -> Result<Vec<Finding>, AllocError>
     ensures at { IfOk result (λ fs. AreIn (option_map (λ b. b.now) source.now.mocks) fs.items) }
-    ensures found { OnOk result (Adds (is_some source.now.mocks) (map noted found.old.items)
-        (map noted found.new.items)) }
+    ensures told { IfOk result (λ fs. AreMocksLinted (option_map (λ k. k.now) source.now.machine)
+        (Some states.now.list.items) (option_map (λ b. b.now) source.now.mocks) fs.items) }
+    ensures found { OnOk result (Adds (AreUnanswered (option_map (λ k. k.now) source.now.machine)
+        states.now.list.items (option_map (λ b. b.now) source.now.mocks))
+        (map noted found.old.items) (map noted found.new.items)) }
 {
     match source.mocks {
         Some(text) => lint_file(alloc, source.machine, states, found, text),
@@ -124,8 +179,7 @@ fn lint_beside(
     }
 }
 
-/// What is wrong with a mock file by itself and beside a definition with these states.
-#[tactic(auto, using(crate::proofs::Telling::adds_none))]
+/// The same of the text of a mock file.
 fn lint_file(
     alloc: Global,
     machine: Option<&str>,
@@ -134,17 +188,20 @@ fn lint_file(
     text: &[u8],
 ) -> Result<Vec<Finding>, AllocError>
     ensures at { IfOk result (λ fs. All (IsAt text.now) fs.items) }
-    ensures found { OnOk result (Adds true (map noted found.old.items)
-        (map noted found.new.items)) }
+    ensures told { IfOk result (λ fs. AreMocksLinted (option_map (λ k. k.now) machine.entry)
+        (Some states.now.list.items) (Some text.now) fs.items) }
+    ensures found { OnOk result (Adds (AreUnanswered (option_map (λ k. k.now) machine.entry)
+        states.now.list.items (Some text.now))
+        (map noted found.old.items) (map noted found.new.items)) }
 {
     match value_of(alloc, Rule::Mock(MockRule::Json), text)? {
         Ok(file) => {
-            let mut walk = Walk::new(alloc);
-            walk_file(&mut walk, &file)?;
-            walk_unused(&mut walk, &file)?;
-            let answered = walk_beside(&mut walk, &file, machine, states)?;
-            add_unanswered(alloc, found, states, &answered)?;
-            placed(alloc, text, &file, walk.found)
+            add_unanswered(alloc, found, &file, machine, &states.list)?;
+            let beside = Beside {
+                states: Some(states),
+                machine,
+            };
+            lint_value(alloc, text, &file, beside)
         }
         Err(findings) => Ok(findings),
     }

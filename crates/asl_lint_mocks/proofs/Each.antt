@@ -1,16 +1,16 @@
 -- Places in each member of an object, by numbers and by keys.
 use Rattle.std.proofs.Common.{◌≡◌, ◌<◌, ◌≤◌, ◌+◌, ℕ, zero, suc, Bool, true, false, List, [], ◌∷◌, ◌++◌, length, get_or, take, refl, sym, ap, subst, ◌∙◌, arith, append_assoc}
-use Rattle.std.specs.Prelude.{map, Option, Some, None, if◌then◌else◌}
+use Rattle.std.specs.Prelude.{◌||◌, map, Option, Some, None, is_some, if◌then◌else◌}
 use Rattle.std.proofs.lemmas.List.{append-nil, map_more, map-append, take_all}
 use Rattle.asl_json.specs.Data.{Data, null, boolean, number, text, list, dict, depth, members_depth, pairs, Pairs, no_members, member}
-use Rattle.asl_json.specs.Distinct.{Members}
+use Rattle.asl_json.specs.Distinct.{Members, has_key}
 use Rattle.asl_json.specs.View.{data_of, member_of, members_of, unpaired, unpaired-pairs}
 use Rattle.asl_json.specs.Same.{bytes_eq}
 use Rattle.asl_json.specs.Meaning.{value_at}
 use Rattle.asl_json.specs.declared.value.Member.{Member}
 use Rattle.std.specs.Cmp.Lexicographic.{bytes_decides}
 use Rattle.asl_mock.specs.Places.{Place, under, in_each}
-use Rattle.asl_mock.specs.Form.{part_shape, fits, unless, misfits, misfits_below}
+use Rattle.asl_mock.specs.Form.{part_shape, fits, has, unless, misfits, misfits_below}
 use Rattle.asl_mock.specs.Tables.{members_in, members_at, members_of_any}
 use Rattle.asl_mock.specs.declared.shape.Shape.{Shape}
 use Rattle.asl_lint_mocks.specs.Places.{nowhere, keys_of, AreAt}
@@ -158,3 +158,40 @@ whole_dict s d ms r own below all is fit o b more =
     ∙ ap (λ (ps : List Place). ps ++ map (keys_of ms) below) (o ms ∙ ap unless (fit ∙ ap (fits s) is))
     ∙ ap (λ (ps : List Place). unless (fits s (dict (pairs ms))) ++ ps) b in
     subst (λ (x : Data). AreAt (members_in x) all (misfits s x)) (sym is) (subst (λ (xs : Members). AreAt xs all (misfits s (dict (pairs ms)))) (sym (unpaired-pairs ms)) at_dict)
+
+-- ---- the place of the member of a key, where there is one
+
+pub place_some : (k : List ℕ) (d : Data) (ms : Members) (o : Option ℕ) (j : ℕ) (is : List ℕ) → o ≡ number_at k 0 ms → ms ≡ members_in d → o ≡ Some j → is ≡ j ∷ [] → keys_of (members_in d) is ≡ (if has k d then k ∷ [] else [])
+place_some k d ms o j is which same some place = ap (keys_of (members_in d)) place ∙ there k d j (sym (which ∙ ap (number_at k 0) same) ∙ some)
+  where
+    there : (k : List ℕ) (d : Data) (j : ℕ) → number_at k 0 (members_in d) ≡ Some j → keys_of (members_in d) (j ∷ []) ≡ (if has k d then k ∷ [] else [])
+    there k null j at = absurd (cc at)
+    there k (boolean b) j at = absurd (cc at)
+    there k (number b) j at = absurd (cc at)
+    there k (text b) j at = absurd (cc at)
+    there k (list b) j at = absurd (cc at)
+    there k (dict ms) j at =
+        let f = found k ms 0 j at in
+        let same : f.number ≡ j = omega (arith, f.is) in
+        ap (λ (n : ℕ). (get_or (unpaired ms) n nowhere).0 ∷ []) (sym same) ∙ ap (λ (l : List ℕ). l ∷ []) f.key ∙ sym (ap (λ (v : Option Data). if is_some v then k ∷ [] else []) f.value)
+
+pub place_none : (k : List ℕ) (d : Data) (ms : Members) (o : Option ℕ) (is : List ℕ) → o ≡ number_at k 0 ms → ms ≡ members_in d → o ≡ None → is ≡ [] → keys_of (members_in d) is ≡ (if has k d then k ∷ [] else [])
+place_none k d ms o is which same none place = ap (keys_of (members_in d)) place ∙ there k d (sym (which ∙ ap (number_at k 0) same) ∙ none)
+  where
+    there : (k : List ℕ) (d : Data) → number_at k 0 (members_in d) ≡ None → keys_of (members_in d) [] ≡ (if has k d then k ∷ [] else [])
+    there k null at = refl
+    there k (boolean b) at = refl
+    there k (number b) at = refl
+    there k (text b) at = refl
+    there k (list b) at = refl
+    there k (dict ms) at = sym (ap (λ (v : Option Data). if is_some v then k ∷ [] else []) (missing k ms 0 at))
+
+-- ---- whether there is one
+
+pub is_there : (k : List ℕ) (ms : Members) (i : ℕ) → is_some (number_at k i ms) ≡ has_key k ms
+is_there k [] i = refl
+is_there k (m ∷ ms) i = which (bytes_eq k m.0) (is_there k ms (i + 1))
+  where
+    which : (b : Bool) → is_some (number_at k (i + 1) ms) ≡ has_key k ms → is_some (if b then Some i else number_at k (i + 1) ms) ≡ (b || has_key k ms)
+    which true e = refl
+    which false e = e

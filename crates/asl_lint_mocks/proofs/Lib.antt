@@ -1,5 +1,6 @@
 mod Each
 mod Overlapping
-mod Naming
+pub mod Naming
 mod Answering
-mod Gaps
+mod Bare
+mod Losing

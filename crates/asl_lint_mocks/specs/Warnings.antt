@@ -26,6 +26,13 @@ begins_bare ms (Some s) = nat_lt 0 s.low && not (is_answered ms (s.low - 1))
 abbrev pub has_gap : Members → Bool
 has_gap ms = list_any (λ m. begins_bare ms (span_in m.0)) ms
 
+abbrev pub gap_in : List ℕ × Data → List Place
+gap_in r = unless (not (has_gap (members_in r.1)))
+
+abbrev pub gaps : Data → List Place
+gaps d =
+    under (codes "MockedResponses") (in_each gap_in (members_at (codes "MockedResponses") d))
+
 -- unused-response: no case of any machine names a response
 
 abbrev pub is_text : List ℕ → Data → Bool

@@ -1,4 +1,5 @@
 -- Words that only proofs need.
+pub mod Fitting
 pub mod Known
 pub mod Spots
 pub mod Tops

@@ -1,9 +1,10 @@
 // All faults of a mock file.
 ghost use Rattle.std.specs.Prelude.{IfOk};
 ghost use Rattle.asl_json.specs.View.{data_of};
-ghost use Rattle.asl_mock.specs.Faults.{bad_keys, lost_names, overlaps};
+ghost use Rattle.asl_mock.specs.Faults.{bad_keys, overlaps};
 ghost use Rattle.asl_mock.specs.Form.{misfits};
 ghost use Rattle.asl_mock.specs.Tables.{members_in};
+ghost use Rattle.asl_lint_mocks.specs.Lost.{lost_names};
 ghost use Rattle.asl_lint_mocks.specs.Places.{AreAt, numbers_of};
 
 use crate::keys::{all_bad_keys, all_overlaps};
@@ -23,7 +24,7 @@ pub struct Faults {
     pub bad_keys: Vec<Vec<usize>>,
     /// M4: those that have a number of an earlier key of their response.
     pub overlaps: Vec<Vec<usize>>,
-    /// M5: the states of cases for which a response is named that isn't there.
+    /// M5: the states of cases for which a text names a response that isn't there.
     pub lost_names: Vec<Vec<usize>>,
 }
 

@@ -1,14 +1,14 @@
 // Names of responses: those that aren't there, and those that no case names.
-ghost use Rattle.std.specs.Prelude.{◌≡◌, ◌||◌, ℕ, List, Some, IfOk, OnOk};
+ghost use Rattle.std.specs.Prelude.{◌≡◌, ◌||◌, ℕ, List, IfOk, OnOk};
 ghost use Rattle.std.specs.HashSet.{contains_text};
 ghost use Rattle.std.specs.List.{list_any};
 ghost use Rattle.asl_json.specs.Keys.{HasKeys};
 ghost use Rattle.asl_json.specs.View.{data_of, members_of};
-ghost use Rattle.asl_mock.specs.Answers.{Response, text_of};
+ghost use Rattle.asl_mock.specs.Answers.{Response};
 ghost use Rattle.asl_mock.specs.Form.{unless};
 ghost use Rattle.asl_mock.specs.Places.{in_each};
 ghost use Rattle.asl_mock.specs.Tables.{Named, members_in};
-ghost use Rattle.asl_mock.specs.Faults.{lost_in_case, lost_in_machine, lost_name};
+ghost use Rattle.asl_lint_mocks.specs.Lost.{is_known, lost_in_case, lost_in_machine, lost_name};
 ghost use Rattle.asl_lint_mocks.specs.Places.{AreAt, numbers_of};
 ghost use Rattle.asl_lint_mocks.specs.Warnings.{case_names, is_text, machine_names, unused};
 ghost use Rattle.asl_lint_mocks.specs.private.Known.{HasNames};
@@ -33,13 +33,14 @@ pub(crate) fn response_names(
     Ok(names)
 }
 
-/// Its text; of any other value an empty one.
-fn text_in(value: &Json) -> &str
-    ensures { result.now ≡ text_of (Some (data_of value.now)) }
+/// Whether a value is no text, or the name of a response.
+fn is_known(names: &HashSet<String>, value: &Json) -> bool
+    ensures { (rs : List (Named Response)) → HasNames names.now rs
+        → result ≡ is_known rs (data_of value.now) }
 {
     match value {
-        Json::Text(text) => text.as_str(),
-        _ => "",
+        Json::Text(name) => names.contains(name.as_str()),
+        _ => true,
     }
 }
 
@@ -55,7 +56,7 @@ fn lost_in_case(
 {
     let mut all = Vec::new(alloc);
     for (i, state) in states.iter().enumerate() {
-        let own = unless(alloc, names.contains(text_in(&state.value)))?;
+        let own = unless(alloc, is_known(names, &state.value))?;
         add_under(alloc, &mut all, i, own)?;
     }
     Ok(all)

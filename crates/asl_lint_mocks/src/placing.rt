@@ -51,7 +51,7 @@ pub(crate) fn unless(alloc: Global, fits: bool) -> Result<Vec<Vec<usize>>, Alloc
 }
 
 /// The number of the member of this key.
-fn number_at(members: &[Member], key: &str) -> Option<usize>
+pub(crate) fn number_at(members: &[Member], key: &str) -> Option<usize>
     ensures { result ≡ number_at key.now 0 (members_of members.now) }
 {
     for (i, member) in members.iter().enumerate() {

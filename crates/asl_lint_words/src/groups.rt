@@ -1,10 +1,11 @@
 // Members that exclude each other.
 use crate::nouns::noun;
+use crate::object::Object;
 use crate::quoting::{put_key, put_name, put_separator, put_words};
 use crate::standing::Standing;
 use asl_def_table::{Group, Sort, is_among, shape_in};
 use asl_json::{Json, Member};
-use std::alloc::AllocError;
+use std::alloc::{AllocError, Global};
 
 /// The most names of a group that are told one by one.
 const TOLD: usize = 6;
@@ -19,20 +20,24 @@ fn counts(group: &Group, member: &Member) -> bool {
     is_in(group, key) && (key != "End" || matches!(member.value, Json::Bool(true)))
 }
 
-/// The member before one of this key that excludes it.
-fn rival<'a>(standing: &Standing<'a>) -> Option<&'a str> {
-    if standing.object_sort == Sort::Template {
-        return twin(standing.object, standing.key);
-    }
-    let shape = shape_in(standing.object_sort, standing.object);
-    for group in shape.groups {
-        if is_in(group, standing.key) {
-            if let Some(name) = first_in(group, standing.object, standing.key) {
+/// The member before one of this key that excludes it by these groups.
+fn rival_in<'a>(groups: &[Group], members: &'a [Member], key: &str) -> Option<&'a str> {
+    for group in groups {
+        if is_in(group, key) {
+            if let Some(name) = first_in(group, members, key) {
                 return Some(name);
             }
         }
     }
     None
+}
+
+/// The same in an object that isn't of a template.
+fn rival<'a>(standing: &Standing<'a>) -> Option<&'a str> {
+    match standing.around {
+        Some(object) => rival_in(object.shape.groups, object.members, standing.key),
+        None => None,
+    }
 }
 
 /// The first of these members that counts in a group, before that of a key.
@@ -49,31 +54,49 @@ fn first_in<'a>(group: &Group, members: &'a [Member], key: &str) -> Option<&'a s
     None
 }
 
-/// The member `k` beside `k.$`, or the other way round.
-fn twin<'a>(members: &'a [Member], key: &str) -> Option<&'a str> {
-    for member in members {
-        let name = member.key.as_str();
-        if name.strip_suffix(".$") == Some(key) || key.strip_suffix(".$") == Some(name) {
-            return Some(name);
+/// Appends the member of a template that gives the same as one of this key: the one without the `.$` behind it, or with it.
+fn put_twin(
+    alloc: Global,
+    out: &mut String,
+    object: &Object<'_>,
+    key: &str,
+) -> Result<(), AllocError> {
+    if let Some(bare) = key.strip_suffix(".$") {
+        if object.keys.contains(bare) {
+            return put_key(out, bare);
         }
     }
-    None
+    let mut computed = String::from_str(alloc, key)?;
+    computed.push_str(".$")?;
+    put_key(out, computed.as_str())
+}
+
+/// Appends the member before one that excludes it.
+fn put_rival(alloc: Global, out: &mut String, standing: &Standing<'_>) -> Result<(), AllocError> {
+    match standing.around {
+        Some(object) if object.sort == Sort::Template => put_twin(alloc, out, object, standing.key),
+        _ => match rival(standing) {
+            Some(name) => put_key(out, name),
+            None => out.push_str("a member before it"),
+        },
+    }
 }
 
 /// Appends which two members exclude each other.
-pub(crate) fn put_both(out: &mut String, standing: &Standing<'_>) -> Result<(), AllocError> {
+pub(crate) fn put_both(
+    alloc: Global,
+    out: &mut String,
+    standing: &Standing<'_>,
+) -> Result<(), AllocError> {
     put_key(out, standing.key)?;
     out.push_str(" can't stand beside ")?;
-    match rival(standing) {
-        Some(name) => put_key(out, name)?,
-        None => out.push_str("a member before it")?,
-    }
+    put_rival(alloc, out, standing)?;
     out.push_str(": ")?;
-    if standing.object_sort == Sort::Template {
+    if standing.object_sort() == Sort::Template {
         return out.push_str("both give the same member of what the template makes");
     }
-    out.push_str(noun(standing.object_sort, standing.object))?;
-    match standing.object_sort {
+    out.push_str(standing.object_noun())?;
+    match standing.object_sort() {
         Sort::Rule | Sort::InnerRule => put_rule_choice(out, standing.key),
         _ => out.push_str(" has one of them at most"),
     }

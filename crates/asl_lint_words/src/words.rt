@@ -1,14 +1,14 @@
 // What is wrong, in one sentence on the value that is wrong.
 use crate::groups::{put_both, put_neither};
 use crate::near::{EFFORT, Search};
-use crate::nouns::{KINDS, noun, put_subject};
+use crate::nouns::{KINDS, put_subject};
 use crate::quoting::{put_key, put_name, put_separator, put_words};
 use crate::ranges::put_range;
 use crate::standing::{Standing, items_in};
 use crate::states::States;
 use crate::texts::{put_call, put_path, put_unsupported};
 use crate::types::put_wrong_type;
-use asl_def_table::{FaultKind, Sort, find, shape_in};
+use asl_def_table::{FaultKind, Row, Sort, shape_in};
 use asl_json::{Json, Members, Txt};
 use std::alloc::{AllocError, Global};
 
@@ -31,7 +31,7 @@ pub fn put_fault(
         FaultKind::UnknownField => put_unknown(alloc, out, standing),
         FaultKind::Unsupported => put_unsupported(alloc, out, standing),
         FaultKind::Range => put_range(out, standing),
-        FaultKind::Both => put_both(out, standing),
+        FaultKind::Both => put_both(alloc, out, standing),
         FaultKind::Neither => put_neither(out, standing, number),
         FaultKind::NoTarget => put_no_target(alloc, out, standing, states, effort),
         FaultKind::DuplicateState => put_duplicate(out, standing),
@@ -52,7 +52,7 @@ fn put_missing(out: &mut String, standing: &Standing<'_>) -> Result<(), AllocErr
         }
         "Variable" => out.push_str("a rule with a test needs one, as \"$.a\""),
         _ => {
-            out.push_str(noun(standing.object_sort, standing.object))?;
+            out.push_str(standing.object_noun())?;
             out.push_str(" needs it")
         }
     }
@@ -60,29 +60,34 @@ fn put_missing(out: &mut String, standing: &Standing<'_>) -> Result<(), AllocErr
 
 /// Appends that an object may not have a member, and which it may mean.
 fn put_unknown(alloc: Global, out: &mut String, standing: &Standing<'_>) -> Result<(), AllocError> {
-    out.push_str(noun(standing.object_sort, standing.object))?;
+    out.push_str(standing.object_noun())?;
     out.push_str(" has no member ")?;
     put_name(out, standing.key)?;
+    let Some(object) = standing.around else {
+        return Ok(());
+    };
     let mut search = Search::new(alloc, standing.key);
     let mut effort = EFFORT;
-    let shape = shape_in(standing.object_sort, standing.object);
-    for row in shape.rows {
-        if find(standing.object, row.name()).is_none() {
-            search.add(row.name(), &mut effort)?;
-        }
+    for name in &object.absent {
+        search.add(name, &mut effort)?;
     }
     if search.best().is_some() {
         return search.put(out);
     }
-    if standing.object_sort == Sort::State {
+    if object.sort == Sort::State {
         return put_kinds_with(alloc, out, standing.key);
     }
-    if shape.rows.len() > TOLD {
+    put_rows(out, object.shape.rows)
+}
+
+/// Appends which members an object may have, if they are few.
+fn put_rows(out: &mut String, rows: &[Row]) -> Result<(), AllocError> {
+    if rows.len() > TOLD {
         return Ok(());
     }
     out.push_str("; it may have ")?;
-    for (number, row) in shape.rows.iter().enumerate() {
-        put_separator(out, number, shape.rows.len())?;
+    for (number, row) in rows.iter().enumerate() {
+        put_separator(out, number, rows.len())?;
         out.push_str(row.name())?;
     }
     Ok(())
@@ -140,7 +145,7 @@ fn put_no_target(
         return out.push_str("; a state that ends has \"End\": true in the place of Next");
     }
     let mut search = Search::new(alloc, name);
-    for state in standing.states {
+    for state in standing.states() {
         search.add(state.key.as_str(), effort)?;
     }
     search.put(out)
@@ -161,7 +166,7 @@ fn put_not_last(out: &mut String, standing: &Standing<'_>) -> Result<(), AllocEr
         return out.push_str("States.ALL has to stand alone in its ErrorEquals");
     }
     out.push_str("States.ALL has to be in the last ")?;
-    out.push_str(match standing.object_sort {
+    out.push_str(match standing.object_sort() {
         Sort::Catcher => "catcher: those behind it are never asked",
         _ => "retrier: those behind it are never asked",
     })

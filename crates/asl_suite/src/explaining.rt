@@ -111,7 +111,7 @@ fn is_unanswered(case: &Case, invocation: &Invocation) -> bool
 }
 
 /// The last invocation that failed, if the execution failed and the case has no answer for it. The error is that memory ran out.
-fn unanswered(
+pub fn unanswered(
     alloc: Global,
     case: &Case,
     events: &[Event],

@@ -13,7 +13,7 @@ mod running;
 mod suite;
 
 pub use case_report::{CaseReport, Status, Verdict};
-pub use explaining::explain;
+pub use explaining::{explain, unanswered};
 pub use reason::{Invocation, Reason};
 pub use reporting::{all_passed, report};
 pub use running::run_case;

@@ -1,9 +1,7 @@
-use Rattle.std.proofs.Common.{None, ◌∙◌, sym, subst}
-use Rattle.asl_explore.specs.declared.orders.Orders.{Orders}
-use Rattle.asl_explore.specs.Orders.{IsWhole}
-use Rattle.asl_explore.specs.Searches.{outcomes_of}
-use Rattle.asl_explore.specs.Calls.{AreCounted}
+use Rattle.std.proofs.Common.{None, ◌∙◌, ap}
+use Rattle.std.specs.Prelude.{List, ℕ}
 use Rattle.asl_cli.specs.Faults.{read_texts}
+use Rattle.asl_cli.specs.Noting.{notes_for}
 use Rattle.asl_cli.proofs.exploring.explore_files.Goals as goal
 
 pub returns-in-Ok-clause-found : goal.returns-in-Ok-clause-found
@@ -16,9 +14,10 @@ returns-in-Ok-clause-found g c = record {
   };
   shown = c.in-Ok.ensures.shown;
   once = c.in-Ok.ensures.once;
-  orders = c.in-Ok.ensures.orders ∙ c.orders_for-orders.ensures;
-  whole = λ t. subst (λ (o : Orders). IsWhole o c.in_ok-setup.setup (outcomes_of c.in-Ok.explored.found.items)) (sym c.in-Ok.ensures.orders) (c.in-Ok.ensures.whole t);
+  orders = c.in-Ok.ensures.orders;
+  whole = c.in-Ok.ensures.whole;
   late = c.in-Ok.ensures.late;
-  calls = λ w t. subst (λ (o : Orders). AreCounted o c.in_ok-setup.setup (outcomes_of c.in-Ok.explored.found.items) c.in-Ok.explored.calls.items) (sym c.in-Ok.ensures.orders) (c.in-Ok.ensures.calls w t);
+  calls = c.in-Ok.ensures.calls;
   states = c.in-Ok.ensures.states;
+  notes_are = c.in-Ok.ensures.notes ∙ ap (λ (t : List ℕ). notes_for c.args.words.now.witness t c.in_ok-setup.setup c.in-Ok.searched.explored.found.items) c.as_str.ensures.value;
 }

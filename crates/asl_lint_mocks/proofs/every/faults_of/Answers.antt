@@ -3,7 +3,7 @@ use Rattle.std.specs.Prelude.{codes, is_some}
 use Rattle.asl_json.specs.Distinct.{Members}
 use Rattle.asl_json.specs.View.{data_of, members_of}
 use Rattle.asl_mock.specs.Answers.{responses_of}
-use Rattle.asl_mock.specs.Faults.{lost_in_machine}
+use Rattle.asl_lint_mocks.specs.Lost.{lost_in_machine}
 use Rattle.asl_mock.specs.Places.{in_each}
 use Rattle.asl_mock.specs.Tables.{members_at, value_for}
 use Rattle.asl_lint_mocks.specs.Places.{AreAt, numbers_of}

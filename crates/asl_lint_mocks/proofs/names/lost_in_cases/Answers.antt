@@ -1,7 +1,7 @@
 use Rattle.std.proofs.Common.{subst}
 use Rattle.asl_json.specs.Distinct.{Members}
 use Rattle.asl_mock.specs.Places.{in_each}
-use Rattle.asl_mock.specs.Faults.{lost_name, lost_in_case}
+use Rattle.asl_lint_mocks.specs.Lost.{lost_name, lost_in_case}
 use Rattle.asl_lint_mocks.specs.Places.{AreAt, numbers_of}
 use Rattle.asl_lint_mocks.proofs.Each.{each_more}
 use Rattle.asl_lint_mocks.proofs.names.lost_in_cases.Goals as goal

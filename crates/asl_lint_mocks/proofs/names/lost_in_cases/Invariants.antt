@@ -3,7 +3,7 @@ use Rattle.asl_json.specs.View.{members_of}
 use Rattle.asl_mock.specs.Answers.{Response}
 use Rattle.asl_mock.specs.Places.{in_each}
 use Rattle.asl_mock.specs.Tables.{Named}
-use Rattle.asl_mock.specs.Faults.{lost_in_case}
+use Rattle.asl_lint_mocks.specs.Lost.{lost_in_case}
 use Rattle.asl_lint_mocks.specs.Places.{AreAt, numbers_of}
 use Rattle.asl_lint_mocks.specs.private.Known.{HasNames}
 use Rattle.asl_lint_mocks.proofs.names.lost_in_cases.Given as goal

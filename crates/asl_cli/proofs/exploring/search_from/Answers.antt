@@ -1,0 +1,15 @@
+use Rattle.std.proofs.Common.{◌∙◌, sym, subst}
+use Rattle.asl_explore.specs.declared.orders.Orders.{Orders}
+use Rattle.asl_explore.specs.Orders.{IsWhole}
+use Rattle.asl_explore.specs.Searches.{outcomes_of}
+use Rattle.asl_explore.specs.Calls.{AreCounted}
+use Rattle.asl_cli.proofs.exploring.search_from.Goals as goal
+
+pub returns-clause-orders : goal.returns-clause-orders
+returns-clause-orders g c = c.in_ok-explored.ensures.orders ∙ c.orders_for-orders.ensures
+
+pub returns-clause-whole : goal.returns-clause-whole
+returns-clause-whole g c = λ t. subst (λ (o : Orders). IsWhole o c.args.setup (outcomes_of c.in_ok-explored.explored.found.items)) (sym c.in_ok-explored.ensures.orders) (c.in_ok-explored.ensures.whole t)
+
+pub returns-clause-calls : goal.returns-clause-calls
+returns-clause-calls g c = λ w t. subst (λ (o : Orders). AreCounted o c.args.setup (outcomes_of c.in_ok-explored.explored.found.items) c.in_ok-explored.explored.calls.items) (sym c.in_ok-explored.ensures.orders) (c.in_ok-explored.ensures.calls w t)

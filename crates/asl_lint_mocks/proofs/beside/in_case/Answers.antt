@@ -1,0 +1,9 @@
+use Rattle.std.proofs.Common.{◌∙◌, ap}
+use Rattle.asl_mock.specs.Form.{unless}
+use Rattle.asl_lint_mocks.specs.Places.{numbers_of}
+use Rattle.asl_lint_mocks.specs.private.Fitting.{fitting}
+use Rattle.asl_lint_mocks.proofs.Each.{each_more}
+use Rattle.asl_lint_mocks.proofs.beside.in_case.Goals as goal
+
+pub loop-i-preserved : goal.loop-i-preserved
+loop-i-preserved c = each_more (λ s. unless (fitting c.args.sort c.args.known.now s.0)) c.args.states.now c.loop-i.i c.index-states-i.result (numbers_of c.loop-i.all.items) (numbers_of c.in_ok-own.own.items) (numbers_of c.add_under.new.all.items) c.loop-i-test.true c.index-states-i.is c.loop-i.invariant (c.in_ok-own.ensures _ ∙ ap unless (c.fits.ensures ∙ ap (fitting c.args.sort c.args.known.now) c.as_str.ensures)) c.in_ok-add_under.ensures

@@ -1,0 +1,83 @@
+-- Which answers of its test case a run lacked, or the outcomes of a search.
+use Rattle.std.specs.Prelude.{ℕ, List, [], ◌∷◌, ◌++◌, ◌≡◌, Bool, true, false, if◌then◌else◌, Option, Some, None, codes, map}
+use Rattle.std.specs.Fmt.{decimal}
+use Rattle.std.specs.List.{flat_map}
+use Rattle.asl_json.specs.Compact.{quoted}
+use Rattle.asl_def_table.specs.Members.{is_among}
+use Rattle.asl_terminal.specs.Shown.{shown}
+use Rattle.asl_run_setup.specs.declared.setup.Setup.{Setup}
+use Rattle.asl_run_setup.specs.declared.step_at.StepAt.{StepAt}
+use Rattle.asl_run_setup.specs.Chosen.{case_name}
+use Rattle.asl_run_setup.specs.Emulations.{Texts, Accepts}
+use Rattle.asl_run_world.specs.World.{World}
+use Rattle.asl_run_world.specs.declared.outcome.Outcome.{Outcome}
+use Rattle.asl_run_world.specs.declared.outcome.Outcome.TheVariants.{Running, Succeeded, Failed, TimedOut}
+use Rattle.asl_exec.specs.RunText.{world_by}
+use Rattle.asl_exec.specs.Steps.{opening, world_after}
+use Rattle.asl_explore.specs.declared.found.Found.{Found}
+use Rattle.asl_suite.specs.Reasons.{unanswered}
+use Rattle.asl_suite.specs.declared.reason.Invocation.{Invocation}
+
+-- ---- a line: `note: case "shipped" has no answer 2 of the Task "Charge card"`
+
+abbrev pub case_words : List ℕ → List ℕ
+case_words [] = codes "no case is chosen, so there is"
+case_words (b ∷ name) = codes "case " ++ (quoted (b ∷ name) ++ codes " has")
+
+abbrev pub answer_words : Invocation → List ℕ
+answer_words v =
+    codes " no answer " ++ (decimal v.number ++ (codes " of the Task " ++ quoted v.state))
+
+abbrev pub note_words : List ℕ → Invocation → List ℕ
+note_words chosen v = case_words (case_name chosen) ++ answer_words v
+
+abbrev pub note_line : List ℕ → Invocation → List ℕ
+note_line chosen v = codes "note: " ++ (shown (note_words chosen v) ++ 10 ∷ [])
+
+abbrev pub note_text : List ℕ → Option Invocation → List ℕ
+note_text chosen None = []
+note_text chosen (Some v) = note_line chosen v
+
+-- in a world: the last invocation that failed, if the execution failed and its case, which was chosen by
+-- these words, has no answer for it
+abbrev pub note_in : List ℕ → Setup → World → List ℕ
+note_in chosen s w = note_text chosen (unanswered s.case w.events w.outcome)
+
+-- ---- of a run
+
+-- of the run that the texts spell; where no file names steps, those that come next are taken, at most
+-- so many
+pub record IsNoteOf (t : Texts) (limit : ℕ) (note : List ℕ) : Type 0 where
+  pub setup : Setup
+  pub steps : Option (List StepAt)
+  pub accepted : Accepts t setup steps
+  pub note_is : note ≡ note_in t.chosen setup (world_by limit setup (opening setup) steps)
+
+-- ---- of a search
+
+abbrev pub if_failed : Outcome → List ℕ → List ℕ
+if_failed (Failed e) t = t
+if_failed Running t = []
+if_failed (Succeeded x) t = []
+if_failed TimedOut t = []
+
+-- of an outcome, by the steps that end in it
+abbrev pub note_of_found : List ℕ → Setup → Found → List ℕ
+note_of_found chosen s f =
+    if_failed f.outcome (note_in chosen s (world_after s (opening s) f.steps.items))
+
+-- a line behind others, if it isn't among them
+abbrev pub with_line : List (List ℕ) → List ℕ → List (List ℕ)
+with_line ls [] = ls
+with_line ls (b ∷ bs) = if is_among (b ∷ bs) ls then ls else ls ++ (b ∷ bs) ∷ []
+
+abbrev pub with_lines : List (List ℕ) → List (List ℕ) → List (List ℕ)
+with_lines ls [] = ls
+with_lines ls (n ∷ ns) = with_lines (with_line ls n) ns
+
+-- of the outcomes in turn, each line once
+abbrev pub search_notes : List ℕ → Setup → List Found → List (List ℕ)
+search_notes chosen s fs = with_lines [] (map (note_of_found chosen s) fs)
+
+abbrev pub notes_text : List (List ℕ) → List ℕ
+notes_text ls = flat_map (λ (l : List ℕ). l) ls

@@ -1,0 +1,103 @@
+// A line that tells which answer was lacking.
+ghost use Rattle.std.specs.Prelude.{◌≡◌, ◌++◌, IfOk, OnOk, string_bytes};
+ghost use Rattle.std.specs.Fmt.{decimal};
+ghost use Rattle.asl_run_setup.specs.Chosen.{case_name};
+ghost use Rattle.asl_exec.specs.Views.{setup_of, world_of};
+ghost use Rattle.asl_run_notes.specs.Notes.{answer_words, case_words, note_in, note_line, note_text, note_words};
+
+use asl_exec::Execution;
+use asl_json::put_quoted;
+use asl_suite::{Invocation, unanswered};
+use asl_terminal::put_shown;
+use itoa::Buffer;
+use std::alloc::{AllocError, Global};
+
+/// The name of the case that is chosen.
+fn case_name(chosen: &str) -> &str
+    ensures { result.now ≡ case_name chosen.now }
+{
+    match chosen.split_once('#') {
+        Some((_, case)) => case,
+        None => "",
+    }
+}
+
+fn put_case(out: &mut String, case: &str) -> Result<(), AllocError>
+    ensures { OnOk result (string_bytes out.new ≡ string_bytes out.old ++ case_words case.now) }
+{
+    if case.is_empty() {
+        return out.push_str("no case is chosen, so there is");
+    }
+    out.push_str("case ")?;
+    put_quoted(out, case)?;
+    out.push_str(" has")
+}
+
+fn put_number(out: &mut String, number: u64) -> Result<(), AllocError>
+    ensures { OnOk result (string_bytes out.new ≡ string_bytes out.old ++ decimal number) }
+{
+    let mut buffer = Buffer::new();
+    out.push_str(buffer.format(number))
+}
+
+fn put_answer(out: &mut String, invocation: &Invocation) -> Result<(), AllocError>
+    ensures { OnOk result (string_bytes out.new
+        ≡ string_bytes out.old ++ answer_words invocation.now) }
+{
+    out.push_str(" no answer ")?;
+    put_number(out, invocation.number)?;
+    out.push_str(" of the Task ")?;
+    put_quoted(out, invocation.state.as_str())
+}
+
+fn put_words(out: &mut String, chosen: &str, invocation: &Invocation) -> Result<(), AllocError>
+    ensures { OnOk result (string_bytes out.new
+        ≡ string_bytes out.old ++ note_words chosen.now invocation.now) }
+{
+    put_case(out, case_name(chosen))?;
+    put_answer(out, invocation)
+}
+
+/// The line for an invocation. The error is that memory ran out.
+fn line_of(alloc: Global, chosen: &str, invocation: &Invocation) -> Result<String, AllocError>
+    ensures { IfOk result (λ t. string_bytes t ≡ note_line chosen.now invocation.now) }
+{
+    let mut words = String::new(alloc);
+    put_words(&mut words, chosen, invocation)?;
+    let mut line = String::from_str(alloc, "note: ")?;
+    put_shown(&mut line, words.as_str())?;
+    line.push('\n')?;
+    Ok(line)
+}
+
+fn text_of(
+    alloc: Global,
+    chosen: &str,
+    invocation: &Option<Invocation>,
+) -> Result<String, AllocError>
+    ensures { IfOk result (λ t. string_bytes t ≡ note_text chosen.now invocation.now) }
+{
+    match invocation {
+        Some(invocation) => line_of(alloc, chosen, invocation),
+        None => Ok(String::new(alloc)),
+    }
+}
+
+/// The line for the answer that an execution lacks, of a case that was chosen by these words; empty where it lacks none. The error is that memory
+/// ran out.
+pub(crate) fn note_in(
+    alloc: Global,
+    chosen: &str,
+    execution: &Execution,
+) -> Result<String, AllocError>
+    ensures { IfOk result (λ t. string_bytes t
+        ≡ note_in chosen.now (setup_of execution.now) (world_of execution.now)) }
+{
+    let lacking = unanswered(
+        alloc,
+        &execution.setup().case,
+        execution.history().events(),
+        execution.outcome(),
+    )?;
+    text_of(alloc, chosen, &lacking)
+}
