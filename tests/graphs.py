@@ -3,8 +3,8 @@ import re
 from typing import NamedTuple
 
 ID = r"[A-Za-z0-9_]+"
-# A label: ASCII letters, digits, space, full stop, hyphen and underscore, whatever is beyond ASCII, and characters by their numbers.
-MERMAID_LABEL = r"(?:[A-Za-z0-9 ._-]|[^\x00-\x7f]|#[0-9]+;)*"
+# A label: ASCII letters, digits, space, full stop, hyphen and underscore, whatever is beyond ASCII and shows, and characters by their numbers.
+MERMAID_LABEL = r"(?:[A-Za-z0-9 ._-]|[^\x00-\x9f\xad\u061c\u200b-\u200f\u2028-\u202e\u2060-\u206f\ufeff\ufff9-\ufffb]|#[0-9]+;)*"
 DOT_LABEL = MERMAID_LABEL.replace("#", "&#")
 
 LINES = {

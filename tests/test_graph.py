@@ -12,12 +12,12 @@ from program import TOP, ProgramTest, answered, run_program
 LANGUAGES = ["mermaid", "dot"]
 
 # Names that mean something in one of the languages, and some that look alike.
-NAMES = ['"', "\\", "end", "a b", "a_b", "a_32_b", "<b>", "&amp;", "#35;", "%%", "style: x#1;", "x -->|y| z", "é", "😀", "\u2028", "`", "-", "'"]
+NAMES = ['"', "\\", "end", "a b", "a_b", "a_32_b", "<b>", "&amp;", "#35;", "%%", "style: x#1;", "x -->|y| z", "é", "😀", "\u2028", "left\u202egpj\u200f\u2066", "next\x85line", "`", "-", "'"]
 
 
 def shown(name):
     """A name as a label shows it: a control is the replacement character."""
-    return "".join("\ufffd" if ord(c) < 32 or ord(c) == 127 else c for c in name)
+    return "".join("\ufffd" if ord(c) < 32 or 127 <= ord(c) <= 159 else c for c in name)
 
 
 def drawn(definition, language):

@@ -1,23 +1,24 @@
 -- Names in graphs: as labels, and as identifiers.
-use Rattle.std.specs.Prelude.{ℕ, Bool, List, [], ◌∷◌, ◌++◌, ◌||◌, ◌==◌, nat_le, nat_lt, if◌then◌else◌, codes}
+use Rattle.std.specs.Prelude.{ℕ, Bool, not, List, [], ◌∷◌, ◌++◌, ◌&&◌, ◌||◌, ◌==◌, nat_le, nat_lt, if◌then◌else◌, codes}
 use Rattle.std.specs.List.{flat_map}
 use Rattle.std.specs.Str.{chars}
 use Rattle.std.specs.Char.{encode_utf8, is_ascii_alphanumeric}
 use Rattle.std.specs.Fmt.{decimal}
+use Rattle.asl_terminal.specs.Shown.{is_within, is_hidden}
 use Rattle.asl_graph.specs.declared.language.Language.{Language}
 use Rattle.asl_graph.specs.declared.language.Language.TheVariants.{Mermaid, Dot}
 
 -- ---- labels
 
--- ASCII letters and digits, what is beyond ASCII, the space, the full stop, the hyphen and the
--- underscore
+-- ASCII letters and digits, what is beyond ASCII and shows, the space, the full stop, the hyphen and
+-- the underscore
 abbrev pub is_kept : ℕ → Bool
 is_kept c =
     is_ascii_alphanumeric c
-    || (nat_le 128 c || ((c == 32) || ((c == 46) || ((c == 45) || (c == 95)))))
+    || ((nat_le 128 c && not (is_hidden c)) || ((c == 32) || ((c == 46) || ((c == 45) || (c == 95)))))
 
 abbrev pub is_control : ℕ → Bool
-is_control c = nat_lt c 32 || (c == 127)
+is_control c = nat_lt c 32 || is_within 127 159 c
 
 abbrev pub entity_lead : Language → List ℕ
 entity_lead Mermaid = codes "#"
@@ -27,7 +28,7 @@ entity_lead Dot = codes "&#"
 abbrev pub entity : Language → ℕ → List ℕ
 entity l c = entity_lead l ++ (decimal c ++ 59 ∷ [])
 
--- a control is shown as U+FFFD, the replacement character
+-- a control is shown as U+FFFD, the replacement character; what doesn't show otherwise, by its number
 abbrev pub shown_char : Language → ℕ → List ℕ
 shown_char l c =
     if is_kept c then encode_utf8 c else if is_control c then encode_utf8 65533 else entity l c

@@ -4,6 +4,7 @@ ghost use Rattle.std.specs.Fmt.{decimal};
 ghost use Rattle.asl_graph.specs.Names.{is_kept, is_control, entity_lead, entity, shown_char, shown, word_char, word, state_id, box_key};
 
 use crate::language::Language;
+use asl_terminal::is_hidden;
 use itoa::Buffer;
 use std::alloc::AllocError;
 
@@ -20,7 +21,7 @@ fn is_kept(character: char) -> bool
     ensures { result ≡ is_kept character }
 {
     character.is_ascii_alphanumeric()
-        || u32::from(character) >= 128
+        || (u32::from(character) >= 128 && !is_hidden(character))
         || character == ' '
         || character == '.'
         || character == '-'
@@ -30,7 +31,8 @@ fn is_kept(character: char) -> bool
 fn is_control(character: char) -> bool
     ensures { result ≡ is_control character }
 {
-    u32::from(character) < 32 || u32::from(character) == 127
+    let c = u32::from(character);
+    c < 32 || (127 <= c && c <= 159)
 }
 
 /// What stands before the number of a character in a label.
