@@ -1,5 +1,5 @@
 -- The lines of a graph, in both languages.
-use Rattle.std.specs.Prelude.{ℕ, List, [], ◌∷◌, ◌++◌, codes}
+use Rattle.std.specs.Prelude.{ℕ, Bool, true, false, List, [], ◌∷◌, ◌++◌, codes}
 use Rattle.asl_graph.specs.declared.language.Language.{Language}
 use Rattle.asl_graph.specs.declared.language.Language.TheVariants.{Mermaid, Dot}
 use Rattle.asl_graph.specs.Names.{shown, state_id, box_key}
@@ -15,10 +15,6 @@ ending Mermaid = []
 ending Dot = codes "}" ++ 10 ∷ []
 
 -- ---- pieces
-
-unfoldable pub arrow : Language → List ℕ
-arrow Mermaid = codes " --> "
-arrow Dot = codes " -> "
 
 unfoldable pub line_end : Language → List ℕ
 line_end Mermaid = 10 ∷ []
@@ -49,15 +45,40 @@ state_line l name kind mark =
 
 -- ---- transitions
 
-abbrev pub plain_line : Language → List ℕ → List ℕ → List ℕ
-plain_line l from to = state_id from ++ (arrow l ++ (state_id to ++ line_end l))
+-- thick where it was taken
+unfoldable pub arrow : Language → Bool → List ℕ
+arrow Mermaid false = codes " --> "
+arrow Mermaid true = codes " ==> "
+arrow Dot false = codes " -> "
+arrow Dot true = codes " -> "
+
+unfoldable pub edge_end : Language → Bool → List ℕ
+edge_end Mermaid false = 10 ∷ []
+edge_end Mermaid true = 10 ∷ []
+edge_end Dot false = codes ";" ++ 10 ∷ []
+edge_end Dot true = codes " [penwidth=4];" ++ 10 ∷ []
+
+abbrev pub plain_line : Language → Bool → List ℕ → List ℕ → List ℕ
+plain_line l taken from to =
+    state_id from ++ (arrow l taken ++ (state_id to ++ edge_end l taken))
+
+-- what stands before a label in Mermaid
+unfoldable pub label_arrow : Bool → List ℕ
+label_arrow false = codes " -->|\""
+label_arrow true = codes " ==>|\""
+
+-- what stands behind one in DOT
+unfoldable pub label_end : Bool → List ℕ
+label_end false = codes "\"];" ++ 10 ∷ []
+label_end true = codes "\", penwidth=4];" ++ 10 ∷ []
 
 -- a transition with a label, which is shown already
-abbrev pub labelled_line : Language → List ℕ → List ℕ → List ℕ → List ℕ
-labelled_line Mermaid from label to =
-    state_id from ++ (codes " -->|\"" ++ (label ++ (codes "\"| " ++ (state_id to ++ 10 ∷ []))))
-labelled_line Dot from label to =
-    state_id from ++ (codes " -> " ++ (state_id to ++ (codes " [label=\"" ++ (label ++ (codes "\"];" ++ 10 ∷ [])))))
+abbrev pub labelled_line : Language → Bool → List ℕ → List ℕ → List ℕ → List ℕ
+labelled_line Mermaid taken from label to =
+    state_id from ++ (label_arrow taken ++ (label ++ (codes "\"| " ++ (state_id to ++ 10 ∷ []))))
+labelled_line Dot taken from label to =
+    state_id from
+    ++ (codes " -> " ++ (state_id to ++ (codes " [label=\"" ++ (label ++ label_end taken))))
 
 -- ---- where a machine begins
 
@@ -66,9 +87,10 @@ mark_label Mermaid = codes "((\" \"))"
 mark_label Dot = codes " [shape=point]"
 
 -- the mark with this identifier, and from it to the first state
-abbrev pub begin_lines : Language → List ℕ → List ℕ → List ℕ
-begin_lines l mark first =
-    (mark ++ (mark_label l ++ line_end l)) ++ (mark ++ (arrow l ++ (state_id first ++ line_end l)))
+abbrev pub begin_lines : Language → Bool → List ℕ → List ℕ → List ℕ
+begin_lines l taken mark first =
+    (mark ++ (mark_label l ++ line_end l))
+    ++ (mark ++ (arrow l taken ++ (state_id first ++ edge_end l taken)))
 
 -- the mark of the machine with this number inside a state
 abbrev pub inner_mark : List ℕ → ℕ → List ℕ

@@ -1,12 +1,13 @@
--- The graph of a definition with marks on states.
+-- The graph of a definition with marks on states and transitions.
 use Rattle.std.specs.Prelude.{ℕ, List, [], ◌∷◌, ◌++◌, codes}
 use Rattle.std.specs.List.{flat_map}
 use Rattle.asl_json.specs.Data.{Data}
 use Rattle.asl_graph.specs.declared.language.Language.{Language}
 use Rattle.asl_graph.specs.declared.language.Language.TheVariants.{Mermaid, Dot}
+use Rattle.asl_graph.specs.declared.edges.Edge.{Edge}
 use Rattle.asl_graph.specs.Names.{state_id}
-use Rattle.asl_graph.specs.Lines.{heading, ending, begin_lines}
-use Rattle.asl_graph.specs.Graphs.{text_at, machine_lines, outer_mark}
+use Rattle.asl_graph.specs.Lines.{ending}
+use Rattle.asl_graph.specs.Graphs.{lines_of}
 
 -- Mermaid names the style of marked states once
 unfoldable pub mark_style : Language → List ℕ
@@ -28,9 +29,6 @@ mark_line l name = marked_lead l ++ (state_id name ++ marked_end l)
 abbrev pub mark_lines : Language → List (List ℕ) → List ℕ
 mark_lines l names = mark_style l ++ flat_map (mark_line l) names
 
--- the graph, with the states of these names marked behind all others
-abbrev pub marked_text : Language → List (List ℕ) → Data → List ℕ
-marked_text l names d =
-    heading l
-    ++ (begin_lines l outer_mark (text_at (codes "StartAt") d)
-    ++ (machine_lines l d ++ (mark_lines l names ++ ending l)))
+-- the graph, with these transitions thick, and the states of these names marked behind all others
+abbrev pub marked_text : Language → List (List ℕ) → List Edge → Data → List ℕ
+marked_text l names es d = lines_of l es d ++ (mark_lines l names ++ ending l)

@@ -4,10 +4,11 @@ ghost use Rattle.std.specs.Fmt.{decimal};
 ghost use Rattle.asl_json.specs.Data.{chain};
 ghost use Rattle.asl_json.specs.View.{data_of, items_of};
 ghost use Rattle.asl_graph.specs.Names.{shown};
-ghost use Rattle.asl_graph.specs.Graphs.{text_in, text_at, items_in, items_at, retry_mark, own_line, next_line, default_line, rule_lines, errors_shown, catcher_lines, state_lines};
+ghost use Rattle.asl_graph.specs.Graphs.{text_in, text_at, items_in, items_at, retry_mark, own_line, next_line, default_line, rule_lines, errors_shown, catcher_lines, state_lines, first_lines};
 
+use crate::edges::{Edge, Way, is_taken};
 use crate::language::Language;
-use crate::lines::{put_labelled_line, put_plain_line, put_state_line};
+use crate::lines::{put_begin_lines, put_labelled_line, put_plain_line, put_state_line};
 use crate::naming::{put_number, put_shown};
 use asl_json::Json;
 use std::alloc::{AllocError, Global};
@@ -23,7 +24,7 @@ fn text_in<'a>(value: Option<&'a Json>) -> &'a str
 }
 
 /// The text of the member with this key; empty where it is none.
-pub(crate) fn text_at<'a>(value: &'a Json, key: &str) -> &'a str
+fn text_at<'a>(value: &'a Json, key: &str) -> &'a str
     ensures { result.now ≡ text_at key.now (data_of value.now) }
 {
     text_in(value.get(key))
@@ -73,14 +74,18 @@ fn put_own_line(
 fn put_next_line(
     out: &mut String,
     language: Language,
+    edges: &[Edge],
     name: &str,
     next: Option<&Json>,
 ) -> Result<(), AllocError>
     ensures { OnOk result (string_bytes out.new ≡ string_bytes out.old
-        ++ next_line language name.now (option_map (λ v. data_of v.now) next.entry)) }
+        ++ next_line language edges.now name.now (option_map (λ v. data_of v.now) next.entry)) }
 {
     match next {
-        Some(Json::Text(next)) => put_plain_line(out, language, name, next.as_str()),
+        Some(Json::Text(next)) => {
+            let taken = is_taken(edges, name, Way::Next);
+            put_plain_line(out, language, taken, name, next.as_str())
+        }
         _ => Ok(()),
     }
 }
@@ -88,14 +93,18 @@ fn put_next_line(
 fn put_default_line(
     out: &mut String,
     language: Language,
+    edges: &[Edge],
     name: &str,
     next: Option<&Json>,
 ) -> Result<(), AllocError>
     ensures { OnOk result (string_bytes out.new ≡ string_bytes out.old
-        ++ default_line language name.now (option_map (λ v. data_of v.now) next.entry)) }
+        ++ default_line language edges.now name.now (option_map (λ v. data_of v.now) next.entry)) }
 {
     match next {
-        Some(Json::Text(next)) => put_labelled_line(out, language, name, "Default", next.as_str()),
+        Some(Json::Text(next)) => {
+            let taken = is_taken(edges, name, Way::Default);
+            put_labelled_line(out, language, taken, name, "Default", next.as_str())
+        }
         _ => Ok(()),
     }
 }
@@ -114,15 +123,18 @@ fn put_rule_lines(
     alloc: Global,
     out: &mut String,
     language: Language,
+    edges: &[Edge],
     name: &str,
     rules: &[Json],
 ) -> Result<(), AllocError>
     ensures { OnOk result (string_bytes out.new ≡ string_bytes out.old
-        ++ rule_lines language name.now 0 (chain (items_of rules.now))) }
+        ++ rule_lines language edges.now name.now 0 (chain (items_of rules.now))) }
 {
     for (number, rule) in rules.iter().enumerate() {
         let label = rule_label(alloc, number)?;
-        put_labelled_line(out, language, name, label.as_str(), text_at(rule, "Next"))?;
+        let taken = is_taken(edges, name, Way::Rule(number));
+        let next = text_at(rule, "Next");
+        put_labelled_line(out, language, taken, name, label.as_str(), next)?;
     }
     Ok(())
 }
@@ -160,23 +172,37 @@ fn put_catcher_lines(
     alloc: Global,
     out: &mut String,
     language: Language,
+    edges: &[Edge],
     name: &str,
     catchers: &[Json],
 ) -> Result<(), AllocError>
     ensures { OnOk result (string_bytes out.new ≡ string_bytes out.old
-        ++ catcher_lines language name.now (chain (items_of catchers.now))) }
+        ++ catcher_lines language edges.now name.now 0 (chain (items_of catchers.now))) }
 {
-    for catcher in catchers {
+    for (number, catcher) in catchers.iter().enumerate() {
         let label = catcher_label(alloc, language, items_at(catcher, "ErrorEquals"))?;
-        put_labelled_line(
-            out,
-            language,
-            name,
-            label.as_str(),
-            text_at(catcher, "Next"),
-        )?;
+        let taken = is_taken(edges, name, Way::Catcher(number));
+        let next = text_at(catcher, "Next");
+        put_labelled_line(out, language, taken, name, label.as_str(), next)?;
     }
     Ok(())
+}
+
+/// Appends the mark where a machine begins, with this identifier, and the line from it to the first state. The error is that memory ran
+/// out.
+pub(crate) fn put_first_lines(
+    out: &mut String,
+    language: Language,
+    edges: &[Edge],
+    mark: &str,
+    machine: &Json,
+) -> Result<(), AllocError>
+    ensures { OnOk result (string_bytes out.new ≡ string_bytes out.old
+        ++ first_lines language edges.now mark.now (text_at (codes "StartAt") (data_of machine.now))) }
+{
+    let first = text_at(machine, "StartAt");
+    let taken = is_taken(edges, first, Way::Start);
+    put_begin_lines(out, language, taken, mark, first)
 }
 
 /// Appends the lines of a state: its own, and one for each transition. The error is that memory ran out.
@@ -184,15 +210,23 @@ pub(crate) fn put_state_lines(
     alloc: Global,
     out: &mut String,
     language: Language,
+    edges: &[Edge],
     name: &str,
     state: &Json,
 ) -> Result<(), AllocError>
     ensures { OnOk result (string_bytes out.new
-        ≡ string_bytes out.old ++ state_lines language name.now (data_of state.now)) }
+        ≡ string_bytes out.old ++ state_lines language edges.now name.now (data_of state.now)) }
 {
     put_own_line(out, language, name, state)?;
-    put_next_line(out, language, name, state.get("Next"))?;
-    put_rule_lines(alloc, out, language, name, items_at(state, "Choices"))?;
-    put_default_line(out, language, name, state.get("Default"))?;
-    put_catcher_lines(alloc, out, language, name, items_at(state, "Catch"))
+    put_next_line(out, language, edges, name, state.get("Next"))?;
+    put_rule_lines(
+        alloc,
+        out,
+        language,
+        edges,
+        name,
+        items_at(state, "Choices"),
+    )?;
+    put_default_line(out, language, edges, name, state.get("Default"))?;
+    put_catcher_lines(alloc, out, language, edges, name, items_at(state, "Catch"))
 }

@@ -2,10 +2,12 @@
 //! boxes.
 //!
 //! Modules in reading order: `language` has the languages; `naming` writes names so that both languages take them, `lines` the lines of a
-//! graph, `leading` those of a state's transitions, and `walking` those of all states, `marking` marks states; `drawing` is the whole text.
+//! graph, `edges` are the transitions that a run took, `leading` writes the lines of a state's transitions, and `walking` those of all
+//! states; `marking` marks states, and `drawing` is the whole text.
 #![tactic(auto)]
 
 mod drawing;
+mod edges;
 mod language;
 mod leading;
 mod lines;
@@ -14,4 +16,5 @@ mod naming;
 mod walking;
 
 pub use drawing::{graph, marked_graph};
+pub use edges::{Edge, Way, is_taken};
 pub use language::Language;

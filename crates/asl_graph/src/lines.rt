@@ -1,6 +1,6 @@
 // The lines of a graph.
 ghost use Rattle.std.specs.Prelude.{◌≡◌, ◌++◌, OnOk, string_bytes};
-ghost use Rattle.asl_graph.specs.Lines.{heading, ending, arrow, line_end, label_open, label_close, label_break, state_label, state_line, plain_line, labelled_line, mark_label, begin_lines, inner_mark, box_open, box_label, box_label_end, box_close, box_heading, box_ending, dotted, dotted_end};
+ghost use Rattle.asl_graph.specs.Lines.{heading, ending, arrow, line_end, edge_end, label_arrow, label_end, label_open, label_close, label_break, state_label, state_line, plain_line, labelled_line, mark_label, begin_lines, inner_mark, box_open, box_label, box_label_end, box_close, box_heading, box_ending, dotted, dotted_end};
 
 use crate::language::Language;
 use crate::naming::{put_box_key, put_shown, put_state_id};
@@ -27,12 +27,42 @@ pub(crate) fn ending(language: Language) -> &'static str
 }
 
 #[tactic(auto, unfolding(crate::specs::Lines::arrow))]
-fn arrow(language: Language) -> &'static str
-    ensures { result.now ≡ arrow language }
+fn arrow(language: Language, taken: bool) -> &'static str
+    ensures { result.now ≡ arrow language taken }
 {
-    match language {
-        Language::Mermaid => " --> ",
-        Language::Dot => " -> ",
+    match (language, taken) {
+        (Language::Mermaid, false) => " --> ",
+        (Language::Mermaid, true) => " ==> ",
+        (Language::Dot, _) => " -> ",
+    }
+}
+
+#[tactic(auto, unfolding(crate::specs::Lines::edge_end))]
+fn edge_end(language: Language, taken: bool) -> &'static str
+    ensures { result.now ≡ edge_end language taken }
+{
+    match (language, taken) {
+        (Language::Mermaid, _) => "\n",
+        (Language::Dot, false) => ";\n",
+        (Language::Dot, true) => " [penwidth=4];\n",
+    }
+}
+
+#[tactic(auto, unfolding(crate::specs::Lines::label_arrow))]
+fn label_arrow(taken: bool) -> &'static str
+    ensures { result.now ≡ label_arrow taken }
+{
+    if taken { " ==>|\"" } else { " -->|\"" }
+}
+
+#[tactic(auto, unfolding(crate::specs::Lines::label_end))]
+fn label_end(taken: bool) -> &'static str
+    ensures { result.now ≡ label_end taken }
+{
+    if taken {
+        "\", penwidth=4];\n"
+    } else {
+        "\"];\n"
     }
 }
 
@@ -108,60 +138,74 @@ pub(crate) fn put_state_line(
     out.push_str(line_end(language))
 }
 
-/// Appends the line of a transition that needs no label.
+/// Appends the line of a transition that needs no label; a thick one where it was taken.
 pub(crate) fn put_plain_line(
     out: &mut String,
     language: Language,
+    taken: bool,
     from: &str,
     to: &str,
 ) -> Result<(), AllocError>
     ensures { OnOk result (string_bytes out.new
-        ≡ string_bytes out.old ++ plain_line language from.now to.now) }
+        ≡ string_bytes out.old ++ plain_line language taken from.now to.now) }
 {
     put_state_id(out, from)?;
-    out.push_str(arrow(language))?;
+    out.push_str(arrow(language, taken))?;
     put_state_id(out, to)?;
-    out.push_str(line_end(language))
+    out.push_str(edge_end(language, taken))
 }
 
-fn put_in_mermaid(out: &mut String, from: &str, label: &str, to: &str) -> Result<(), AllocError>
+fn put_in_mermaid(
+    out: &mut String,
+    taken: bool,
+    from: &str,
+    label: &str,
+    to: &str,
+) -> Result<(), AllocError>
     ensures { OnOk result (string_bytes out.new
-        ≡ string_bytes out.old ++ labelled_line Language.Mermaid from.now label.now to.now) }
+        ≡ string_bytes out.old ++ labelled_line Language.Mermaid taken from.now label.now to.now) }
 {
     put_state_id(out, from)?;
-    out.push_str(" -->|\"")?;
+    out.push_str(label_arrow(taken))?;
     out.push_str(label)?;
     out.push_str("\"| ")?;
     put_state_id(out, to)?;
     out.push('\n')
 }
 
-fn put_in_dot(out: &mut String, from: &str, label: &str, to: &str) -> Result<(), AllocError>
+fn put_in_dot(
+    out: &mut String,
+    taken: bool,
+    from: &str,
+    label: &str,
+    to: &str,
+) -> Result<(), AllocError>
     ensures { OnOk result (string_bytes out.new
-        ≡ string_bytes out.old ++ labelled_line Language.Dot from.now label.now to.now) }
+        ≡ string_bytes out.old ++ labelled_line Language.Dot taken from.now label.now to.now) }
 {
     put_state_id(out, from)?;
     out.push_str(" -> ")?;
     put_state_id(out, to)?;
     out.push_str(" [label=\"")?;
     out.push_str(label)?;
-    out.push_str("\"];\n")
+    out.push_str(label_end(taken))
 }
 
-/// Appends the line of a transition with a label, which is shown already.
+/// Appends the line of a transition with a label, which is shown already; a thick one where it was taken.
 pub(crate) fn put_labelled_line(
     out: &mut String,
     language: Language,
+    taken: bool,
     from: &str,
     label: &str,
     to: &str,
 ) -> Result<(), AllocError>
     ensures { OnOk result (string_bytes out.new
-        ≡ string_bytes out.old ++ labelled_line language from.now label.now to.now) }
+        ≡ string_bytes out.old ++ labelled_line language taken from.now label.now to.now) }
 {
     match language {
-        Language::Mermaid => put_in_mermaid(out, from, label, to),
-        Language::Dot => put_in_dot(out, from, label, to),
+        Language::Mermaid => put_in_mermaid(out, taken, from, label, to),
+        Language::Dot => put_in_dot(out, taken, from, label, to),
     }
 }
 
@@ -175,23 +219,25 @@ fn mark_label(language: Language) -> &'static str
     }
 }
 
-/// Appends the mark where a machine begins, with this identifier, and the line from it to the first state.
+/// Appends the mark where a machine begins, with this identifier, and the line from it to the first state; a thick one where it was
+/// taken.
 pub(crate) fn put_begin_lines(
     out: &mut String,
     language: Language,
+    taken: bool,
     mark: &str,
     first: &str,
 ) -> Result<(), AllocError>
     ensures { OnOk result (string_bytes out.new
-        ≡ string_bytes out.old ++ begin_lines language mark.now first.now) }
+        ≡ string_bytes out.old ++ begin_lines language taken mark.now first.now) }
 {
     out.push_str(mark)?;
     out.push_str(mark_label(language))?;
     out.push_str(line_end(language))?;
     out.push_str(mark)?;
-    out.push_str(arrow(language))?;
+    out.push_str(arrow(language, taken))?;
     put_state_id(out, first)?;
-    out.push_str(line_end(language))
+    out.push_str(edge_end(language, taken))
 }
 
 /// Appends the identifier of the mark where the machine with this number inside a state begins.

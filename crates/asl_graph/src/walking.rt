@@ -5,9 +5,10 @@ ghost use Rattle.asl_json.specs.View.{data_of, items_of, members_of};
 ghost use Rattle.asl_graph.specs.Lines.{inner_mark};
 ghost use Rattle.asl_graph.specs.Graphs.{members_in, items_in, boxed, branch_told, machine_lines, machine_part, states_lines, inner_lines, state_part, branches_lines};
 
+use crate::edges::Edge;
 use crate::language::Language;
-use crate::leading::{put_state_lines, text_at};
-use crate::lines::{put_begin_lines, put_box_ending, put_box_heading, put_inner_mark};
+use crate::leading::{put_first_lines, put_state_lines};
+use crate::lines::{put_box_ending, put_box_heading, put_inner_mark};
 use crate::naming::put_number;
 use asl_json::{Json, Member};
 use std::alloc::{AllocError, Global};
@@ -57,13 +58,21 @@ pub(crate) fn put_machine_lines(
     alloc: Global,
     out: &mut String,
     language: Language,
+    edges: &[Edge],
     machine: &Json,
 ) -> Result<(), AllocError>
     ensures { OnOk result (string_bytes out.new
-        ≡ string_bytes out.old ++ machine_lines language (data_of machine.now)) }
+        ≡ string_bytes out.old ++ machine_lines language edges.now (data_of machine.now)) }
 {
     for member in members_in(machine) {
-        put_machine_part(alloc, out, language, member.key.as_str(), &member.value)?;
+        put_machine_part(
+            alloc,
+            out,
+            language,
+            edges,
+            member.key.as_str(),
+            &member.value,
+        )?;
     }
     Ok(())
 }
@@ -73,14 +82,15 @@ fn put_machine_part(
     alloc: Global,
     out: &mut String,
     language: Language,
+    edges: &[Edge],
     key: &str,
     value: &Json,
 ) -> Result<(), AllocError>
     ensures { OnOk result (string_bytes out.new
-        ≡ string_bytes out.old ++ machine_part key.now (states_lines language (data_of value.now))) }
+        ≡ string_bytes out.old ++ machine_part key.now (states_lines language edges.now (data_of value.now))) }
 {
     if key == "States" {
-        put_states_lines(alloc, out, language, value)
+        put_states_lines(alloc, out, language, edges, value)
     } else {
         Ok(())
     }
@@ -91,15 +101,16 @@ fn put_states_lines(
     alloc: Global,
     out: &mut String,
     language: Language,
+    edges: &[Edge],
     states: &Json,
 ) -> Result<(), AllocError>
     ensures { OnOk result (string_bytes out.new
-        ≡ string_bytes out.old ++ states_lines language (data_of states.now)) }
+        ≡ string_bytes out.old ++ states_lines language edges.now (data_of states.now)) }
 {
     for member in members_in(states) {
         let name = member.key.as_str();
-        put_state_lines(alloc, out, language, name, &member.value)?;
-        put_inner_lines(alloc, out, language, name, &member.value)?;
+        put_state_lines(alloc, out, language, edges, name, &member.value)?;
+        put_inner_lines(alloc, out, language, edges, name, &member.value)?;
     }
     Ok(())
 }
@@ -110,17 +121,19 @@ fn put_inner_lines(
     alloc: Global,
     out: &mut String,
     language: Language,
+    edges: &[Edge],
     name: &str,
     state: &Json,
 ) -> Result<(), AllocError>
     ensures { OnOk result (string_bytes out.new
-        ≡ string_bytes out.old ++ inner_lines language name.now (data_of state.now)) }
+        ≡ string_bytes out.old ++ inner_lines language edges.now name.now (data_of state.now)) }
 {
     for member in members_in(state) {
         put_state_part(
             alloc,
             out,
             language,
+            edges,
             name,
             member.key.as_str(),
             &member.value,
@@ -134,19 +147,20 @@ fn put_state_part(
     alloc: Global,
     out: &mut String,
     language: Language,
+    edges: &[Edge],
     name: &str,
     key: &str,
     value: &Json,
 ) -> Result<(), AllocError>
     ensures { OnOk result (string_bytes out.new
-        ≡ string_bytes out.old ++ state_part language name.now key.now (data_of value.now)
-        (branches_lines language name.now (data_of value.now))
-        (machine_lines language (data_of value.now))) }
+        ≡ string_bytes out.old ++ state_part language edges.now name.now key.now (data_of value.now)
+        (branches_lines language edges.now name.now (data_of value.now))
+        (machine_lines language edges.now (data_of value.now))) }
 {
     if key == "Branches" {
-        put_branches(alloc, out, language, name, value)
+        put_branches(alloc, out, language, edges, name, value)
     } else if key == "Iterator" || key == "ItemProcessor" {
-        put_boxed(alloc, out, language, name, 0, " - each item", value)
+        put_boxed(alloc, out, language, edges, name, 0, " - each item", value)
     } else {
         Ok(())
     }
@@ -157,15 +171,17 @@ fn put_branches(
     alloc: Global,
     out: &mut String,
     language: Language,
+    edges: &[Edge],
     name: &str,
     branches: &Json,
 ) -> Result<(), AllocError>
     ensures { OnOk result (string_bytes out.new
-        ≡ string_bytes out.old ++ branches_lines language name.now (data_of branches.now)) }
+        ≡ string_bytes out.old ++ branches_lines language edges.now name.now (data_of branches.now)) }
 {
     for (number, branch) in items_in(branches).iter().enumerate() {
         let told = branch_told(alloc, number)?;
-        put_boxed(alloc, out, language, name, number, told.as_str(), branch)?;
+        let told = told.as_str();
+        put_boxed(alloc, out, language, edges, name, number, told, branch)?;
     }
     Ok(())
 }
@@ -176,18 +192,19 @@ fn put_boxed(
     alloc: Global,
     out: &mut String,
     language: Language,
+    edges: &[Edge],
     name: &str,
     number: usize,
     told: &str,
     machine: &Json,
 ) -> Result<(), AllocError>
     ensures { OnOk result (string_bytes out.new ≡ string_bytes out.old
-        ++ boxed language name.now number told.now (data_of machine.now)
-        (machine_lines language (data_of machine.now))) }
+        ++ boxed language edges.now name.now number told.now (data_of machine.now)
+        (machine_lines language edges.now (data_of machine.now))) }
 {
     put_box_heading(out, language, name, number, told)?;
     let mark = mark_of(alloc, name, number)?;
-    put_begin_lines(out, language, mark.as_str(), text_at(machine, "StartAt"))?;
-    put_machine_lines(alloc, out, language, machine)?;
+    put_first_lines(out, language, edges, mark.as_str(), machine)?;
+    put_machine_lines(alloc, out, language, edges, machine)?;
     put_box_ending(out, language, name, number)
 }

@@ -7,4 +7,4 @@ use Rattle.asl_graph.proofs.leading.put_rule_lines.Given as goal
 
 -- the lines so far and those of what is left are those of all
 abbrev pub invariant-loop-number : goal.invariant-loop-number
-invariant-loop-number l = string_bytes l.out ++ rule_lines l.language l.name l.number (chain (items_of (drop l.number l.rules))) ≡ string_bytes l.fn.out ++ rule_lines l.language l.name 0 (chain (items_of l.rules))
+invariant-loop-number l = string_bytes l.out ++ rule_lines l.language l.edges l.name l.number (chain (items_of (drop l.number l.rules))) ≡ string_bytes l.fn.out ++ rule_lines l.language l.edges l.name 0 (chain (items_of l.rules))
