@@ -22,9 +22,9 @@ def answered(answers):
     return '{"StateMachines":{"M":{"TestCases":{"c":{"W":"a"}}}},"MockedResponses":{"a":{%s}}}' % answers
 
 
-def run_program(*words):
-    """What the program does for a command line."""
-    return subprocess.run([PROGRAM, *words], stdin=subprocess.DEVNULL, capture_output=True, encoding="utf-8", timeout=60)
+def run_program(*words, seconds=60):
+    """What the program does for a command line. It has so many seconds."""
+    return subprocess.run([PROGRAM, *words], stdin=subprocess.DEVNULL, capture_output=True, encoding="utf-8", timeout=seconds)
 
 
 NO_ANSWER = '{"Error":"States.Runtime","Cause":"no mocked answer"}'

@@ -104,7 +104,7 @@ MOCK_MISTAKES = [
 
 
 class LintTest(ProgramTest):
-    def lint(self, definition, *words, mocks=None):
+    def lint(self, definition, *words, mocks=None, seconds=60):
         """What lint does for texts. The files are called d.json and m.json."""
         with tempfile.TemporaryDirectory(prefix="asl-test-") as room:
             names = []
@@ -113,7 +113,7 @@ class LintTest(ProgramTest):
                     names.append(os.path.join(room, name))
                     with open(names[-1], "wb") as file:
                         file.write(text if isinstance(text, bytes) else text.encode())
-            ran = run_program("lint", *names, *words)
+            ran = run_program("lint", *names, *words, seconds=seconds)
             ran.stdout = ran.stdout.replace(room + "/", "")
         return ran
 
@@ -202,8 +202,9 @@ class LintTest(ProgramTest):
         self.assertEqual(ran.stdout, "d.json:1:1: error F1: the text ends too early: a quote, a bracket or a brace isn't closed\n1 error, 0 warnings\n")
 
     def test_ten_thousand_faults(self):
+        # a second or so; a minute and more on a busy machine
         text = json.dumps({"StartAt": "S0", "States": {f"S{i}": {"Type": "Nope"} for i in range(10_000)}})
-        ran = self.lint(text)
+        ran = self.lint(text, seconds=900)
         self.assertEqual(ran.stdout.splitlines()[-1], "10000 errors, 0 warnings")
         self.assertEqual(len(ran.stdout.splitlines()), 10_001)
 

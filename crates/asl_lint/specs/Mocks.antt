@@ -1,5 +1,5 @@
 -- What is told of a mock file, by itself and beside the states of a definition.
-use Rattle.std.specs.Prelude.{ℕ, List, [], ◌∷◌, ◌++◌, ◌≡◌, Bool, true, false, ◌&&◌, not, Option, Some, None, map, if◌then◌else◌}
+use Rattle.std.specs.Prelude.{ℕ, List, [], ◌∷◌, ◌++◌, Bool, true, false, ◌&&◌, not, Option, Some, None, map, if◌then◌else◌}
 use Rattle.std.specs.List.{list_any}
 use Rattle.asl_json.specs.Data.{Data}
 use Rattle.asl_json.specs.Distinct.{Members}
@@ -9,7 +9,6 @@ use Rattle.asl_def_table.specs.declared.sort.Kind.TheVariants as kind
 use Rattle.asl_mock.specs.Faults.{bad_keys, overlaps}
 use Rattle.asl_mock.specs.Form.{misfits}
 use Rattle.asl_mock.specs.Places.{Place}
-use Rattle.asl_mock.specs.Tables.{members_in}
 use Rattle.asl_mock.specs.declared.shape.Shape.TheVariants.{Top}
 use Rattle.asl_lint_mocks.specs.Beside.{machines_in, is_unclear, unclear, fits, misnamed, is_answered}
 use Rattle.asl_lint_mocks.specs.Lost.{lost_names}

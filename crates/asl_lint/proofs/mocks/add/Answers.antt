@@ -6,4 +6,4 @@ use Rattle.asl_lint.proofs.Mocking.{grows_by}
 use Rattle.asl_lint.proofs.mocks.add.Goals as goal
 
 pub returns : goal.returns
-returns c = on_ok_weaker c.add_all.result _ _ (λ h ms ps at. grows_by c.args.rule ms (numbers_of c.args.places.items) ps (map noted c.args.found.now.items) (map noted c.add_all.new.found.items) h at) c.add_all.ensures
+returns c = on_ok_weaker c.add_all.result (λ h ms ps at. grows_by c.args.rule ms (numbers_of c.args.places.items) ps (map noted c.args.found.now.items) (map noted c.add_all.new.found.items) h at) c.add_all.ensures

@@ -1,4 +1,4 @@
-use Rattle.std.proofs.Common.{◌∙◌, ap, refl, [], ◌∷◌}
+use Rattle.std.proofs.Common.{◌∙◌, ap, [], ◌∷◌}
 use Rattle.std.specs.Prelude.{map}
 use Rattle.std.specs.Vec.Iter.{into_iter_items}
 use Rattle.std.proofs.lemmas.List.{map-append}

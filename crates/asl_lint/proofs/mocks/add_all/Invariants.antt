@@ -7,4 +7,4 @@ use Rattle.asl_lint.proofs.Mocking.{ruled_by}
 use Rattle.asl_lint.proofs.mocks.add_all.Given as goal
 
 abbrev pub invariant-loop-place : goal.invariant-loop-place
-invariant-loop-place l = map noted l.found.items ++ ruled_by l.rule (numbers_of (into_iter_items l.place-iterator)) ≡ map noted l.fn.found.items ++ ruled_by l.rule (numbers_of l.places.items)
+invariant-loop-place l = map noted l.found.items ++ ruled_by l.rule (numbers_of (into_iter_items l.place-iterator)) ≡ map noted l.fn.found.items ++ ruled_by l.rule (numbers_of l.fn.places.items)
