@@ -10,10 +10,11 @@ use Rattle.asl_step_rows.specs.declared.record.Record.{Record}
 use Rattle.asl_step_rows.specs.Seen.{Seen}
 use Rattle.asl_run_frames.specs.Branches.{record_at, children_at}
 use Rattle.asl_run_setup.specs.declared.setup.Setup.{Setup}
+use Rattle.asl_run_setup.specs.declared.step_at.StepAt.{StepAt}
 use Rattle.asl_run_world.specs.declared.refusal.Refusal.{Refusal}
 use Rattle.asl_run_world.specs.World.{World, is_late}
 use Rattle.asl_run_world.specs.Lines.{step_line}
-use Rattle.asl_exec.specs.Steps.{object_in, seen_at, refusal_in, step}
+use Rattle.asl_exec.specs.Steps.{facts_of, object_in, seen_at, refusal_in, step}
 use Rattle.asl_view_tree.specs.Seen.{Seen as Told}
 use Rattle.asl_view_tree.specs.Columns.{under}
 use Rattle.asl_view_tree.specs.Lines.{row, happening_text, timed_out_line}
@@ -107,3 +108,16 @@ replied_lines sh f s w u p now (Some e) = step_line p (Some e)
 abbrev pub lines_of_step : Shows → Facts → Setup → World → List ℕ → ℕ → List ℕ
 lines_of_step sh f s w p t =
     replied_lines sh f s w (step s w p t) p (max w.last t) (refusal_in s w p t)
+
+-- ---- steps
+
+-- the lines of these steps, from this world on
+abbrev pub lines_of_steps : Shows → Facts → Setup → World → List StepAt → List ℕ
+lines_of_steps sh f s w [] = []
+lines_of_steps sh f s w (a ∷ left) =
+    lines_of_step sh f s w a.place a.moment
+    ++ lines_of_steps sh f s (step s w a.place a.moment) left
+
+-- the same, by the facts of an execution that began with this
+abbrev pub tree_lines : Shows → Setup → World → List StepAt → List ℕ
+tree_lines sh s w ss = lines_of_steps sh (facts_of s) s w ss

@@ -11,4 +11,4 @@ mod stopping;
 mod tree;
 
 pub use deciding::{Decided, Deciding, Staged, decided_at};
-pub use tree::{Shows, Tree};
+pub use tree::{Shows, Tree, context_of};

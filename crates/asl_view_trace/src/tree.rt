@@ -10,12 +10,12 @@ ghost use Rattle.asl_step_rows.specs.Seen.{Seen};
 ghost use Rattle.asl_run_frames.specs.Branches.{record_at, children_at};
 ghost use Rattle.asl_run_frames.specs.Trees.{branches_of};
 ghost use Rattle.asl_run_world.specs.Lines.{step_line, status_line, status_text};
-ghost use Rattle.asl_exec.specs.Steps.{facts_of, object_in, seen_at, refusal_in, step};
+ghost use Rattle.asl_exec.specs.Steps.{facts_of, object_in, seen_at, refusal_in, step, world_after};
 ghost use Rattle.asl_exec.specs.Views.{setup_of, world_of};
 ghost use Rattle.asl_view_tree.specs.Lines.{timed_out_line};
 ghost use Rattle.asl_view_stages.specs.Kinds.{stages_of};
 ghost use Rattle.asl_view_tree.specs.Views.{seen_in};
-ghost use Rattle.asl_view_trace.specs.Steps.{input_text, input_line, rule_in, happened, lines_of, happening_lines, branch_lines, lines_of_step};
+ghost use Rattle.asl_view_trace.specs.Steps.{input_text, input_line, rule_in, happened, lines_of, happening_lines, branch_lines, lines_of_step, lines_of_steps};
 ghost use Rattle.asl_view_trace.specs.Stopped.{stopped_lines};
 ghost use Rattle.asl_view_trace.specs.Views.{text_of, shows_of, facts_in};
 ghost use Rattle.asl_view_trace.specs.private.Known.{staged_by, IsKnown};
@@ -108,6 +108,14 @@ fn facts_of(alloc: Global, setup: &Setup) -> Result<Facts, AllocError>
     })
 }
 
+/// The Context Object of an execution that begins with this, for what decides in its steps. The error is that memory ran out.
+pub fn context_of(alloc: Global, setup: &Setup) -> Result<Context, AllocError>
+    ensures { IfOk result (λ c. c.facts ≡ facts_of setup.now) }
+{
+    let facts = facts_of(alloc, setup)?;
+    Context::new(alloc, facts)
+}
+
 /// The number of the rule that decided, where one did.
 fn rule_in(deciding: Deciding) -> Option<usize>
     ensures { result ≡ rule_in deciding }
@@ -195,7 +203,7 @@ impl Tree {
         ensures facts { IfOk result (λ t. facts_in t ≡ facts_of (setup_of execution.now)) }
     {
         let setup = execution.setup();
-        let context = Context::new(alloc, facts_of(alloc, setup)?)?;
+        let context = context_of(alloc, setup)?;
         let mut out = String::new(alloc);
         out.push_str("input ")?;
         put_input(alloc, &mut out, shows, setup.input.get())?;
@@ -383,18 +391,40 @@ impl Tree {
         self.take(execution, at)
     }
 
+    /// Takes steps in order, and appends their lines. The error is that memory ran out, behind some of them.
+    pub fn steps(&mut self, execution: &mut Execution, steps: &[StepAt]) -> Result<(), AllocError>
+        ensures text { OnOk result (text_of self.new ≡ text_of self.old
+            ++ lines_of_steps (shows_of self.old) (facts_in self.old) (setup_of execution.old)
+            (world_of execution.old) steps.now) }
+        ensures world { OnOk result (world_of execution.new
+            ≡ world_after (setup_of execution.old) (world_of execution.old) steps.now) }
+        ensures setup { setup_of execution.new ≡ setup_of execution.old }
+    {
+        for at in steps {
+            self.step(execution, at)?;
+        }
+        Ok(())
+    }
+
     /// No lines so far of an execution that goes on from here. The error is that memory ran out.
-    pub fn resume(alloc: Global, execution: &Execution, shows: Shows) -> Result<Tree, AllocError> {
+    pub fn resume(alloc: Global, execution: &Execution, shows: Shows) -> Result<Tree, AllocError>
+        ensures text { IfOk result (λ t. text_of t ≡ []) }
+        ensures shows { IfOk result (λ t. shows_of t ≡ shows) }
+        ensures facts { IfOk result (λ t. facts_in t ≡ facts_of (setup_of execution.now)) }
+    {
+        let context = context_of(alloc, execution.setup())?;
         Ok(Tree {
             alloc,
             out: String::new(alloc),
             shows,
-            context: Context::new(alloc, facts_of(alloc, execution.setup())?)?,
+            context,
         })
     }
 
     /// The lines.
-    pub fn into_lines(self) -> String {
+    pub fn into_lines(self) -> String
+        ensures { string_bytes result ≡ text_of self }
+    {
         let Tree {
             alloc: _alloc,
             out,
