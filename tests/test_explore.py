@@ -203,10 +203,35 @@ class Exploring(Searches):
             (10, ',"MaxConcurrency":2', numbered(10), 512),
             (10, "", FOR_EVER, 1),
             (8, "", '"0":{"Return":"a"},"1-9999":{"Return":"b"}', 8),
+            (12, "", '"0":{"Return":"a"},"1-9999":{"Return":"b"}', 12),
             (8, "", '"0-6":{"Return":0},"7":{"Throw":{"Error":"E"}}', 1),
+            (7, "", numbered(7), 5040),
         ]:
             told = self.complete(mapped(ONE_TASK, more), f"[{','.join('0' * items)}]", mocked({"T": answers}))
             self.assertEqual(len(told.found), wanted, (items, more, answers))
+
+    def test_iterations_share_the_answers_of_two_tasks(self):
+        answers = {"T0": numbered(4), "T1": numbered(4)}
+        self.assertEqual(len(self.complete(mapped(chain("T", 2, TASK)), "[0,0,0,0]", mocked(answers)).found), 24)
+        maps = ['{"StartAt":"N%s","States":{"N%s":{"Type":"Map","ItemProcessor":%s,"End":true}}}' % (name, name, chain(name, 1, TASK)) for name in "AB"]
+        told = self.complete(parallel(maps), "[0,0,0,0]", mocked({"A0": numbered(4), "B0": numbered(4)}))
+        self.assertEqual(len(told.found), 24 * 24)
+
+    def test_a_branch_that_fails_is_retried_with_all(self):
+        fails = '{"StartAt":"A0","States":{"A0":%s,"A1":{"Type":"Fail","Error":"E"}}}' % f'{{{TASK},"Next":"A1"}}'
+        definition = parallel([fails, chain("B", 2, TASK), chain("C", 2, TASK)], ',"Retry":[{"ErrorEquals":["E"],"IntervalSeconds":1,"MaxAttempts":1}]')
+        told = self.complete(definition, "{}", mocked({"A0": numbered(2), **{f"{name}{number}": numbered(2) for name in "BC" for number in range(2)}}))
+        self.assertEqual(told.outcomes, ['FAILED {"Error":"E"}'])
+
+    def test_a_wait_beside_a_branch_that_fails(self):
+        busy = '"Retry":[{"ErrorEquals":["Busy"],"IntervalSeconds":2,"MaxAttempts":2}]'
+        branches = [
+            '{"StartAt":"T","States":{"T":{%s,%s,"Next":"F"},"F":{"Type":"Fail","Error":"E"}}}' % (TASK, busy),
+            chain("W", 1, '"Type":"Wait","Seconds":1'),
+            *[chain(name, 2, TASK) for name in "ABC"],
+        ]
+        answers = {"T": '"0-1":{"Throw":{"Error":"Busy"}},"2":{"Return":1}', **{f"{name}{number}": FOR_EVER for name in "ABC" for number in range(2)}}
+        self.assertEqual(self.complete(parallel(branches), "{}", mocked(answers)).outcomes, ['FAILED {"Error":"E"}'])
 
     def test_a_map_of_maps(self):
         inner = f'{{"StartAt":"Q","States":{{"Q":{{"Type":"Parallel","Branches":[{chain("A", 2, TASK)},{chain("B", 2, TASK)}],"End":true}}}}}}'

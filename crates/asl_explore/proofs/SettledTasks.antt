@@ -38,14 +38,6 @@ settled-later s name from count le room h = record {
 
 -- ---- all that are known
 
-all-none : (n k : ℕ) → get_or {A = Option ℕ} (replicate n None) k None ≡ None
-all-none zero k = refl
-all-none (suc n) zero = refl
-all-none (suc n) (suc k) = all-none n k
-
-pub none-settled : (s : Setup) (n : ℕ) → AreSettledFrom s (replicate n None)
-none-settled s n name k count is there = let x : None ≡ Some count = sym (all-none n k) ∙ there in absurd (cc)
-
 pub settled-put : (s : Setup) (from : List (Option ℕ)) (name : List ℕ) (number count : ℕ) → state_number name s.machine ≡ Some number → IsSettled s name count → AreSettledFrom s from → AreSettledFrom s (set from number (Some count))
 settled-put s from name number count is settled h other k n at there = by (k == number) refl
   where
