@@ -203,10 +203,35 @@ class Exploring(Searches):
             (10, ',"MaxConcurrency":2', numbered(10), 512),
             (10, "", FOR_EVER, 1),
             (8, "", '"0":{"Return":"a"},"1-9999":{"Return":"b"}', 8),
+            (12, "", '"0":{"Return":"a"},"1-9999":{"Return":"b"}', 12),
             (8, "", '"0-6":{"Return":0},"7":{"Throw":{"Error":"E"}}', 1),
+            (7, "", numbered(7), 5040),
         ]:
             told = self.complete(mapped(ONE_TASK, more), f"[{','.join('0' * items)}]", mocked({"T": answers}))
             self.assertEqual(len(told.found), wanted, (items, more, answers))
+
+    def test_iterations_share_the_answers_of_two_tasks(self):
+        answers = {"T0": numbered(4), "T1": numbered(4)}
+        self.assertEqual(len(self.complete(mapped(chain("T", 2, TASK)), "[0,0,0,0]", mocked(answers)).found), 24)
+        maps = ['{"StartAt":"N%s","States":{"N%s":{"Type":"Map","ItemProcessor":%s,"End":true}}}' % (name, name, chain(name, 1, TASK)) for name in "AB"]
+        told = self.complete(parallel(maps), "[0,0,0,0]", mocked({"A0": numbered(4), "B0": numbered(4)}))
+        self.assertEqual(len(told.found), 24 * 24)
+
+    def test_a_branch_that_fails_is_retried_with_all(self):
+        fails = '{"StartAt":"A0","States":{"A0":%s,"A1":{"Type":"Fail","Error":"E"}}}' % f'{{{TASK},"Next":"A1"}}'
+        definition = parallel([fails, chain("B", 2, TASK), chain("C", 2, TASK)], ',"Retry":[{"ErrorEquals":["E"],"IntervalSeconds":1,"MaxAttempts":1}]')
+        told = self.complete(definition, "{}", mocked({"A0": numbered(2), **{f"{name}{number}": numbered(2) for name in "BC" for number in range(2)}}))
+        self.assertEqual(told.outcomes, ['FAILED {"Error":"E"}'])
+
+    def test_a_wait_beside_a_branch_that_fails(self):
+        busy = '"Retry":[{"ErrorEquals":["Busy"],"IntervalSeconds":2,"MaxAttempts":2}]'
+        branches = [
+            '{"StartAt":"T","States":{"T":{%s,%s,"Next":"F"},"F":{"Type":"Fail","Error":"E"}}}' % (TASK, busy),
+            chain("W", 1, '"Type":"Wait","Seconds":1'),
+            *[chain(name, 2, TASK) for name in "ABC"],
+        ]
+        answers = {"T": '"0-1":{"Throw":{"Error":"Busy"}},"2":{"Return":1}', **{f"{name}{number}": FOR_EVER for name in "ABC" for number in range(2)}}
+        self.assertEqual(self.complete(parallel(branches), "{}", mocked(answers)).outcomes, ['FAILED {"Error":"E"}'])
 
     def test_a_map_of_maps(self):
         inner = f'{{"StartAt":"Q","States":{{"Q":{{"Type":"Parallel","Branches":[{chain("A", 2, TASK)},{chain("B", 2, TASK)}],"End":true}}}}}}'
@@ -389,6 +414,88 @@ class Exploring(Searches):
             if found[0].search == found[1].search == "search complete":
                 self.assertEqual(sorted(found[0].outcomes), sorted(found[1].outcomes), body)
         self.assertGreater(compared, 10)
+
+    # ---- Tasks that are answered alike are asked in quiet steps
+
+    def test_one_answer_for_all_makes_a_search_small(self):
+        task_and_passes = chain("T", 4).replace('"T0":{"Type":"Pass"', '"T0":{"Type":"Task","Resource":"r"', 1)
+        two_tasks = f'{{"StartAt":"Q","States":{{"Q":{{"Type":"Parallel","Branches":[{chain("A", 2, TASK)},{chain("B", 2, TASK)}],"End":true}}}}}}'
+        for definition, items, tasks, most in [
+            (mapped(ONE_TASK), 10, ["T"], 13),
+            (mapped(ONE_TASK), 100, ["T"], 103),
+            (mapped(task_and_passes), 5, ["T0"], 23),
+            (mapped(task_and_passes), 100, ["T0"], 403),
+            (mapped(two_tasks), 4, ["A0", "A1", "B0", "B1"], 27),
+        ]:
+            told = self.complete(definition, f"[{','.join('0' * items)}]", mocked({task: FOR_EVER for task in tasks}))
+            self.assertEqual(len(told.found), 1)
+            self.assertLessEqual(told.worlds, most, definition)
+        for branches, length, most in [(5, 4, 23), (8, 4, 35), (10, 10, 103)]:
+            names = [f"B{branch}S{number}" for branch in range(branches) for number in range(length)]
+            definition = parallel([chain(f"B{branch}S", length, TASK) for branch in range(branches)])
+            told = self.complete(definition, mocks=mocked({name: FOR_EVER for name in names}))
+            self.assertEqual((told.outcomes, told.worlds <= most), ([f"SUCCEEDED [{','.join('1' * branches)}]"], True))
+
+    def test_a_retried_parallel_of_tasks_that_are_answered_alike(self):
+        fails = '{"StartAt":"A0","States":{"A0":{"Type":"Task","Resource":"r","Next":"A1"},"A1":{"Type":"Fail","Error":"E"}}}'
+        definition = parallel([fails] + [chain(name, 3, TASK) for name in "BCD"], ',"Retry":[{"ErrorEquals":["E"],"IntervalSeconds":1,"MaxAttempts":1}]')
+        mocks = mocked({name: FOR_EVER for name in ["A0"] + [f"{name}{number}" for name in "BCD" for number in range(3)]})
+        every, told = self.complete(definition, "{}", mocks), self.prompt(definition, "{}", mocks)
+        self.assertEqual((every.outcomes, told.outcomes), (['FAILED {"Error":"E"}'], ['FAILED {"Error":"E"}']))
+        self.assertLess(told.worlds, 40)
+        self.assertGreater(every.worlds, 1000)
+
+    def test_answers_that_differ_later_are_told_apart(self):
+        for answers, wanted in [
+            ('"0-1":{"Return":"a"},"2":{"Return":"b"}', 3),
+            ('"0":{"Return":"a"},"1-9999":{"Return":"b"}', 3),
+            ('"0-1":{"Return":"a"},"2-9999":{"Return":"b"}', 3),
+            ('"0":{"Return":"a"},"1":{"Return":"a"},"2-9999":{"Return":"a"}', 1),
+            ('"0-2":{"Return":"a"},"3-9999":{"Return":"b"}', 1),
+            ('"0-1":{"Return":"a"}', 1),
+            ("", 1),
+        ]:
+            told = self.complete(mapped(ONE_TASK), "[0,0,0]", mocked({"T": answers}))
+            self.assertEqual(len(told.found), wanted, answers)
+
+    def test_a_token_that_is_read_tells_who_came_first(self):
+        for more, wanted in [
+            ('"ResultSelector":{"token.$":"$$.Task.Token"}', 2),
+            ('"ResultSelector":{"task.$":"$$.Task"}', 2),
+            ('"ResultSelector":{"all.$":"States.JsonToString($$.Task)"}', 2),
+            ('"Parameters":{"token.$":"$$.Task.Token"}', 1),
+            ('"ResultSelector":{"state.$":"$$.State.Name"}', 1),
+        ]:
+            body = f'{{"StartAt":"T","States":{{"T":{{{TASK},{more},"End":true}}}}}}'
+            told = self.complete(mapped(body), "[0,0]", mocked({"T": FOR_EVER}))
+            self.assertEqual(len(told.found), wanted, more)
+
+    def test_a_loop_that_asks_beside_a_branch_that_fails(self):
+        loop = '{"StartAt":"T","States":{"T":{"Type":"Task","Resource":"r","Next":"T"}}}'
+        fails = '{"StartAt":"F","States":{"F":{"Type":"Pass","Next":"G"},"G":{"Type":"Fail","Error":"E"}}}'
+        for branches in [[loop, fails], [fails, loop]]:
+            ran = self.explore(parallel(branches), "{}", mocked({"T": FOR_EVER}), "M#c", "--limit", "200")
+            told = explored(ran.stdout)
+            self.assertEqual((ran.returncode, told.outcomes), (1, ['FAILED {"Error":"E"}']), ran.stdout)
+
+    def test_random_maps_have_the_outcomes_of_every_order(self):
+        chance = random.Random(48)
+        several = 0
+        for _ in range(60):
+            body = chain("T", chance.randrange(1, 4), TASK)
+            body = body.replace(TASK, '"Type":"Pass"', chance.randrange(2))
+            answers = {}
+            for number in range(body.count(TASK) + body.count('"Type":"Pass"')):
+                first = chance.randrange(3)
+                early = "".join(f'"{index}":{{"Return":{chance.randrange(2)}}},' for index in range(first))
+                answers[f"T{number}"] = early + chance.choice([f'"{first}-9999":{{"Return":1}}', f'"{first}-9999":{{"Throw":{{"Error":"E{number}"}}}}'])
+            more = chance.choice(["", ',"MaxConcurrency":2'])
+            given = f"[{','.join('0' * chance.randrange(2, 4))}]"
+            reduced = self.complete(mapped(body, more), given, mocked(answers))
+            plain = explored(self.explore(mapped(body, more), given, mocked(answers), "M#c", "--calls").stdout)
+            self.assertEqual((plain.search, sorted(plain.outcomes)), ("search complete", sorted(reduced.outcomes)), (body, answers))
+            several += len(plain.outcomes) > 1
+        self.assertGreater(several, 10)
 
     # ---- searches that are cut
 

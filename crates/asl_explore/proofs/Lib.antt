@@ -14,3 +14,10 @@ pub mod Taking
 pub mod Waiting
 pub mod Quieting
 pub mod Resting
+pub mod Invoking
+pub mod Steady
+pub mod Asking
+pub mod Carrying
+pub mod Failing
+pub mod Calm
+pub mod SettledTasks

@@ -25,13 +25,17 @@ use Rattle.asl_run_exchange.proofs.Fewer.{not-stopped}
 use Rattle.asl_run_exchange.proofs.Leaving.{record-stays}
 use Rattle.asl_run_exchange.proofs.Rooted.{is_joining, rooted-above, below}
 use Rattle.asl_run_exchange.proofs.Rooting.{one-place}
-use Rattle.asl_run_exchange.proofs.Pending.{IsQuiet, IsPending, ahead, none-over}
+use Rattle.asl_run_exchange.proofs.Pending.{IsPending, ahead, none-over}
 use Rattle.asl_run_exchange.proofs.Inline.{none-under, ready-due}
 use Rattle.asl_explore.specs.declared.orders.Orders.TheVariants.{Every, Prompt}
 use Rattle.asl_explore.specs.Orders.{due_of, due, after_order, IsPrompt, AreTried, IsWhole}
 use Rattle.asl_explore.specs.Searches.{IsMet, AreTakenOn, Waits, NoneWaits}
 use Rattle.asl_explore.proofs.Bare.{bare-accepts, over-refuses, step-bare}
-use Rattle.asl_explore.proofs.Orderly.{go, after_bare, ArePrompt, so-ready, due-least}
+use Rattle.asl_explore.specs.Settled.{most_invocations}
+use Rattle.asl_explore.proofs.Asking.{asks-bare, HasRoom, Spent, spent}
+use Rattle.asl_explore.proofs.Carrying.{go, after_bare, ArePrompt, asks}
+use Rattle.asl_explore.proofs.Calm.{KeepsOn}
+use Rattle.asl_explore.proofs.Orderly.{so-ready, due-least}
 use Rattle.asl_explore.proofs.Reduced.{good-opening, ends-so, taken-whole}
 
 -- ---- a quiet step keeps a branch waiting
@@ -51,8 +55,8 @@ pausing-is last (Forked n x since uses items) h = absurd (omega (arith, h))
 pausing-is last (Done x) h = absurd (omega (arith, h))
 pausing-is last (Failed e) h = absurd (omega (arith, h))
 
-waits-ahead : (s : Setup) (u : World) (p : List ℕ) (r : Record) (e : Effect) → IsQuiet s r e → IsPending s u p r e → Waits u → Waits (ahead s u p r e)
-waits-ahead s u p r e quiet w z = by (is_prefix p q) (is_prefix q p) refl refl
+waits-ahead : (s : Setup) (u : World) (p : List ℕ) (r : Record) (e : Effect) → KeepsOn e → IsPending s u p r e → Waits u → Waits (ahead s u p r e)
+waits-ahead s u p r e calm w z = by (is_prefix p q) (is_prefix q p) refl refl
   where
     q : List ℕ
     q = z.place
@@ -87,25 +91,26 @@ waits-ahead s u p r e quiet w z = by (is_prefix p q) (is_prefix q p) refl refl
       place = q;
       current = m;
       there = record-stays p e.after e.children q u.branches x ∙ z.there;
-      free = not-stopped p q e.after e.children u.branches x quiet.whole z.free;
+      free = not-stopped p q e.after e.children u.branches x calm.whole z.free;
       waits = z.waits;
     }
 
 -- ---- no branch ever waits
 
--- whatever prompt order follows
-abbrev pub NeverWaits : Setup → World → Type 0
-NeverWaits s w = (ps : List (List ℕ)) → ArePrompt s (bare w) ps → is_over (after_bare s (bare w) ps).outcome ≡ false → Waits (after_bare s (bare w) ps) → ⊥
+-- whatever prompt order follows that invokes services b times at most
+abbrev pub NeverWaits : Setup → World → ℕ → Type 0
+NeverWaits s w b = (ps : List (List ℕ)) → ArePrompt s (bare w) ps → asks s (bare w) ps ≤ b → is_over (after_bare s (bare w) ps).outcome ≡ false → Waits (after_bare s (bare w) ps) → ⊥
 
-never-waits : (s : Setup) (ws : List World) (os : List Outcome) → IsMet ws os (opening s) → AreTakenOn Prompt s ws os (length ws) → NoneWaits ws → NeverWaits s (opening s)
-never-waits s ws os m all none ps prompt running waits =
+never-waits : (s : Setup) (ws : List World) (os : List Outcome) → IsMet ws os (opening s) → AreTakenOn Prompt s ws os (length ws) → NoneWaits ws → NeverWaits s (opening s) most_invocations
+never-waits s ws os m all none ps prompt few running waits =
     let E : World → Type 0 = λ w. (is_over w.outcome ≡ false) × Waits w in
     let c : Contains ws (bare (opening s)) = m.runs refl in
     ends-so s ws os E ⊥
+    (λ w ds e. (e.0, record { place = e.1.place; current = e.1.current; there = e.1.there; free = e.1.free; waits = e.1.waits }))
     (λ w v k e. both_ways (is_over w.outcome) e.0 v)
     (λ i lt w at v e. none i lt w (subst Waits (sym (at w)) e.1))
-    (λ p r e quiet u pending f. (ap is_over (none-over e.outcome quiet.silent u.outcome) ∙ f.0, waits-ahead s u p r e quiet pending f.1))
-    all c.0 c.1 (bare (opening s)) (λ d. sym (get_or_read ws c.0 (bare (opening s)) c.1 (sym c.2) d)) (good-opening s) refl ps prompt (running, waits)
+    (λ p r e calm u pending f. (ap is_over (none-over e.outcome calm.silent u.outcome) ∙ f.0, waits-ahead s u p r e calm pending f.1))
+    all c.0 c.1 (bare (opening s)) (λ d. sym (get_or_read ws c.0 (bare (opening s)) c.1 (sym c.2) d)) (good-opening s) refl ps prompt few (running, waits)
 
 -- ---- so every step is prompt, or refused
 
@@ -128,7 +133,7 @@ pub record Tried (s : Setup) (w : World) (ps : List (List ℕ)) : Type 0 where
   pub tried : AreTried Prompt s w places
   pub ends : after_order s w places ≡ after_order s w ps
 
-module _ (s : Setup) (w : World) (p : List ℕ) (none : w.deadline ≡ None) (never : NeverWaits s w) (accepted : refusal_in s w p (due w p) ≡ None) where
+module _ (s : Setup) (w : World) (p : List ℕ) (none : w.deadline ≡ None) (b : ℕ) (never : NeverWaits s w b) (accepted : refusal_in s w p (due w p) ≡ None) where
   early : is_late (max w.last (due w p)) w.deadline ≡ false
   early = rw none refl
 
@@ -149,7 +154,7 @@ module _ (s : Setup) (w : World) (p : List ℕ) (none : w.deadline ≡ None) (ne
       by true e =
           let l : w.last < due w p = grind (arith, nat_tests, e) in
           let d : due w p ≡ due_from w.last x.0 = ap (due_of w.last) x.1.there in
-          absurd (never [] tt running (record { place = p; current = x.0; there = x.1.there; free = x.1.free; waits = omega (arith, l, d) }))
+          absurd (never [] tt (omega arith) running (record { place = p; current = x.0; there = x.1.there; free = x.1.free; waits = omega (arith, l, d) }))
       by false e =
           let l : due w p ≤ w.last = grind (arith, nat_tests, e) in
           let g = due-least w.last (record_at p w.branches) in
@@ -163,24 +168,27 @@ module _ (s : Setup) (w : World) (p : List ℕ) (none : w.deadline ≡ None) (ne
         λ q may. let l = due-least w.last (record_at q w.branches) in omega (arith, e, l),
       )
 
-  never-next : bare (step s w p (due w p)) ≡ go s (bare w) p → NeverWaits s (step s w p (due w p))
-  never-next is ps tried run waits =
-      never (p ∷ ps) (prompt, subst (λ (z : World). ArePrompt s z ps) is tried)
+  never-next : (v : Spent s w p b) → bare (step s w p (due w p)) ≡ go s (bare w) p → NeverWaits s (step s w p (due w p)) v.rest
+  never-next v is ps tried few run waits =
+      let parts = v.parts in
+      let first = asks-bare s w p in
+      let others : asks s (go s (bare w) p) ps ≤ v.rest = subst (λ (z : World). asks s z ps ≤ v.rest) is few in
+      never (p ∷ ps) (prompt, subst (λ (z : World). ArePrompt s z ps) is tried) (omega (arith, parts, first, others))
       (subst (λ (z : World). is_over (after_bare s z ps).outcome ≡ false) is run)
       (subst (λ (z : World). Waits (after_bare s z ps)) is waits)
 
 unmoved : (s : Setup) (w v : World) (ps : List (List ℕ)) → v ≡ w → Tried s v ps → Tried s w ps
 unmoved s w v ps e x = subst (λ (z : World). Tried s z ps) e x
 
-all-tried : (s : Setup) (ps : List (List ℕ)) (w : World) → w.deadline ≡ None → NeverWaits s w → Tried s w ps
-all-tried s [] w none never = record { places = []; tried = tt; ends = refl }
-all-tried s (p ∷ ps) w none never = by (refusal_in s w p (due w p)) refl (all-tried s ps)
+all-tried : (s : Setup) (ps : List (List ℕ)) (w : World) (b : ℕ) → HasRoom w b → w.deadline ≡ None → NeverWaits s w b → Tried s w ps
+all-tried s [] w b room none never = record { places = []; tried = tt; ends = refl }
+all-tried s (p ∷ ps) w b room none never = by (refusal_in s w p (due w p)) refl (all-tried s ps)
   where
     v : World
     v = step s w p (due w p)
 
     More : Type 0
-    More = (w : World) → w.deadline ≡ None → NeverWaits s w → Tried s w ps
+    More = (w : World) (b : ℕ) → HasRoom w b → w.deadline ≡ None → NeverWaits s w b → Tried s w ps
 
     refused : v ≡ w → Tried s v ps → Tried s w (p ∷ ps)
     refused e x = let y = unmoved s w v ps e x in record { places = y.places; tried = y.tried; ends = y.ends ∙ ap (λ (z : World). after_order s z ps) (sym e) }
@@ -188,22 +196,23 @@ all-tried s (p ∷ ps) w none never = by (refusal_in s w p (due w p)) refl (all-
     taken : IsPrompt s w p → Tried s v ps → Tried s w (p ∷ ps)
     taken prompt x = record { places = p ∷ x.places; tried = (prompt, x.tried); ends = x.ends }
 
-    stays : v ≡ w → NeverWaits s v
-    stays e = subst (NeverWaits s) (sym e) never
+    still : v ≡ w → More → Tried s w (p ∷ ps)
+    still e more =
+        refused e (more v b (subst (λ (z : World). HasRoom z b) (sym e) room) (timeless s w p (due w p) none) (subst (λ (z : World). NeverWaits s z b) (sym e) never))
 
     split : refusal_in s w p (due w p) ≡ None → (v ≡ w) ⊎ (bare v ≡ bare (step s (bare w) p (due w p))) → More → Tried s w (p ∷ ps)
-    split a (inl e) more = refused e (more v (timeless s w p (due w p) none) (stays e))
-    split a (inr e) more = taken (prompt s w p none never a) (more v (timeless s w p (due w p) none) (never-next s w p none never a e))
+    split a (inl e) more = still e more
+    split a (inr e) more =
+        let x = spent s w p a b room in
+        taken (prompt s w p none b never a) (more v x.rest x.room (timeless s w p (due w p) none) (never-next s w p none b never a x e))
 
     by : (o : Option Refusal) → refusal_in s w p (due w p) ≡ o → More → Tried s w (p ∷ ps)
     by None a more = split a (step-bare s w p (due w p)) more
-    by (Some f) a more =
-        let e : v ≡ w = step_refused s w p (due w p) (ap is_none a) in
-        refused e (more v (timeless s w p (due w p) none) (stays e))
+    by (Some f) a more = still (step_refused s w p (due w p) (ap is_none a)) more
 
 -- what is left out in no prompt order, is in none
 pub every-whole : (s : Setup) (ws : List World) (os : List Outcome) → IsMet ws os (opening s) → AreTakenOn Prompt s ws os (length ws) → NoneWaits ws → deadline_of s ≡ None → IsWhole Every s os
 every-whole s ws os m all none limit ps tried ends =
-    let x = all-tried s ps (opening s) limit (never-waits s ws os m all none) in
+    let x = all-tried s ps (opening s) most_invocations (omega arith) limit (never-waits s ws os m all none) in
     let o = ap (λ (w : World). w.outcome) x.ends in
     subst (Contains os) o (taken-whole Prompt s ws os m all x.places x.tried (ap is_over o ∙ ends))

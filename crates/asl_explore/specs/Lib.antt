@@ -1,4 +1,5 @@
 pub mod Orders
+pub mod Settled
 pub mod Searches
 pub mod Calls
 pub mod Telling

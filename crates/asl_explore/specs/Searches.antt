@@ -2,15 +2,17 @@
 use Rattle.std.specs.Prelude.{ℕ, zero, suc, ◌≡◌, ◌⊎◌, ◌<◌, length, get_or, ◌++◌, true, false, ⊤, Bool, nat_lt, List, map, Option, Some, None}
 use Rattle.std.specs.List.{All, AllPairs, Contains}
 use Rattle.asl_step_rows.specs.declared.record.Record.{Record}
+use Rattle.asl_step_rows.specs.Records.{name_in}
 use Rattle.asl_run_frames.specs.Branches.{record_at, is_stopped}
 use Rattle.asl_run_frames.specs.Earliest.{due_from}
-use Rattle.asl_run_world.specs.World.{World, is_over}
+use Rattle.asl_run_world.specs.World.{World, is_over, count_of}
 use Rattle.asl_run_world.specs.Bare.{bare}
 use Rattle.asl_run_world.specs.declared.outcome.Outcome.{Outcome}
 use Rattle.asl_run_setup.specs.declared.setup.Setup.{Setup}
-use Rattle.asl_exec.specs.Steps.{object_in, invokes_by, step, opening, world_after}
+use Rattle.asl_exec.specs.Steps.{number_in, object_in, invokes_by, step, opening, world_after}
 use Rattle.asl_exec.specs.Exchanges.{goes_on}
 use Rattle.asl_explore.specs.Orders.{due, timed, places_of, MayStep, IsTried, AreTried, after_order}
+use Rattle.asl_explore.specs.Settled.{IsSettledAt}
 use Rattle.asl_explore.specs.declared.found.Found.{Found}
 use Rattle.asl_explore.specs.declared.orders.Orders.{Orders}
 use Rattle.asl_explore.specs.declared.orders.Orders.TheVariants.{Prompt}
@@ -33,16 +35,17 @@ StandsAt ws i w = (i < length ws) × ((d : World) → get_or ws i d ≡ w)
 
 -- ---- worlds in which one step alone is taken
 
--- a step of the branch at this place invokes nothing
-abbrev pub IsMute : Setup → World → List ℕ → Type 0
-IsMute s w p =
-    (r : Record) → record_at p w.branches ≡ Some r → invokes_by (object_in s.machine r) ≡ false
+-- a step of a branch that does this invokes nothing, or a Task that is settled
+abbrev pub IsCalm : Setup → World → Record → Type 0
+IsCalm s w r =
+    (invokes_by (object_in s.machine r) ≡ false)
+    ⊎ IsSettledAt s (name_in r) (count_of w.counts (number_in s.machine r))
 
--- a step that may be taken at once, invokes nothing, and neither ends the execution nor fails its
--- branch
+-- a step that may be taken at once, invokes nothing or a Task that is settled, and neither ends the
+-- execution nor fails its branch
 pub record IsQuietAt (s : Setup) (w : World) (p : List ℕ) : Type 0 where
   pub goes : goes_on s w p w.last ≡ true
-  pub mute : IsMute s w p
+  pub calm : (r : Record) → record_at p w.branches ≡ Some r → IsCalm s w r
 
 -- of the world of this number only such a step is taken: it leads to a world of a higher number
 pub record IsReduced (s : Setup) (ws : List World) (number : ℕ) (w : World) : Type 0 where

@@ -1,9 +1,11 @@
-// The answers of a case to a Task, as runs of numbers.
+// The answers of a case to a Task: as runs of numbers, and from when on they are equal.
+ghost use Rattle.std.specs.Prelude.{◌≡◌, ◌≤◌, true, option_map};
+ghost use Rattle.asl_explore.specs.Settled.{AreOneFrom};
 
 use asl_mock::{Answer, Case, answer};
 use std::alloc::{AllocError, Global};
 
-/// No execution asks for an answer of a higher number: each invocation tells events, and there are at most 25,000.
+/// No execution asks for an answer of a higher number: an invocation tells three events at least, and there are at most 25,000.
 const LAST: u32 = 9_999;
 
 /// Numbers one after another that have equal answers, from the low one to the high one; or numbers that have none.
@@ -15,7 +17,10 @@ pub(crate) struct Run {
 }
 
 /// Whether two answers are equal, or neither is there.
-fn are_equal(one: Option<&Answer>, other: Option<&Answer>) -> bool {
+fn are_equal(one: Option<&Answer>, other: Option<&Answer>) -> bool
+    ensures { result ≡ true
+        → option_map (λ a. a.now) one.entry ≡ option_map (λ a. a.now) other.entry }
+{
     match (one, other) {
         (None, None) => true,
         (Some(one), Some(other)) => *one == *other,
@@ -56,4 +61,19 @@ pub(crate) fn are_one(runs: &[Run], from: u32, below: u32) -> bool {
         }
     }
     true
+}
+
+/// The number from which on all answers of a case to the Task of this name are equal.
+pub(crate) fn settled_from(case: &Case, task: &str) -> u32
+    ensures { AreOneFrom case.now task.now result }
+{
+    let last = answer(case, task, LAST);
+    let mut from = LAST;
+    while from > 0 {
+        if !are_equal(answer(case, task, from - 1), last) {
+            return from;
+        }
+        from -= 1;
+    }
+    from
 }

@@ -1,7 +1,7 @@
 //! Every order of the branches of an execution.
 //!
 //! Modules in reading order: `orders` says which orders are tried; `found` is what a search finds; `met` the worlds that it met, which are looked up by `table` and `digest`;
-//! `order` takes steps at their earliest moments; `visiting` takes one step of a search; `quiet` takes steps that need no other; `search` takes all of them, and tells `watch` how
+//! `order` takes steps at their earliest moments; `visiting` takes one step of a search; `settling` knows the Tasks whose answers change no more, and `quiet` takes steps that need no other; `search` takes all of them, and tells `watch` how
 //! far it is; `late` marks outcomes; `clock` looks for the clock in a definition; `states` lists its states; `calls` and `counting` say how often each is
 //! invoked; `remarks` is what is remarkable beyond the outcomes, which `seeing` sees, by the `answers` of a mock file; `telling` and `report` tell what was found; `laws` says that nothing is
 //! left out.
@@ -23,6 +23,7 @@ mod remarks;
 mod report;
 mod search;
 mod seeing;
+mod settling;
 mod states;
 mod table;
 mod telling;

@@ -1,16 +1,18 @@
 // Steps that need no other one of the same world.
-ghost use Rattle.std.specs.Prelude.{◌≡◌, ◌<◌, List, length, get_or, not, true, option_map, IfOk};
+ghost use Rattle.std.specs.Prelude.{◌≡◌, ◌<◌, List, Some, length, get_or, true, IfOk};
+ghost use Rattle.asl_step_rows.specs.declared.record.Record.{Record};
 ghost use Rattle.asl_run_frames.specs.Branches.{record_at};
 ghost use Rattle.asl_run_world.specs.World.{World};
 ghost use Rattle.asl_run_world.specs.declared.outcome.Outcome.{Outcome};
-ghost use Rattle.asl_exec.specs.Steps.{object_in, invokes_by, step};
+ghost use Rattle.asl_exec.specs.Steps.{step};
 ghost use Rattle.asl_exec.specs.Exchanges.{has_failed};
 ghost use Rattle.asl_exec.specs.Views.{setup_of, world_of};
-ghost use Rattle.asl_explore.specs.Searches.{IsMute, IsQuietAt, IsReduced, IsLater, worlds_of};
+ghost use Rattle.asl_explore.specs.Settled.{AreSettledFrom};
+ghost use Rattle.asl_explore.specs.Searches.{IsCalm, IsQuietAt, IsReduced, IsLater, worlds_of};
 
 use crate::met::Met;
+use crate::settling::Settling;
 use crate::visiting::{enter, turns_in};
-use asl_def::Machine;
 use asl_exec::{Execution, invokes_in, state_of};
 use asl_history::Place;
 use asl_run_frames::Earliest;
@@ -18,20 +20,31 @@ use asl_run_setup::StepAt;
 use asl_step_rows::Record;
 use std::alloc::{AllocError, Global};
 
-/// Whether a step of a branch that is doing this invokes a service.
-fn invokes(machine: &Machine, current: &Record) -> bool
-    ensures { result ≡ invokes_by (object_in machine.now current.now) }
+/// Whether a step of a branch that is doing this invokes no service, or a Task that is settled.
+fn is_calm(execution: &Execution, settling: &Settling, current: &Record) -> bool
+    requires { AreSettledFrom (setup_of execution.now) settling.now.from.items }
+    ensures { result ≡ true
+        → IsCalm (setup_of execution.now) (world_of execution.now) current.now }
 {
-    let (_, state) = state_of(machine, current);
-    invokes_in(state)
+    let (number, state) = state_of(&execution.setup().machine, current);
+    if !invokes_in(state) {
+        return true;
+    }
+    match number {
+        Some(number) => settling.is_settled(number, execution.world().count(Some(number))),
+        None => false,
+    }
 }
 
-/// Whether a step of the branch at a place invokes nothing.
-fn is_mute(execution: &Execution, place: &Place) -> bool
-    ensures { result ≡ true → IsMute (setup_of execution.now) (world_of execution.now) place.now }
+/// The same of the branch at a place, where there is one.
+fn is_calm_at(execution: &Execution, settling: &Settling, place: &Place) -> bool
+    requires { AreSettledFrom (setup_of execution.now) settling.now.from.items }
+    ensures { result ≡ true → (r : Record)
+        → record_at place.now (world_of execution.now).branches ≡ Some r
+        → IsCalm (setup_of execution.now) (world_of execution.now) r }
 {
     match execution.view(place) {
-        Some(current) => !invokes(&execution.setup().machine, current),
+        Some(current) => is_calm(execution, settling, current),
         None => true,
     }
 }
@@ -46,9 +59,14 @@ fn has_failed(execution: &Execution, place: &Place) -> bool
     }
 }
 
-/// Takes a step, if it may be taken at once and invokes nothing, and whether then the execution runs on and the branch hasn't failed. The
-/// error is that memory ran out.
-fn step_quietly(execution: &mut Execution, at: &StepAt) -> Result<bool, AllocError>
+/// Takes a step, if it may be taken at once and invokes nothing or a Task that is settled, and whether then the execution runs on and the
+/// branch hasn't failed. The error is that memory ran out.
+fn step_quietly(
+    execution: &mut Execution,
+    settling: &Settling,
+    at: &StepAt,
+) -> Result<bool, AllocError>
+    requires { AreSettledFrom (setup_of execution.old) settling.now.from.items }
     ensures quiet { IfOk result (λ b. b ≡ true
         → IsQuietAt (setup_of execution.old) (world_of execution.old) at.now.place) }
     ensures world { IfOk result (λ b. b ≡ true → world_of execution.new
@@ -59,7 +77,7 @@ fn step_quietly(execution: &mut Execution, at: &StepAt) -> Result<bool, AllocErr
     if execution.world().last().millis() != at.moment.millis() {
         return Ok(false);
     }
-    if !is_mute(execution, &at.place) {
+    if !is_calm_at(execution, settling, &at.place) {
         return Ok(false);
     }
     if execution.reply(at)?.is_some() {
@@ -75,11 +93,13 @@ fn step_quietly(execution: &mut Execution, at: &StepAt) -> Result<bool, AllocErr
 fn take_quietly(
     execution: &mut Execution,
     alloc: Global,
+    settling: &Settling,
     met: &mut Met,
     number: usize,
     turn: &Earliest,
 ) -> Result<bool, AllocError>
-    requires { number < length met.old.nodes.items }
+    requires there { number < length met.old.nodes.items }
+    requires settled { AreSettledFrom (setup_of execution.old) settling.now.from.items }
     ensures reduced { IfOk result (λ b. b ≡ true → (d : World)
         → IsReduced (setup_of execution.old) (worlds_of met.new.nodes.items) number
         (get_or (worlds_of met.new.nodes.items) number d)) }
@@ -96,7 +116,7 @@ fn take_quietly(
     if !enter(execution, alloc, &node.world)? {
         return Ok(false);
     }
-    if !step_quietly(execution, &at)? {
+    if !step_quietly(execution, settling, &at)? {
         return Ok(false);
     }
     let Some(next) = execution.world().bare_copy(alloc)? else {
@@ -111,10 +131,12 @@ fn take_quietly(
 pub(crate) fn quietly(
     execution: &mut Execution,
     alloc: Global,
+    settling: &Settling,
     met: &mut Met,
     number: usize,
 ) -> Result<bool, AllocError>
-    requires { number < length met.old.nodes.items }
+    requires there { number < length met.old.nodes.items }
+    requires settled { AreSettledFrom (setup_of execution.old) settling.now.from.items }
     ensures reduced { IfOk result (λ b. b ≡ true → (d : World)
         → IsReduced (setup_of execution.old) (worlds_of met.new.nodes.items) number
         (get_or (worlds_of met.new.nodes.items) number d)) }
@@ -127,7 +149,7 @@ pub(crate) fn quietly(
     };
     for index in 0..turns.len() {
         let turn = &turns[index];
-        if take_quietly(execution, alloc, met, number, turn)? {
+        if take_quietly(execution, alloc, settling, met, number, turn)? {
             return Ok(true);
         }
     }

@@ -7,6 +7,7 @@ ghost use Rattle.asl_exec.specs.Steps.{deadline_of, opening, step};
 ghost use Rattle.asl_exec.specs.Views.{setup_of};
 ghost use Rattle.asl_explore.specs.Orders.{IsWhole};
 ghost use Rattle.asl_explore.specs.declared.orders.Orders.TheVariants.{Every};
+ghost use Rattle.asl_explore.specs.Settled.{AreSettledFrom};
 ghost use Rattle.asl_explore.specs.Calls.{IsStated, AllAreExpanded, AreCounted};
 ghost use Rattle.asl_explore.specs.Searches.{IsMet, IsExpanded, IsTakenOn, IsClosed, IsBound, AreLate, worlds_of, outcomes_of, Shows, AreDistinct, IsLater, is_beyond};
 
@@ -19,6 +20,7 @@ use crate::order::soonest;
 use crate::orders::Orders;
 use crate::quiet::quietly;
 use crate::seeing::{no_remarks, remarks_on};
+use crate::settling::{Settling, settling_in};
 use crate::states::states_in;
 use crate::visiting::{enter, turns_in, visit};
 use crate::watch::Watch;
@@ -140,11 +142,13 @@ fn take_on(
     execution: &mut Execution,
     alloc: Global,
     orders: Orders,
+    settling: &Settling,
     met: &mut Met,
     found: &mut Vec<Found>,
     number: usize,
 ) -> Result<bool, AllocError>
-    requires { number < length met.old.nodes.items }
+    requires there { number < length met.old.nodes.items }
+    requires settled { AreSettledFrom (setup_of execution.old) settling.now.from.items }
     ensures taken { IfOk result (λ b. b ≡ true → (d : World)
         → IsTakenOn orders (setup_of execution.old) (worlds_of met.new.nodes.items)
         (outcomes_of found.new.items) number (get_or (worlds_of met.new.nodes.items) number d)) }
@@ -159,7 +163,7 @@ fn take_on(
     match orders {
         Orders::Every => expand(execution, alloc, orders, met, found, number),
         Orders::Prompt => {
-            if quietly(execution, alloc, met, number)? {
+            if quietly(execution, alloc, settling, met, number)? {
                 return Ok(true);
             }
             expand(execution, alloc, orders, met, found, number)
@@ -173,11 +177,13 @@ fn go_on(
     alloc: Global,
     orders: Orders,
     alone: bool,
+    settling: &Settling,
     met: &mut Met,
     found: &mut Vec<Found>,
     number: usize,
 ) -> Result<bool, AllocError>
-    requires { number < length met.old.nodes.items }
+    requires there { number < length met.old.nodes.items }
+    requires settled { AreSettledFrom (setup_of execution.old) settling.now.from.items }
     ensures taken { IfOk result (λ b. b ≡ true → (d : World)
         → IsTakenOn orders (setup_of execution.old) (worlds_of met.new.nodes.items)
         (outcomes_of found.new.items) number (get_or (worlds_of met.new.nodes.items) number d)) }
@@ -194,7 +200,7 @@ fn go_on(
     ensures setup { setup_of execution.new ≡ setup_of execution.old }
 {
     if alone {
-        return take_on(execution, alloc, orders, met, found, number);
+        return take_on(execution, alloc, orders, settling, met, found, number);
     }
     expand(execution, alloc, orders, met, found, number)
 }
@@ -254,12 +260,13 @@ pub(crate) fn search<W: Watch>(
     let Some(mut met) = beginning(alloc, execution)? else {
         return Ok(None);
     };
+    let settling = settling_in(alloc, execution, alone)?;
     let limit = limit as usize;
     let mut number = 0;
     let mut whole = true;
     while number < met.nodes.len() && number < limit {
         let is_enough = go_on(
-            execution, alloc, orders, alone, &mut met, &mut found, number,
+            execution, alloc, orders, alone, &settling, &mut met, &mut found, number,
         )?;
         whole = whole && is_enough;
         number += 1;

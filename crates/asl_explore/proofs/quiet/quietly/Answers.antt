@@ -1,6 +1,8 @@
-use Rattle.std.proofs.Common.{[], ◌∙◌, refl, arith}
+use Rattle.std.proofs.Common.{[], ◌∙◌, refl, sym, subst, arith}
 use Rattle.std.proofs.lemmas.List.{length-map}
 use Rattle.asl_run_world.specs.Bare.{bare}
+use Rattle.asl_run_setup.specs.declared.setup.Setup.{Setup}
+use Rattle.asl_explore.specs.Settled.{AreSettledFrom}
 use Rattle.asl_explore.specs.declared.met.Node.{Node}
 use Rattle.asl_explore.specs.Searches.{worlds_of}
 use Rattle.asl_explore.proofs.Growing.{later-same, later-then, later-length}
@@ -15,11 +17,14 @@ returns-in_default-clause-later c os = later-same (worlds_of c.args.met.now.node
 pub loop-index-init : goal.loop-index-init
 loop-index-init c = record { later = λ os. later-same (worlds_of c.args.met.now.nodes.items) os; setup = refl }
 
-pub take_quietly-requires : goal.take_quietly-requires
-take_quietly-requires c =
+pub take_quietly-requires-clause-there : goal.take_quietly-requires-clause-there
+take_quietly-requires-clause-there c =
     let ns = c.args.met.now.nodes.items in
     let ms = c.loop-index.met.nodes.items in
-    omega (arith, c.requires, later-length (worlds_of ns) (worlds_of ms) [] [] (c.loop-index.invariant.later []), length-map ns (λ (n : Node). bare n.world), length-map ms (λ (n : Node). bare n.world))
+    omega (arith, c.requires.there, later-length (worlds_of ns) (worlds_of ms) [] [] (c.loop-index.invariant.later []), length-map ns (λ (n : Node). bare n.world), length-map ms (λ (n : Node). bare n.world))
+
+pub take_quietly-requires-clause-settled : goal.take_quietly-requires-clause-settled
+take_quietly-requires-clause-settled c = subst (λ (s : Setup). AreSettledFrom s c.args.settling.now.from.items) (sym c.loop-index.invariant.setup) c.requires.settled
 
 pub returns-in_err-take_quietly-clause-later : goal.returns-in_err-take_quietly-clause-later
 returns-in_err-take_quietly-clause-later c os = later-then (worlds_of c.args.met.now.nodes.items) (worlds_of c.loop-index.met.nodes.items) (worlds_of c.take_quietly.new.met.nodes.items) os os os (c.loop-index.invariant.later os) (c.take_quietly.ensures.later os)

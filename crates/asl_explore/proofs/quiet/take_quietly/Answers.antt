@@ -1,8 +1,10 @@
-use Rattle.std.proofs.Common.{[], arith}
+use Rattle.std.proofs.Common.{[], sym, subst, arith}
 use Rattle.std.proofs.lemmas.Bool.Decides.{nat_tests}
 use Rattle.std.proofs.lemmas.List.{length-map}
 use Rattle.asl_run_world.specs.Bare.{bare}
 use Rattle.asl_exec.specs.Views.{setup_of, world_of}
+use Rattle.asl_run_setup.specs.declared.setup.Setup.{Setup}
+use Rattle.asl_explore.specs.Settled.{AreSettledFrom}
 use Rattle.asl_explore.specs.declared.met.Node.{Node}
 use Rattle.asl_explore.specs.Searches.{worlds_of}
 use Rattle.asl_explore.proofs.Expanding.{node-at}
@@ -18,6 +20,9 @@ returns-in_err-enter-clause-later c os = later-same (worlds_of c.args.met.now.no
 
 pub returns-then-not-branch-clause-later : goal.returns-then-not-branch-clause-later
 returns-then-not-branch-clause-later c os = later-same (worlds_of c.args.met.now.nodes.items) os
+
+pub step_quietly-requires : goal.step_quietly-requires
+step_quietly-requires c = subst (λ (s : Setup). AreSettledFrom s c.args.settling.now.from.items) (sym c.enter.ensures.setup) c.requires.settled
 
 pub returns-in_err-step_quietly-clause-later : goal.returns-in_err-step_quietly-clause-later
 returns-in_err-step_quietly-clause-later c os = later-same (worlds_of c.args.met.now.nodes.items) os
@@ -37,7 +42,7 @@ returns-clause-reduced c t =
     reduced-is (setup_of c.args.execution.now) (setup_of c.enter.new.execution) (worlds_of ns) (worlds_of c.put.new.self.nodes.items) [] c.args.number c.in_ok-index.index c.index-node.result.now.world
     (world_of c.enter.new.execution) (world_of c.step_quietly.new.execution) c.in-Some.next _
     c.enter.ensures.setup (c.in_ok-enter.ensures.world c.if-not-branch.false) (c.put.ensures.later [])
-    (omega (arith, c.requires, length-map ns (λ (n : Node). bare n.world)))
-    (λ e. node-at ns c.args.number c.index-node.result.now e c.requires c.index-node.ensures)
+    (omega (arith, c.requires.there, length-map ns (λ (n : Node). bare n.world)))
+    (λ e. node-at ns c.args.number c.index-node.result.now e c.requires.there c.index-node.ensures)
     (c.in_ok-step_quietly.ensures.quiet c.if-not-branch-2.false) (c.in_ok-step_quietly.ensures.world c.if-not-branch-2.false)
     (rw c.world.ensures at (rw c.in-Some.is at c.in_ok-next.ensures)) c.in_ok-index.ensures.at (grind (arith, nat_tests, t))

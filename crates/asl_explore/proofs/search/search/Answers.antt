@@ -1,8 +1,10 @@
-use Rattle.std.proofs.Common.{◌<◌, ◌≤◌, ◌≡◌, true, false, sym, ◌∙◌, arith, length}
+use Rattle.std.proofs.Common.{◌<◌, ◌≤◌, ◌≡◌, true, false, sym, ◌∙◌, subst, arith, length}
 use Rattle.std.proofs.lemmas.List.{length-map}
 use Rattle.asl_run_world.specs.Bare.{bare}
 use Rattle.asl_exec.specs.Steps.{opening}
 use Rattle.asl_exec.specs.Views.{setup_of}
+use Rattle.asl_run_setup.specs.declared.setup.Setup.{Setup}
+use Rattle.asl_explore.specs.Settled.{AreSettledFrom}
 use Rattle.asl_explore.specs.declared.met.Node.{Node}
 use Rattle.asl_explore.specs.Searches.{worlds_of, outcomes_of}
 use Rattle.asl_explore.proofs.Growing.{met-later, later-length}
@@ -34,6 +36,9 @@ returns-clause-whole g c t =
     let all = c.is_complete-complete.ensures t in
     let le : length (worlds_of ns) ≤ c.loop-number.number = omega (arith, length-map ns (λ (n : Node). bare n.world), c.loop-number.met.nodes.ok.0, all.1, c.len-2.ensures) in
     all-whole c.args.orders (setup_of c.args.execution.now) (worlds_of ns) (outcomes_of c.loop-number.found.items) c.loop-number.number le inv.begins (inv.taken all.0)
+
+pub go_on-requires-clause-settled : goal.go_on-requires-clause-settled
+go_on-requires-clause-settled g c = subst (λ (s : Setup). AreSettledFrom s c.in_ok-settling.settling.from.items) (sym c.loop-number.invariant.setup) c.in_ok-settling.ensures
 
 pub loop-number-preserved : goal.loop-number-preserved
 loop-number-preserved g c =

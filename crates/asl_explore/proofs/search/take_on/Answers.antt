@@ -14,7 +14,7 @@ pub expand-requires-in-Prompt : goal.expand-requires-in-Prompt
 expand-requires-in-Prompt c =
     let ns = c.args.met.now.nodes.items in
     let ms = c.quietly.new.met.nodes.items in
-    omega (arith, c.requires, later-length (worlds_of ns) (worlds_of ms) [] [] (c.quietly.ensures.later []), length-map ns (λ (n : Node). bare n.world), length-map ms (λ (n : Node). bare n.world))
+    omega (arith, c.requires.there, later-length (worlds_of ns) (worlds_of ms) [] [] (c.quietly.ensures.later []), length-map ns (λ (n : Node). bare n.world), length-map ms (λ (n : Node). bare n.world))
 
 pub returns-else-branch-clause-taken : goal.returns-else-branch-clause-taken
 returns-else-branch-clause-taken c =
