@@ -1,13 +1,12 @@
 -- How often the steps of an order invoke a service; no more often than a history has room for.
-use Rattle.std.proofs.Common.{ℕ, suc, zero, ◌≡◌, ◌≤◌, ◌+◌, ◌*◌, Bool, true, false, List, [], ◌∷◌, refl, sym, ◌∙◌, ap, subst, arith, cond, length, length-append, max, Some, None, Option}
-use Rattle.std.specs.Prelude.{is_none}
+use Rattle.std.proofs.Common.{ℕ, suc, zero, ◌≡◌, ◌≤◌, ◌+◌, ◌*◌, Bool, true, false, List, refl, sym, ◌∙◌, ap, subst, arith, cond, length, length-append, max, Some, None, Option}
 use Rattle.asl_history.specs.declared.event.Event.{Event}
 use Rattle.asl_step_rows.specs.declared.effect.Effect.{Effect}
 use Rattle.asl_step_rows.specs.declared.record.Record.{Record}
 use Rattle.asl_run_frames.specs.Branches.{record_at, forker_at}
 use Rattle.asl_run_frames.specs.Turns.{limit_of}
 use Rattle.asl_run_world.specs.Bare.{bare}
-use Rattle.asl_run_world.specs.World.{World, is_late, timed_out, world_with}
+use Rattle.asl_run_world.specs.World.{World, is_late, world_with}
 use Rattle.asl_run_world.proofs.Accepting.{accepted-room}
 use Rattle.asl_run_world.proofs.Telling.{events-length}
 use Rattle.asl_run_setup.specs.declared.setup.Setup.{Setup}

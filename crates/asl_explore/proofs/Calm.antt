@@ -1,5 +1,5 @@
 -- A step that invokes nothing, or a Task that is settled, and doesn't fail may be taken before all others.
-use Rattle.std.proofs.Common.{ℕ, ◌≡◌, ◌⊎◌, inl, inr, ◌≤◌, ◌+◌, ◌==◌, Bool, true, false, not, List, [], refl, sym, ◌∙◌, ap, subst, arith, length, Some, None, Option}
+use Rattle.std.proofs.Common.{ℕ, ◌≡◌, ◌⊎◌, inl, inr, ◌≤◌, ◌+◌, ◌==◌, Bool, true, false, not, List, [], refl, sym, ◌∙◌, ap, subst, arith, Some, None, Option}
 use Rattle.std.specs.Prelude.{is_some}
 use Rattle.std.proofs.lemmas.Bool.{both_ways, eqb-true, eqb-false}
 use Rattle.asl_json.specs.Data.{Data}
@@ -14,8 +14,7 @@ use Rattle.asl_step_rows.specs.declared.effect.Ended.{Ended}
 use Rattle.asl_step_rows.specs.declared.record.Record.{Record}
 use Rattle.asl_step_rows.specs.declared.record.Record.TheVariants.{New, Ready, Pausing, Again, Forked, Done, Failed}
 use Rattle.asl_kinds.specs.Forks.{first_error}
-use Rattle.asl_run_frames.specs.Branches.{record_at, children_at, branches_after}
-use Rattle.asl_run_world.specs.Bare.{bare}
+use Rattle.asl_run_frames.specs.Branches.{children_at, branches_after}
 use Rattle.asl_run_world.specs.World.{World, outcome_after, counts_after, count_of}
 use Rattle.asl_run_world.specs.declared.outcome.Outcome.{Outcome}
 use Rattle.asl_run_setup.specs.declared.setup.Setup.{Setup}

@@ -1,6 +1,6 @@
 -- Worlds that are alike but for counts that don't matter: the same orders end in worlds that are alike so.
-use Rattle.std.proofs.Common.{ℕ, ◌≡◌, ◌≤◌, ◌+◌, Bool, true, false, List, [], ◌∷◌, refl, sym, ◌∙◌, ap, subst, arith, cond, max, Some, None, Option}
-use Rattle.std.specs.Prelude.{is_none, is_some, ⊤}
+use Rattle.std.proofs.Common.{ℕ, ◌≡◌, ◌+◌, Bool, true, false, List, [], ◌∷◌, refl, sym, ◌∙◌, ap, subst, arith, cond, max, Some, None, Option}
+use Rattle.std.specs.Prelude.{is_none, ⊤}
 use Rattle.asl_step_rows.specs.declared.effect.Effect.{Effect}
 use Rattle.asl_step_rows.specs.declared.record.Record.{Record}
 use Rattle.asl_step_rows.specs.declared.record.Record.TheVariants.{New, Ready, Pausing, Again, Forked, Done, Failed}

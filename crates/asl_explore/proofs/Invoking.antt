@@ -4,14 +4,12 @@ use Rattle.std.specs.Prelude.{Ok, Err, codes}
 use Rattle.std.proofs.lemmas.Bool.{both_ways}
 use Rattle.asl_json.specs.Data.{Data}
 use Rattle.asl_json.specs.Meaning.{value_in}
-use Rattle.asl_json.specs.Same.{bytes_eq}
 use Rattle.asl_json.specs.declared.value.Json.{Json}
 use Rattle.asl_json.specs.declared.value.Json.TheVariants.{Dict}
 use Rattle.asl_history.specs.declared.kind.EventKind.{EventKind}
 use Rattle.asl_history.specs.declared.kind.EventKind.TheVariants.{TaskStateEntered, TaskStateExited, TaskScheduled, TaskStarted, TaskSucceeded, TaskFailed}
 use Rattle.asl_def_parts.specs.Texts.{text_in}
-use Rattle.asl_handle.specs.Decisions.{Handling, again, caught, unhandled, handlers_in, decision}
-use Rattle.asl_def_table.specs.Claims.{item_count}
+use Rattle.asl_handle.specs.Decisions.{Handling, again, caught, unhandled, decision}
 use Rattle.asl_mock.specs.Answers.{answer_to}
 use Rattle.asl_mock.specs.declared.response.Answer.{Answer}
 use Rattle.asl_mock.specs.declared.response.Answer.TheVariants.{Returns, Throws}
@@ -25,10 +23,10 @@ use Rattle.asl_step_rows.specs.declared.record.Record.TheVariants.{New, Ready, P
 use Rattle.asl_step_rows.specs.Records.{name_in, uses_in, beginning_with}
 use Rattle.asl_step_rows.specs.Seen.{Seen}
 use Rattle.asl_step_rows.specs.Context.{context_of}
-use Rattle.asl_step_rows.specs.Rows.{draft, idle, beginning, beginning_by, telling, retrying, left, leaving, failing, told_success, told_failure, error_output, is_within_limit, over_limit}
+use Rattle.asl_step_rows.specs.Rows.{draft, beginning, beginning_by, telling, left, leaving, failing, told_success, told_failure, error_output, is_within_limit, over_limit}
 use Rattle.asl_step_data.specs.Paths.{Given, put_into}
 use Rattle.asl_kinds.specs.Members.{next_in, effective, selected, no_answer}
-use Rattle.asl_kinds.specs.Table.{passed, begun, error_name, handled, raised, settled, invoked, task_settled, task_fails, task_returns, task_answered, task_with, task_effect, effect_by_type, state_effect, is_invoking_type}
+use Rattle.asl_kinds.specs.Table.{passed, begun, error_name, handled, invoked, task_settled, task_fails, task_returns, task_answered, task_with, task_effect, effect_by_type, state_effect, is_invoking_type}
 use Rattle.asl_run_frames.proofs.Linking.{same-eq}
 use Rattle.asl_kinds.specs.private.Laws.{state-bounded}
 use Rattle.asl_exec.specs.Steps.{effect_by}

@@ -1,5 +1,5 @@
 -- How often a state was invoked before matters to its step by the answer and by the token alone; counts that don't matter.
-use Rattle.std.proofs.Common.{ℕ, suc, ◌≡◌, ◌≢◌, ◌≤◌, ◌<◌, ◌+◌, ◌⊎◌, inl, inr, ◌==◌, Bool, true, false, List, refl, sym, ◌∙◌, ap, subst, arith, cond, length, get_or, set, option_map, Some, None, Option}
+use Rattle.std.proofs.Common.{ℕ, suc, ◌≡◌, ◌≤◌, ◌<◌, ◌+◌, ◌⊎◌, inl, inr, ◌==◌, Bool, true, false, List, refl, sym, ◌∙◌, ap, subst, arith, cond, length, get_or, set, option_map, Some, None, Option}
 use Rattle.std.specs.Prelude.{nat_lt}
 use Rattle.std.specs.Option.{option_and_then}
 use Rattle.std.proofs.lemmas.Bool.{both_ways, eqb-true, eqb-false}
