@@ -12,6 +12,7 @@ LINES = {
         "mark": rf'({ID})\(\(" "\)\)',
         "state": rf'({ID})\["({MERMAID_LABEL})<br/>({MERMAID_LABEL})"\]',
         "plain": rf"({ID}) --> ({ID})",
+        "thick": rf"({ID}) ==> ({ID})",
         "into": rf"({ID}) -\.-> ({ID})",
         "box": rf'subgraph ({ID}) \["({MERMAID_LABEL})"\]',
         "close": r"end",
@@ -22,15 +23,17 @@ LINES = {
         "mark": rf"({ID}) \[shape=point\];",
         "state": rf'({ID}) \[label="({DOT_LABEL})\\n({DOT_LABEL})"\];',
         "plain": rf"({ID}) -> ({ID});",
+        "thick": rf"({ID}) -> ({ID}) \[penwidth=4\];",
         "into": rf"({ID}) -> ({ID}) \[style=dotted\];",
         "box": rf"subgraph cluster_({ID}) \{{",
         "close": r"\}",
         "taken": rf"({ID}) \[penwidth=4\];",
     },
 }
+# A transition with a label: its parts in order, and what makes it a thick one.
 LABELLED = {
-    "mermaid": (rf'({ID}) -->\|"({MERMAID_LABEL})"\| ({ID})', (0, 1, 2)),
-    "dot": (rf'({ID}) -> ({ID}) \[label="({DOT_LABEL})"\];', (0, 2, 1)),
+    "mermaid": (rf'({ID}) (?:--|(==))>\|"({MERMAID_LABEL})"\| ({ID})', (0, 2, 3), 1),
+    "dot": (rf'({ID}) -> ({ID}) \[label="({DOT_LABEL})"(, penwidth=4)?\];', (0, 2, 1), 3),
 }
 HEADS = {"mermaid": ["flowchart TD"], "dot": ["digraph {", "node [shape=box];"]}
 ENTITY = {"mermaid": r"#([0-9]+);", "dot": r"&#([0-9]+);"}
@@ -38,13 +41,14 @@ ENTITY = {"mermaid": r"#([0-9]+);", "dot": r"&#([0-9]+);"}
 
 class Graph(NamedTuple):
     """What a graph draws: states by identifier, transitions, where machines begin, and the boxes around each; boxes by identifier with their
-    labels; the identifiers of the states that are marked, in order."""
+    labels; the identifiers of the states that are marked, in order; the transitions that are thick."""
 
     states: dict
     edges: list
     marks: dict
     boxes: dict
     taken: list
+    thick: list
 
 
 def plain(language, label):
@@ -71,14 +75,16 @@ def lines_in(language, text):
 
 def graph_of(language, text):
     """The graph that a text draws. A line that isn't of the language fails."""
-    graph, around, styled = Graph({}, [], {}, {}, []), [], language == "dot"
+    graph, around, styled = Graph({}, [], {}, {}, [], []), [], language == "dot"
     lines = iter(lines_in(language, text))
-    pattern, order = LABELLED[language]
+    pattern, order, thick = LABELLED[language]
     for line in lines:
         labelled = re.fullmatch(pattern, line)
         if labelled:
             start, label, end = (labelled.groups()[place] for place in order)
             graph.edges.append((start, plain(language, label), end))
+            if labelled.groups()[thick]:
+                graph.thick.append(graph.edges[-1])
             continue
         kinds = [(kind, re.fullmatch(rule, line)) for kind, rule in LINES[language].items()]
         (kind, found), *others = [(kind, found) for kind, found in kinds if found] or [(None, None)]
@@ -88,8 +94,10 @@ def graph_of(language, text):
         elif kind == "state":
             assert found[1] not in graph.states, line
             graph.states[found[1]] = (plain(language, found[2]), plain(language, found[3]), tuple(around))
-        elif kind in ("plain", "into"):
-            graph.edges.append((found[1], None if kind == "plain" else "into", found[2]))
+        elif kind in ("plain", "thick", "into"):
+            graph.edges.append((found[1], "into" if kind == "into" else None, found[2]))
+            if kind == "thick":
+                graph.thick.append(graph.edges[-1])
         elif kind == "box":
             label = found[2] if language == "mermaid" else re.fullmatch(rf'label="({DOT_LABEL})";', next(lines))[1]
             graph.boxes[found[1]] = (plain(language, label), tuple(around))

@@ -1,4 +1,4 @@
-"""The graphs of definitions: what each language draws is what the definition says, whatever its names are; and which states a run marks there."""
+"""The graphs of definitions: what each language draws is what the definition says, whatever its names are; and which states and transitions a run marks there."""
 import glob
 import json
 import os
@@ -121,9 +121,33 @@ def entered(history):
     return list(dict.fromkeys(names))
 
 
+def passed(history):
+    """By a history the pairs of states of which the second was entered from the first, and the states that were left without that."""
+    events = {}
+    for line in history.splitlines():
+        if found := re.match(r"([0-9]+) ([0-9]+) \S+ \S+ ([A-Za-z]+) (.*)$", line):
+            events[found[1]] = (found[2], found[3], json.JSONDecoder().raw_decode(found[4])[0])
+    pairs, left = set(), {number for number, (_, kind, _) in events.items() if kind.endswith("StateExited")}
+    for before, kind, name in events.values():
+        if kind.endswith("StateEntered") and before in left:
+            pairs.add((events[before][2], name))
+            left.remove(before)
+    return pairs, {events[number][2] for number in left}
+
+
 class MarkedTest(ProgramTest):
+    def assert_passed(self, graph, history):
+        """The transitions are thick that the history tells."""
+        pairs, left = passed(history)
+        thick = {(named(a[2:]), named(b[2:])) for a, _, b in graph.thick if a not in graph.marks}
+        self.assertLessEqual(pairs, thick)
+        self.assertLessEqual({a for a, _ in thick - pairs}, left)
+        begun = {named(b[2:]) for a, _, b in graph.thick if a in graph.marks}
+        self.assertEqual(begun, {named(b[2:]) for a, _, b in graph.edges if a in graph.marks} & set(entered(history)))
+
     def assert_marked(self, *words, ends=(0, 1)):
-        """In both languages the states are marked that the run of these words enters, and nothing else is otherwise than without marks."""
+        """In both languages the states and the transitions are marked that the run of these words enters and takes, and nothing else is
+        otherwise than without marks."""
         definition, *others = words
         history = run_program("run", *words)
         self.assertIn(history.returncode, ends)
@@ -132,8 +156,9 @@ class MarkedTest(ProgramTest):
             self.assertEqual((ran.returncode, ran.stderr), (0, ""))
             graph = graph_of(language, ran.stdout)
             self.assertEqual([named(key[2:]) for key in graph.taken], entered(history.stdout))
+            self.assert_passed(graph, history.stdout)
             bare = run_program("graph", definition, "--format", language).stdout
-            self.assertEqual(graph_of(language, bare), graph._replace(taken=[]))
+            self.assertEqual(graph_of(language, bare), graph._replace(taken=[], thick=[]))
 
     def on_files(self, definition, mocks, given):
         """The names of the files of these texts, which are there till the test ends."""
@@ -172,6 +197,51 @@ class MarkedTest(ProgramTest):
         self.assertEqual(ran.stdout[-len(marks := "classDef taken stroke-width:4px\nclass s_W taken\nclass s_C taken\nclass s_S taken\n"):], marks)
         dot = run_program("graph", definition, "--run", mocks, "M#c", given, "--format", "dot")
         self.assertTrue(dot.stdout.endswith("s_W [penwidth=4];\ns_C [penwidth=4];\ns_S [penwidth=4];\n}\n"))
+
+    def thick_of(self, definition, mocks, chosen, given):
+        """The transitions that a run marks, the same in both languages."""
+        came = []
+        for language in LANGUAGES:
+            ran = run_program("graph", definition, "--run", mocks, chosen, given, "--format", language)
+            self.assertEqual((ran.returncode, ran.stderr), (0, ""))
+            came.append([(named(a[2:]) if a != "i" else "", label, named(b[2:])) for a, label, b in graph_of(language, ran.stdout).thick])
+        self.assertEqual(*came)
+        return came[0]
+
+    def test_what_decided_is_marked(self):
+        # Rule 1, the Default and catcher 1 lead where others lead too.
+        task = {"Type": "Task", "Resource": "r", "Next": "C"}
+        rules = [{"Variable": "$.n", "NumericEquals": n, "Next": "D"} for n in (1, 2)]
+        catchers = [{"ErrorEquals": [error], "Next": "S", "ResultPath": "$.e"} for error in ("A", "B", "States.ALL")]
+        states = {
+            "C": {"Type": "Choice", "Choices": rules, "Default": "D"},
+            "D": {**task, "Catch": catchers, "Next": "S"},
+            "S": {"Type": "Choice", "Choices": [{"Variable": "$.e", "IsPresent": True, "Next": "E"}], "Default": "C"},
+            "E": {"Type": "Succeed"},
+        }
+        mocks = answered('"0":{"Return":{"n":7}},"1":{"Throw":{"Error":"B"}}').replace('"W"', '"D"')
+        definition, mocks, given = self.on_files(json.dumps({"StartAt": "C", "States": states}), mocks, '{"n":2}')
+        self.assertEqual(
+            self.thick_of(definition, mocks, "M#c", given),
+            [
+                ("", None, "C"),
+                ("C", "rule 1", "D"),
+                ("C", "Default", "D"),
+                ("D", None, "S"),
+                ("D", "catch B", "S"),
+                ("S", "rule 0", "E"),
+                ("S", "Default", "C"),
+            ],
+        )
+
+    def test_a_state_that_is_not_left_marks_no_transition(self):
+        # The Wait isn't over when the time of the execution is; the Pass fails.
+        wait = {"Type": "Wait", "Seconds": 9, "Next": "S"}
+        definition, mocks, given = self.on_files(json.dumps({"StartAt": "W", "TimeoutSeconds": 5, "States": {"W": wait, "S": {"Type": "Succeed"}}}), "{}", "{}")
+        self.assertEqual(self.thick_of(definition, mocks, "M", given), [("", None, "W")])
+        passing = {"Type": "Pass", "OutputPath": "$.x", "Next": "S"}
+        definition, mocks, given = self.on_files(json.dumps({"StartAt": "P", "States": {"P": passing, "S": {"Type": "Succeed"}}}), "{}", "{}")
+        self.assertEqual(self.thick_of(definition, mocks, "M", given), [("", None, "P")])
 
     def test_a_run_that_does_not_end(self):
         definition, mocks, given = self.on_files('{"StartAt":"P","States":{"P":{"Type":"Pass","Next":"P"},"Q":{"Type":"Succeed"}}}', "{}", "{}")

@@ -4,7 +4,9 @@ use Rattle.std.proofs.lemmas.Grind.{flat_map-append}
 use Rattle.asl_host.specs.Outcomes.{fault_line, IsWhole, IsBroken, IsPrinted, IsTold}
 use Rattle.asl_host.proofs.Breaking.{broken_first, broken_rest}
 use Rattle.asl_run_world.specs.World.{World}
-use Rattle.asl_run_world.specs.Lines.{end_text}
+use Rattle.asl_run_world.specs.Lines.{end_text, status_line}
+use Rattle.asl_view_colour.specs.declared.paint.Paint.TheVariants.{Same}
+use Rattle.asl_view_colour.specs.Painted.{control, IsPainted}
 use Rattle.asl_session_console.specs.declared.telling.Look.{Look}
 use Rattle.asl_session_console.specs.declared.telling.Look.TheVariants.{Transcript, Tree, Colours}
 use Rattle.asl_session_console.specs.Answers.{Console}
@@ -120,10 +122,14 @@ pub unread : {I O E : Type 0} (given : I → List ℕ) (taken : O → List ℕ) 
 unread given taken failures err_taken err_failures look c d i j o p x y t h f told = inr (h.lines, h.text, d, t, h.given_is, h.talk, h.written, f, refl, told)
 
 -- behind each talk something may stand
+bare : (t : List ℕ) → IsPainted t t
+unfolding control
+bare t = ((Same, t) ∷ [], sym (append-nil t), sym (append-nil t))
+
 some-end : (look : Look) (w : World) → (e : List ℕ) × IsEndText look w e
 some-end Transcript w = (end_text w, refl)
-some-end Tree w = ([], tt)
-some-end Colours w = ([], tt)
+some-end Tree w = (status_line w.outcome, refl)
+some-end Colours w = (status_line w.outcome, bare (status_line w.outcome))
 
 -- an answer was written in part
 pub broken-off : {I O E : Type 0} (given : I → List ℕ) (taken : O → List ℕ) (failures : O → ℕ) (err_taken : E → List ℕ) (err_failures : E → ℕ) (look : Look) (c d : Console) (i j : I) (o p : O) (x : E)

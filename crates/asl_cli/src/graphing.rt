@@ -19,7 +19,7 @@ use asl_run_setup::{EmulateFault, RunTexts};
 use std::alloc::{AllocError, Global};
 
 /// The command `graph`: prints the graph of a definition without faults, else tells the first fault. Where a run is asked for, the states
-/// that it enters are marked.
+/// that it enters are marked, and the transitions that it takes.
 pub fn graph<F: Files, O: Sink, E: Sink>(
     alloc: Global,
     words: &GraphWords<'_>,
@@ -55,7 +55,8 @@ fn graph_in<'a, F: Files>(
     }
 }
 
-/// Reads the files, in the order of the words of a run, and writes the graph in which the states are marked that it enters.
+/// Reads the files, in the order of the words of a run, and writes the graph in which the states are marked that it enters, and the transitions
+/// that it takes.
 fn run_graph<'a, F: Files>(
     alloc: Global,
     language: Language,

@@ -8,9 +8,8 @@ use Rattle.asl_run_setup.specs.declared.step_at.StepAt.{StepAt}
 use Rattle.asl_exec.specs.Steps.{facts_of, step}
 use Rattle.asl_exec.specs.Driving.{Chosen, chosen, after}
 use Rattle.asl_view_trace.specs.declared.tree.Shows.{Shows}
-use Rattle.asl_view_trace.specs.Steps.{lines_of_step}
+use Rattle.asl_view_trace.specs.Steps.{lines_of_step, tree_lines}
 use Rattle.asl_run_outputs.specs.Taken.{step_at, taken}
-use Rattle.asl_run_outputs.specs.Trees.{tree_lines}
 use Rattle.asl_run_outputs.proofs.Taking.{none_at, no_more, left}
 
 -- ---- steps that come next

@@ -2,4 +2,5 @@ pub mod Taken
 pub mod Trees
 pub mod Told
 pub mod Entered
+pub mod Edges
 pub mod Marked

@@ -1,18 +1,23 @@
--- The graph of a definition in which the states are marked that a run entered.
-use Rattle.std.specs.Prelude.{◌≡◌, List, ℕ, Option}
+-- The graph of a definition in which the states are marked that a run entered, and the transitions that
+-- it took.
+use Rattle.std.specs.Prelude.{◌≡◌, List, [], ℕ, Option}
 use Rattle.asl_graph.specs.declared.language.Language.{Language}
 use Rattle.asl_graph.specs.Marks.{marked_text}
 use Rattle.asl_run_setup.specs.declared.setup.Setup.{Setup}
 use Rattle.asl_run_setup.specs.declared.step_at.StepAt.{StepAt}
 use Rattle.asl_run_setup.specs.Emulations.{Texts, Accepts}
 use Rattle.asl_exec.specs.RunText.{world_by}
-use Rattle.asl_exec.specs.Steps.{opening}
+use Rattle.asl_exec.specs.Steps.{opening, facts_of}
+use Rattle.asl_run_outputs.specs.Taken.{taken_by}
+use Rattle.asl_run_outputs.specs.Edges.{with_steps}
 use Rattle.asl_run_outputs.specs.Entered.{entered_in}
 
 -- the graph of this run
 abbrev pub run_graph : Language → ℕ → Setup → Option (List StepAt) → List ℕ
 run_graph language limit setup steps =
     marked_text language (entered_in (world_by limit setup (opening setup) steps).events)
+    (with_steps [] (facts_of setup) setup (opening setup)
+    (taken_by limit setup (opening setup) steps))
     setup.machine
 
 -- the graph is that of the run that the texts spell; where no file names steps, those that come next are

@@ -1,19 +1,11 @@
 -- What a run prints as a tree: its input, the lines of its steps, and its outcome.
-use Rattle.std.specs.Prelude.{ℕ, List, [], ◌∷◌, ◌++◌}
+use Rattle.std.specs.Prelude.{ℕ, List, ◌++◌}
 use Rattle.asl_run_setup.specs.declared.setup.Setup.{Setup}
 use Rattle.asl_run_setup.specs.declared.step_at.StepAt.{StepAt}
 use Rattle.asl_run_world.specs.Lines.{status_line}
 use Rattle.asl_run_world.specs.World.{World}
-use Rattle.asl_exec.specs.Steps.{facts_of, step}
 use Rattle.asl_view_trace.specs.declared.tree.Shows.{Shows}
-use Rattle.asl_view_trace.specs.Steps.{input_line, lines_of_step}
-
--- the lines of these steps, from this world on
-abbrev pub tree_lines : Shows → Setup → World → List StepAt → List ℕ
-tree_lines sh s w [] = []
-tree_lines sh s w (a ∷ left) =
-    lines_of_step sh (facts_of s) s w a.place a.moment
-    ++ tree_lines sh s (step s w a.place a.moment) left
+use Rattle.asl_view_trace.specs.Steps.{input_line, tree_lines}
 
 -- of an execution that took these steps from the world w to the world u
 abbrev pub tree_text : Shows → Setup → World → List StepAt → World → List ℕ

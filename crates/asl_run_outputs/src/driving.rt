@@ -37,6 +37,7 @@ fn drive_taking(
         ≡ taken limit (setup_of execution.old) (world_of execution.old)) }
     ensures world { OnOk result (world_of execution.new
         ≡ driven limit (setup_of execution.old) (world_of execution.old)) }
+    ensures setup { setup_of execution.new ≡ setup_of execution.old }
 {
     let mut steps = Vec::new(alloc);
     for _ in 0..limit {
@@ -50,8 +51,9 @@ fn drive_taking(
 
 /// Takes steps in order. The error is that memory ran out.
 fn take_all(execution: &mut Execution, steps: &[StepAt]) -> Result<(), AllocError>
-    ensures { OnOk result (world_of execution.new
+    ensures world { OnOk result (world_of execution.new
         ≡ world_after (setup_of execution.old) (world_of execution.old) steps.now) }
+    ensures setup { setup_of execution.new ≡ setup_of execution.old }
 {
     for at in steps {
         let _refused = execution.reply(at)?;
@@ -71,6 +73,7 @@ pub fn take_by(
         ≡ taken_by limit (setup_of execution.old) (world_of execution.old) (steps_in steps)) }
     ensures world { OnOk result (world_of execution.new
         ≡ world_by limit (setup_of execution.old) (world_of execution.old) (steps_in steps)) }
+    ensures setup { setup_of execution.new ≡ setup_of execution.old }
 {
     let Some(steps) = steps else {
         return drive_taking(alloc, execution, limit);

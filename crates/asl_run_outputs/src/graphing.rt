@@ -7,6 +7,7 @@ ghost use Rattle.asl_run_outputs.specs.Marked.{run_graph, IsMarkedRunOf};
 
 use crate::driving::take_by;
 use crate::entering::entered_in;
+use crate::passing::passed;
 use asl_exec::Execution;
 use asl_graph::{Language, marked_graph};
 use asl_run_setup::{EmulateFault, Emulation, RunTexts, Setup, StepAt};
@@ -24,14 +25,17 @@ fn graph_of(
         ≡ run_graph language limit setup (steps_in steps)) }
 {
     let mut execution = Execution::open(alloc, setup)?;
-    let definition = execution.setup().machine.json(alloc)?;
-    take_by(alloc, &mut execution, steps, limit)?;
+    let opening = execution.opening()?;
+    let steps = take_by(alloc, &mut execution, steps, limit)?;
     let names = entered_in(alloc, execution.history().events())?;
-    marked_graph(alloc, language, names.as_slice(), &definition)
+    execution.enter(opening);
+    let definition = execution.setup().machine.json(alloc)?;
+    let edges = passed(alloc, &mut execution, &steps)?;
+    marked_graph(alloc, language, names.as_slice(), &edges, &definition)
 }
 
 /// Runs an execution as `asl_exec::emulate_texts` does, with its faults, and writes the graph of its definition, in which the states are
-/// marked that it entered.
+/// marked that it entered, and the transitions that it took.
 pub fn emulate_marked(
     alloc: Global,
     language: Language,

@@ -1,8 +1,8 @@
 //! Runs, and what they print in other formats than the usual text: their histories for other programs, and the steps that they took.
 //!
-//! Modules in reading order: `driving` takes steps and tells which they were; `format` is how a run is
-//! printed, `emulation` is a whole run, from texts to text; `entering` names the states that a run entered, and `graphing` writes the graph
-//! in which they are marked; `laws` says that the steps of a run lead where it led.
+//! Modules in reading order: `driving` takes steps and tells which they were, and `treeing` tells of them; `format` is how a run is printed,
+//! `emulation` is a whole run, from texts to text; `entering` names the states that a run entered, `passing` finds the transitions that it
+//! took, and `graphing` writes the graph in which they are marked; `laws` says that the steps of a run lead where it led.
 #![tactic(auto)]
 
 mod driving;
@@ -11,6 +11,7 @@ mod entering;
 mod format;
 mod graphing;
 mod laws;
+mod passing;
 mod treeing;
 
 pub use driving::take_by;

@@ -3,11 +3,12 @@ ghost use Rattle.std.specs.Prelude.{◌≡◌, ◌++◌, IfOk, OnOk, option_map,
 ghost use Rattle.asl_run_setup.specs.Views.{steps_in};
 ghost use Rattle.asl_exec.specs.Driving.{chosen, after, driven};
 ghost use Rattle.asl_exec.specs.RunText.{world_by};
-ghost use Rattle.asl_exec.specs.Steps.{facts_of, world_after};
+ghost use Rattle.asl_exec.specs.Steps.{facts_of};
 ghost use Rattle.asl_exec.specs.Views.{setup_of, world_of};
+ghost use Rattle.asl_view_trace.specs.Steps.{tree_lines};
 ghost use Rattle.asl_view_trace.specs.Views.{text_of, shows_of, facts_in};
 ghost use Rattle.asl_run_outputs.specs.Taken.{step_at, taken, taken_by};
-ghost use Rattle.asl_run_outputs.specs.Trees.{tree_lines, tree_text};
+ghost use Rattle.asl_run_outputs.specs.Trees.{tree_text};
 
 use asl_exec::Execution;
 use asl_run_setup::StepAt;
@@ -53,25 +54,6 @@ fn tell_driven(tree: &mut Tree, execution: &mut Execution, limit: u32) -> Result
     Ok(())
 }
 
-/// Takes steps in order, and tells of them. The error is that memory ran out.
-fn tell_listed(
-    tree: &mut Tree,
-    execution: &mut Execution,
-    steps: &[StepAt],
-) -> Result<(), AllocError>
-    requires { facts_in tree.old ≡ facts_of (setup_of execution.old) }
-    ensures world { OnOk result (world_of execution.new
-        ≡ world_after (setup_of execution.old) (world_of execution.old) steps.now) }
-    ensures text { OnOk result (text_of tree.new ≡ text_of tree.old
-        ++ tree_lines (shows_of tree.old) (setup_of execution.old) (world_of execution.old)
-        steps.now) }
-{
-    for at in steps {
-        tree.step(execution, at)?;
-    }
-    Ok(())
-}
-
 /// Takes the steps of a list in order; without a list those that come next, at most so many. Tells of them. The error is that memory ran
 /// out.
 fn tell_by(
@@ -89,7 +71,7 @@ fn tell_by(
 {
     match steps {
         None => tell_driven(tree, execution, limit),
-        Some(steps) => tell_listed(tree, execution, &steps),
+        Some(steps) => tree.steps(execution, &steps),
     }
 }
 

@@ -3,4 +3,5 @@ mod Moves
 mod Asking
 mod Spaces
 mod Answering
+pub mod Keeping
 pub mod Told

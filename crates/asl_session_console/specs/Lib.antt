@@ -5,3 +5,4 @@ pub mod Views
 pub mod Answers
 pub mod Telling
 pub mod Talks
+pub mod private

@@ -1,8 +1,12 @@
--- Answers that tell what happened at each state: of a line that takes steps, the lines of the tree, and then where each branch stands.
-use Rattle.std.specs.Prelude.{ℕ, Bool, true, false, List, ◌++◌, ◌≡◌, ⊤, nat_lt, length}
+-- Answers that tell what happened at each state: of a line that takes steps, their lines of the tree, and then where each branch stands.
+use Rattle.std.specs.Prelude.{ℕ, Bool, true, false, List, ◌++◌, ◌≡◌, nat_lt, length, take, drop}
 use Rattle.asl_run_world.specs.World.{World}
-use Rattle.asl_run_world.specs.Lines.{end_text}
+use Rattle.asl_run_world.specs.Lines.{end_text, status_line}
+use Rattle.asl_exec.specs.Steps.{opening, world_after}
+use Rattle.asl_session.specs.Sessions.{Session}
 use Rattle.asl_view_colour.specs.Painted.{IsPainted}
+use Rattle.asl_view_trace.specs.declared.tree.Shows.TheVariants.{Changes}
+use Rattle.asl_view_trace.specs.Steps.{tree_lines}
 use Rattle.asl_session_console.specs.declared.telling.Look.{Look}
 use Rattle.asl_session_console.specs.declared.telling.Look.TheVariants.{Transcript, Tree, Colours}
 use Rattle.asl_session_console.specs.Views.{places_text}
@@ -18,19 +22,30 @@ AreShown Transcript lines shown = shown ≡ lines
 AreShown Tree lines shown = shown ≡ lines
 AreShown Colours lines shown = IsPainted lines shown
 
--- lines of the steps, and a line for each branch
-abbrev pub IsToldOf : Look → Console → List ℕ → Type 0
-IsToldOf look d text =
-    (lines : List ℕ) × (shown : List ℕ) × AreShown look lines shown
-    × (text ≡ shown ++ places_text d.session)
+-- these lines are shown, and a line for each branch
+abbrev pub AreToldThere : Look → List ℕ → Session → List ℕ → Type 0
+AreToldThere look lines s text =
+    (shown : List ℕ) × AreShown look lines shown × (text ≡ shown ++ places_text s)
+
+-- where the first so many steps of a session lead
+abbrev pub world_behind : ℕ → Session → World
+world_behind n s = world_after s.setup (opening s.setup) (take n s.steps)
+
+-- the lines of the tree of the steps behind these
+abbrev pub lines_behind : ℕ → Session → List ℕ
+lines_behind n s = tree_lines Changes s.setup (world_behind n s) (drop n s.steps)
+
+abbrev pub IsToldOf : Look → ℕ → Session → List ℕ → Type 0
+IsToldOf look n s text = AreToldThere look (lines_behind n s) s text
 
 -- what is told in place of the transcript, where steps were taken
-abbrev pub IsToldBy : Bool → Look → List ℕ → Console → List ℕ → Type 0
-IsToldBy true look transcript d text = IsToldOf look d text
-IsToldBy false look transcript d text = text ≡ transcript
+abbrev pub IsToldBy : Bool → Look → Console → List ℕ → Console → List ℕ → Type 0
+IsToldBy true look c transcript d text =
+    IsToldOf look (length c.session.steps) d.session text
+IsToldBy false look c transcript d text = text ≡ transcript
 
 abbrev pub IsToldFor : Look → Console → List ℕ → Console → List ℕ → Type 0
-IsToldFor look c transcript d text = IsToldBy (takes_steps c d) look transcript d text
+IsToldFor look c transcript d text = IsToldBy (takes_steps c d) look c transcript d text
 
 -- a line was answered, and this was told of it
 abbrev pub IsTold : Look → Console → List ℕ → List ℕ → Bool → Console → Type 0
@@ -46,5 +61,5 @@ Answers Colours c line text quits d = IsTold Colours c line text quits d
 -- what stands behind all answers: the history and the status; where the tree is told the status alone
 abbrev pub IsEndText : Look → World → List ℕ → Type 0
 IsEndText Transcript w text = text ≡ end_text w
-IsEndText Tree w text = ⊤
-IsEndText Colours w text = ⊤
+IsEndText Tree w text = text ≡ status_line w.outcome
+IsEndText Colours w text = IsPainted (status_line w.outcome) text

@@ -155,6 +155,13 @@ impl Console {
         &self.session
     }
 
+    /// Whether the moment at which its execution starts is settled.
+    pub(crate) fn is_settled(&self) -> bool
+        ensures { result ≡ self.now.settled }
+    {
+        self.settled
+    }
+
     /// Answers a line: carries out what it asks for, or tells what it could be. The error is that memory ran out.
     pub fn answer(&mut self, line: &[u8]) -> Result<Answer, AllocError>
         ensures { IfOk result (λ a.

@@ -1,10 +1,13 @@
 // Answers that tell what happened at each state.
-ghost use Rattle.std.specs.Prelude.{◌≡◌, ◌≤◌, ◌++◌, List, ℕ, length, IfOk, OnOk, string_bytes};
-ghost use Rattle.asl_run_world.specs.Lines.{end_text};
-ghost use Rattle.asl_exec.specs.Views.{world_of};
-ghost use Rattle.asl_session_console.specs.Answers.{first_console};
-ghost use Rattle.asl_session_console.specs.Telling.{AreShown, IsToldOf, IsTold, Answers, IsEndText};
+ghost use Rattle.std.specs.Prelude.{◌≡◌, ◌≤◌, ◌++◌, List, ℕ, None, length, if◌then◌else◌, IfOk, IfSome, OnOk, string_bytes};
+ghost use Rattle.asl_run_world.specs.Lines.{end_text, status_line};
+ghost use Rattle.asl_exec.specs.Steps.{world_after};
+ghost use Rattle.asl_exec.specs.Views.{setup_of, world_of};
+ghost use Rattle.asl_view_trace.specs.Steps.{tree_lines};
 ghost use Rattle.asl_session.specs.Sessions.{world_in};
+ghost use Rattle.asl_session_console.specs.Answers.{first_console};
+ghost use Rattle.asl_session_console.specs.Telling.{AreShown, AreToldThere, IsToldOf, IsTold, Answers, IsEndText};
+ghost use Rattle.asl_session_console.specs.private.Shadows.{IsBehind};
 
 use crate::console::{Answer, Console};
 use crate::views::put_places;
@@ -31,7 +34,7 @@ pub enum Look {
 /// A console that tells what happened at each state, where that is wanted. Contracts see the console.
 pub struct Teller {
     console: Console,
-    /// The same execution, stepped anew while its steps are told; none where it isn't as far as the console's.
+    /// The same execution, stepped anew while its steps are told: as far as the console's, where it is kept.
     shadow: Option<Execution>,
     alloc: Global,
 }
@@ -58,6 +61,12 @@ impl Model for Teller {
     ghost coded = { Prim.hlevel (codes, setup_row.the_row.coded, step_row.the_row.coded) };
 
     ghost view = { λ t. t.console };
+
+    ghost use Rattle.std.specs.Prelude.{IfSome, length};
+    ghost use Rattle.asl_session_console.specs.private.Shadows.{IsBehind};
+
+    ghost invariant = { λ t. IfSome t.shadow
+        (IsBehind (length t.console.session.steps) t.console.session) };
 }
 
 /// Takes steps in order; the lines that tell of them. The error is that memory ran out.
@@ -65,45 +74,63 @@ fn lines_of(
     alloc: Global,
     execution: &mut Execution,
     steps: &[StepAt],
-) -> Result<String, AllocError> {
+) -> Result<String, AllocError>
+    ensures text { IfOk result (λ t. string_bytes t ≡ tree_lines Shows.Changes
+        (setup_of execution.old) (world_of execution.old) steps.now) }
+    ensures world { OnOk result (world_of execution.new
+        ≡ world_after (setup_of execution.old) (world_of execution.old) steps.now) }
+    ensures setup { setup_of execution.new ≡ setup_of execution.old }
+{
     let mut tree = Tree::resume(alloc, execution, Shows::Changes)?;
-    for at in steps {
-        tree.step(execution, at)?;
-    }
+    tree.steps(execution, steps)?;
     Ok(tree.into_lines())
+}
+
+/// Takes steps in order. The error is that memory ran out.
+fn take_all(execution: &mut Execution, steps: &[StepAt]) -> Result<(), AllocError>
+    ensures world { OnOk result (world_of execution.new
+        ≡ world_after (setup_of execution.old) (world_of execution.old) steps.now) }
+    ensures setup { setup_of execution.new ≡ setup_of execution.old }
+{
+    for at in steps {
+        let _refused = execution.reply(at)?;
+    }
+    Ok(())
 }
 
 /// An execution that has taken the first so many steps of a session. The error is that memory ran out.
 fn replayed(alloc: Global, session: &Session, count: usize) -> Result<Execution, AllocError>
     requires { count ≤ length session.now.steps }
+    ensures { IfOk result (IsBehind count session.now) }
 {
     let setup = session.execution().setup().try_clone(alloc)?;
     let mut execution = Execution::open(alloc, setup)?;
-    for at in &session.steps()[..count] {
-        let _refused = execution.reply(at)?;
-    }
+    take_all(&mut execution, &session.steps()[..count])?;
     Ok(execution)
 }
 
-/// The execution before the steps behind the first so many. Before the first step the session may have begun anew. The error is that
-/// memory ran out.
+/// The same, where one is kept that is as far: that one.
 fn shadow_at(
     alloc: Global,
     kept: Option<Execution>,
     session: &Session,
     count: usize,
 ) -> Result<Execution, AllocError>
-    requires { count ≤ length session.now.steps }
+    requires few { count ≤ length session.now.steps }
+    requires kept { IfSome kept (IsBehind count session.now) }
+    ensures { IfOk result (IsBehind count session.now) }
 {
     match kept {
-        Some(shadow) if count > 0 => Ok(shadow),
-        _ => replayed(alloc, session, count),
+        Some(shadow) => Ok(shadow),
+        None => replayed(alloc, session, count),
     }
 }
 
-/// An execution that is as far as before; none where steps were taken back.
-fn kept_where(same: bool, kept: Option<Execution>) -> Option<Execution> {
-    if same { kept } else { None }
+/// An execution, where it may be kept.
+fn kept_where(may: bool, shadow: Option<Execution>) -> Option<Execution>
+    ensures { result ≡ (if may then shadow else None) }
+{
+    if may { shadow } else { None }
 }
 
 /// Appends lines of the tree. The error is that memory ran out.
@@ -118,12 +145,12 @@ fn put_lines(out: &mut String, look: Look, lines: &str) -> Result<(), AllocError
 }
 
 /// Lines of the tree, and behind them where each branch stands. The error is that memory ran out.
-fn told_of(alloc: Global, look: Look, lines: &str, console: &Console) -> Result<String, AllocError>
-    ensures { IfOk result (λ t. IsToldOf look console.now (string_bytes t)) }
+fn told_of(alloc: Global, look: Look, lines: &str, session: &Session) -> Result<String, AllocError>
+    ensures { IfOk result (λ t. AreToldThere look lines.now session.now (string_bytes t)) }
 {
     let mut text = String::new(alloc);
     put_lines(&mut text, look, lines)?;
-    put_places(alloc, &mut text, console.session())?;
+    put_places(alloc, &mut text, session)?;
     Ok(text)
 }
 
@@ -137,7 +164,10 @@ fn end_of(alloc: Global, execution: &Execution) -> Result<String, AllocError>
 }
 
 /// The status of an execution.
-fn status_of(alloc: Global, execution: &Execution) -> Result<String, AllocError> {
+fn status_of(alloc: Global, execution: &Execution) -> Result<String, AllocError>
+    ensures { IfOk result (λ t.
+        string_bytes t ≡ status_line (world_of execution.now).outcome) }
+{
     Tree::resume(alloc, execution, Shows::Changes)?.close(execution)
 }
 
@@ -197,7 +227,8 @@ impl Teller {
         ensures { IfOk result (λ a.
             IsTold look self.old line.now (string_bytes a.text) a.quits self.new) }
     {
-        let kept = self.shadow.take();
+        let shadow = self.shadow.take();
+        let kept = kept_where(self.console.is_settled(), shadow);
         let before = self.console.session().steps().len();
         let answer = self.console.answer(line)?;
         let after = self.console.session().steps().len();
@@ -219,14 +250,16 @@ impl Teller {
         kept: Option<Execution>,
         before: usize,
     ) -> Result<String, AllocError>
-        requires { before ≤ length self.old.session.steps }
-        ensures text { IfOk result (λ t. IsToldOf look self.old (string_bytes t)) }
+        requires few { before ≤ length self.old.session.steps }
+        requires kept { IfSome kept (IsBehind before self.old.session) }
+        ensures text { IfOk result (λ t.
+            IsToldOf look before self.old.session (string_bytes t)) }
         ensures console { self.new ≡ self.old }
     {
         let session = self.console.session();
         let mut shadow = shadow_at(self.alloc, kept, session, before)?;
         let lines = lines_of(self.alloc, &mut shadow, &session.steps()[before..])?;
-        let text = told_of(self.alloc, look, lines.as_str(), &self.console)?;
+        let text = told_of(self.alloc, look, lines.as_str(), session)?;
         self.shadow = Some(shadow);
         Ok(text)
     }

@@ -2,10 +2,10 @@ use Rattle.std.proofs.Common.{◌≡◌, ◌-◌, ◌∙◌, None, ap}
 use Rattle.std.specs.Prelude.{◌++◌}
 use Rattle.asl_exec.specs.Driving.{chosen}
 use Rattle.asl_exec.specs.Views.{setup_of, world_of}
+use Rattle.asl_view_trace.specs.Steps.{tree_lines}
 use Rattle.asl_view_trace.specs.Views.{text_of, shows_of}
 use Rattle.asl_view_trace.specs.declared.tree.Shows.{Shows}
 use Rattle.asl_run_outputs.specs.Taken.{step_at}
-use Rattle.asl_run_outputs.specs.Trees.{tree_lines}
 use Rattle.asl_run_outputs.proofs.Taking.{ended_world, more_world}
 use Rattle.asl_run_outputs.proofs.Telling.{ended_text, more_text}
 use Rattle.asl_run_outputs.proofs.treeing.tell_driven.Goals as goal

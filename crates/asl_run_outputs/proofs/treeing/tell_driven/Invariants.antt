@@ -1,9 +1,9 @@
 use Rattle.std.proofs.Common.{◌≡◌, ◌++◌, ◌-◌}
 use Rattle.asl_exec.specs.Driving.{driven}
 use Rattle.asl_exec.specs.Views.{setup_of, world_of}
+use Rattle.asl_view_trace.specs.Steps.{tree_lines}
 use Rattle.asl_view_trace.specs.Views.{text_of, shows_of, facts_in}
 use Rattle.asl_run_outputs.specs.Taken.{taken}
-use Rattle.asl_run_outputs.specs.Trees.{tree_lines}
 use Rattle.asl_run_outputs.proofs.treeing.tell_driven.Given as goal
 
 -- the steps that are left lead to where all lead, and the lines so far and theirs are those of all
