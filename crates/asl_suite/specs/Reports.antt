@@ -2,6 +2,7 @@
 use Rattle.std.specs.Prelude.{ℕ, Bool, true, false, List, [], ◌∷◌, ◌++◌, ◌-◌, length, codes, count_by}
 use Rattle.std.specs.List.{flat_map}
 use Rattle.std.specs.Fmt.{decimal}
+use Rattle.asl_terminal.specs.Shown.{shown}
 use Rattle.asl_suite.specs.declared.case_report.CaseReport.{CaseReport}
 use Rattle.asl_suite.specs.declared.case_report.Verdict.{Verdict}
 use Rattle.asl_suite.specs.declared.case_report.Verdict.TheVariants.{NoCase, Limit, Status as WrongStatus, Output, Visits, Passed}
@@ -23,9 +24,9 @@ status_word Succeeded = codes "SUCCEEDED"
 status_word Failed = codes "FAILED"
 status_word TimedOut = codes "TIMED_OUT"
 
--- the verdict, and `MACHINE#CASE`
+-- the verdict, and `MACHINE#CASE`, of which every character shows
 abbrev pub report_head : CaseReport → List ℕ
-report_head r = verdict_word r.verdict ++ 32 ∷ (r.machine ++ 35 ∷ r.case)
+report_head r = verdict_word r.verdict ++ 32 ∷ (shown r.machine ++ 35 ∷ shown r.case)
 
 -- the status, and the number of events
 abbrev pub report_tail : CaseReport → List ℕ

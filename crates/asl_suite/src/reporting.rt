@@ -5,6 +5,7 @@ ghost use Rattle.std.specs.List.{flat_map, list_all};
 ghost use Rattle.asl_suite.specs.Reports.{verdict_word, status_word, report_head, report_tail, report_line, is_passed, passed, report_text};
 
 use crate::case_report::{CaseReport, Status, Verdict};
+use asl_terminal::put_shown;
 use itoa::Buffer;
 use std::alloc::{AllocError, Global};
 
@@ -52,9 +53,9 @@ fn put_head(out: &mut String, report: &CaseReport) -> Result<(), AllocError>
 {
     out.push_str(report.verdict.word())?;
     out.push(' ')?;
-    out.push_str(report.machine.as_str())?;
+    put_shown(out, report.machine.as_str())?;
     out.push('#')?;
-    out.push_str(report.case.as_str())
+    put_shown(out, report.case.as_str())
 }
 
 fn put_tail(out: &mut String, report: &CaseReport) -> Result<(), AllocError>
