@@ -37,7 +37,7 @@ invariant_of-self-2 c =
     kept_there (length c.steps-before.result.now) new.session _ c.kept_where-kept.result c.kept_where.result c.kept_where.ensures
     (λ e. eqb-true (length c.steps-before.result.now) (length c.steps-after.result.now) e ∙ ap length after)
     (λ e. let same : length c.steps-before.result.now ≡ length new.session.steps = eqb-true (length c.steps-before.result.now) (length c.steps-after.result.now) e ∙ ap length after in
-      kept_behind old new c.args.line.now _ c.in_ok-answer.answer.quits c.is_settled.result c.take-shadow.result c.kept_where-kept.result c.steps-before.result.now shadow c.is_settled.ensures c.kept_where-kept.ensures before c.in_ok-answer.ensures (omega (arith, same)))
+    kept_behind old new c.args.line.now _ c.in_ok-answer.answer.quits c.is_settled.result c.take-shadow.result c.kept_where-kept.result c.steps-before.result.now shadow c.is_settled.ensures c.kept_where-kept.ensures before c.in_ok-answer.ensures (omega (arith, same)))
 
 pub returns : goal.returns
 returns c =
