@@ -152,7 +152,8 @@ class Exploring(Searches):
             words = [f"{folder}/definition.json", f"{folder}/mocks.json", chosen, given]
             ran = run_program("explore", *words)
             told = explored(ran.stdout)
-            self.assertEqual((told.search, ran.stderr), ("search complete", ""), chosen)
+            self.assert_noted(ran, told)
+            self.assertEqual(told.search, "search complete", chosen)
             for number, one in enumerate(told.found, 1):
                 witness = run_program("explore", *words, "--witness", str(number))
                 self.assertEqual((witness.returncode, witness.stderr), (0, ""))
