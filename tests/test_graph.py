@@ -124,7 +124,7 @@ def entered(history):
 def passed(history):
     """By a history the pairs of states of which the second was entered from the first, and the states that were left without that."""
     events = {}
-    for line in history.splitlines():
+    for line in history.split("\n"):
         if found := re.match(r"([0-9]+) ([0-9]+) \S+ \S+ ([A-Za-z]+) (.*)$", line):
             events[found[1]] = (found[2], found[3], json.JSONDecoder().raw_decode(found[4])[0])
     pairs, left = set(), {number for number, (_, kind, _) in events.items() if kind.endswith("StateExited")}
