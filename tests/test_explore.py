@@ -370,7 +370,10 @@ class Exploring(Searches):
         self.assertLess(told.worlds, 30)
 
     def test_a_loop_beside_a_branch_that_fails(self):
-        loop, other = ['{"StartAt":"%s","States":{"%s":{"Type":"Pass","Next":"%s"},"%s":{"Type":"Pass","Next":"%s"}}}' % (one, one, two, two, one) for one, two in ("KL", "MN")]
+        loop, other = [
+            '{"StartAt":"%s","States":{"%s":{"Type":"Pass","Next":"%s"},"%s":{"Type":"Pass","Next":"%s"}}}' % (one, one, two, two, one)
+            for one, two in ("KL", "MN")
+        ]
         fails = '{"StartAt":"F","States":{"F":{"Type":"Pass","Next":"G"},"G":{"Type":"Fail","Error":"E"}}}'
         for branches in [[loop, fails], [fails, loop], [loop, other, fails]]:
             for told in [self.complete(parallel(branches), chosen="M"), self.prompt(parallel(branches), chosen="M")]:
@@ -390,7 +393,13 @@ class Exploring(Searches):
                 states[here] = f'{{"Type":"Pass",{goes}}}'
             else:
                 inner = ",".join(self.random_machine(chance, f"{here}{letter}", False) for letter in "ab"[: chance.randrange(1, 3)])
-                caught = chance.choice(["", f',"Catch":[{{"ErrorEquals":["States.ALL"],"Next":"{name}0"}}]', ',"Retry":[{"ErrorEquals":["States.ALL"],"IntervalSeconds":1,"MaxAttempts":1}]'])
+                caught = chance.choice(
+                    [
+                        "",
+                        f',"Catch":[{{"ErrorEquals":["States.ALL"],"Next":"{name}0"}}]',
+                        ',"Retry":[{"ErrorEquals":["States.ALL"],"IntervalSeconds":1,"MaxAttempts":1}]',
+                    ]
+                )
                 states[here] = f'{{"Type":"Parallel","Branches":[{inner}]{caught},{goes}}}'
         rows = ",".join(f'"{here}":{row}' for here, row in states.items())
         return f'{{"StartAt":"{name}0","States":{{{rows}}}}}'

@@ -58,10 +58,20 @@ class Telling(Searches):
     def test_calls_that_differ_between_orders(self):
         for definition, given, mocks, wanted in [
             (parallel([FAIL, chain("A", 1, TASK)]), "{}", mocked({"A0": FOR_EVER}), {'FAILED {"Error":"E"}': [("A0", "0-1")]}),
-            (parallel([FAIL, chain("A", 3, TASK)]), "{}", mocked({name: FOR_EVER for name in ["A0", "A1", "A2"]}), {'FAILED {"Error":"E"}': [("A0", "0-1"), ("A1", "0-1"), ("A2", "0-1")]}),
+            (
+                parallel([FAIL, chain("A", 3, TASK)]),
+                "{}",
+                mocked({name: FOR_EVER for name in ["A0", "A1", "A2"]}),
+                {'FAILED {"Error":"E"}': [("A0", "0-1"), ("A1", "0-1"), ("A2", "0-1")]},
+            ),
             (mapped(ONE_TASK), "[0,0,0]", mocked({"T": FOR_EVER}), {"SUCCEEDED [1,1,1]": [("T", "3")]}),
             (mapped(ONE_TASK), "[0,0,0]", mocked({"T": '"0":{"Throw":{"Error":"E"}},"1-9999":{"Return":1}'}), {'FAILED {"Error":"E"}': [("T", "1")]}),
-            (mapped(ONE_TASK), "[0,0,0]", mocked({"T": '"0":{"Return":1},"1":{"Throw":{"Error":"E"}},"2-9999":{"Return":1}'}), {'FAILED {"Error":"E"}': [("T", "2")]}),
+            (
+                mapped(ONE_TASK),
+                "[0,0,0]",
+                mocked({"T": '"0":{"Return":1},"1":{"Throw":{"Error":"E"}},"2-9999":{"Return":1}'}),
+                {'FAILED {"Error":"E"}': [("T", "2")]},
+            ),
             (BUSY, "{}", mocked({"T": '"0-1":{"Throw":{"Error":"Busy"}},"2":{"Return":1}'}), {"SUCCEEDED 1": [("T", "3")]}),
             (chain("A", 2), "{}", mocked({}), {"SUCCEEDED {}": []}),
         ]:
@@ -71,7 +81,10 @@ class Telling(Searches):
         one = '{"StartAt":"A","States":{"A":{"Type":"Task","Resource":"r","Next":"B"},"B":{"Type":"Task","Resource":"r","End":true}}}'
         definition = parallel([one, chain("C", 1, TASK)])
         mocks = mocked({"A": FOR_EVER, "B": '"0":{"Throw":{"Error":"B"}}', "C0": '"0":{"Throw":{"Error":"C"}}'})
-        self.assertEqual(self.calls(definition, "{}", mocks), {'FAILED {"Error":"B"}': [("A", "1"), ("B", "1")], 'FAILED {"Error":"C"}': [("A", "0-1"), ("C0", "1")]})
+        self.assertEqual(
+            self.calls(definition, "{}", mocks),
+            {'FAILED {"Error":"B"}': [("A", "1"), ("B", "1")], 'FAILED {"Error":"C"}': [("A", "0-1"), ("C0", "1")]},
+        )
 
     def test_calls_of_prompt_orders(self):
         waits = '{"StartAt":"W","States":{"W":{"Type":"Wait","Seconds":1,"Next":"F"},"F":{"Type":"Fail","Error":"E"}}}'
@@ -178,7 +191,10 @@ class Telling(Searches):
         self.assertEqual(self.remarks(again, "[0,0]", answers), [])
 
     def test_states_that_no_order_enters(self):
-        choice = '{"StartAt":"C","States":{"C":{"Type":"Choice","Choices":[{"Variable":"$","IsNull":true,"Next":"A"}],"Default":"B"},"A":{"Type":"Succeed"},"B":{"Type":"Parallel","Branches":[%s],"End":true}}}' % chain("D", 2)
+        choice = (
+            '{"StartAt":"C","States":{"C":{"Type":"Choice","Choices":[{"Variable":"$","IsNull":true,"Next":"A"}],"Default":"B"},'
+            '"A":{"Type":"Succeed"},"B":{"Type":"Parallel","Branches":[%s],"End":true}}}'
+        ) % chain("D", 2)
         self.assertEqual(self.remarks(choice, "null", chosen="M"), ['never entered "B"', 'never entered "D0"', 'never entered "D1"'])
         self.assertEqual(self.remarks(choice, "1", chosen="M"), ['never entered "A"'])
 
@@ -205,7 +221,10 @@ class Telling(Searches):
 
     def test_states_that_only_late_orders_enter(self):
         def waits(name, seconds):
-            return f'{{"StartAt":"W{name}","States":{{"W{name}":{{"Type":"Wait","Seconds":{seconds},"Next":"F{name}"}},"F{name}":{{"Type":"Fail","Error":"{name}"}}}}}}'
+            return (
+                f'{{"StartAt":"W{name}","States":{{"W{name}":{{"Type":"Wait","Seconds":{seconds},"Next":"F{name}"}},'
+                f'"F{name}":{{"Type":"Fail","Error":"{name}"}}}}}}'
+            )
 
         definition = parallel([waits("A", 1), waits("B", 2)])
         self.assertNotIn('never entered "FB"', self.remarks(definition, chosen="M"))
@@ -239,7 +258,12 @@ class Telling(Searches):
             (parallel([FAIL, chain("A", 3)]), "{}", mocked({}), []),
             (parallel([FAIL, BUSY]), "{}", mocked({"T": '"0":{"Throw":{"Error":"Busy"}},"1-9999":{"Return":1}'}), ['cut off "T"']),
             (parallel([FAIL, BUSY]), "{}", mocked({"T": FOR_EVER}), []),
-            (parallel([FAIL, '{"StartAt":"Q","States":{"Q":{"Type":"Parallel","Branches":[%s],"End":true}}}' % WAIT]), "{}", mocked({}), ['cut off "Q"', 'cut off "W"']),
+            (
+                parallel([FAIL, '{"StartAt":"Q","States":{"Q":{"Type":"Parallel","Branches":[%s],"End":true}}}' % WAIT]),
+                "{}",
+                mocked({}),
+                ['cut off "Q"', 'cut off "W"'],
+            ),
         ]:
             self.assertEqual(self.remarks(definition, given, mocks), wanted, definition)
 
@@ -259,4 +283,5 @@ class Telling(Searches):
     def test_remarks_stand_before_notes(self):
         definition = '{"StartAt":"A","TimeoutSeconds":100,"States":{"A":{"Type":"Succeed"},"B":{"Type":"Succeed"}}}'
         ran = self.explore(definition, "{}", "{}", "M")
-        self.assertTrue(ran.stdout.endswith('\n\nnever entered "B"\nnote time limit: where a branch is late enough, any order ends as TIMED_OUT {"Error":"States.Timeout"}\n'))
+        note = 'note time limit: where a branch is late enough, any order ends as TIMED_OUT {"Error":"States.Timeout"}\n'
+        self.assertTrue(ran.stdout.endswith('\n\nnever entered "B"\n' + note))

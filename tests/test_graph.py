@@ -1,4 +1,4 @@
-"""The graphs of definitions: what each language draws is what the definition says, whatever its names are; and which states and transitions a run marks there."""
+"""The graphs of definitions: what each language draws is what the definition says, whatever its names are; and what a run marks there."""
 import glob
 import json
 import os
@@ -12,7 +12,8 @@ from program import TOP, ProgramTest, answered, run_program
 LANGUAGES = ["mermaid", "dot"]
 
 # Names that mean something in one of the languages, and some that look alike.
-NAMES = ['"', "\\", "end", "a b", "a_b", "a_32_b", "<b>", "&amp;", "#35;", "%%", "style: x#1;", "x -->|y| z", "é", "😀", "\u2028", "left\u202egpj\u200f\u2066", "next\x85line", "`", "-", "'"]
+NAMES = ['"', "\\", "end", "a b", "a_b", "a_32_b", "<b>", "&amp;", "#35;", "%%", "style: x#1;", "x -->|y| z", "é", "😀", "`", "-", "'"]
+NAMES += ["\u2028", "left\u202egpj\u200f\u2066", "next\x85line"]
 
 
 def shown(name):
@@ -258,7 +259,8 @@ class MarkedTest(ProgramTest):
             ran = run_program("graph", definition, "--run", mocks, "M", given)
             self.assertEqual((ran.returncode, ran.stdout, ran.stderr), (2, "", told.stderr), text)
         definition, mocks, given = self.on_files(*good)
-        for words in [("/nowhere", mocks, "M", given), (definition, "/nowhere", "M", given), (definition, mocks, "M", "/nowhere"), (definition, mocks, "M#c", given)]:
+        lacking = [("/nowhere", mocks, "M", given), (definition, "/nowhere", "M", given), (definition, mocks, "M", "/nowhere")]
+        for words in [*lacking, (definition, mocks, "M#c", given)]:
             told = run_program("run", *words)
             ran = run_program("graph", words[0], "--run", *words[1:])
             self.assertEqual((ran.returncode, ran.stdout, ran.stderr), (2, "", told.stderr), words)

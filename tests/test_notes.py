@@ -78,5 +78,6 @@ class NotesTest(ProgramTest):
         self.assertEqual((ran.returncode, ran.stderr), (0, ""))
 
     def test_the_examples_lack_no_answer(self):
-        ran = run_program("run", *[f"{TOP}/examples/order/{name}" for name in ["definition.json", "mocks.json"]], "order#shipped", f"{TOP}/examples/order/input.json")
+        definition, mocks, given = [f"{TOP}/examples/order/{name}.json" for name in ["definition", "mocks", "input"]]
+        ran = run_program("run", definition, mocks, "order#shipped", given)
         self.assertEqual(ran.stderr, "")

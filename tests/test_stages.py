@@ -188,7 +188,8 @@ class StagesTest(ProgramTest):
             "End": True,
         }
         told = self.stages(parallel, "1", B={"Type": "Succeed"})
-        self.assertEqual(told, [[("input", 1)], [("input", 1), ("result", [{"Error": "E"}])], [("input", 1), ("result", [{"Error": "E"}]), ("Catch", 1)], [("input", 1)]])
+        failed = [("input", 1), ("result", [{"Error": "E"}])]
+        self.assertEqual(told, [[("input", 1)], failed, [*failed, ("Catch", 1)], [("input", 1)]])
 
     def test_maps(self):
         inner = {"StartAt": "P", "States": {"P": {"Type": "Pass", "End": True}}}

@@ -124,14 +124,18 @@ status SUCCEEDED {"a":{"b":7}}
                 self.assertEqual(told.splitlines()[-1], status)
 
     def test_a_test_case_of_the_only_machine_needs_no_machine(self):
-        task = '{"StartAt":"T","States":{"T":{"Type":"Task","Resource":"r","ResultSelector":{"machine.$":"$$.StateMachine.Name","run.$":"$$.Execution.Name"},"End":true}}}'
+        task = (
+            '{"StartAt":"T","States":{"T":{"Type":"Task","Resource":"r",'
+            '"ResultSelector":{"machine.$":"$$.StateMachine.Name","run.$":"$$.Execution.Name"},"End":true}}}'
+        )
         failed = 'status FAILED {"Error":"States.Runtime","Cause":"no mocked answer"}'
 
         def found(machine, case):
             return 'status SUCCEEDED {"machine":"%s","run":"%s"}' % (machine, case)
 
         def mocks(*machines):
-            return '{"StateMachines":{%s},"MockedResponses":{"r":{"0":{"Return":1}}}}' % ",".join('"%s":{"TestCases":{"c":{"T":"r"},"M":{"T":"r"},"":{"T":"r"}}}' % machine for machine in machines)
+            cases = ",".join('"%s":{"TestCases":{"c":{"T":"r"},"M":{"T":"r"},"":{"T":"r"}}}' % machine for machine in machines)
+            return '{"StateMachines":{%s},"MockedResponses":{"r":{"0":{"Return":1}}}}' % cases
 
         for machines, chosen, status in [
             (["M"], "c", found("M", "c")),
