@@ -182,8 +182,9 @@ impl Console {
     {
         let mut text = String::new(self.alloc);
         self.start(request)?;
-        self.obey(&mut text, request)?;
+        // (also where memory runs out behind the first of several steps)
         self.settled = is_settled(self.settled, request);
+        self.obey(&mut text, request)?;
         Ok(Answer {
             text,
             quits: matches!(request, Request::Quit),
