@@ -45,33 +45,32 @@ class Names(unittest.TestCase):
         return path
 
     def lines_of(self, name):
-        """Each command line that prints something of the name, and whether it prints names as they are: a suite's usual text does."""
+        """Each command line that prints something of the name."""
         given = [self.file("definition", definition(name)), self.file("mocks", mocks(name)), f"{name}#{name}", self.file("input", {})]
         suite = ["test", *given[:2], self.file("tests", tests(name, visits={name: 7}))]
         spelled = json.dumps(name, ensure_ascii=False)[1:-1]
         script = self.file("script", f'break "{spelled}"\nstep / 1970-01-01T00:00:00Z\nshow /\n')
-        lines = [([command, given[0]], False) for command in ("check", "print", "upgrade", "graph")]
-        lines += [(["graph", given[0], "--format", "dot"], False), (["mocks", given[0], name], False)]
-        lines += [(["lint", *given[:2], "--format", kind], False) for kind in ("text", "json", "sarif")]
-        lines += [(["run", *given, "--format", kind], False) for kind in ("text", "json", "aws", "steps", "tree", "data")]
-        lines += [(["debug", *given, script], False), (["explore", *given], False), (["explore", *given, "--calls"], False)]
-        lines += [(suite, True), ([*suite, "--coverage"], True), ([*suite, "--format", "junit"], False), ([*suite, "--format", "json"], False)]
+        lines = [[command, given[0]] for command in ("check", "print", "upgrade", "graph")]
+        lines += [["graph", given[0], "--format", "dot"], ["mocks", given[0], name]]
+        lines += [["lint", *given[:2], "--format", kind] for kind in ("text", "json", "sarif")]
+        lines += [["run", *given, "--format", kind] for kind in ("text", "json", "aws", "steps", "tree", "data")]
+        lines += [["debug", *given, script], ["explore", *given], ["explore", *given, "--calls"]]
+        lines += [suite, [*suite, "--coverage"], [*suite, "--format", "junit"], [*suite, "--format", "json"]]
         return lines
 
     def answers(self, name):
-        """What is printed and told by each command line, and whether names are printed as they are."""
-        for words, is_raw in self.lines_of(name):
+        """What is printed and told by each command line."""
+        for words in self.lines_of(name):
             ran = run_program(*words)
             self.assertIn(ran.returncode, (0, 1), (words, ran.stderr))
-            yield words, ran.stdout, ran.stderr, is_raw
+            yield words, ran.stdout, ran.stderr
 
     def test_each_name_takes_one_line_and_no_control_is_printed(self):
-        plain = [(out.count("\n"), err.count("\n")) for _, out, err, _ in self.answers("plain")]
+        plain = [(out.count("\n"), err.count("\n")) for _, out, err in self.answers("plain")]
         for name in NAMES:
-            for counts, (words, out, err, is_raw) in zip(plain, self.answers(name)):
+            for counts, (words, out, err) in zip(plain, self.answers(name)):
                 what = (name, words[0], words[-1])
-                if not is_raw:
-                    self.assertEqual((CONTROL.findall(out), out.count("\n")), ([], counts[0]), what)
+                self.assertEqual((CONTROL.findall(out), out.count("\n")), ([], counts[0]), what)
                 self.assertEqual((CONTROL.findall(err), err.count("\n")), ([], counts[1]), what)
 
     def test_faults_and_findings_have_no_other_controls_and_no_marks_of_direction(self):
@@ -97,6 +96,14 @@ class Names(unittest.TestCase):
                 found = run_program("lint", self.file("wrong", wrong), self.file("gap", mocks(name, {"0": {name: 1}})), "--format", kind)
                 self.assertEqual((found.returncode, found.stderr), (1, ""), (name, kind))
                 self.assertEqual(UNSHOWN.findall(found.stdout), [], (name, kind))
+
+    def test_graphs_and_the_lines_of_tests_have_no_marks_of_direction(self):
+        for name in NAMES:
+            given = [self.file("definition", definition(name)), self.file("mocks", mocks(name)), self.file("tests", tests(name, visits={name: 7}))]
+            for words in (["graph", given[0]], ["graph", given[0], "--format", "dot"], ["test", *given]):
+                ran = run_program(*words)
+                self.assertIn(ran.returncode, (0, 1), (words, ran.stderr))
+                self.assertEqual(UNSHOWN.findall(ran.stdout), [], (name, words))
 
 
 if __name__ == "__main__":
