@@ -1,0 +1,193 @@
+"""What the tools call of the kit: a stand-in for rt that has only words that every kit has answers tools/build, .ci/run and ./asl."""
+import os
+import re
+import shutil
+import subprocess
+import sys
+import tempfile
+import textwrap
+import unittest
+
+from program import TOP
+
+sys.path.insert(0, f"{TOP}/tools")
+from crates import Crates  # pylint: disable=wrong-import-position
+
+# It writes down each call, and answers those that `rt help` of each kit has. Its rt ci makes what rt ci leaves.
+STAND_IN = """\
+#!/bin/bash
+here=$(dirname "$(dirname "$(readlink -f "$0")")")
+echo "$*" >> "$here/calls"
+made() { mkdir -p "$(dirname "$1")"; printf '#!/bin/sh\\necho the program\\n' > "$1"; chmod +x "$1"; }
+case "$# $*" in
+  '1 doc') echo "$here/START-HERE.md" ;;
+  '1 ci')
+    [ -d .git ] && [ -f HANDLES ] || exit 2
+    for name in $(sed 's/#.*//; s/[: ].*//' crates.txt); do
+      [ -d "crates/$name/src" ] && ! [ -d "crates/$name/must-fail" ] || exit 1
+      mkdir -p "crates/$name/out/rlib/$name.rlib"
+      echo "rt: $name proved"
+    done
+    made crates/asl/out/asl
+    if [ -d crates/asl_refusal_tests ]; then made crates/asl_refusal_tests/out/asl_refusal_tests_tests; fi
+    echo '1 passed, 0 failed'
+    ;;
+  *' must-fail '*) echo "rt: refused" ;;
+  *' try --data '*) printf 'interpreter: \\nrun=ended status=0 proved=no\\n' >&2; echo "tried" ;;
+  *) echo 'usage: rt ci' >&2; exit 2 ;;
+esac
+"""
+
+# A kit's rt whose crates are asked again and again: what it counts is how often.
+ASKING = """\
+import sys
+import types
+
+asked = []
+
+
+class Crate:
+    def __init__(self, folder, *deps):
+        self.folder, self.deps = folder, deps
+
+    def stamp(self):
+        asked.append(self.folder)
+        return self.folder + "".join(it.stamp() for it in self.deps)
+
+    def below(self):
+        return [it for dep in self.deps for it in [*dep.below(), dep]]
+
+
+rtlib = types.SimpleNamespace(Crate=Crate)
+
+
+def main(words):
+    top = low = Crate("0")
+    for it in range(1, 8):
+        low, top = top, Crate(str(it), low, top)
+    print(len(top.stamp()), len(top.below()), len(asked), *words)
+    return 3
+
+
+if __name__ == "__main__":
+    sys.exit(main(sys.argv[1:]))
+"""
+
+
+class KitTest(unittest.TestCase):
+    maxDiff = None
+
+    def setUp(self):
+        self.room = tempfile.mkdtemp(prefix="asl-kit-")
+        self.addCleanup(shutil.rmtree, self.room)
+        self.tree = f"{self.room}/tree"
+        self.set_kit(STAND_IN)
+
+    def set_kit(self, text):
+        """Puts a stand-in for rt on the PATH, in a folder as a kit's."""
+        os.makedirs(f"{self.room}/kit/bin", exist_ok=True)
+        with open(f"{self.room}/kit/bin/rt", "w", encoding="utf-8") as file:
+            file.write(text)
+        os.chmod(f"{self.room}/kit/bin/rt", 0o755)
+
+    def copy_tree(self):
+        """A copy of the tree in which nothing is built, with the texts of one crate alone, and in which all other checks pass at once."""
+        os.mkdir(self.tree)
+        for name in ("tools", "examples", ".ci", "crates/asl/data", "crates/asl_terminal"):
+            shutil.copytree(f"{TOP}/{name}", f"{self.tree}/{name}", ignore=shutil.ignore_patterns("out", "__pycache__"))
+        for name in ("asl", "crates.txt", "HANDLES"):
+            shutil.copy(f"{TOP}/{name}", self.tree)
+        for name in Crates().named:
+            os.makedirs(f"{self.tree}/crates/{name}/src", exist_ok=True)
+        for name in ("tests", "figures", "language"):
+            with open(f"{self.tree}/tools/{name}", "w", encoding="utf-8") as file:
+                file.write("#!/bin/sh\necho tested\n")
+
+    def run_tool(self, *words, folder=None):
+        path = f"{self.room}/kit/bin:{os.environ['PATH']}"
+        return subprocess.run(
+            words,
+            cwd=folder or self.tree,
+            env={**os.environ, "PATH": path, "RT_JOBS": "2"},
+            stdin=subprocess.DEVNULL,
+            stdout=subprocess.PIPE,
+            stderr=subprocess.STDOUT,
+            encoding="utf-8",
+            timeout=300,
+            check=False,
+        )
+
+    def calls(self):
+        with open(f"{self.room}/kit/calls", encoding="utf-8") as file:
+            return {re.sub(r"^(must-fail|try) .*", r"\1", line) for line in file.read().splitlines()}
+
+    def test_build(self):
+        self.copy_tree()
+        ran = self.run_tool("tools/build")
+        self.assertEqual(ran.returncode, 0, ran.stdout)
+        self.assertIn("the program is proved and built", ran.stdout)
+        self.assertEqual(self.calls(), {"doc", "ci"})
+        ran = self.run_tool("./asl", "check", "examples/refused.json")
+        self.assertEqual(ran.stdout, "the program\n")
+
+    def test_gate(self):
+        self.copy_tree()
+        ran = self.run_tool("bash", ".ci/run")
+        self.assertEqual(ran.returncode, 0, ran.stdout)
+        self.assertIn("tested", ran.stdout.splitlines())
+        # its prover answers nothing, so the edits are tried by the kit's own word
+        self.assertEqual(self.calls(), {"doc", "ci", "must-fail"})
+        self.assertTrue(os.path.isfile(f"{self.tree}/crates/asl_refusal_tests/out/asl_refusal_tests_tests"))
+
+    def test_first_answer(self):
+        self.copy_tree()
+        ran = self.run_tool("./asl", "check", "examples/refused.json")
+        self.assertEqual((ran.returncode, ran.stdout.splitlines()[-1]), (0, "tried"))
+        self.assertEqual(self.calls(), {"try"})
+
+    def test_a_kit_that_fails(self):
+        self.copy_tree()
+        self.set_kit("#!/bin/sh\necho 'rt: asl_json NOT PROVED'\nexit 1\n")
+        ran = self.run_tool("tools/build")
+        self.assertEqual(ran.returncode, 1)
+        self.assertIn("not built", ran.stdout)
+        self.assertFalse(os.path.exists(f"{self.tree}/crates/asl/out/asl"))
+
+    def test_crates_are_asked_once(self):
+        script = f"{self.room}/kit/asking"
+        with open(script, "w", encoding="utf-8") as file:
+            file.write(ASKING)
+        plain = self.run_tool(sys.executable, script, "ci", folder=self.room)
+        self.set_kit(textwrap.dedent(f"""\
+            #!/bin/sh
+            [ "$*" = doc ] && echo {self.room}/kit/START-HERE.md && exit
+            exit 9
+            """))
+        self.assertEqual(self.run_tool(f"{TOP}/tools/rt", "ci", folder=self.room).returncode, 9)
+        os.rename(f"{self.room}/kit/bin", f"{self.room}/kit/path")
+        os.mkdir(f"{self.room}/kit/bin")
+        shutil.copy(script, f"{self.room}/kit/bin/rt")
+        os.environ["PATH"], path = f"{self.room}/kit/path:{os.environ['PATH']}", os.environ["PATH"]
+        self.addCleanup(os.environ.__setitem__, "PATH", path)
+        quick = subprocess.run([f"{TOP}/tools/rt", "ci"], stdout=subprocess.PIPE, encoding="utf-8", check=False)
+        said = plain.stdout.split()
+        self.assertEqual((plain.returncode, quick.returncode), (3, 3))
+        # the same sum and names, by one question a crate in place of one a way
+        self.assertEqual(quick.stdout.split(), [*said[:2], "8", "ci"])
+        self.assertGreater(int(said[2]), 30)
+
+    def test_crates_name_what_their_texts_name(self):
+        crates = Crates()
+        for name in crates.named:
+            folders = [f"{TOP}/crates/{name}/{part}" for part in ("src", "specs", "proofs")]
+            found = subprocess.run(["grep", "-rhoE", r"\basl_\w+", *folders], stdout=subprocess.PIPE, stderr=subprocess.DEVNULL, encoding="utf-8", check=False)
+            words = {*found.stdout.split()}
+            self.assertEqual([it for it in crates.own(name) if it not in words], [], name)
+
+    def test_ways_down(self):
+        crates = Crates()
+        self.assertLessEqual(crates.ways("asl"), 120_490)
+
+
+if __name__ == "__main__":
+    unittest.main()
