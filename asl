@@ -1,7 +1,7 @@
 #!/bin/bash
 # Starts the program. Where tools/build hasn't built it yet, or a source has changed since, this runs the sources as they are by
-# `rt try`, which compiles them and proves nothing. Help and version are answered at once: tests/front compares them with
-# the program's.
+# `rt try`, which compiles them and proves nothing. Help and version are answered at once (tests/front compares them with
+# the program's), and so are wrong command lines and files that aren't there.
 set -euo pipefail
 top=$(dirname "$(readlink -f "$0")")
 crate=$top/crates/asl
@@ -50,7 +50,7 @@ run_sources() { # the words
   trap 'rm -rf "$room"' EXIT
   words=() files=()
   for word in "$@"; do hand_in "$word"; done
-  (cd "$crate" && rt try "${files[@]}" -- "${words[@]}") > "$room/out" 2> "$room/err" || true
+  (cd "$crate" && "$top/tools/rt" try "${files[@]}" -- "${words[@]}") > "$room/out" 2> "$room/err" || true
   last=$(tail -n 1 "$room/err")
   if ! [[ $last =~ ^run=ended\ status=([0-9]+)\  ]]; then
     cat "$room/err" >&2
@@ -75,6 +75,9 @@ if [ $# = 0 ]; then
   cat "$top/tools/help/none.txt" >&2
   exit 2
 fi
+wrong=0
+python3 -B "$top/tools/helps.py" "$@" || wrong=$?
+if [ $wrong = 2 ]; then exit 2; fi
 if [ "$1 $#" = 'debug 5' ] && [ -t 0 ]; then
   echo "asl: $why: a session needs the built program; tools/build proves and builds it" >&2
   exit 2
@@ -83,5 +86,5 @@ if ! command -v rt > /dev/null; then
   echo "asl: $why, and Rattle's command rt isn't on the PATH: README.md says where it comes from" >&2
   exit 2
 fi
-echo "asl: $why: running the sources as they are, which takes a minute or two and proves nothing; tools/build proves and builds it" >&2
+echo "asl: $why: compiling the sources takes two minutes, each time, and proves nothing; tools/build proves and builds it once, and an archive needs neither" >&2
 run_sources "$@"

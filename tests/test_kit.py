@@ -13,7 +13,7 @@ from program import TOP
 sys.path.insert(0, f"{TOP}/tools")
 from crates import Crates  # pylint: disable=wrong-import-position
 
-# It writes down each call, and answers those that `rt help` of each kit has. Its rt ci makes what rt ci leaves.
+# It writes down each call, and answers those that `rt help` of each kit has. Its `rt ci` leaves what `rt ci` leaves.
 STAND_IN = """\
 #!/bin/bash
 here=$(dirname "$(dirname "$(readlink -f "$0")")")
@@ -143,7 +143,7 @@ class KitTest(unittest.TestCase):
         self.copy_tree()
         ran = self.run_tool("./asl", "check", "examples/refused.json")
         self.assertEqual((ran.returncode, ran.stdout.splitlines()[-1]), (0, "tried"))
-        self.assertEqual(self.calls(), {"try"})
+        self.assertEqual(self.calls(), {"doc", "try"})
 
     def test_a_kit_that_fails(self):
         self.copy_tree()

@@ -1,0 +1,156 @@
+"""The commands of the program, their arguments and options, as the stored helps of tools/help tell them.
+
+    python3 tools/helps.py WORD..     says what is wrong with a command line, in a line, with status 2; nothing where the program may take it
+"""
+from __future__ import annotations
+
+import os
+import re
+import sys
+from typing import NamedTuple
+
+HELPS = f"{os.path.dirname(os.path.realpath(__file__))}/help"
+OPTION = re.compile(r" +(?:(-\w), |    )(--[\w-]+)(?: <([^>]+)>)? +(.*)")
+ARGUMENT = re.compile(r" +([<\[])([A-Z]+)[>\]] +(.*)")
+COMMAND = re.compile(r"  (\w+) +(.*)")
+# The words that name files. Each option whose value is a FILE does, too.
+FILES = ("DEF", "MOCKS", "INPUT", "SCRIPT", "EXPECT")
+# The words that each command needs which runs something; an option may stand for each.
+OF_A_RUN = ("MOCKS", "CHOSEN", "INPUT")
+
+
+class Option(NamedTuple):
+    """An option: its names, what its value is called, if it has one, what it does, and which values are possible, if they are listed."""
+
+    short: str | None
+    name: str
+    value: str | None
+    about: str
+    choices: list
+
+
+class Argument(NamedTuple):
+    """A word without a dash: what it is called, whether it has to be there, and what it is."""
+
+    name: str
+    is_required: bool
+    about: str
+
+
+class Help(NamedTuple):
+    """What a help tells: what the program or a command does, how it is used, its commands, its arguments and its options."""
+
+    about: str
+    usage: str
+    commands: dict
+    arguments: list
+    options: list
+
+
+def parts_of(lines):
+    """The sections of a help, by their headings; what stands in front of them is under the empty one."""
+    parts, heading = {"": []}, ""
+    for line in lines:
+        if line.endswith(":") and not line.startswith(" "):
+            heading = line[:-1]
+            parts[heading] = []
+        else:
+            parts[heading].append(line)
+    return parts
+
+
+def option_of(line):
+    short, name, value, about = OPTION.fullmatch(line).groups()
+    choices = re.search(r" ?\[possible values: (.*?)\]", about)
+    return Option(short, name, value, about.replace(choices[0], "") if choices else about, choices[1].split(", ") if choices else [])
+
+
+def help_of(name):
+    """The stored help of a command, or of the program itself."""
+    with open(f"{HELPS}/{name}.txt", encoding="utf-8") as file:
+        lines = [line for line in file.read().splitlines() if line]
+    parts = parts_of(lines)
+    arguments = [Argument(it[2], it[1] == "<", it[3]) for it in map(ARGUMENT.fullmatch, parts.get("Arguments", []))]
+    commands = dict(COMMAND.fullmatch(line).groups() for line in parts.get("Commands", []))
+    usage = next(line for line in lines if line.startswith("Usage: "))[len("Usage: ") :]
+    return Help(parts[""][0], usage, commands, arguments, [*map(option_of, parts["Options"])])
+
+
+def commands():
+    """The helps of the commands, by their names, in the order of the program's help."""
+    return {name: help_of(name) for name in help_of("asl").commands if name != "help"}
+
+
+def wrong_value(option, value):
+    """What is wrong with the value of an option, or None."""
+    if value is None:
+        return f"{option.name} wants a value: {option.name} <{option.value}>"
+    if option.choices and value not in option.choices:
+        return f"{option.name} is one of {', '.join(option.choices)}"
+    return None
+
+
+def parted(words, told):
+    """The plain words of a command line behind its command, and the options by their names, each with its value; or what is wrong with the first bad one."""
+    options = {name: it for it in told.options for name in (it.name, it.short)}
+    plain, given, left = [], {}, list(words)
+    while left:
+        word = left.pop(0)
+        if word == "--":
+            return None, plain + left, given
+        if word == "-" or not word.startswith("-"):
+            plain.append(word)
+            continue
+        name, has_value, value = word.partition("=")
+        option = options.get(name)
+        if not option:
+            return f"there is no option {name}", [], {}
+        if option.value:
+            given[name] = value if has_value else left.pop(0) if left else None
+            wrong = wrong_value(option, given[name])
+        else:
+            given[name] = None
+            wrong = f"{name} takes no value" if has_value else None
+        if wrong:
+            return wrong, [], {}
+    return None, plain, given
+
+
+def lacking(name, plain, given, told):
+    """The first word that a command needs and that is neither there nor given by the option that stands for it, or None."""
+    needs_run = name in ("run", "debug", "explore") or "--run" in given
+    stands = {it.about.rpartition("Stands for the word ")[2]: it.name for it in told.options}
+    for it in told.arguments[len(plain) :]:
+        if it.is_required or needs_run and it.name in OF_A_RUN and stands.get(it.name) not in given:
+            return it.name
+    return None
+
+
+def complaint(words):
+    """What is wrong with a command line, or None."""
+    known = commands()
+    name = words[1] if words[0] == "help" and len(words) > 1 else words[0]
+    if name not in known:
+        return f"asl: there is no command {name!r}; the commands are {', '.join(known)}"
+    told = known[name]
+    wrong, plain, given = parted(words[1:], told)
+    if words[0] == "help" or not given.keys().isdisjoint(("-h", "--help")):
+        return None
+    lacks = None if wrong else lacking(words[0], plain, given, told)
+    if lacks:
+        wrong = f"{lacks} is missing"
+    elif not wrong and len(plain) > len(told.arguments):
+        wrong = f"{plain[len(told.arguments)]!r} is one word too many"
+    if wrong:
+        return f"asl: {wrong}\nUsage: {told.usage}"
+    files = [word for word, it in zip(plain, told.arguments) if it.name in FILES]
+    files += [value for it in told.options if it.value == "FILE" and (value := given.get(it.name)) is not None]
+    missing = next((it for it in files if it != "-" and it.isprintable() and not os.path.lexists(it)), None)
+    return f"fault: file {missing}" if missing is not None else None
+
+
+if __name__ == "__main__":
+    said = complaint(sys.argv[1:])
+    if said:
+        print(said, file=sys.stderr)
+        sys.exit(2)
