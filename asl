@@ -21,7 +21,7 @@ answer_help() { # the words; fails where no help is stored for them
     '2 debug --help' | '2 debug -h' | '2 help debug') cat "$help/debug.txt" ;;
     '2 test --help' | '2 test -h' | '2 help test') cat "$help/test.txt" ;;
     '2 explore --help' | '2 explore -h' | '2 help explore') cat "$help/explore.txt" ;;
-    '1 --version' | '1 -V') cat "$help/version.txt" ;;
+    '1 --version' | '1 -V') echo "asl $("$top/tools/version")" ;;
     *) return 1 ;;
   esac
 }

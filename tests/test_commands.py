@@ -133,7 +133,7 @@ HELPS = [
     (["help"], "Usage: asl <COMMAND>"),
     (["run", "--help"], "Usage: asl run [OPTIONS] <DEF> [MOCKS] [CHOSEN] [INPUT]"),
     (["debug", "--help"], "Usage: asl debug [OPTIONS] <DEF> [MOCKS] [CHOSEN] [INPUT] [SCRIPT]"),
-    (["--version"], "asl 0.1.0"),
+    (["--version"], "asl "),
 ]
 
 # Wrong words, what is told of them, and whether the usage is (clap leaves it out where an option has no value).

@@ -1,4 +1,5 @@
 """What users get who install the program or unpack an archive of it: the program, its man page, and completions that know its words."""
+import json
 import os
 import re
 import shutil
@@ -123,6 +124,14 @@ class InstallTest(unittest.TestCase):
                 self.assertTrue(not values or f"[{', '.join(values)}]" in part, (name, option))
         self.assertEqual(re.findall(r"^\.B (\d)$", text.partition(".SH EXIT STATUS")[2], re.M), ["0", "1", "2"])
         self.assertIn(f'"{run_program("--version").stdout.strip()}"', text.splitlines()[0])
+
+    def test_version(self):
+        version = subprocess.run([f"{TOP}/tools/version"], stdout=subprocess.PIPE, encoding="utf-8", check=True).stdout.strip()
+        self.assertEqual(run_program("--version").stdout, f"asl {version}\n")
+        log = json.loads(run_program("lint", f"{TOP}/examples/refused.json", "--format", "sarif").stdout)
+        self.assertEqual(log["runs"][0]["tool"]["driver"]["version"], version)
+        with open(f"{TOP}/CHANGELOG.md", encoding="utf-8") as file:
+            self.assertEqual(re.search(r"^## (\S+)", file.read(), re.M)[1], version)
 
     def test_installed_program_is_the_built_one(self):
         with open(PROGRAM, "rb") as built, open(f"{self.prefix}/bin/asl", "rb") as installed:
