@@ -7,7 +7,8 @@ use asl_def_states::State;
 use asl_json::write;
 use std::test::Fail;
 
-fn machine(rt: &HostRuntime, text: &str) -> Option<Machine> {
+/// The machine of a definition, where that is accepted.
+pub(crate) fn machine(rt: &HostRuntime, text: &str) -> Option<Machine> {
     accept(rt.alloc(), text.as_bytes()).ok()
 }
 

@@ -1,11 +1,7 @@
 // Machines in the newer spelling of Map states.
-use asl_check::accept;
+use crate::machines::machine;
 use asl_def::{Machine, print};
 use std::test::Fail;
-
-fn machine(rt: &HostRuntime, text: &str) -> Option<Machine> {
-    accept(rt.alloc(), text.as_bytes()).ok()
-}
 
 fn prints(rt: &HostRuntime, machine: &Machine, wanted: &str) -> bool {
     match print(rt.alloc(), machine) {

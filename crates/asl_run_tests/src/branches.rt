@@ -14,7 +14,7 @@ const TWO_BRANCHES: &str =
 fn stepped(rt: &HostRuntime, places: &[&str]) -> Result<Execution, Fail> {
     let mut execution = opened(rt, TWO_BRANCHES, "{}")?;
     for text in places {
-        let place = place_of(rt, text)?;
+        let place = place_of(rt.alloc(), text)?;
         execution
             .step(&place, Moment::FIRST)
             .map_err(|_| "refused")?;

@@ -1,5 +1,5 @@
 // Runs without a file of steps: each step is the one that comes next.
-use crate::opened::opened;
+use crate::opened::{LOOP, opened};
 use asl_exec::{Ended, Execution};
 use asl_run_world::Next;
 use std::test::Fail;
@@ -37,10 +37,6 @@ fn driven(rt: &HostRuntime, definition: &str, input: &str, limits: &[u32]) -> Re
     write!(text, "{} events", execution.history().len())?;
     Ok(text)
 }
-
-/// A loop of three states, twice.
-const LOOP: &str =
-    r#"{"StartAt":"A","States":{"A":{"Type":"Pass","Parameters":{"n.$":"States.MathAdd($.n, 1)"},"Next":"D"},"D":{"Type":"Pass","Next":"C"},"C":{"Type":"Choice","Choices":[{"Variable":"$.n","NumericLessThan":2,"Next":"A"}],"Default":"Z"},"Z":{"Type":"Succeed"}}}"#;
 
 #[test]
 fn a_run_is_driven_in_parts(rt: HostRuntime) -> Result<(), Fail> {

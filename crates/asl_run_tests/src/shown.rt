@@ -122,12 +122,12 @@ pub(crate) fn record_text(alloc: Global, record: Option<&Record>) -> Result<Stri
 }
 
 /// The place of a text.
-pub(crate) fn place_of(rt: &HostRuntime, text: &str) -> Result<Place, Fail> {
-    Ok(Place::read(rt.alloc(), text)?.ok_or("no place")?)
+pub(crate) fn place_of(alloc: Global, text: &str) -> Result<Place, Fail> {
+    Ok(Place::read(alloc, text)?.ok_or("no place")?)
 }
 
 /// What the branch at a place is doing, as a text.
 pub(crate) fn view(rt: &HostRuntime, execution: &Execution, place: &str) -> Result<String, Fail> {
-    let place = place_of(rt, place)?;
+    let place = place_of(rt.alloc(), place)?;
     record_text(rt.alloc(), execution.view(&place))
 }

@@ -1,7 +1,8 @@
 // Which steps may change places, and the first reason why others may not.
+use crate::opened::setup_of;
 use crate::shown::place_of;
 use asl_exec::{Execution, put_obstacle};
-use asl_run_setup::{Setup, StepAt};
+use asl_run_setup::StepAt;
 use asl_time::Moment;
 use std::test::Fail;
 
@@ -155,11 +156,10 @@ fn stepped(
     input: &str,
     places: &[&str],
 ) -> Result<Execution, Fail> {
-    let (alloc, definition, input) = (rt.alloc(), definition.as_bytes(), input.as_bytes());
-    let setup = Setup::read(alloc, definition, MOCKS.as_bytes(), "M#A", input);
-    let mut execution = Execution::open(alloc, setup.map_err(|_| "no setup")?)?;
+    let setup = setup_of(rt.alloc(), definition, MOCKS, "M#A", input)?;
+    let mut execution = Execution::open(rt.alloc(), setup)?;
     for text in places {
-        let place = place_of(rt, text)?;
+        let place = place_of(rt.alloc(), text)?;
         execution
             .step(&place, Moment::FIRST)
             .map_err(|_| "refused")?;
@@ -169,7 +169,7 @@ fn stepped(
 
 /// A step at a place, so many milliseconds after the epoch.
 fn step_at(rt: &HostRuntime, (place, millis): (&str, u64)) -> Result<StepAt, Fail> {
-    let place = place_of(rt, place)?;
+    let place = place_of(rt.alloc(), place)?;
     let moment = Moment::of_millis(millis).ok_or("no moment")?;
     Ok(StepAt { place, moment })
 }

@@ -1,42 +1,11 @@
 // What is reported of tests.
-use asl_check::accept;
-use asl_def::Machine;
-use asl_mock::Mocks;
+use crate::suites::{TASK, suite_for};
 use asl_suite::{CaseReport, Suite, report, run_case};
-use asl_suite_expect::Expectations;
 use std::alloc::Global;
 use std::test::Fail;
 
-/// One task.
-const TASK: &str = r#"{"StartAt":"T","States":{"T":{"Type":"Task","Resource":"r","End":true}}}"#;
-
-/// What the task answers in three cases.
-const MOCKS: &str =
-    r#"{"StateMachines":{"M":{"TestCases":{"A":{"T":"One"},"B":{"T":"Bad"},"C":{}}}},
- "MockedResponses":{"One":{"0":{"Return":1}},"Bad":{"0":{"Throw":{"Error":"E"}}}}}"#;
-
 /// A state that is entered again and again.
 const ROUND: &str = r#"{"StartAt":"P","States":{"P":{"Type":"Pass","Next":"P"}}}"#;
-
-fn machine_of(alloc: Global, text: &str) -> Option<Machine> {
-    accept(alloc, text.as_bytes()).ok()
-}
-
-fn mocks_of(alloc: Global, text: &str) -> Option<Mocks> {
-    Mocks::read(alloc, text.as_bytes()).ok()
-}
-
-fn tests_of(alloc: Global, text: &str) -> Option<Expectations> {
-    Expectations::read(alloc, text.as_bytes()).ok()
-}
-
-fn suite_of(alloc: Global, definition: &str, tests: &str) -> Option<Suite> {
-    Some(Suite {
-        machine: machine_of(alloc, definition)?,
-        mocks: mocks_of(alloc, MOCKS)?,
-        tests: tests_of(alloc, tests)?,
-    })
-}
 
 fn reports_of(alloc: Global, suite: &Suite) -> Option<Vec<CaseReport>> {
     let mut reports = Vec::new(alloc);
@@ -48,7 +17,7 @@ fn reports_of(alloc: Global, suite: &Suite) -> Option<Vec<CaseReport>> {
 
 /// The text of the reports on these tests.
 fn told(alloc: Global, definition: &str, tests: &str) -> Option<String> {
-    let suite = suite_of(alloc, definition, tests)?;
+    let suite = suite_for(alloc, definition, tests)?;
     let reports = reports_of(alloc, &suite)?;
     report(alloc, &reports).ok()
 }

@@ -1,5 +1,5 @@
 // Sessions of the debugger.
-use crate::told::{advance, answer, apply, command, opened};
+use crate::commands::{advance, answer, apply, command, opened};
 use asl_session::Command;
 use std::test::Fail;
 

@@ -50,7 +50,8 @@ fn answered(alloc: Global, file: &str, names: (&str, &str, &str), number: u32) -
     }
 }
 
-fn is(given: &Option<String>, wanted: &str) -> bool {
+/// Whether this text was given.
+pub(crate) fn is(given: &Option<String>, wanted: &str) -> bool {
     match given {
         Some(text) => text.as_str() == wanted,
         None => false,

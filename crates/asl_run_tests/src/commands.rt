@@ -1,16 +1,13 @@
 // Sessions and commands of texts, and texts of replies.
-use asl_run_setup::{Setup, StepAt, read_steps};
+use crate::opened::{LOOP, setup_of};
+use asl_run_setup::{StepAt, read_steps};
 use asl_session::{Command, Reply, Session, Stop, put_answer, read_command};
 use std::test::Fail;
 
-/// A loop of three states, twice.
-const LOOP: &str =
-    r#"{"StartAt":"A","States":{"A":{"Type":"Pass","Parameters":{"n.$":"States.MathAdd($.n, 1)"},"Next":"D"},"D":{"Type":"Pass","Next":"C"},"C":{"Type":"Choice","Choices":[{"Variable":"$.n","NumericLessThan":2,"Next":"A"}],"Default":"Z"},"Z":{"Type":"Succeed"}}}"#;
-
 /// A session of the loop.
 pub(crate) fn opened(rt: &HostRuntime) -> Result<Session, Fail> {
-    let setup = Setup::read(rt.alloc(), LOOP.as_bytes(), b"{}", "M", br#"{"n":0}"#);
-    Ok(Session::open(rt.alloc(), setup.map_err(|_| "refused")?)?)
+    let setup = setup_of(rt.alloc(), LOOP, "{}", "M", r#"{"n":0}"#)?;
+    Ok(Session::open(rt.alloc(), setup)?)
 }
 
 /// The command of a line.

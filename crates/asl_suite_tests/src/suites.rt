@@ -1,4 +1,4 @@
-// Suites of one task, and the text of their reports.
+// Suites to try, and the text of their reports.
 use asl_check::accept;
 use asl_mock::Mocks;
 use asl_suite::{CaseReport, Suite, report};
@@ -7,25 +7,29 @@ use std::alloc::Global;
 use std::test::Fail;
 
 /// One task.
-const TASK: &str = r#"{"StartAt":"T","States":{"T":{"Type":"Task","Resource":"r","End":true}}}"#;
+pub(crate) const TASK: &str =
+    r#"{"StartAt":"T","States":{"T":{"Type":"Task","Resource":"r","End":true}}}"#;
 
 /// What the task answers in three cases.
 const MOCKS: &str =
     r#"{"StateMachines":{"M":{"TestCases":{"A":{"T":"One"},"B":{"T":"Bad"},"C":{}}}},
  "MockedResponses":{"One":{"0":{"Return":1}},"Bad":{"0":{"Throw":{"Error":"E"}}}}}"#;
 
-/// A suite of these tests.
-pub(crate) fn suite_of(alloc: Global, tests: &str) -> Result<Suite, Fail> {
-    let machine = accept(alloc, TASK.as_bytes()).ok().ok_or("a machine")?;
-    let mocks = Mocks::read(alloc, MOCKS.as_bytes()).ok().ok_or("mocks")?;
-    let tests = Expectations::read(alloc, tests.as_bytes())
-        .ok()
-        .ok_or("tests")?;
-    Ok(Suite {
+/// A suite of these tests of a definition.
+pub(crate) fn suite_for(alloc: Global, definition: &str, tests: &str) -> Option<Suite> {
+    let machine = accept(alloc, definition.as_bytes()).ok()?;
+    let mocks = Mocks::read(alloc, MOCKS.as_bytes()).ok()?;
+    let tests = Expectations::read(alloc, tests.as_bytes()).ok()?;
+    Some(Suite {
         machine,
         mocks,
         tests,
     })
+}
+
+/// A suite of these tests of the task.
+pub(crate) fn suite_of(alloc: Global, tests: &str) -> Result<Suite, Fail> {
+    Ok(suite_for(alloc, TASK, tests).ok_or("a suite")?)
 }
 
 /// So many tests of one case.

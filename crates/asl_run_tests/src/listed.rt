@@ -1,5 +1,7 @@
 // Executions over a plain list of branches. A step looks through the whole list, builds it anew, and finds the event before a new one
 // by a walk back. So little code does what the tree of frames does with less work: both have to tell the same, step by step.
+use crate::opened::setup_of;
+use crate::shown::place_of;
 use asl_def::Machine;
 use asl_def_states::State;
 use asl_exec::Execution;
@@ -566,21 +568,21 @@ fn mocks(alloc: Global) -> Result<String, Fail> {
 }
 
 fn setup(alloc: Global) -> Result<Setup, Fail> {
-    let setup = Setup::read(
+    let mocks = mocks(alloc)?;
+    setup_of(
         alloc,
-        AGAIN_AND_AGAIN.as_bytes(),
-        mocks(alloc)?.as_bytes(),
+        AGAIN_AND_AGAIN,
+        mocks.as_str(),
         "M#c",
-        b"{\"l\":[[7],8]}",
-    );
-    Ok(setup.map_err(|_| "refused")?)
+        "{\"l\":[[7],8]}",
+    )
 }
 
 /// The places that are stepped and viewed.
 fn places(alloc: Global) -> Result<Vec<Place>, Fail> {
     let mut places = Vec::new(alloc);
     for text in PLACES {
-        places.push(Place::read(alloc, text)?.ok_or("no place")?)?;
+        places.push(place_of(alloc, text)?)?;
     }
     Ok(places)
 }

@@ -1,4 +1,5 @@
 // What is told of mock files, in document order: a line for each place, the numbers of the members on the way.
+use crate::mocks::is;
 use asl_json::read;
 use asl_lint_mocks::{faults_of, has_gap, unused_responses};
 use asl_mock::members_at;
@@ -34,13 +35,6 @@ fn unused(alloc: Global, file: &str) -> Option<String> {
     let mut text = String::new(alloc);
     put(&mut text, "unused", &places)?;
     Some(text)
-}
-
-fn is(told: &Option<String>, lines: &str) -> bool {
-    match told {
-        Some(text) => text.as_str() == lines,
-        None => false,
-    }
 }
 
 /// Whether there is a gap in a response of these answers.

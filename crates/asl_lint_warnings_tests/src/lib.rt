@@ -1,5 +1,0 @@
-//! The warnings on a definition, each sentence shown both ways.
-#![tactic(auto)]
-
-#[cfg(test)]
-mod told;
