@@ -319,6 +319,9 @@ class Exploring(Searches):
             ('"Parameters":{"at.$":"$$"}', True),
             ('"Parameters":{"at.$":"States.Format(\'{}\', $$.State.EnteredTime)"}', True),
             ('"Parameters":{"at.$":"States.JsonToString($$.State)"}', True),
+            ('"Parameters":{"at.$":"$$[\'State\']"}', True),
+            ('"Parameters":{"at.$":"States.JsonToString($$[\'State\'])"}', True),
+            ('"Parameters":{"at.$":"States.Format(\'{}-{}\', $$.Execution.Name, $$.State.RetryCount)"}', False),
             ('"Parameters":{"at.$":"$$.State.Name"}', False),
             ('"Parameters":{"at.$":"$$.Execution.StartTime"}', False),
         ]:

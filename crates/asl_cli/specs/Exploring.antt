@@ -5,7 +5,7 @@ use Rattle.asl_run_setup.specs.declared.setup.Setup.{Setup}
 use Rattle.asl_run_setup.specs.StepsFile.{steps_file}
 use Rattle.asl_explore.specs.declared.found.Found.{Found}
 use Rattle.asl_explore.specs.declared.found.Explored.{Explored}
-use Rattle.asl_explore.specs.Orders.{IsWhole}
+use Rattle.asl_explore.specs.Orders.{IsWhole, IsWholeAtAnyMoment}
 use Rattle.asl_explore.specs.Calls.{IsStated, AreCounted}
 use Rattle.asl_explore.specs.Searches.{Shows, AreDistinct, AreLate, outcomes_of}
 use Rattle.asl_explore.specs.declared.orders.Orders.{Orders}
@@ -25,7 +25,8 @@ orders_for true = Prompt
 orders_for false = Every
 
 -- what a search may find for the setup that the files may give: each outcome with steps that end in
--- it, none twice, and, where nothing was left out, the outcome of every order that is tried; those
+-- it, none twice, and, where nothing was left out, the outcome of every order that is tried, and of
+-- steps at any moments where all are and the definition reads no clock; those
 -- that are called late come in no order in which no branch is. If that is wanted, where nothing was
 -- left out, how often each state is invoked in an order lies within the bounds of its outcome. This is
 -- told of the answers that the outcomes lacked
@@ -37,6 +38,8 @@ pub record IsFoundFor (gives : List ℕ → List ℕ → Type 0) (w : ExploreWor
   pub once : AreDistinct (outcomes_of x.found.items)
   pub orders : x.orders ≡ orders_for w.prompt
   pub whole : x.complete ≡ true → IsWhole x.orders setup (outcomes_of x.found.items)
+  pub any_moment : x.complete ≡ true → x.orders ≡ Every → x.clocked ≡ false
+      → IsWholeAtAnyMoment setup (outcomes_of x.found.items)
   pub late : AreLate setup x.found.items x.late.items
   pub calls : w.calls ≡ true → x.complete ≡ true
       → AreCounted x.orders setup (outcomes_of x.found.items) x.calls.items

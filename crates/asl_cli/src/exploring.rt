@@ -1,5 +1,5 @@
 // The command `explore`.
-ghost use Rattle.std.specs.Prelude.{◌≡◌, List, ℕ, None, true, IfOk, IfErr, string_bytes};
+ghost use Rattle.std.specs.Prelude.{◌≡◌, List, ℕ, None, true, false, IfOk, IfErr, string_bytes};
 ghost use Rattle.std.specs.List.{All};
 ghost use Rattle.std.specs.Option.{option_copied};
 ghost use Rattle.asl_run_setup.specs.StepsFile.{steps_file};
@@ -9,7 +9,8 @@ ghost use Rattle.asl_cli.specs.Exploring.{IsExplored, IsFoundFor, IsShown, AreAl
 ghost use Rattle.asl_cli.specs.Faults.{IsRunReason};
 ghost use Rattle.asl_cli.specs.Noting.{notes_for};
 ghost use Rattle.asl_explore.specs.Calls.{AreCounted, IsStated};
-ghost use Rattle.asl_explore.specs.Orders.{IsWhole};
+ghost use Rattle.asl_explore.specs.declared.orders.Orders.TheVariants.{Every};
+ghost use Rattle.asl_explore.specs.Orders.{IsWhole, IsWholeAtAnyMoment};
 ghost use Rattle.asl_explore.specs.Searches.{AreDistinct, AreLate, Shows, outcomes_of};
 
 use crate::command::{FAILED, GOOD, REFUSED, print_good, tell_error};
@@ -96,6 +97,9 @@ fn search_from<W: Watch>(
     ensures orders { IfOk result (λ r. r.explored.orders ≡ orders_for words.now.prompt) }
     ensures whole { IfOk result (λ r. r.explored.complete ≡ true
         → IsWhole r.explored.orders setup (outcomes_of r.explored.found.items)) }
+    ensures any_moment { IfOk result (λ r. r.explored.complete ≡ true → r.explored.orders ≡ Every
+        → r.explored.clocked ≡ false
+        → IsWholeAtAnyMoment setup (outcomes_of r.explored.found.items)) }
     ensures late { IfOk result (λ r. AreLate setup r.explored.found.items r.explored.late.items) }
     ensures calls { IfOk result (λ r. words.now.calls ≡ true → r.explored.complete ≡ true
         → AreCounted r.explored.orders setup (outcomes_of r.explored.found.items)

@@ -1,3 +1,4 @@
+pub mod AnyMoment
 pub mod Bare
 pub mod Whole
 pub mod Growing

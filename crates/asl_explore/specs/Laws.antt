@@ -1,14 +1,17 @@
 -- Laws of searches.
-use Rattle.std.specs.Prelude.{ℕ, ◌≡◌, ◌⊎◌, List, None}
+use Rattle.std.specs.Prelude.{ℕ, ◌≡◌, ◌⊎◌, false, List, None}
+use Rattle.std.specs.List.{Contains}
 use Rattle.asl_run_world.specs.World.{World}
 use Rattle.asl_run_world.specs.Bare.{bare}
 use Rattle.asl_run_world.specs.declared.outcome.Outcome.{Outcome}
 use Rattle.asl_run_setup.specs.declared.setup.Setup.{Setup}
-use Rattle.asl_exec.specs.Steps.{deadline_of, step}
+use Rattle.asl_exec.specs.Steps.{deadline_of, opening, step}
+use Rattle.asl_step_unread.specs.Reading.{reads}
+use Rattle.asl_step_unread.specs.Steps.{clock_keys}
 use Rattle.asl_explore.specs.Orders.{IsWhole}
 use Rattle.asl_explore.specs.declared.orders.Orders.{Orders}
 use Rattle.asl_explore.specs.declared.orders.Orders.TheVariants.{Every, Prompt}
-use Rattle.asl_explore.specs.Searches.{IsClosed, NoneWaits}
+use Rattle.asl_explore.specs.Searches.{IsClosed, IsMetAside, IsExpandedAside, NoneWaits}
 
 -- a step reads nothing of the history: it is refused, or leaves the same world but for the history
 abbrev pub StepsIgnoreHistory : Type 0
@@ -29,3 +32,11 @@ abbrev pub WaitlessIsWhole : Type 0
 WaitlessIsWhole =
     (s : Setup) (ws : List World) (os : List Outcome) → IsClosed Prompt s ws os → NoneWaits ws
     → deadline_of s ≡ None → IsWhole Every s os
+
+-- a search that took one world for all that differ from it in moments alone left out nothing, where
+-- the definition reads no clock and no time limit ends the execution
+abbrev pub TimelessIsWhole : Type 0
+TimelessIsWhole =
+    (s : Setup) (ws : List World) (os : List Outcome) → reads clock_keys s.machine ≡ false
+    → deadline_of s ≡ None → IsMetAside ws os (opening s)
+    → ((w : World) → Contains ws w → IsExpandedAside s ws os w) → IsWhole Every s os

@@ -1,32 +1,18 @@
 -- Orders of branches: which branch steps, one after another, each at the earliest moment at which it
 -- may.
-use Rattle.std.specs.Prelude.{ℕ, ◌≡◌, ◌≤◌, ⊤, true, is_some, List, [], ◌∷◌, map, Option, Some, None}
+use Rattle.std.specs.Prelude.{ℕ, ◌≡◌, ◌⊎◌, ◌≤◌, ⊤, true, is_some, IsSome, List, [], ◌∷◌, map, None}
 use Rattle.std.specs.List.{Contains}
-use Rattle.asl_step_rows.specs.declared.record.Record.{Record}
 use Rattle.asl_run_frames.specs.Branches.{record_at}
-use Rattle.asl_run_frames.specs.Earliest.{due_from}
 use Rattle.asl_run_world.specs.World.{World, is_over}
 use Rattle.asl_run_world.specs.Bare.{bare}
 use Rattle.asl_run_world.specs.declared.outcome.Outcome.{Outcome}
+use Rattle.asl_run_world.specs.declared.outcome.Outcome.TheVariants.{TimedOut}
 use Rattle.asl_run_setup.specs.declared.setup.Setup.{Setup}
 use Rattle.asl_run_setup.specs.declared.step_at.StepAt.{StepAt}
-use Rattle.asl_exec.specs.Steps.{step, opening, refusal_in}
+use Rattle.asl_exec.specs.Steps.{deadline_of, step, opening, world_after, refusal_in}
 use Rattle.asl_explore.specs.declared.orders.Orders.{Orders}
 use Rattle.asl_explore.specs.declared.orders.Orders.TheVariants.{Every, Prompt}
-
-abbrev pub due_of : ℕ → Option Record → ℕ
-due_of last None = last
-due_of last (Some r) = due_from last r
-
--- the earliest moment at which the branch at a place may step
-abbrev pub due : World → List ℕ → ℕ
-due w p = due_of w.last (record_at p w.branches)
-
--- the world after the branches at these places stepped, one after another; one that may not step is
--- refused, and changes nothing
-abbrev pub after_order : Setup → World → List (List ℕ) → World
-after_order s w [] = w
-after_order s w (p ∷ ps) = after_order s (step s w p (due w p)) ps
+pub use Rattle.asl_run_moments.specs.Orders.{due_of, due, after_order}
 
 -- the same as a list of steps
 abbrev pub timed : Setup → World → List (List ℕ) → List StepAt
@@ -66,3 +52,11 @@ IsWhole o s os =
     (ps : List (List ℕ)) → AreTried o s (opening s) ps
     → is_over (after_order s (opening s) ps).outcome ≡ true
     → Contains os (after_order s (opening s) ps).outcome
+
+-- in whatever order the branches step, at whatever moments, the outcome is one of those; or the
+-- execution's time is over
+abbrev pub IsWholeAtAnyMoment : Setup → List Outcome → Type 0
+IsWholeAtAnyMoment s os =
+    (l : List StepAt) → is_over (world_after s (opening s) l).outcome ≡ true
+    → Contains os (world_after s (opening s) l).outcome
+    ⊎ (((world_after s (opening s) l).outcome ≡ TimedOut) × IsSome (deadline_of s))

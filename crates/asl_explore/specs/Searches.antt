@@ -11,6 +11,7 @@ use Rattle.asl_run_world.specs.declared.outcome.Outcome.{Outcome}
 use Rattle.asl_run_setup.specs.declared.setup.Setup.{Setup}
 use Rattle.asl_exec.specs.Steps.{number_in, object_in, invokes_by, step, opening, world_after}
 use Rattle.asl_exec.specs.Exchanges.{goes_on}
+use Rattle.asl_run_moments.specs.Moments.{DifferInMoments}
 use Rattle.asl_explore.specs.Orders.{due, timed, places_of, MayStep, IsTried, AreTried, after_order}
 use Rattle.asl_explore.specs.Settled.{IsSettledAt}
 use Rattle.asl_explore.specs.declared.found.Found.{Found}
@@ -23,6 +24,16 @@ use Rattle.asl_explore.specs.declared.met.Node.{Node}
 pub record IsMet (ws : List World) (os : List Outcome) (w : World) : Type 0 where
   pub ends : is_over w.outcome ≡ true → Contains os w.outcome
   pub runs : is_over w.outcome ≡ false → Contains ws (bare w)
+
+-- the same, where a world stands for all that differ from it in moments alone
+pub record IsMetAside (ws : List World) (os : List Outcome) (w : World) : Type 0 where
+  pub ends : is_over w.outcome ≡ true → Contains os w.outcome
+  pub runs : is_over w.outcome ≡ false
+      → (v : World) × (Contains ws v × DifferInMoments (bare w) (bare v))
+
+-- whichever branch steps, the world that it leaves is met so
+abbrev pub IsExpandedAside : Setup → List World → List Outcome → World → Type 0
+IsExpandedAside s ws os w = (p : List ℕ) → IsMetAside ws os (step s (bare w) p (due w p))
 
 -- whichever branch steps that is tried, the world that it leaves is met
 abbrev pub IsExpanded : Orders → Setup → List World → List Outcome → World → Type 0

@@ -1,5 +1,5 @@
 // Laws of searches.
-ghost use Rattle.asl_explore.specs.Laws.{StepsIgnoreHistory, ClosedIsWhole, WaitlessIsWhole};
+ghost use Rattle.asl_explore.specs.Laws.{StepsIgnoreHistory, ClosedIsWhole, WaitlessIsWhole, TimelessIsWhole};
 
 /// A step reads nothing of the history, and a search that took enough steps of each world that it met left out no outcome: of all orders, where no branch
 /// ever waits. The laws have no code.
@@ -7,4 +7,5 @@ pub fn searches_leave_out_nothing()
     ensures history { StepsIgnoreHistory }
     ensures whole { ClosedIsWhole }
     ensures waitless { WaitlessIsWhole }
+    ensures timeless { TimelessIsWhole }
 {}

@@ -5,7 +5,7 @@ ghost use Rattle.asl_run_world.specs.Bare.{bare};
 ghost use Rattle.asl_run_world.specs.World.{World, is_over};
 ghost use Rattle.asl_exec.specs.Steps.{deadline_of, opening, step};
 ghost use Rattle.asl_exec.specs.Views.{setup_of};
-ghost use Rattle.asl_explore.specs.Orders.{IsWhole};
+ghost use Rattle.asl_explore.specs.Orders.{IsWhole, IsWholeAtAnyMoment};
 ghost use Rattle.asl_explore.specs.declared.orders.Orders.TheVariants.{Every};
 ghost use Rattle.asl_explore.specs.Settled.{AreSettledFrom};
 ghost use Rattle.asl_explore.specs.Calls.{IsStated, AllAreExpanded, AreCounted};
@@ -418,6 +418,8 @@ pub fn explore<W: Watch>(
     ensures once { IfOk result (λ x. AreDistinct (outcomes_of x.found.items)) }
     ensures whole { IfOk result (λ x. x.complete ≡ true
         → IsWhole orders setup (outcomes_of x.found.items)) }
+    ensures any_moment { IfOk result (λ x. x.complete ≡ true → orders ≡ Every → x.clocked ≡ false
+        → IsWholeAtAnyMoment setup (outcomes_of x.found.items)) }
     ensures late { IfOk result (λ x. AreLate setup x.found.items x.late.items) }
     ensures calls { IfOk result (λ x. calls ≡ true → x.complete ≡ true
         → AreCounted orders setup (outcomes_of x.found.items) x.calls.items) }

@@ -276,7 +276,7 @@ module _ (d : Data) (f : Facts) (u v : Seen) (same : timeless u ≡ timeless v) 
 abbrev token_by : Facts → List ℕ → ℕ → Data
 token_by f n k = dict (pairs ((codes "Token", text (codes "token:" ++ (f.name ++ (codes ":" ++ (n ++ (codes ":" ++ decimal k)))))) ∷ []))
 
-clock_but : (f : Facts) (u v : Seen) → timeless u ≡ timeless v → AreEqualBut clock_keys (context_of f u) (context_of f v)
+pub clock_but : (f : Facts) (u v : Seen) → timeless u ≡ timeless v → AreEqualBut clock_keys (context_of f u) (context_of f v)
 unfolding context_of
 clock_but f u v same = inr (record {
   before = (codes "Execution", execution_of f) ∷ (codes "StateMachine", state_machine_of f) ∷ [];

@@ -1,10 +1,10 @@
 -- What no text may read by its bytes, no text reads.
-use Rattle.std.proofs.Common.{◌≡◌, inl, inr, ℕ, List, [], ◌∷◌, ◌++◌, Bool, true, false, ◌&&◌, refl, sym, ap, ◌∙◌, Some}
+use Rattle.std.proofs.Common.{◌≡◌, ◌==◌, inl, inr, ℕ, List, [], ◌∷◌, ◌++◌, append_assoc, append-nil, Bool, true, false, ◌&&◌, refl, sym, ap, ◌∙◌, Some}
 use Rattle.std.specs.Prelude.{Result, Ok, Err}
-use Rattle.std.proofs.lemmas.Bool.{true≢false, or_parts, or_from, and_left, and_right, eq-eqb}
+use Rattle.std.proofs.lemmas.Bool.{true≢false, or_parts, or_from, and_left, and_right, and_parts, eq-eqb, eqb-true}
 use Rattle.std.specs.Cmp.Lexicographic.{same_text}
 use Rattle.asl_json.specs.Data.{Data, null, boolean, number, text, list, dict, Chain, no_items, item, Pairs, no_members, member}
-use Rattle.asl_json.specs.Parts.{Spaced, Parts, MoreParts}
+use Rattle.asl_json.specs.Parts.{Parts, MoreParts}
 use Rattle.asl_json.specs.Same.{bytes_eq}
 use Rattle.asl_path.specs.Grammar.{SpellsStep, SpellsSteps, SpellsPath}
 use Rattle.asl_path.specs.declared.step.Root.{Root}
@@ -21,7 +21,7 @@ use Rattle.asl_intrinsic.proofs.Starting.{from_input}
 use Rattle.asl_intrinsic.proofs.Answering.{heard_spelled}
 use Rattle.asl_template.specs.Filling.{is_path}
 use Rattle.asl_step_unread.specs.Reading.{Keys, meets, leads, path_reads, argument_reads, some_argument_reads, tree_reads, call_reads, text_reads, some_text, some_text_in, some_text_among}
-use Rattle.asl_step_unread.specs.Mentions.{behind, holds_of, may_lead, has_dollars, text_may_read}
+use Rattle.asl_step_unread.specs.Mentions.{behind, holds_of, may_lead, path_may_lead, some_path_may_lead, text_may_read}
 use Rattle.asl_step_unread.specs.Laws.{UnmentionedIsUnread}
 
 -- ---- paths
@@ -37,83 +37,106 @@ named ks ss n k back e further true same =
     further (rw (behind_self k back) at rest)
 named ks ss n k back e further false other = refl
 
-goes_on : (ks : Keys) (ss : List Step) (t : List ℕ) → SpellsSteps ss t → may_lead ks t ≡ false → meets ks ss ≡ false
-goes_on [] ss t h e = e
-goes_on (k ∷ ks) [] t h e = rw h at e
-goes_on (k ∷ ks) (Index i ∷ ss) t h e = refl
-goes_on (k ∷ ks) (Name n ∷ ss) t h e = by h.front_is (goes_on ks ss h.back h.back_is)
+-- what comes behind a path doesn't go on with it
+abbrev NoDot : List ℕ → Type 0
+NoDot [] = Unit {0}
+NoDot (c ∷ t) = (c == 46) ≡ false
+
+ended : (k : List ℕ) (ks : Keys) (rest : List ℕ) → NoDot rest → may_lead (k ∷ ks) rest ≡ true
+ended k ks [] dot = refl
+ended k ks (c ∷ rest) dot = rw dot refl
+
+goes_on : (ks : Keys) (ss : List Step) (t rest : List ℕ) → SpellsSteps ss t → NoDot rest → may_lead ks (t ++ rest) ≡ false → meets ks ss ≡ false
+goes_on [] ss t rest h dot e = e
+goes_on (k ∷ ks) [] t rest h dot e = sym (ended k ks rest dot) ∙ (rw h at e)
+goes_on (k ∷ ks) (Index i ∷ ss) t rest h dot e = refl
+goes_on (k ∷ ks) (Name n ∷ ss) t rest h dot e = by h.front_is (goes_on ks ss h.back rest h.back_is dot)
   where
-    by : SpellsStep (Name n) h.front → (may_lead ks h.back ≡ false → meets ks ss ≡ false) → (bytes_eq n k && meets ks ss) ≡ false
+    by : SpellsStep (Name n) h.front → (may_lead ks (h.back ++ rest) ≡ false → meets ks ss ≡ false) → (bytes_eq n k && meets ks ss) ≡ false
     by (inl g) further =
-        let there : holds_of (may_lead ks) (behind k (n ++ h.back)) ≡ false = rw (h.parts, g.parts) at e in
-        named ks ss n k h.back there further (bytes_eq n k) refl
+        let there : holds_of (may_lead ks) (behind k (n ++ (h.back ++ rest))) ≡ false = rw (h.parts, g.parts, append_assoc n h.back rest) at e in
+        named ks ss n k (h.back ++ rest) there further (bytes_eq n k) refl
     by (inr (inl g)) further = absurd (true≢false (rw (h.parts, g.parts) at e))
     by (inr (inr g)) further = absurd (true≢false (rw (h.parts, g.parts) at e))
 
-path_unread : (ks : Keys) (t : List ℕ) → text_may_read ks t ≡ false → path_reads ks t ≡ false
+-- a path, and what comes behind it
+lead_unread : (ks : Keys) (t rest : List ℕ) → NoDot rest → path_may_lead ks (t ++ rest) ≡ false → path_reads ks t ≡ false
 unfolding path_reads
-path_unread ks t e = by (steps t) refl
+lead_unread ks t rest dot e = by (steps t) refl
   where
     root : (r : Root) (ss : List Step) → SpellsPath r ss t → (is_context t && meets ks ss) ≡ false
     root Input ss h = and_left (is_context t) (meets ks ss) (from_input t (record { steps = ss; spelled = h }))
     root Context ss h =
         let regrouped : t ≡ 36 ∷ 36 ∷ h.back = h.parts ∙ ap (λ (z : List ℕ). z ++ h.back) h.front_is in
-        and_right (is_context t) (meets ks ss) (goes_on ks ss h.back h.back_is (rw regrouped at e))
+        and_right (is_context t) (meets ks ss) (goes_on ks ss h.back rest h.back_is dot (rw regrouped at e))
 
     by : (r : Result (Root × List Step) ℕ) → steps t ≡ r → (is_context t && leads ks r) ≡ false
     by (Err left) f = and_right (is_context t) false refl
     by (Ok p) f = root p.0 p.1 (read_spells t p.0 p.1 f)
 
+path_unread : (ks : Keys) (t : List ℕ) → text_may_read ks t ≡ false → path_reads ks t ≡ false
+unfolding path_reads
+path_unread ks t e = by (is_context t) refl
+  where
+    begins : (t : List ℕ) → is_context t ≡ true → is_path t ≡ true
+    begins [] c = c
+    begins (x ∷ []) c = absurd (true≢false (sym c))
+    begins (x ∷ y ∷ t) c = (and_parts (x == 36) (y == 36) c).0
+
+    by : (c : Bool) → is_context t ≡ c → (is_context t && leads ks (steps t)) ≡ false
+    by false c = and_left (is_context t) (leads ks (steps t)) c
+    by true c =
+        let e : path_may_lead ks t ≡ false = rw (begins t c) at e in
+        lead_unread ks t [] tt (rw append-nil e)
+
 -- ---- calls
 
-dollars_left : (x y : List ℕ) → has_dollars (x ++ y) ≡ false → has_dollars x ≡ false
-dollars_left [] y e = refl
-dollars_left (c ∷ []) y e = refl
-dollars_left (c ∷ d ∷ x) y e =
-    let (here, later) = or_parts (is_context (c ∷ d ∷ (x ++ y))) (has_dollars (d ∷ (x ++ y))) e in
-    or_from (is_context (c ∷ d ∷ x)) (has_dollars (d ∷ x)) here (dollars_left (d ∷ x) y later)
+none_behind : (ks : Keys) (x y : List ℕ) → some_path_may_lead ks (x ++ y) ≡ false → some_path_may_lead ks y ≡ false
+none_behind ks [] y e = e
+none_behind ks (c ∷ x) y e = none_behind ks x y (or_parts (path_may_lead ks (c ∷ (x ++ y))) (some_path_may_lead ks (x ++ y)) e).1
 
-dollars_right : (x y : List ℕ) → has_dollars (x ++ y) ≡ false → has_dollars y ≡ false
-dollars_right [] y e = e
-dollars_right (c ∷ x) y e = dollars_right x y (or_parts (is_context (c ∷ (x ++ y))) (has_dollars (x ++ y)) e).1
+none_here : (ks : Keys) (t : List ℕ) → some_path_may_lead ks t ≡ false → path_may_lead ks t ≡ false
+none_here ks [] e = refl
+none_here ks (c ∷ t) e = (or_parts (path_may_lead ks (c ∷ t)) (some_path_may_lead ks t) e).0
 
-no_context : (t : List ℕ) → has_dollars t ≡ false → is_context t ≡ false
-no_context [] e = refl
-no_context (c ∷ t) e = (or_parts (is_context (c ∷ t)) (has_dollars t) e).0
+-- spaces, and then what doesn't begin with a dot
+behind_spaces : (x y : List ℕ) → AreSpaces x → NoDot y → NoDot (x ++ y)
+behind_spaces [] y a dot = dot
+behind_spaces (c ∷ x) y a dot = let is : c ≡ 32 = eqb-true c 32 a.0 in rw is refl
 
-plain_path : (ks : Keys) (t : List ℕ) → has_dollars t ≡ false → path_reads ks t ≡ false
-unfolding path_reads
-plain_path ks t e = and_left (is_context t) (leads ks (steps t)) (no_context t e)
-
-spaced_plain : (S : List ℕ → Type 0) (t : List ℕ) (h : Spaced AreSpaces S t) → has_dollars t ≡ false → has_dollars h.inner ≡ false
-spaced_plain S t h e =
-    let whole : has_dollars (h.before ++ (h.inner ++ h.behind)) ≡ false = rw h.parts at e in
-    dollars_left h.inner h.behind (dollars_right h.before (h.inner ++ h.behind) whole)
+more_dotless : (ts : Arguments) (t rest : List ℕ) → MoreParts close_bracket (argument_parts ts) t → NoDot (t ++ rest)
+more_dotless none t rest h = rw h refl
+more_dotless (argument a ts) t rest h = rw h.parts refl
 
 module _ (ks : Keys) where
   mutual
-    argument_unread : (a : Argument) (t : List ℕ) → SpellsArgument a t → has_dollars t ≡ false → argument_reads ks a ≡ false
-    argument_unread (constant d) t h e = refl
-    argument_unread (quoted s) t h e = refl
-    argument_unread (path p) t h e = plain_path ks p (rw h.0 at e)
-    argument_unread (call n ts) t h e = arguments_unread ts h.back h.back_is (dollars_right h.front h.back (rw h.parts at e))
+    argument_unread : (a : Argument) (t rest : List ℕ) → SpellsArgument a t → NoDot rest → some_path_may_lead ks (t ++ rest) ≡ false → argument_reads ks a ≡ false
+    argument_unread (constant d) t rest h dot e = refl
+    argument_unread (quoted s) t rest h dot e = refl
+    argument_unread (path p) t rest h dot e = lead_unread ks p rest dot (none_here ks (p ++ rest) (rw h.0 at e))
+    argument_unread (call n ts) t rest h dot e = arguments_unread ts h.back rest h.back_is (none_behind ks h.front (h.back ++ rest) (rw (h.parts, append_assoc h.front h.back rest) at e))
 
-    arguments_unread : (ts : Arguments) (t : List ℕ) → Parts AreSpaces close_bracket (argument_parts ts) t → has_dollars t ≡ false → some_argument_reads ks ts ≡ false
-    arguments_unread none t h e = refl
-    arguments_unread (argument a ts) t h e =
-        let whole : has_dollars (h.front ++ h.back) ≡ false = rw h.parts at e in
+    arguments_unread : (ts : Arguments) (t rest : List ℕ) → Parts AreSpaces close_bracket (argument_parts ts) t → some_path_may_lead ks (t ++ rest) ≡ false → some_argument_reads ks ts ≡ false
+    arguments_unread none t rest h e = refl
+    arguments_unread (argument a ts) t rest h e =
+        let f = h.front_is in
+        let whole : some_path_may_lead ks (h.front ++ (h.back ++ rest)) ≡ false = rw (h.parts, append_assoc h.front h.back rest) at e in
+        let inside : some_path_may_lead ks (f.before ++ (f.inner ++ (f.behind ++ (h.back ++ rest)))) ≡ false = rw (f.parts, append_assoc f.before (f.inner ++ f.behind) (h.back ++ rest), append_assoc f.inner f.behind (h.back ++ rest)) at whole in
         or_from (argument_reads ks a) (some_argument_reads ks ts)
-        (argument_unread a h.front_is.inner h.front_is.inner_is (spaced_plain (SpellsArgument a) h.front h.front_is (dollars_left h.front h.back whole)))
-        (more_unread ts h.back h.back_is (dollars_right h.front h.back whole))
+        (argument_unread a f.inner (f.behind ++ (h.back ++ rest)) f.inner_is (behind_spaces f.behind (h.back ++ rest) f.behind_is (more_dotless ts h.back rest h.back_is)) (none_behind ks f.before (f.inner ++ (f.behind ++ (h.back ++ rest))) inside))
+        (more_unread ts h.back rest h.back_is (none_behind ks h.front (h.back ++ rest) whole))
 
-    more_unread : (ts : Arguments) (t : List ℕ) → MoreParts close_bracket (argument_parts ts) t → has_dollars t ≡ false → some_argument_reads ks ts ≡ false
-    more_unread none t h e = refl
-    more_unread (argument a ts) t h e =
-        let whole : has_dollars (44 ∷ h.tail) ≡ false = rw h.parts at e in
-        let inside : has_dollars (h.tail_is.front ++ h.tail_is.back) ≡ false = rw h.tail_is.parts at (dollars_right (44 ∷ []) h.tail whole) in
+    more_unread : (ts : Arguments) (t rest : List ℕ) → MoreParts close_bracket (argument_parts ts) t → some_path_may_lead ks (t ++ rest) ≡ false → some_argument_reads ks ts ≡ false
+    more_unread none t rest h e = refl
+    more_unread (argument a ts) t rest h e =
+        let j = h.tail_is in
+        let f = j.front_is in
+        let all : some_path_may_lead ks (44 ∷ (h.tail ++ rest)) ≡ false = rw h.parts at e in
+        let whole : some_path_may_lead ks (j.front ++ (j.back ++ rest)) ≡ false = rw (j.parts, append_assoc j.front j.back rest) at (none_behind ks (44 ∷ []) (h.tail ++ rest) all) in
+        let inside : some_path_may_lead ks (f.before ++ (f.inner ++ (f.behind ++ (j.back ++ rest)))) ≡ false = rw (f.parts, append_assoc f.before (f.inner ++ f.behind) (j.back ++ rest), append_assoc f.inner f.behind (j.back ++ rest)) at whole in
         or_from (argument_reads ks a) (some_argument_reads ks ts)
-        (argument_unread a h.tail_is.front_is.inner h.tail_is.front_is.inner_is (spaced_plain (SpellsArgument a) h.tail_is.front h.tail_is.front_is (dollars_left h.tail_is.front h.tail_is.back inside)))
-        (more_unread ts h.tail_is.back h.tail_is.back_is (dollars_right h.tail_is.front h.tail_is.back inside))
+        (argument_unread a f.inner (f.behind ++ (j.back ++ rest)) f.inner_is (behind_spaces f.behind (j.back ++ rest) f.behind_is (more_dotless ts j.back rest j.back_is)) (none_behind ks f.before (f.inner ++ (f.behind ++ (j.back ++ rest))) inside))
+        (more_unread ts j.back rest j.back_is (none_behind ks j.front (j.back ++ rest) whole))
 
   -- a call doesn't begin with a dollar
   begins_with_states : (a : Argument) (t : List ℕ) → SpellsCall a t → is_path t ≡ false
@@ -122,11 +145,11 @@ module _ (ks : Keys) where
   begins_with_states (path p) t h = absurd h
   begins_with_states (call n ts) t h = rw (h.parts, h.front_is.parts) refl
 
-  spelled_unread : (a : Argument) (t : List ℕ) → SpellsCall a t → has_dollars t ≡ false → argument_reads ks a ≡ false
+  spelled_unread : (a : Argument) (t : List ℕ) → SpellsCall a t → some_path_may_lead ks t ≡ false → argument_reads ks a ≡ false
   spelled_unread (constant d) t h e = refl
   spelled_unread (quoted s) t h e = refl
   spelled_unread (path p) t h e = absurd h
-  spelled_unread (call n ts) t h e = argument_unread (call n ts) t h e
+  spelled_unread (call n ts) t h e = argument_unread (call n ts) t [] h tt (rw append-nil e)
 
 call_unread : (ks : Keys) (t : List ℕ) → text_may_read ks t ≡ false → call_reads ks t ≡ false
 unfolding call_reads

@@ -23,15 +23,18 @@ may_lead [] t = true
 may_lead (k ∷ ks) [] = true
 may_lead (k ∷ ks) (c ∷ t) = if c == full_stop then holds_of (may_lead ks) (behind k t) else true
 
--- two dollars stand somewhere in the text
-abbrev pub has_dollars : List ℕ → Bool
-has_dollars [] = false
-has_dollars (c ∷ t) = is_context (c ∷ t) || has_dollars t
+-- two dollars stand first, and a path of the Context Object that goes on so may lead there
+abbrev pub path_may_lead : Keys → List ℕ → Bool
+path_may_lead ks t = is_context t && may_lead ks (drop 2 t)
 
--- a path of the Context Object that may lead there; of a call any path of the Context Object counts
+-- somewhere in the text such a path may begin
+abbrev pub some_path_may_lead : Keys → List ℕ → Bool
+some_path_may_lead ks [] = false
+some_path_may_lead ks (c ∷ t) = path_may_lead ks (c ∷ t) || some_path_may_lead ks t
+
+-- a path of the Context Object that may lead there; in a call, wherever one may begin
 abbrev pub text_may_read : Keys → List ℕ → Bool
-text_may_read ks t =
-    if is_path t then is_context t && may_lead ks (drop 2 t) else has_dollars t
+text_may_read ks t = if is_path t then path_may_lead ks t else some_path_may_lead ks t
 
 -- some text of the value may, whatever it stands for
 abbrev pub may_read : Keys → Data → Bool

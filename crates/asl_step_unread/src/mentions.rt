@@ -2,9 +2,8 @@
 ghost use Rattle.std.specs.Prelude.{◌≡◌, map, option_map};
 ghost use Rattle.asl_json.specs.Data.{chain, pairs};
 ghost use Rattle.asl_json.specs.View.{data_of};
-ghost use Rattle.asl_intrinsic.specs.Calls.{is_context};
 ghost use Rattle.asl_step_unread.specs.Reading.{some_text_in, some_text_among};
-ghost use Rattle.asl_step_unread.specs.Mentions.{behind as left_behind, may_lead, has_dollars, text_may_read, may_read};
+ghost use Rattle.asl_step_unread.specs.Mentions.{behind as left_behind, may_lead, path_may_lead, some_path_may_lead, text_may_read, may_read};
 
 use asl_json::{Items, Json, Members};
 
@@ -45,20 +44,29 @@ fn may_lead(keys: &[&str], bytes: &[u8]) -> bool
     true
 }
 
-/// Whether two dollars stand first.
-fn is_context(bytes: &[u8]) -> bool
-    ensures { result ≡ is_context bytes.now }
+/// Whether two dollars stand first, and a path that goes on so may lead to the keys.
+fn path_may_lead(keys: &[&str], bytes: &[u8]) -> bool
+    ensures { result ≡ path_may_lead (map (λ k. k.now) keys.now) bytes.now }
 {
-    bytes.len() >= 2 && bytes[0] == b'$' && bytes[1] == b'$'
+    let Some((first, others)) = bytes.split_first() else {
+        return false;
+    };
+    if *first != b'$' {
+        return false;
+    }
+    let Some((second, rest)) = others.split_first() else {
+        return false;
+    };
+    *second == b'$' && may_lead(keys, rest)
 }
 
-/// Whether two dollars stand somewhere.
-fn has_dollars(bytes: &[u8]) -> bool
-    ensures { result ≡ has_dollars bytes.now }
+/// Whether such a path may begin somewhere.
+fn some_path_may_lead(keys: &[&str], bytes: &[u8]) -> bool
+    ensures { result ≡ some_path_may_lead (map (λ k. k.now) keys.now) bytes.now }
 {
     let mut rest = bytes;
     while let Some((_first, others)) = rest.split_first() {
-        if is_context(rest) {
+        if path_may_lead(keys, rest) {
             return true;
         }
         rest = others;
@@ -69,16 +77,14 @@ fn has_dollars(bytes: &[u8]) -> bool
 fn text_may_read(keys: &[&str], bytes: &[u8]) -> bool
     ensures { result ≡ text_may_read (map (λ k. k.now) keys.now) bytes.now }
 {
-    let Some((first, others)) = bytes.split_first() else {
+    let Some((first, _others)) = bytes.split_first() else {
         return false;
     };
-    if *first != b'$' {
-        return has_dollars(bytes);
+    if *first == b'$' {
+        path_may_lead(keys, bytes)
+    } else {
+        some_path_may_lead(keys, bytes)
     }
-    let Some((second, rest)) = others.split_first() else {
-        return false;
-    };
-    *second == b'$' && may_lead(keys, rest)
 }
 
 /// Whether some text of a value may read what stands at a chain of keys of the Context Object. If none may, none reads it, by the law

@@ -16,6 +16,7 @@ returns-in-Ok-clause-found g c = record {
   once = c.in-Ok.ensures.once;
   orders = c.in-Ok.ensures.orders;
   whole = c.in-Ok.ensures.whole;
+  any_moment = c.in-Ok.ensures.any_moment;
   late = c.in-Ok.ensures.late;
   calls = c.in-Ok.ensures.calls;
   states = c.in-Ok.ensures.states;

@@ -11,5 +11,8 @@ returns-clause-orders g c = c.in_ok-explored.ensures.orders ∙ c.orders_for-ord
 pub returns-clause-whole : goal.returns-clause-whole
 returns-clause-whole g c = λ t. subst (λ (o : Orders). IsWhole o c.args.setup (outcomes_of c.in_ok-explored.explored.found.items)) (sym c.in_ok-explored.ensures.orders) (c.in_ok-explored.ensures.whole t)
 
+pub returns-clause-any_moment : goal.returns-clause-any_moment
+returns-clause-any_moment g c = λ t every unread. c.in_ok-explored.ensures.any_moment t (sym c.in_ok-explored.ensures.orders ∙ every) unread
+
 pub returns-clause-calls : goal.returns-clause-calls
 returns-clause-calls g c = λ w t. subst (λ (o : Orders). AreCounted o c.args.setup (outcomes_of c.in_ok-explored.explored.found.items) c.in_ok-explored.explored.calls.items) (sym c.in_ok-explored.ensures.orders) (c.in_ok-explored.ensures.calls w t)

@@ -4,6 +4,8 @@ use Rattle.asl_run_setup.specs.declared.setup.Setup.{Setup}
 use Rattle.asl_explore.specs.Orders.{IsWhole}
 use Rattle.asl_explore.specs.Calls.{AllAreExpanded, AreCounted}
 use Rattle.asl_explore.specs.Searches.{Shows, AreLate, outcomes_of, worlds_of}
+use Rattle.asl_explore.specs.declared.orders.Orders.{Orders}
+use Rattle.asl_explore.proofs.AnyMoment.{any-moment}
 use Rattle.asl_explore.proofs.search.explore.Goals as goal
 
 pub returns-clause-shown : goal.returns-clause-shown
@@ -14,6 +16,13 @@ pub returns-clause-whole : goal.returns-clause-whole
 returns-clause-whole g c t =
     let both = c.are_both-complete.ensures t in
     subst (λ (s : Setup). c.in-Some.searched.complete ≡ true → IsWhole c.args.orders s (outcomes_of c.in-Some.searched.found.items)) c.in_ok-execution.ensures.setup (rw c.in-Some.is at c.in_ok-searched.ensures.whole) both.0
+
+pub returns-clause-any_moment : goal.returns-clause-any_moment
+returns-clause-any_moment g c t every unread =
+    let fs = c.in-Some.searched.found.items in
+    let both = c.are_both-complete.ensures t in
+    let whole : IsWhole c.args.orders c.args.setup (outcomes_of fs) = subst (λ (s : Setup). c.in-Some.searched.complete ≡ true → IsWhole c.args.orders s (outcomes_of fs)) c.in_ok-execution.ensures.setup (rw c.in-Some.is at c.in_ok-searched.ensures.whole) both.0 in
+    any-moment c.args.setup (outcomes_of fs) (c.in_ok-clocked.ensures unread) (subst (λ (o : Orders). IsWhole o c.args.setup (outcomes_of fs)) every whole)
 
 pub returns-clause-late : goal.returns-clause-late
 returns-clause-late g c =

@@ -1,0 +1,5 @@
+pub mod Until
+pub mod Reading
+pub mod Changing
+pub mod Stepping
+pub mod Runs
