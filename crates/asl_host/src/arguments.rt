@@ -80,6 +80,11 @@ pub(crate) struct Group {
     pub members: &'static [&'static str],
 }
 
+/// The commands in the order of help. No other function names the table itself: a proof unfolds it wherever it is named.
+pub(crate) fn commands() -> &'static [CommandRow] {
+    COMMANDS
+}
+
 impl Presence {
     /// The value that an argument has where it isn't given, if there is one.
     pub(crate) fn defaults(&self) -> &[&'static str] {
@@ -415,8 +420,7 @@ const CHOSEN_HELP: &str =
 
 const INPUT_HELP: &str = "The file of the execution's input";
 
-/// The commands in the order of help.
-pub(crate) const COMMANDS: &[CommandRow] = &[
+const COMMANDS: &[CommandRow] = &[
     CommandRow {
         verb: Verb::Check,
         name: "check",

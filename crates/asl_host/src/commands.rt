@@ -1,5 +1,5 @@
 // The command line as clap reads it, made from its table.
-use crate::arguments::{Argument, COMMANDS, CommandRow, Group, Kind, Presence};
+use crate::arguments::{Argument, CommandRow, Group, Kind, Presence, commands};
 use clap::builder::ValueParser;
 use clap::{Arg, ArgAction, ArgGroup, Command};
 use std::alloc::{AllocError, Global};
@@ -8,7 +8,7 @@ use std::alloc::{AllocError, Global};
 
 /// The program's command line.
 pub(crate) fn asl_command<'a>(alloc: Global) -> Result<Command<'a>, AllocError> {
-    let commands = commands_of(alloc, COMMANDS)?;
+    let commands = commands_of(alloc, commands())?;
     named(alloc)?.subcommands(commands)
 }
 
@@ -31,7 +31,7 @@ fn described<'a>(alloc: Global, name: &'a str, about: &'a str) -> Command<'a> {
     Command::new(alloc, name).about(about)
 }
 
-fn commands_of<'a>(alloc: Global, rows: &'a [CommandRow]) -> Result<Vec<Command<'a>>, AllocError> {
+fn commands_of<'a>(alloc: Global, rows: &[CommandRow]) -> Result<Vec<Command<'a>>, AllocError> {
     let mut commands = Vec::new(alloc);
     for row in rows {
         commands.push(command_of(alloc, row)?)?;

@@ -1,5 +1,5 @@
 // What a command line asks for, by what clap found in it.
-use crate::arguments::{COMMANDS, Verb};
+use crate::arguments::{Verb, commands};
 use crate::screen::Screen;
 use crate::words::{
     DebugFormat, DebugWords, DefinitionWords, ExploreWords, GraphFormat, GraphWords, LintFormat,
@@ -68,7 +68,7 @@ fn command_in<'a, 'b>(matches: &'b ArgMatches<'a>) -> Option<(Verb, &'b ArgMatch
 }
 
 fn verb_named(name: &str) -> Option<Verb> {
-    for row in COMMANDS {
+    for row in commands() {
         if row.name == name {
             return Some(row.verb);
         }
