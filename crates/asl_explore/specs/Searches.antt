@@ -144,6 +144,12 @@ AreLate s fs ns = All (IsNumbered (IsLateOutcome s) fs) ns
 abbrev pub IsMissing : List Found → Outcome → Type 0
 IsMissing fs o = All (λ (a : Outcome). a ≡ o → ⊥) (outcomes_of fs)
 
+-- whatever outcome isn't among those others, its number is listed
+abbrev pub AreAllListed : List Found → List Found → List ℕ → Type 0
+AreAllListed gs fs ns =
+    (i : ℕ) → i < length fs → ((d : Found) → IsMissing gs (get_or fs i d).outcome)
+    → Contains ns (suc i)
+
 -- no two are the same
 abbrev pub AreDistinct : List Outcome → Type 0
 AreDistinct os = AllPairs (λ (a b : Outcome). a ≡ b → ⊥) os

@@ -2,7 +2,7 @@
 ghost use Rattle.std.specs.Prelude.{◌≡◌, false, IfOk};
 ghost use Rattle.std.specs.List.{All};
 ghost use Rattle.asl_exec.specs.Views.{setup_of};
-ghost use Rattle.asl_explore.specs.Searches.{AreLate, IsMissing, IsNumbered, NoneWaits, Shows, Waits, worlds_of};
+ghost use Rattle.asl_explore.specs.Searches.{AreAllListed, AreLate, IsMissing, IsNumbered, NoneWaits, Shows, Waits, worlds_of};
 ghost use Rattle.asl_run_world.specs.Bare.{bare};
 
 use crate::found::Found;
@@ -47,7 +47,8 @@ pub(crate) fn any_waits(alloc: Global, nodes: &[Node]) -> Result<bool, AllocErro
 
 /// The numbers, from 1, of the outcomes that aren't among others. The error is that memory ran out.
 fn others_in(alloc: Global, found: &[Found], prompt: &[Found]) -> Result<Vec<usize>, AllocError>
-    ensures { IfOk result (λ v. All (IsNumbered (IsMissing prompt.now) found.now) v.items) }
+    ensures others { IfOk result (λ v. All (IsNumbered (IsMissing prompt.now) found.now) v.items) }
+    ensures all { IfOk result (λ v. AreAllListed prompt.now found.now v.items) }
 {
     let mut others = Vec::new(alloc);
     for index in 0..found.len() {
@@ -70,7 +71,7 @@ pub(crate) fn late_among(
     ensures { IfOk result (λ v. All (Shows (setup_of execution.old)) found.now
         → AreLate (setup_of execution.old) found.now v.items) }
 {
-    if found.len() < 2 || !any_waits(alloc, nodes)? {
+    if found.is_empty() || !any_waits(alloc, nodes)? {
         return Ok(Vec::new(alloc));
     }
     let Some(prompt) = search(execution, alloc, Orders::Prompt, true, limit, &Unwatched)? else {

@@ -14,4 +14,4 @@ returns c =
     let all : IsWhole Prompt s (outcomes_of c.in-Some.prompt.found.items) = (rw c.in-Some.is at c.in_ok-prompt.ensures.whole) c.if-not-prompt.false in
     IfOk-weaker c.others_in.result _ _
     (λ v h shown. all-late s c.args.found.now c.deref.result.now v.items shown (subst (λ (fs : List Found). IsWhole Prompt s (outcomes_of fs)) (sym c.deref.ensures.value) all) h)
-    c.others_in.ensures
+    c.others_in.ensures.others

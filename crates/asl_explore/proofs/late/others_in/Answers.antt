@@ -1,14 +1,30 @@
-use Rattle.std.proofs.Common.{refl, sym, subst}
+use Rattle.std.proofs.Common.{◌<◌, refl, sym, subst, arith}
 use Rattle.asl_explore.specs.declared.found.Found.{Found}
-use Rattle.asl_explore.specs.Searches.{IsMissing}
-use Rattle.asl_explore.proofs.Lateness.{numbered-more}
+use Rattle.std.specs.List.{Contains}
+use Rattle.asl_explore.specs.Searches.{IsMissing, outcomes_of}
+use Rattle.asl_explore.proofs.Lateness.{numbered-more, listed-more, listed-not}
 use Rattle.asl_explore.proofs.late.others_in.Goals as goal
 use Rattle.asl_explore.proofs.late.others_in.Goals.{then-not-is_found+in_ok-push, else-not-is_found}
 
 pub loop-index-preserved : goal.loop-index-preserved
-loop-index-preserved c = elim c.if-not-is_found.branch [
-  | then-not-is_found+in_ok-push w ↦
-      rw (w.others-is, w.in_ok-push.ensures.items) (numbered-more (IsMissing c.args.prompt.now) c.args.found.now c.loop-index.others.items c.loop-index.index c.index-found-index.result
-      c.loop-index-test.true c.index-found-index.is (subst (λ (f : Found). IsMissing c.args.prompt.now f.outcome) (sym c.index-found-index.is) (w.if-not-is_found.ensures.new refl)) c.loop-index.invariant)
-  | else-not-is_found w ↦ rw w.others-is c.loop-index.invariant
-]
+loop-index-preserved c =
+    let gs = c.args.prompt.now in
+    let fs = c.args.found.now in
+    let ns = c.loop-index.others.items in
+    let i = c.loop-index.index in
+    let inv = c.loop-index.invariant in
+    elim c.if-not-is_found.branch [
+      | then-not-is_found+in_ok-push w ↦ rw (w.others-is, w.in_ok-push.ensures.items) (record {
+        others = numbered-more (IsMissing gs) fs ns i c.index-found-index.result c.loop-index-test.true c.index-found-index.is
+            (subst (λ (f : Found). IsMissing gs f.outcome) (sym c.index-found-index.is) (w.if-not-is_found.ensures.new refl)) inv.others;
+        all = listed-more gs fs ns i inv.all;
+      })
+      | else-not-is_found w ↦ rw w.others-is (record {
+        others = inv.others;
+        all = listed-not gs fs ns i c.index-found-index.result c.loop-index-test.true c.index-found-index.is
+            (subst (λ (f : Found). Contains (outcomes_of gs) f.outcome) (sym c.index-found-index.is) (w.if-not-is_found.ensures.there refl)) inv.all;
+      })
+    ]
+
+pub returns-clause-all : goal.returns-clause-all
+returns-clause-all c i l missing = c.loop-index.invariant.all i (omega (arith, l, c.loop-index-test.false)) missing

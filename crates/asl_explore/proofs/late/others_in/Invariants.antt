@@ -1,7 +1,11 @@
 use Rattle.std.specs.List.{All}
 use Rattle.asl_explore.specs.Searches.{IsMissing, IsNumbered}
+use Rattle.asl_explore.proofs.Lateness.{AreListedBefore}
 use Rattle.asl_explore.proofs.late.others_in.Given as goal
 
--- those so far aren't among the others
+-- those so far aren't among the others, and none of them is left out
 abbrev pub invariant-loop-index : goal.invariant-loop-index
-invariant-loop-index l = All (IsNumbered (IsMissing l.prompt) l.found) l.others.items
+invariant-loop-index l = record {
+  others : All (IsNumbered (IsMissing l.prompt) l.found) l.others.items;
+  all : AreListedBefore l.prompt l.found l.index l.others.items;
+}
