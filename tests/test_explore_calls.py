@@ -267,6 +267,12 @@ class Telling(Searches):
         ]:
             self.assertEqual(self.remarks(definition, given, mocks), wanted, definition)
 
+    def test_a_branch_that_is_stopped_while_it_waits_past_the_time_limit(self):
+        late = WAIT.replace('"Seconds":1', '"Seconds":10')
+        definition = parallel([FAIL, late]).replace('"StartAt":"P"', '"StartAt":"P","TimeoutSeconds":5', 1)
+        for words in ([], ["--calls"]):
+            self.assertEqual(self.remarks(definition, "{}", "{}", "M", *words), ['cut off "W"'], words)
+
     def test_a_cut_search_does_not_tell_what_never_happens(self):
         loop = '{"StartAt":"T","States":{"T":{"Type":"Task","Resource":"r","Next":"T"},"U":{"Type":"Succeed"}}}'
         ran = self.explore(loop, "{}", mocked({"T": FOR_EVER}), "M#c", "--limit", "5")

@@ -8,6 +8,7 @@ use crate::search::{bound_in, is_beyond};
 use crate::states::Stated;
 use crate::visiting::{enter, turns_in};
 use asl_exec::Execution;
+use asl_history::Place;
 use asl_json::Name;
 use asl_mock::Case;
 use asl_run_frames::Earliest;
@@ -90,6 +91,17 @@ fn number_of(execution: &Execution, current: &Record) -> Option<usize> {
     Some(number)
 }
 
+/// Whether the branch at a place is stopped: whatever it waits for, it never steps again.
+fn is_stopped(execution: &Execution, place: &Place) -> bool {
+    let last = execution.world().last();
+    matches!(execution.refusal(place, last), Some(Refusal::Stopped))
+}
+
+/// Whether a branch may step, and the execution's time isn't over then.
+fn may_go_on(execution: &Execution, turn: &Earliest) -> bool {
+    !execution.world().is_late(turn.moment) && execution.refusal(&turn.place, turn.moment).is_none()
+}
+
 /// What is seen while the branches of a world are looked at.
 struct Look {
     sights: Vec<Sight>,
@@ -155,6 +167,13 @@ impl Look {
         self.asks(number, count, turn)
     }
 
+    /// A branch was stopped while it was doing this in a state.
+    fn stopped(&mut self, number: usize, current: &Record) {
+        if is_inside(current) && number < self.sights.len() {
+            self.sights[number].is_cut_off = true;
+        }
+    }
+
     /// Looks at a branch.
     fn turn(
         &mut self,
@@ -168,24 +187,14 @@ impl Look {
         let Some(number) = number_of(execution, current) else {
             return Ok(());
         };
-        if execution.world().is_late(turn.moment) {
+        if is_stopped(execution, &turn.place) {
+            self.stopped(number, current);
             return Ok(());
         }
-        match execution.refusal(&turn.place, turn.moment) {
-            None => {
-                if beyond {
-                    return Ok(());
-                }
-                self.may_step(execution, number, current, turn)
-            }
-            Some(Refusal::Stopped) => {
-                if is_inside(current) && number < self.sights.len() {
-                    self.sights[number].is_cut_off = true;
-                }
-                Ok(())
-            }
-            Some(_) => Ok(()),
+        if beyond || !may_go_on(execution, turn) {
+            return Ok(());
         }
+        self.may_step(execution, number, current, turn)
     }
 
     /// Takes the steps that may give an answer that wasn't seen to be given; of each answer until it is.
