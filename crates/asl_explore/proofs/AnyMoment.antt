@@ -19,7 +19,7 @@ use Rattle.asl_explore.specs.Laws.{TimelessIsWhole}
 use Rattle.asl_explore.proofs.Bare.{step-bare}
 use Rattle.asl_explore.proofs.Ends.{after-over}
 
-all-tried : (s : Setup) (w : World) (ps : List (List ℕ)) → AreTried Every s w ps
+pub all-tried : (s : Setup) (w : World) (ps : List (List ℕ)) → AreTried Every s w ps
 all-tried s w [] = tt
 all-tried s w (p ∷ ps) = (tt, all-tried s (step s w p (due w p)) ps)
 

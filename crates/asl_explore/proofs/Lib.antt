@@ -22,3 +22,4 @@ pub mod Carrying
 pub mod Failing
 pub mod Calm
 pub mod SettledTasks
+pub mod Driven

@@ -1,10 +1,12 @@
 -- Laws of searches.
-use Rattle.std.specs.Prelude.{ℕ, ◌≡◌, ◌⊎◌, false, List, None}
+use Rattle.std.specs.Prelude.{ℕ, ◌≡◌, ◌⊎◌, true, false, List, None, IsSome}
 use Rattle.std.specs.List.{Contains}
-use Rattle.asl_run_world.specs.World.{World}
+use Rattle.asl_run_world.specs.World.{World, is_over}
 use Rattle.asl_run_world.specs.Bare.{bare}
 use Rattle.asl_run_world.specs.declared.outcome.Outcome.{Outcome}
+use Rattle.asl_run_world.specs.declared.outcome.Outcome.TheVariants.{TimedOut}
 use Rattle.asl_run_setup.specs.declared.setup.Setup.{Setup}
+use Rattle.asl_exec.specs.Driving.{driven}
 use Rattle.asl_exec.specs.Steps.{deadline_of, opening, step}
 use Rattle.asl_step_unread.specs.Reading.{reads}
 use Rattle.asl_step_unread.specs.Steps.{clock_keys}
@@ -32,6 +34,15 @@ abbrev pub WaitlessIsWhole : Type 0
 WaitlessIsWhole =
     (s : Setup) (ws : List World) (os : List Outcome) → IsClosed Prompt s ws os → NoneWaits ws
     → deadline_of s ≡ None → IsWhole Every s os
+
+-- what a run without a list of steps ends in is listed where nothing was left out, whichever orders
+-- were tried; or the execution's time is over
+abbrev pub DrivenIsListed : Type 0
+DrivenIsListed =
+    (o : Orders) (s : Setup) (os : List Outcome) (n : ℕ) → IsWhole o s os
+    → is_over (driven n s (opening s)).outcome ≡ true
+    → Contains os (driven n s (opening s)).outcome
+    ⊎ (((driven n s (opening s)).outcome ≡ TimedOut) × IsSome (deadline_of s))
 
 -- a search that took one world for all that differ from it in moments alone left out nothing, where
 -- the definition reads no clock and no time limit ends the execution
