@@ -24,12 +24,21 @@ class Found(NamedTuple):
     calls: list
 
 
+class Lasso(NamedTuple):
+    """An order that never ends: the places of its steps, and of those that are taken again and again."""
+
+    stem: list
+    round: list
+
+
 class Explored(NamedTuple):
-    """What is printed of a search: its first line, the number of worlds, the outcomes, and behind them what is remarkable and the notes."""
+    """What is printed of a search: its first line, the number of worlds, the outcomes, an order that never ends, and behind them what is
+    remarkable and the notes."""
 
     search: str
     worlds: int
     found: list
+    endless: Lasso
     remarks: list
     notes: list
 
@@ -46,11 +55,20 @@ def called(line):
     return json.loads(name), told
 
 
+def lasso(part):
+    """The order that never ends, of these lines."""
+    first, order, loop = part.splitlines()
+    (word, *stem), (again, *round_) = order.split(" "), loop.split(" ")
+    assert (first, word, again) == ("endless", "order", "loop") and round_, part
+    return Lasso(stem, round_)
+
+
 def explored(text):
     """What this text of a search says."""
     head, *parts = text.split("\n\n")
     search, worlds, outcomes = head.splitlines()
-    behind = parts.pop().splitlines() if parts and not parts[-1].startswith("outcome ") else []
+    behind = parts.pop().splitlines() if parts and not parts[-1].startswith(("outcome ", "endless\n")) else []
+    endless = lasso(parts.pop()) if parts and parts[-1].startswith("endless\n") else None
     notes = [line for line in behind if line.startswith("note ")]
     remarks = behind[: len(behind) - len(notes)]
     assert remarks + notes == behind, text
@@ -62,7 +80,7 @@ def explored(text):
         calls = [called(line) for line in more[late:]]
         found.append(Found(first.split(" ", 2)[2], order.split(" ")[1:], late, calls))
     assert outcomes == f"outcomes {len(found)}", text
-    return Explored(search, int(worlds.removeprefix("worlds ")), found, remarks, notes)
+    return Explored(search, int(worlds.removeprefix("worlds ")), found, endless, remarks, notes)
 
 
 def example_cases():
@@ -109,6 +127,7 @@ def numbered(count):
 TASK = '"Type":"Task","Resource":"r"'
 ONE_TASK = '{"StartAt":"T","States":{"T":{"Type":"Task","Resource":"r","End":true}}}'
 FOR_EVER = '"0-9999":{"Return":1}'
+ROUND = '{"StartAt":"A","States":{"A":{"Type":"Pass","Next":"A"}}}'
 
 
 class Searches(ProgramTest):
@@ -135,13 +154,14 @@ class Searches(ProgramTest):
 
 class Exploring(Searches):
     def complete(self, definition, given="{}", mocks="{}", chosen="M#c"):
-        """What a search found that left out nothing. Its status is 0 just if all succeed."""
+        """What a search found that left out nothing. Its status is 0 just if all succeed, and every order can be gone on with to an end."""
         ran = self.explore(definition, given, mocks, chosen)
         told = explored(ran.stdout)
         self.assert_noted(ran, told)
         self.assertEqual(told.search, "search complete")
         self.assertEqual(len(set(told.outcomes)), len(told.outcomes))
-        self.assertEqual(ran.returncode, 0 if all(one.startswith("SUCCEEDED ") for one in told.outcomes) else 1)
+        good = all(one.startswith("SUCCEEDED ") for one in told.outcomes) and told.endless is None
+        self.assertEqual(ran.returncode, 0 if good else 1)
         return told
 
     # ---- the examples
@@ -153,7 +173,7 @@ class Exploring(Searches):
             ran = run_program("explore", *words)
             told = explored(ran.stdout)
             self.assert_noted(ran, told)
-            self.assertEqual(told.search, "search complete", chosen)
+            self.assertEqual((told.search, told.endless), ("search complete", None), chosen)
             for number, one in enumerate(told.found, 1):
                 witness = run_program("explore", *words, "--witness", str(number))
                 self.assertEqual((witness.returncode, witness.stderr), (0, ""))
@@ -261,6 +281,14 @@ class Exploring(Searches):
         waits = '{"StartAt":"W","States":{"W":{"Type":"Wait","Seconds":1,"Next":"C"},"C":{"Type":"Fail","Error":"C"}}}'
         told = self.complete(parallel([*fails, waits]), chosen="M")
         self.assertEqual(sorted((one.outcome[-3], one.late) for one in told.found), [("A", False), ("B", False), ("C", True)])
+
+    def test_the_only_outcome_may_be_late(self):
+        """A branch goes round for ever, so that no prompt order comes to the one that waits."""
+        waits = '{"StartAt":"W","States":{"W":{"Type":"Wait","Seconds":1,"Next":"C"},"C":{"Type":"Fail","Error":"C"}}}'
+        told = self.complete(parallel([ROUND, waits]), chosen="M")
+        self.assertEqual([(one.outcome, one.late) for one in told.found], [('FAILED {"Error":"C"}', True)])
+        told = self.prompt(parallel([ROUND, waits]), chosen="M")
+        self.assertEqual((told.found, told.endless is not None), ([], True))
 
     def prompt(self, definition, given="{}", mocks="{}", chosen="M#c"):
         """What a search found of the orders in which no branch is late. It says that it tried no others, and marks none."""
@@ -510,6 +538,105 @@ class Exploring(Searches):
             several += len(plain.outcomes) > 1
         self.assertGreater(several, 10)
 
+    # ---- orders that never end
+
+    def endless(self, definition, given="{}", mocks="{}", chosen="M#c"):
+        """The order that never ends, which a search tells that left out nothing: with each option there is one. Its steps are taken, also
+        where the last ones are again and again, and no other steps behind the first ones end the execution."""
+        for words in ([], ["--prompt"], ["--calls"]):
+            ran = self.explore(definition, given, mocks, chosen, *words)
+            told = explored(ran.stdout)
+            self.assertEqual((ran.returncode, told.search), (1, "search complete"), words)
+            self.assertTrue(told.endless, words)
+            places = told.endless.stem + 5 * told.endless.round
+            ran = self.run_texts(definition, mocks, chosen, given, "".join(f"{place} {START}\n" for place in places))
+            lines = ran.stdout.splitlines()
+            self.assertEqual(lines[: len(places)], [f"step {place} ok" for place in places])
+            self.assertEqual(lines[-1], "status RUNNING")
+            chance = random.Random(61)
+            for _ in range(20):
+                places = told.endless.stem + [chance.choice(["/", "/0", "/1", "/0/0", "/1/0"]) for _ in range(100)]
+                ran = self.run_texts(definition, mocks, chosen, given, "".join(f"{place} {START}\n" for place in places))
+                self.assertEqual(ran.stdout.splitlines()[-1], "status RUNNING")
+        return self.complete(definition, given, mocks, chosen)
+
+    def test_a_state_that_goes_on_to_itself(self):
+        told = self.endless(ROUND, chosen="M")
+        self.assertEqual((told.outcomes, told.endless), ([], Lasso([], ["/"])))
+        told = self.endless('{"StartAt":"B","States":{"B":{"Type":"Pass","Next":"A"},"A":{"Type":"Pass","Next":"B"}}}', chosen="M")
+        self.assertEqual((told.outcomes, told.endless), ([], Lasso([], ["/", "/"])))
+        ran = self.explore(ROUND, "{}", "{}", "M")
+        self.assertEqual(ran.stdout, "search complete\nworlds 1\noutcomes 0\n\nendless\norder\nloop /\n")
+
+    def test_who_gets_the_wrong_answer_goes_round_for_ever(self):
+        rules = '[{"And":[{"Variable":"$.item","NumericEquals":1},{"Variable":"$.answer","NumericEquals":0}],"Next":"A"}]'
+        body = (
+            '{"StartAt":"T","States":{"T":{%s,"ResultPath":"$.answer","Next":"C"},"C":{"Type":"Choice","Choices":%s,"Default":"S"},'
+            '"A":{"Type":"Pass","Next":"A"},"S":{"Type":"Pass","OutputPath":"$.item","End":true}}}'
+        ) % (TASK, rules)
+        told = self.endless(mapped(body), '[{"item":0},{"item":1}]', mocked({"T": numbered(2)}))
+        self.assertEqual(told.outcomes, ["SUCCEEDED [0,1]"])
+        self.assertEqual([place for place in told.endless.round if place != "/1"], [])
+
+    def test_a_failure_that_is_caught_again_and_again(self):
+        fails = '{"StartAt":"F","States":{"F":{"Type":"Fail","Error":"E"}}}'
+        told = self.endless(parallel([fails], ',"Catch":[{"ErrorEquals":["E"],"Next":"P"}]'), chosen="M")
+        self.assertEqual((told.outcomes, told.endless.round), ([], ["/", "/0", "/"]))
+
+    def test_a_loop_that_another_branch_may_end(self):
+        fails = '{"StartAt":"F","States":{"F":{"Type":"Fail","Error":"E"}}}'
+        self.assertIsNone(self.complete(parallel([ROUND, fails]), chosen="M").endless)
+        told = self.endless(parallel([ROUND, chain("B", 2)]), chosen="M")
+        self.assertEqual(told.outcomes, [])
+
+    def test_a_way_out_that_is_never_taken(self):
+        for value, never in [(1, True), (2, False)]:
+            definition = (
+                '{"StartAt":"A","States":{"A":{"Type":"Pass","Result":%d,"Next":"C"},'
+                '"C":{"Type":"Choice","Choices":[{"Variable":"$","NumericEquals":2,"Next":"S"}],"Default":"A"},"S":{"Type":"Succeed"}}}'
+            ) % value
+            self.assertEqual(self.complete(definition, chosen="M").endless is not None, never)
+
+    def test_polling_ends_with_the_last_answer(self):
+        definition = (
+            '{"StartAt":"T","States":{"T":{%s,"Next":"C"},"C":{"Type":"Choice","Choices":[{"Variable":"$","StringEquals":"done","Next":"S"}],"Default":"W"},'
+            '"W":{"Type":"Wait","Seconds":5,"Next":"T"},"S":{"Type":"Succeed"}}}'
+        ) % TASK
+        mocks = mocked({"T": '"0-2":{"Return":"busy"},"3":{"Return":"done"}'})
+        told = self.complete(definition, "{}", mocks)
+        self.assertEqual((told.outcomes, told.endless), (['SUCCEEDED "done"'], None))
+        ran = self.explore(definition, "{}", mocked({"T": '"0-9999":{"Return":"busy"}'}), "M#c", "--limit", "200")
+        told = explored(ran.stdout)
+        self.assertEqual((ran.returncode, told.search[:10], told.outcomes, told.endless), (1, "search cut", [], None))
+
+    def test_retries_end_with_the_last_answer(self):
+        task = '{"StartAt":"T","States":{"T":{%s,"Retry":[{"ErrorEquals":["Busy"],"IntervalSeconds":1,"MaxAttempts":99999999}],"End":true}}}' % TASK
+        told = self.complete(task, "{}", mocked({"T": '"0-4":{"Throw":{"Error":"Busy"}},"5":{"Return":1}'}))
+        self.assertEqual((told.outcomes, told.endless), (["SUCCEEDED 1"], None))
+        ran = self.explore(task, "{}", mocked({"T": '"0-9999":{"Throw":{"Error":"Busy"}}'}), "M#c", "--limit", "200")
+        told = explored(ran.stdout)
+        self.assertEqual((ran.returncode, told.search[:10], told.outcomes, told.endless), (1, "search cut", [], None))
+
+    def test_random_machines_are_endless_with_each_option(self):
+        """Where quiet steps are taken alone, as where each is taken."""
+        chance = random.Random(62)
+        compared = never = 0
+        for _ in range(80):
+            branches = [self.random_machine(chance, name, name == "A") for name in "AB"]
+            if chance.randrange(2):
+                branches.append(ROUND.replace('"A"', '"Z"'))
+            body = parallel(branches)
+            tasks = sorted({part.split('"')[-2] for part in body.split(':{"Type":"Task"')[:-1]})
+            mocks = mocked({task: chance.choice([FOR_EVER, '"0":{"Throw":{"Error":"T"}},"1-9999":{"Return":1}']) for task in tasks})
+            for words in ([], ["--prompt"]):
+                quiet, each = [explored(self.explore(body, "{}", mocks, "M#c", "--limit", "2000", *words, *more).stdout) for more in ([], ["--calls"])]
+                if quiet.search == each.search == "search complete":
+                    compared += 1
+                    never += each.endless is not None
+                    self.assertEqual(quiet.endless is None, each.endless is None, (body, mocks, words))
+        self.assertGreater(compared, 30)
+        self.assertGreater(never, 5)
+
     # ---- searches that are cut
 
     def test_a_loop_that_goes_on_is_cut(self):
@@ -520,8 +647,8 @@ class Exploring(Searches):
         self.assertEqual(told.worlds, 51)
 
     def test_a_loop_that_comes_back_is_searched_whole(self):
-        told = self.complete('{"StartAt":"A","States":{"A":{"Type":"Pass","Next":"A"}}}', chosen="M")
-        self.assertEqual((told.worlds, told.outcomes), (1, []))
+        told = self.complete(ROUND, chosen="M")
+        self.assertEqual((told.worlds, told.outcomes, told.endless), (1, [], Lasso([], ["/"])))
 
     def test_a_search_of_just_so_many_worlds_is_complete(self):
         definition = parallel([chain("A", 2), chain("B", 2)])

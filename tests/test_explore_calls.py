@@ -104,7 +104,7 @@ class Telling(Searches):
             plain, counted = [explored(ran.stdout) for ran in runs]
             self.assertEqual(runs[0].returncode, runs[1].returncode, chosen)
             self.assertEqual(*[sorted((one.outcome, one.late) for one in told.found) for told in (plain, counted)], chosen)
-            self.assertEqual((plain.search, plain.notes), (counted.search, counted.notes), chosen)
+            self.assertEqual((plain.search, plain.endless, plain.notes), (counted.search, counted.endless, counted.notes), chosen)
             self.assertEqual(*[[it for it in told.remarks if it.startswith("never ")] for told in (plain, counted)], chosen)
             self.assertLessEqual(set(plain.remarks), set(counted.remarks), chosen)
             self.assertLessEqual(plain.worlds, counted.worlds, chosen)

@@ -1,8 +1,8 @@
 -- A driven run is an order in which no branch is late, so a search lists its outcome.
 use Rattle.std.proofs.Common.{ℕ, zero, suc, ◌≡◌, ◌<◌, ◌≤◌, ◌⊎◌, inl, inr, ◌∙◌, ap, sym, refl, subst, arith, Bool, true, false, List, [], ◌∷◌, max, min, cond, Option, Some, None}
-use Rattle.std.specs.Prelude.{is_some, is_none, nat_lt, nat_le, IsSome}
+use Rattle.std.specs.Prelude.{is_some, is_none, nat_lt, IsSome}
 use Rattle.std.specs.List.{Contains}
-use Rattle.std.proofs.lemmas.Bool.{both_ways, cond_both}
+use Rattle.std.proofs.lemmas.Bool.{cond_both}
 use Rattle.std.proofs.lemmas.Bool.Decides.{nat_tests}
 use Rattle.asl_step_rows.specs.declared.record.Record.{Record}
 use Rattle.asl_step_rows.specs.declared.record.Record.TheVariants.{New, Ready, Pausing, Again, Forked, Done, Failed}
@@ -12,9 +12,8 @@ use Rattle.asl_run_frames.specs.Turns.{Limits, limit_of, is_crowded}
 use Rattle.asl_run_frames.proofs.Linking.{same-eq}
 use Rattle.asl_run_world.specs.Bare.{bare}
 use Rattle.asl_run_world.specs.Picking.{refusal_with, first_of, first_at, awaited_by, lesser, least_of, Moment}
-use Rattle.asl_run_world.specs.Refusals.{is_full, refusal_if_full, refusal_by, refusal_at, refusal_of}
+use Rattle.asl_run_world.specs.Refusals.{is_full, refusal_if_full, refusal_by, refusal_of}
 use Rattle.asl_run_world.specs.World.{World, is_over, is_late, timed_out}
-use Rattle.asl_run_world.specs.declared.outcome.Outcome.{Outcome}
 use Rattle.asl_run_world.specs.declared.outcome.Outcome.TheVariants.{TimedOut}
 use Rattle.asl_run_world.specs.declared.refusal.Refusal.{Refusal}
 use Rattle.asl_run_world.specs.declared.refusal.Refusal.TheVariants.{NotYet}

@@ -22,4 +22,6 @@ pub mod Carrying
 pub mod Failing
 pub mod Calm
 pub mod SettledTasks
+pub mod Reaching
+pub mod Ending
 pub mod Driven

@@ -51,7 +51,7 @@ met-step o s ws os w p all tried m = by (is_over w.outcome) refl
     by true e = met-same ws os (step s w p (due w p)) w (step-over s w p (due w p) e) m
     by false r = split r (step-bare s w p (due w p))
 
-met-after : (o : Orders) (s : Setup) (ws : List World) (os : List Outcome) (w : World) (ps : List (List ℕ)) → All (IsExpanded o s ws os) ws → AreTried o s w ps → IsMet ws os w → IsMet ws os (after_order s w ps)
+pub met-after : (o : Orders) (s : Setup) (ws : List World) (os : List Outcome) (w : World) (ps : List (List ℕ)) → All (IsExpanded o s ws os) ws → AreTried o s w ps → IsMet ws os w → IsMet ws os (after_order s w ps)
 met-after o s ws os w [] all tried m = m
 met-after o s ws os w (p ∷ ps) all tried m = met-after o s ws os (step s w p (due w p)) ps all tried.1 (met-step o s ws os w p all tried.0 m)
 

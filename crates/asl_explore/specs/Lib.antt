@@ -1,7 +1,9 @@
 pub mod Orders
 pub mod Settled
 pub mod Searches
+pub mod Endless
 pub mod Calls
 pub mod Telling
 pub mod Reports
 pub mod Laws
+pub mod private

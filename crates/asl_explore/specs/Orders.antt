@@ -60,3 +60,9 @@ IsWholeAtAnyMoment s os =
     (l : List StepAt) → is_over (world_after s (opening s) l).outcome ≡ true
     → Contains os (world_after s (opening s) l).outcome
     ⊎ (((world_after s (opening s) l).outcome ≡ TimedOut) × IsSome (deadline_of s))
+
+-- the same without a time limit: the outcome is one of those
+abbrev pub IsWholeAtAllMoments : Setup → List Outcome → Type 0
+IsWholeAtAllMoments s os =
+    (l : List StepAt) → is_over (world_after s (opening s) l).outcome ≡ true
+    → Contains os (world_after s (opening s) l).outcome

@@ -1,5 +1,5 @@
 -- What is told of a search.
-use Rattle.std.specs.Prelude.{ℕ, ◌+◌, ◌&&◌, ◌||◌, Bool, true, false, Option, Some, None, List, [], ◌∷◌, ◌++◌, length, codes, nat_eq, if◌then◌else◌}
+use Rattle.std.specs.Prelude.{ℕ, ◌+◌, ◌&&◌, ◌||◌, Bool, true, false, Option, Some, None, List, [], ◌∷◌, ◌++◌, length, codes, is_none, nat_eq, if◌then◌else◌}
 use Rattle.std.specs.Fmt.{decimal}
 use Rattle.std.specs.List.{flat_map, list_all, list_any}
 use Rattle.asl_json.specs.View.{data_of}
@@ -14,6 +14,7 @@ use Rattle.asl_explore.specs.declared.orders.Orders.{Orders}
 use Rattle.asl_explore.specs.declared.orders.Orders.TheVariants.{Every, Prompt}
 use Rattle.asl_explore.specs.declared.found.Found.{Found}
 use Rattle.asl_explore.specs.declared.found.Explored.{Explored}
+use Rattle.asl_explore.specs.declared.endless.Lasso.{Lasso}
 use Rattle.asl_explore.specs.Telling.{calls_text, are_remarks, remarks_text}
 
 -- a status, with its output or its error
@@ -49,6 +50,20 @@ founds_text x n (f ∷ fs) =
     found_text n f
     ++ (late_line x.late.items n
     ++ (calls_text x.states.items x.calls.items n ++ founds_text x (n + 1) fs))
+
+-- the places of steps that are taken again and again
+abbrev pub loop_line : List StepAt → List ℕ
+loop_line l = codes "loop" ++ (flat_map place_word l ++ 10 ∷ [])
+
+-- an order that never ends: the places of its steps, and of those that are taken again and again
+abbrev pub lasso_text : Lasso → List ℕ
+lasso_text l =
+    codes "\nendless\n"
+    ++ (order_line l.stem.items ++ loop_line l.round.items)
+
+abbrev pub endless_text : Option Lasso → List ℕ
+endless_text None = []
+endless_text (Some l) = lasso_text l
 
 abbrev pub number_line : List ℕ → ℕ → List ℕ
 number_line word n = word ++ (decimal n ++ 10 ∷ [])
@@ -102,12 +117,12 @@ explored_text x =
     searched_text x.complete x.depth
     ++ (number_line (codes "worlds ") x.worlds
     ++ (number_line (codes "outcomes ") (length x.found.items)
-    ++ (founds_text x 1 x.found.items ++ notes_text x)))
+    ++ (founds_text x 1 x.found.items ++ (endless_text x.endless ++ notes_text x))))
 
 -- each outcome is a success
 abbrev pub are_good : List Found → Bool
 are_good fs = list_all (λ (f : Found). is_success f.outcome) fs
 
--- nothing was left out, and each outcome is a success
+-- nothing was left out, each outcome is a success, and an end is always reached
 abbrev pub is_good : Explored → Bool
-is_good x = x.complete && are_good x.found.items
+is_good x = x.complete && (are_good x.found.items && is_none x.endless)

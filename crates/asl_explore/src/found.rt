@@ -1,6 +1,7 @@
 // What a search finds.
 
 use crate::calls::Calls;
+use crate::endless::Lasso;
 use crate::orders::Orders;
 use crate::remarks::Remarks;
 use crate::states::Stated;
@@ -22,6 +23,11 @@ pub struct Explored {
     /// The numbers, from 1, of those that come only where a branch is late: another one steps at a later moment first. None is among
     /// them where that isn't known.
     pub late: Vec<usize>,
+    /// An order that never ends, through a world from which no end is reached; none where one is reached from each, and where the search
+    /// was cut.
+    pub endless: Option<Lasso>,
+    /// Whether steps that need no other one of the same world may have been taken alone.
+    pub reduced: bool,
     /// The orders that were tried.
     pub orders: Orders,
     /// Whether nothing was left out: each world that was met was tried.

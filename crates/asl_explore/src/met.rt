@@ -83,6 +83,14 @@ impl Met {
         None
     }
 
+    /// The number of a world that was met, if it is found.
+    pub(crate) fn number_of(&self, world: &World) -> Option<usize>
+        ensures { IfSome result
+            (λ i. StandsAt (worlds_of self.now.nodes.items) i (bare world.now)) }
+    {
+        self.find(world, digest_of(world, self.states))
+    }
+
     /// A world that runs is among those that were met, put there if it wasn't: its number. The error is that memory ran out.
     pub(crate) fn put(
         &mut self,

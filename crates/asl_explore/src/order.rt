@@ -1,9 +1,11 @@
 // Steps at the earliest moments.
-ghost use Rattle.std.specs.Prelude.{◌≡◌, ◌⊎◌, true, IfOk, IfSome, Some};
+ghost use Rattle.std.specs.Prelude.{◌≡◌, ◌≤◌, ◌⊎◌, true, is_none, IfOk, IfSome, Some};
 ghost use Rattle.asl_run_frames.specs.Earliest.{due_from};
+ghost use Rattle.asl_run_world.specs.Bare.{earliest};
 ghost use Rattle.asl_exec.specs.Steps.{opening, world_after};
 ghost use Rattle.asl_exec.specs.Views.{setup_of, world_of};
 ghost use Rattle.asl_explore.specs.Orders.{due, timed, places_of, MayStep};
+ghost use Rattle.asl_explore.specs.private.Reaching.{IsLeast};
 ghost use Rattle.asl_explore.specs.Searches.{IsOpenAt};
 
 use crate::met::Node;
@@ -48,10 +50,12 @@ fn due(execution: &Execution, place: &Place) -> Moment
 }
 
 /// The earliest moment at which the branch at a place may step; none where it may not.
-fn chance(execution: &Execution, place: &Place) -> Option<Moment>
-    ensures { IfSome result
+pub(crate) fn chance(execution: &Execution, place: &Place) -> Option<Moment>
+    ensures some { IfSome result
         (λ m. MayStep (setup_of execution.now) (world_of execution.now) place.now
         × (due (world_of execution.now) place.now ≡ m)) }
+    ensures none { is_none result ≡ true
+        → MayStep (setup_of execution.now) (world_of execution.now) place.now → ⊥ }
 {
     if execution.view(place).is_none() {
         return None;
@@ -65,7 +69,9 @@ fn chance(execution: &Execution, place: &Place) -> Option<Moment>
 
 /// The earlier of two moments, the first of which there may not be.
 fn earlier(best: Option<Moment>, moment: Moment) -> Moment
-    ensures { (result ≡ moment) ⊎ (best ≡ Some result) }
+    ensures one { (result ≡ moment) ⊎ (best ≡ Some result) }
+    ensures before { result ≤ moment }
+    ensures before_best { IfSome best (λ b. result ≤ b) }
 {
     match best {
         Some(earliest) if earliest.millis() <= moment.millis() => earliest,
@@ -75,7 +81,10 @@ fn earlier(best: Option<Moment>, moment: Moment) -> Moment
 
 /// The earliest moment at which one of these branches may step; none where none may.
 pub(crate) fn soonest(execution: &Execution, turns: &[Earliest]) -> Option<Moment>
-    ensures { IfSome result (IsOpenAt (setup_of execution.now) (world_of execution.now)) }
+    ensures open { IfSome result (IsOpenAt (setup_of execution.now) (world_of execution.now)) }
+    ensures least { turns.now
+        ≡ earliest (world_of execution.now).last (world_of execution.now).branches
+        → IfSome result (IsLeast (setup_of execution.now) (world_of execution.now)) }
 {
     let mut least = None;
     for turn in turns {

@@ -6,8 +6,9 @@ ghost use Rattle.asl_json.specs.View.{data_of};
 ghost use Rattle.asl_json.specs.Compact.{compact};
 ghost use Rattle.asl_step_rows.specs.Rows.{error_output};
 ghost use Rattle.asl_explore.specs.Telling.{are_remarks};
-ghost use Rattle.asl_explore.specs.Reports.{ended_text, place_word, order_line, outcome_line, found_text, late_line, founds_text, number_line, note_text, gap, prompt_note, is_prompt, time_limit_note, clock_note, notes_text, searched_text, explored_text, are_good, is_good};
+ghost use Rattle.asl_explore.specs.Reports.{ended_text, place_word, order_line, loop_line, endless_text, outcome_line, found_text, late_line, founds_text, number_line, note_text, gap, prompt_note, is_prompt, time_limit_note, clock_note, notes_text, searched_text, explored_text, are_good, is_good};
 
+use crate::endless::Lasso;
 use crate::found::{Explored, Found};
 use crate::orders::Orders;
 use crate::telling::{are_remarks, put_calls, put_number, put_remarks};
@@ -79,6 +80,33 @@ fn put_order(out: &mut String, steps: &[StepAt]) -> Result<(), AllocError>
         put_place(out, at)?;
     }
     out.push('\n')
+}
+
+/// Appends the line of steps that are taken again and again: their places. The error is that memory ran out.
+fn put_loop(out: &mut String, steps: &[StepAt]) -> Result<(), AllocError>
+    ensures { OnOk result (string_bytes out.new
+        ≡ string_bytes out.old ++ loop_line steps.now) }
+{
+    out.push_str("loop")?;
+    for at in steps {
+        put_place(out, at)?;
+    }
+    out.push('\n')
+}
+
+/// Appends the lines of an order that never ends, if there is one. The error is that memory ran out.
+fn put_endless(out: &mut String, endless: &Option<Lasso>) -> Result<(), AllocError>
+    ensures { OnOk result (string_bytes out.new
+        ≡ string_bytes out.old ++ endless_text endless.now) }
+{
+    match endless {
+        None => Ok(()),
+        Some(lasso) => {
+            out.push_str("\nendless\n")?;
+            put_order(out, &lasso.stem)?;
+            put_loop(out, &lasso.round)
+        }
+    }
 }
 
 /// Appends an empty line, and the line of an outcome of this number. The error is that memory ran out.
@@ -251,6 +279,7 @@ pub fn put_explored(alloc: Global, out: &mut String, explored: &Explored) -> Res
     put_number_line(out, "worlds ", explored.worlds as u64)?;
     put_number_line(out, "outcomes ", explored.found.len() as u64)?;
     put_founds(alloc, out, explored)?;
+    put_endless(out, &explored.endless)?;
     put_notes(out, explored)
 }
 
@@ -261,9 +290,9 @@ fn are_good(found: &[Found]) -> bool
     found.iter().all(|one| is_success(&one.outcome))
 }
 
-/// Whether nothing was left out, and each outcome is a success.
+/// Whether nothing was left out, each outcome is a success, and an end is always reached.
 pub fn is_good(explored: &Explored) -> bool
     ensures { result ≡ is_good explored.now }
 {
-    explored.complete && are_good(&explored.found)
+    explored.complete && are_good(&explored.found) && explored.endless.is_none()
 }

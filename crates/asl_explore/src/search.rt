@@ -1,11 +1,13 @@
 // A search over the worlds that steps lead to.
-ghost use Rattle.std.specs.Prelude.{◌≡◌, ◌<◌, ◌≤◌, ◌∷◌, [], true, false, length, get_or, slice_index_or, None, IfOk, IfSome};
+ghost use Rattle.std.specs.Prelude.{◌≡◌, ◌<◌, ◌≤◌, ◌⊎◌, ◌∷◌, [], true, false, is_none, length, get_or, slice_index_or, None, IfOk, IfSome};
 ghost use Rattle.std.specs.List.{All, HoldsAt};
-ghost use Rattle.asl_run_world.specs.Bare.{bare};
+ghost use Rattle.asl_run_world.specs.Bare.{bare, earliest};
 ghost use Rattle.asl_run_world.specs.World.{World, is_over};
 ghost use Rattle.asl_exec.specs.Steps.{deadline_of, opening, step};
 ghost use Rattle.asl_exec.specs.Views.{setup_of};
-ghost use Rattle.asl_explore.specs.Orders.{IsWhole, IsWholeAtAnyMoment};
+ghost use Rattle.asl_explore.specs.Endless.{CanEnd, NoneIsEndless};
+ghost use Rattle.asl_explore.specs.private.Reaching.{IsLeast};
+ghost use Rattle.asl_explore.specs.Orders.{IsWhole, IsWholeAtAllMoments, IsWholeAtAnyMoment};
 ghost use Rattle.asl_explore.specs.declared.orders.Orders.TheVariants.{Every};
 ghost use Rattle.asl_explore.specs.Settled.{AreSettledFrom};
 ghost use Rattle.asl_explore.specs.Calls.{IsStated, AllAreExpanded, AreCounted};
@@ -13,6 +15,7 @@ ghost use Rattle.asl_explore.specs.Searches.{IsMet, IsExpanded, IsTakenOn, IsClo
 
 use crate::clock::may_read_clock;
 use crate::counting::{Counted, count_calls};
+use crate::endless::endless_in;
 use crate::found::{Explored, Found};
 use crate::late::{any_waits, late_among};
 use crate::met::Met;
@@ -41,6 +44,8 @@ pub(crate) fn bound_in(
     turns: &[Earliest],
 ) -> Result<Option<Moment>, AllocError>
     ensures bound { IfOk result (IsBound orders (setup_of execution.old) (bare world.now)) }
+    ensures least { turns.now ≡ earliest world.now.last world.now.branches
+        → IfOk result (λ o. IfSome o (IsLeast (setup_of execution.old) (bare world.now))) }
     ensures setup { setup_of execution.new ≡ setup_of execution.old }
 {
     match orders {
@@ -224,12 +229,27 @@ fn beginning(alloc: Global, execution: &Execution) -> Result<Option<Met>, AllocE
 /// What a search came to.
 #[derive(Drop)]
 pub(crate) struct Searched {
+    /// The orders that were tried.
+    pub(crate) tried: Orders,
+    /// Whether quiet steps may have been taken alone.
+    pub(crate) reduced: bool,
     pub(crate) met: Met,
     pub(crate) found: Vec<Found>,
     /// Whether each world that was met was tried.
     pub(crate) complete: bool,
     /// Where the search was cut, all orders of at most so many steps were tried; none where that isn't known.
     pub(crate) depth: Option<u32>,
+}
+
+/// Whether quiet steps may be taken alone.
+fn is_reduced(orders: Orders, alone: bool) -> bool
+    ensures plain { alone ≡ false → result ≡ false }
+    ensures other { result ≡ false → (alone ≡ false) ⊎ (orders ≡ Every) }
+{
+    match orders {
+        Orders::Every => false,
+        Orders::Prompt => alone,
+    }
 }
 
 /// Tries the orders of the branches of an execution, from the beginning: its outcomes, each once. A quiet step may be taken alone, or a step
@@ -254,6 +274,12 @@ pub(crate) fn search<W: Watch>(
     ensures expanded { alone ≡ false → IfOk result (λ o. IfSome o (λ x. x.complete ≡ true
         → AllAreExpanded orders (setup_of execution.old) (worlds_of x.met.nodes.items)
         (outcomes_of x.found.items))) }
+    ensures plain { alone ≡ false → IfOk result (λ o. IfSome o (λ x. x.reduced ≡ false)) }
+    ensures reduced { IfOk result (λ o. IfSome o (λ x. x.reduced ≡ false
+        → (alone ≡ false) ⊎ (orders ≡ Every))) }
+    ensures ending { IfOk result (λ o. IfSome o (λ x. x.reduced ≡ false → x.complete ≡ true
+        → All (CanEnd x.tried (setup_of execution.old)) (worlds_of x.met.nodes.items)
+        → NoneIsEndless orders (setup_of execution.old))) }
     ensures setup { setup_of execution.new ≡ setup_of execution.old }
 {
     let mut found = Vec::new(alloc);
@@ -275,6 +301,8 @@ pub(crate) fn search<W: Watch>(
     let complete = is_complete(whole, number, met.nodes.len());
     let depth = depth_of(orders, &met, number, whole);
     Ok(Some(Searched {
+        tried: orders,
+        reduced: is_reduced(orders, alone),
         met,
         found,
         complete,
@@ -307,6 +335,9 @@ fn try_orders<W: Watch>(
     ensures once { IfOk result (λ o. IfSome o (λ x. AreDistinct (outcomes_of x.found.items))) }
     ensures whole { IfOk result (λ o. IfSome o (λ x. x.complete ≡ true
         → IsWhole orders (setup_of execution.old) (outcomes_of x.found.items))) }
+    ensures ending { IfOk result (λ o. IfSome o (λ x. x.reduced ≡ false → x.complete ≡ true
+        → All (CanEnd x.tried (setup_of execution.old)) (worlds_of x.met.nodes.items)
+        → NoneIsEndless orders (setup_of execution.old))) }
     ensures setup { setup_of execution.new ≡ setup_of execution.old }
 {
     if !is_unlimited(execution, orders) {
@@ -338,6 +369,10 @@ fn search_for<W: Watch>(
     ensures expanded { calls ≡ true → IfOk result (λ o. IfSome o (λ x. x.complete ≡ true
         → AllAreExpanded orders (setup_of execution.old) (worlds_of x.met.nodes.items)
         (outcomes_of x.found.items))) }
+    ensures plain { calls ≡ true → IfOk result (λ o. IfSome o (λ x. x.reduced ≡ false)) }
+    ensures ending { IfOk result (λ o. IfSome o (λ x. x.reduced ≡ false → x.complete ≡ true
+        → All (CanEnd x.tried (setup_of execution.old)) (worlds_of x.met.nodes.items)
+        → NoneIsEndless orders (setup_of execution.old))) }
     ensures setup { setup_of execution.new ≡ setup_of execution.old }
 {
     if calls {
@@ -403,6 +438,13 @@ fn calls_in(
     )
 }
 
+/// Whether the execution has a time limit.
+fn is_limited(setup: &Setup) -> bool
+    ensures { result ≡ false → deadline_of setup.now ≡ None }
+{
+    setup.machine.timeout().is_some()
+}
+
 /// Tries the orders of the branches of an execution, each branch at the earliest moments at which it may step: its outcomes, each
 /// once, with steps that end in it, and, if that is wanted, how often each state is invoked in the orders that do. At most so many
 /// worlds are tried; complete says that none was left. The error is that memory ran out.
@@ -420,13 +462,19 @@ pub fn explore<W: Watch>(
         → IsWhole orders setup (outcomes_of x.found.items)) }
     ensures any_moment { IfOk result (λ x. x.complete ≡ true → orders ≡ Every → x.clocked ≡ false
         → IsWholeAtAnyMoment setup (outcomes_of x.found.items)) }
+    ensures limited { IfOk result (λ x. x.limited ≡ false → deadline_of setup ≡ None) }
+    ensures all_moments { IfOk result (λ x. x.complete ≡ true → orders ≡ Every → x.clocked ≡ false
+        → x.limited ≡ false → IsWholeAtAllMoments setup (outcomes_of x.found.items)) }
+    ensures ends { IfOk result (λ x. x.reduced ≡ false → x.complete ≡ true
+        → is_none x.endless ≡ true → NoneIsEndless orders setup) }
+    ensures plain { IfOk result (λ x. calls ≡ true → x.complete ≡ true → x.reduced ≡ false) }
     ensures late { IfOk result (λ x. AreLate setup x.found.items x.late.items) }
     ensures calls { IfOk result (λ x. calls ≡ true → x.complete ≡ true
         → AreCounted orders setup (outcomes_of x.found.items) x.calls.items) }
     ensures states { IfOk result (λ x. All (IsStated setup.machine) x.states.items) }
     ensures orders { IfOk result (λ x. x.orders ≡ orders) }
 {
-    let limited = setup.machine.timeout().is_some();
+    let limited = is_limited(&setup);
     let clocked = may_read_clock(alloc, &setup.machine)?;
     let states = states_in(alloc, &setup.machine)?;
     let mut execution = Execution::open(alloc, setup)?;
@@ -434,6 +482,8 @@ pub fn explore<W: Watch>(
         return Ok(Explored {
             found: Vec::new(alloc),
             late: Vec::new(alloc),
+            endless: None,
+            reduced: true,
             orders,
             complete: false,
             worlds: 0,
@@ -446,6 +496,13 @@ pub fn explore<W: Watch>(
         });
     };
     let counted = calls_in(&mut execution, alloc, orders, &searched, calls)?;
+    let endless = endless_in(
+        &mut execution,
+        alloc,
+        searched.tried,
+        &searched.met,
+        searched.complete,
+    )?;
     let late = late_in(&mut execution, alloc, orders, &searched, limit)?;
     let complete = are_both(searched.complete, counted.whole);
     let worlds = searched.met.nodes.len();
@@ -460,6 +517,8 @@ pub fn explore<W: Watch>(
     Ok(Explored {
         found: searched.found,
         late,
+        endless,
+        reduced: searched.reduced,
         orders,
         complete,
         worlds,

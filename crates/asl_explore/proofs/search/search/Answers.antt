@@ -9,6 +9,7 @@ use Rattle.asl_explore.specs.declared.met.Node.{Node}
 use Rattle.asl_explore.specs.Searches.{worlds_of, outcomes_of}
 use Rattle.asl_explore.proofs.Growing.{met-later, later-length}
 use Rattle.asl_explore.proofs.Expanding.{shown-as}
+use Rattle.asl_explore.proofs.Ending.{searched-ends}
 use Rattle.asl_explore.proofs.Taking.{taken-more, expanded-more, all-whole}
 use Rattle.asl_explore.proofs.search.search.Goals as goal
 use Rattle.asl_explore.proofs.search.search.Goals.{then-whole, else-whole}
@@ -36,6 +37,15 @@ returns-clause-whole g c t =
     let all = c.is_complete-complete.ensures t in
     let le : length (worlds_of ns) ≤ c.loop-number.number = omega (arith, length-map ns (λ (n : Node). bare n.world), c.loop-number.met.nodes.ok.0, all.1, c.len-2.ensures) in
     all-whole c.args.orders (setup_of c.args.execution.now) (worlds_of ns) (outcomes_of c.loop-number.found.items) c.loop-number.number le inv.begins (inv.taken all.0)
+
+pub returns-clause-ending : goal.returns-clause-ending
+returns-clause-ending g c r t ends =
+    let ns = c.loop-number.met.nodes.items in
+    let inv = c.loop-number.invariant in
+    let all = c.is_complete-complete.ensures t in
+    let le : length (worlds_of ns) ≤ c.loop-number.number = omega (arith, length-map ns (λ (n : Node). bare n.world), c.loop-number.met.nodes.ok.0, all.1, c.len-2.ensures) in
+    searched-ends c.args.orders (setup_of c.args.execution.now) (worlds_of ns) (outcomes_of c.loop-number.found.items) c.args.alone inv.begins (c.is_reduced.ensures.other r)
+    (λ plain i d l. inv.expanded plain all.0 i d (omega arith) (omega (arith, l, le))) (λ i l d. inv.taken all.0 i (omega (arith, l, le)) d) ends
 
 pub go_on-requires-clause-settled : goal.go_on-requires-clause-settled
 go_on-requires-clause-settled g c = subst (λ (s : Setup). AreSettledFrom s c.in_ok-settling.settling.from.items) (sym c.loop-number.invariant.setup) c.in_ok-settling.ensures

@@ -1,12 +1,15 @@
-use Rattle.std.proofs.Common.{◌≡◌, subst, sym, true, List}
+use Rattle.std.proofs.Common.{◌≡◌, subst, sym, true, false, List}
 use Rattle.std.specs.Prelude.{IfOk, IfSome}
 use Rattle.asl_run_setup.specs.declared.setup.Setup.{Setup}
 use Rattle.asl_exec.specs.Views.{setup_of}
 use Rattle.asl_explore.specs.declared.met.Node.{Node}
 use Rattle.asl_explore.specs.declared.orders.Orders.{Orders}
 use Rattle.asl_explore.specs.declared.orders.Orders.TheVariants.{Prompt}
+use Rattle.std.specs.List.{All}
+use Rattle.asl_explore.specs.Endless.{CanEnd, NoneIsEndless}
 use Rattle.asl_explore.specs.Orders.{IsWhole}
 use Rattle.asl_explore.specs.Searches.{IsClosed, NoneWaits, worlds_of, outcomes_of}
+use Rattle.asl_explore.proofs.Ending.{never-plain}
 use Rattle.asl_explore.proofs.Waiting.{every-whole}
 use Rattle.asl_explore.proofs.search.try_orders.Goals as goal
 
@@ -19,6 +22,13 @@ returns-then-not-branch-clause-whole g c t =
     let closed : IsClosed Prompt s ws os = (rw c.in-Some.is at c.in_ok-prompt.ensures.closed) t in
     let none : NoneWaits ws = subst (λ (ns : List Node). NoneWaits (worlds_of ns)) c.deref.ensures.value (c.in_ok-any_waits.ensures c.if-not-branch.true) in
     subst (λ (o : Orders). IsWhole o s os) (sym (c.is_unlimited.ensures.every unlimited)) (every-whole s ws os closed.begins closed.taken none (c.is_unlimited.ensures.limit unlimited))
+
+pub returns-then-not-branch-clause-ending : goal.returns-then-not-branch-clause-ending
+returns-then-not-branch-clause-ending g c r = absurd (never-plain ((rw c.in-Some.is at c.in_ok-prompt.ensures.reduced) r))
+
+pub returns-clause-ending : goal.returns-clause-ending
+returns-clause-ending g c =
+    subst (λ (s : Setup). IfOk c.search-3.result (λ o. IfSome o (λ x. x.reduced ≡ false → x.complete ≡ true → All (CanEnd x.tried s) (worlds_of x.met.nodes.items) → NoneIsEndless c.args.orders s))) c.search-2.ensures.setup c.search-3.ensures.ending
 
 pub returns-clause-whole : goal.returns-clause-whole
 returns-clause-whole g c =

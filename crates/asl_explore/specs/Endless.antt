@@ -1,0 +1,35 @@
+-- Orders that never end.
+use Rattle.std.specs.Prelude.{ℕ, ◌≡◌, ⊤, true, List, [], ◌∷◌}
+use Rattle.asl_run_world.specs.World.{World, is_over}
+use Rattle.asl_run_world.specs.Bare.{bare}
+use Rattle.asl_run_setup.specs.declared.setup.Setup.{Setup}
+use Rattle.asl_exec.specs.Steps.{step, opening}
+use Rattle.asl_explore.specs.declared.orders.Orders.{Orders}
+use Rattle.asl_explore.specs.Orders.{due, IsTried, AreTried, after_order}
+
+-- the world that a step of the branch at a place leaves, without its history
+abbrev pub go : Setup → World → List ℕ → World
+go s w p = bare (step s w p (due w p))
+
+-- the same of the branches at these places, one after another
+abbrev pub after_bare : Setup → World → List (List ℕ) → World
+after_bare s w [] = w
+after_bare s w (p ∷ ps) = after_bare s (go s w p) ps
+
+-- each of these steps is one that is tried
+abbrev pub AreTriedOn : Orders → Setup → World → List (List ℕ) → Type 0
+AreTriedOn o s w [] = ⊤
+AreTriedOn o s w (p ∷ ps) = IsTried o s w p × AreTriedOn o s (go s w p) ps
+
+-- steps that are tried lead from a world to an end of the execution
+pub record CanEnd (o : Orders) (s : Setup) (w : World) : Type 0 where
+  pub places : List (List ℕ)
+  pub tried : AreTriedOn o s w places
+  pub ends : is_over (after_bare s w places).outcome ≡ true
+
+-- every order that is tried can be gone on with by steps that are tried, to an end of the execution,
+-- if a history could be as long as one likes
+abbrev pub NoneIsEndless : Orders → Setup → Type 0
+NoneIsEndless o s =
+    (ps : List (List ℕ)) → AreTried o s (opening s) ps
+    → CanEnd o s (bare (after_order s (opening s) ps))
