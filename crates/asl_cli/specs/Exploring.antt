@@ -1,11 +1,12 @@
 -- What the command `explore` finds, prints and tells.
-use Rattle.std.specs.Prelude.{ℕ, zero, suc, Bool, true, false, List, Option, Some, None, ◌≡◌, ◌⊎◌, slice_get, codes}
+use Rattle.std.specs.Prelude.{ℕ, zero, suc, Bool, true, false, is_none, List, Option, Some, None, ◌≡◌, ◌⊎◌, slice_get, codes}
 use Rattle.std.specs.List.{All}
 use Rattle.asl_run_setup.specs.declared.setup.Setup.{Setup}
 use Rattle.asl_run_setup.specs.StepsFile.{steps_file}
 use Rattle.asl_explore.specs.declared.found.Found.{Found}
 use Rattle.asl_explore.specs.declared.found.Explored.{Explored}
-use Rattle.asl_explore.specs.Orders.{IsWhole, IsWholeAtAnyMoment}
+use Rattle.asl_explore.specs.Orders.{IsWhole, IsWholeAtAllMoments, IsWholeAtAnyMoment}
+use Rattle.asl_explore.specs.Endless.{NoneIsEndless}
 use Rattle.asl_explore.specs.Calls.{IsStated, AreCounted}
 use Rattle.asl_explore.specs.Searches.{Shows, AreDistinct, AreLate, outcomes_of}
 use Rattle.asl_explore.specs.declared.orders.Orders.{Orders}
@@ -27,7 +28,8 @@ orders_for false = Every
 -- what a search may find for the setup that the files may give: each outcome with steps that end in
 -- it, none twice, and, where nothing was left out, the outcome of every order that is tried, and of
 -- steps at any moments where all are and the definition reads no clock; those
--- that are called late come in no order in which no branch is. If that is wanted, where nothing was
+-- that are called late come in no order in which no branch is. Where each step was taken of each
+-- world, and no order is told that is endless, each can be gone on with to an end. If that is wanted, where nothing was
 -- left out, how often each state is invoked in an order lies within the bounds of its outcome. This is
 -- told of the answers that the outcomes lacked
 pub record IsFoundFor (gives : List ℕ → List ℕ → Type 0) (w : ExploreWords) (x : Explored)
@@ -40,6 +42,11 @@ pub record IsFoundFor (gives : List ℕ → List ℕ → Type 0) (w : ExploreWor
   pub whole : x.complete ≡ true → IsWhole x.orders setup (outcomes_of x.found.items)
   pub any_moment : x.complete ≡ true → x.orders ≡ Every → x.clocked ≡ false
       → IsWholeAtAnyMoment setup (outcomes_of x.found.items)
+  pub all_moments : x.complete ≡ true → x.orders ≡ Every → x.clocked ≡ false → x.limited ≡ false
+      → IsWholeAtAllMoments setup (outcomes_of x.found.items)
+  pub ends : x.reduced ≡ false → x.complete ≡ true → is_none x.endless ≡ true
+      → NoneIsEndless x.orders setup
+  pub plain : w.calls ≡ true → x.complete ≡ true → x.reduced ≡ false
   pub late : AreLate setup x.found.items x.late.items
   pub calls : w.calls ≡ true → x.complete ≡ true
       → AreCounted x.orders setup (outcomes_of x.found.items) x.calls.items

@@ -1,5 +1,5 @@
 // The command `explore`.
-ghost use Rattle.std.specs.Prelude.{◌≡◌, List, ℕ, None, true, false, IfOk, IfErr, string_bytes};
+ghost use Rattle.std.specs.Prelude.{◌≡◌, List, ℕ, None, true, false, is_none, IfOk, IfErr, string_bytes};
 ghost use Rattle.std.specs.List.{All};
 ghost use Rattle.std.specs.Option.{option_copied};
 ghost use Rattle.asl_run_setup.specs.StepsFile.{steps_file};
@@ -10,7 +10,8 @@ ghost use Rattle.asl_cli.specs.Faults.{IsRunReason};
 ghost use Rattle.asl_cli.specs.Noting.{notes_for};
 ghost use Rattle.asl_explore.specs.Calls.{AreCounted, IsStated};
 ghost use Rattle.asl_explore.specs.declared.orders.Orders.TheVariants.{Every};
-ghost use Rattle.asl_explore.specs.Orders.{IsWhole, IsWholeAtAnyMoment};
+ghost use Rattle.asl_explore.specs.Endless.{NoneIsEndless};
+ghost use Rattle.asl_explore.specs.Orders.{IsWhole, IsWholeAtAllMoments, IsWholeAtAnyMoment};
 ghost use Rattle.asl_explore.specs.Searches.{AreDistinct, AreLate, Shows, outcomes_of};
 
 use crate::command::{FAILED, GOOD, REFUSED, print_good, tell_error};
@@ -100,6 +101,13 @@ fn search_from<W: Watch>(
     ensures any_moment { IfOk result (λ r. r.explored.complete ≡ true → r.explored.orders ≡ Every
         → r.explored.clocked ≡ false
         → IsWholeAtAnyMoment setup (outcomes_of r.explored.found.items)) }
+    ensures all_moments { IfOk result (λ r. r.explored.complete ≡ true → r.explored.orders ≡ Every
+        → r.explored.clocked ≡ false → r.explored.limited ≡ false
+        → IsWholeAtAllMoments setup (outcomes_of r.explored.found.items)) }
+    ensures ends { IfOk result (λ r. r.explored.reduced ≡ false → r.explored.complete ≡ true
+        → is_none r.explored.endless ≡ true → NoneIsEndless r.explored.orders setup) }
+    ensures plain { IfOk result (λ r. words.now.calls ≡ true → r.explored.complete ≡ true
+        → r.explored.reduced ≡ false) }
     ensures late { IfOk result (λ r. AreLate setup r.explored.found.items r.explored.late.items) }
     ensures calls { IfOk result (λ r. words.now.calls ≡ true → r.explored.complete ≡ true
         → AreCounted r.explored.orders setup (outcomes_of r.explored.found.items)
@@ -132,7 +140,7 @@ fn show<O: Sink, E: Sink>(
     }
 }
 
-/// Prints all outcomes and tells the notes on them, and whether nothing was left out and each is a success.
+/// Prints all outcomes and tells the notes on them, and whether nothing was left out, each is a success and no order is endless.
 fn show_all<O: Sink, E: Sink>(alloc: Global, searched: &Searched, out: &mut O, err: &mut E) -> u8
     ensures { AreAllShown O.taken O.failures E.taken E.failures searched.now.explored
         (string_bytes searched.now.notes) out.old out.new err.old err.new result }
