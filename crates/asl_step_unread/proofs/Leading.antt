@@ -1,7 +1,9 @@
 -- What a walk over keys and bytes has come to, where it ends early.
 use Rattle.std.proofs.Common.{◌≡◌, ◌<◌, ℕ, ◌+◌, List, [], ◌∷◌, true, refl, arith, length, drop, get_or, map, None}
+use Rattle.std.specs.Prelude.{not}
 use Rattle.std.proofs.lemmas.List.{drop_more}
 use Rattle.std.proofs.lemmas.Bool.{ne_eqb}
+use Rattle.asl_path.specs.Grammar.{is_name_byte}
 use Rattle.asl_step_unread.specs.Mentions.{behind, may_lead}
 
 -- something stands there
@@ -22,5 +24,5 @@ module _ {X : Type 0} (view : X → List ℕ) (keys : List X) (all : List ℕ) (
   pub none_leads : (rest : List ℕ) → length rest ≡ 0 → may_lead (map view (drop i keys)) rest ≡ may_lead (map view keys) all → true ≡ may_lead (map view keys) all
   none_leads rest none so = let next = first_of keys i lt in rw (nothing rest none, next.1) at so
 
-  pub other_leads : (rest others : List ℕ) (c : ℕ) → rest ≡ c ∷ others → (c ≡ 46 → ⊥) → may_lead (map view (drop i keys)) rest ≡ may_lead (map view keys) all → true ≡ may_lead (map view keys) all
+  pub other_leads : (rest others : List ℕ) (c : ℕ) → rest ≡ c ∷ others → (c ≡ 46 → ⊥) → may_lead (map view (drop i keys)) rest ≡ may_lead (map view keys) all → not (is_name_byte c) ≡ may_lead (map view keys) all
   other_leads rest others c is ne so = let next = first_of keys i lt in rw (is, next.1, ne_eqb c 46 ne) at so

@@ -6,7 +6,7 @@ use Rattle.std.specs.Cmp.Lexicographic.{same_text}
 use Rattle.asl_json.specs.Data.{Data, null, boolean, number, text, list, dict, Chain, no_items, item, Pairs, no_members, member}
 use Rattle.asl_json.specs.Parts.{Parts, MoreParts}
 use Rattle.asl_json.specs.Same.{bytes_eq}
-use Rattle.asl_path.specs.Grammar.{SpellsStep, SpellsSteps, SpellsPath}
+use Rattle.asl_path.specs.Grammar.{is_digit, is_name_byte, SpellsStep, SpellsSteps, SpellsPath}
 use Rattle.asl_path.specs.declared.step.Root.{Root}
 use Rattle.asl_path.specs.declared.step.Root.TheVariants.{Input, Context}
 use Rattle.asl_path.specs.declared.step.Step.{Step}
@@ -37,16 +37,17 @@ named ks ss n k back e further true same =
     further (rw (behind_self k back) at rest)
 named ks ss n k back e further false other = refl
 
--- what comes behind a path doesn't go on with it
-abbrev NoDot : List ℕ → Type 0
-NoDot [] = Unit {0}
-NoDot (c ∷ t) = (c == 46) ≡ false
+-- what comes behind a path doesn't go on with it, nor with its last name
+abbrev Breaks : List ℕ → Type 0
+Breaks [] = Unit {0}
+Breaks (c ∷ t) = ((c == 46) ≡ false) × (is_name_byte c ≡ false)
 
-ended : (k : List ℕ) (ks : Keys) (rest : List ℕ) → NoDot rest → may_lead (k ∷ ks) rest ≡ true
+ended : (k : List ℕ) (ks : Keys) (rest : List ℕ) → Breaks rest → may_lead (k ∷ ks) rest ≡ true
 ended k ks [] dot = refl
-ended k ks (c ∷ rest) dot = rw dot refl
+ended k ks (c ∷ rest) dot = rw (dot.0, dot.1) refl
 
-goes_on : (ks : Keys) (ss : List Step) (t rest : List ℕ) → SpellsSteps ss t → NoDot rest → may_lead ks (t ++ rest) ≡ false → meets ks ss ≡ false
+goes_on : (ks : Keys) (ss : List Step) (t rest : List ℕ) → SpellsSteps ss t → Breaks rest → may_lead ks (t ++ rest) ≡ false → meets ks ss ≡ false
+unfolding is_name_byte is_digit
 goes_on [] ss t rest h dot e = e
 goes_on (k ∷ ks) [] t rest h dot e = sym (ended k ks rest dot) ∙ (rw h at e)
 goes_on (k ∷ ks) (Index i ∷ ss) t rest h dot e = refl
@@ -60,7 +61,7 @@ goes_on (k ∷ ks) (Name n ∷ ss) t rest h dot e = by h.front_is (goes_on ks ss
     by (inr (inr g)) further = absurd (true≢false (rw (h.parts, g.parts) at e))
 
 -- a path, and what comes behind it
-lead_unread : (ks : Keys) (t rest : List ℕ) → NoDot rest → path_may_lead ks (t ++ rest) ≡ false → path_reads ks t ≡ false
+lead_unread : (ks : Keys) (t rest : List ℕ) → Breaks rest → path_may_lead ks (t ++ rest) ≡ false → path_reads ks t ≡ false
 unfolding path_reads
 lead_unread ks t rest dot e = by (steps t) refl
   where
@@ -99,18 +100,20 @@ none_here : (ks : Keys) (t : List ℕ) → some_path_may_lead ks t ≡ false →
 none_here ks [] e = refl
 none_here ks (c ∷ t) e = (or_parts (path_may_lead ks (c ∷ t)) (some_path_may_lead ks t) e).0
 
--- spaces, and then what doesn't begin with a dot
-behind_spaces : (x y : List ℕ) → AreSpaces x → NoDot y → NoDot (x ++ y)
+-- spaces, and then what breaks a path off
+behind_spaces : (x y : List ℕ) → AreSpaces x → Breaks y → Breaks (x ++ y)
+unfolding is_name_byte is_digit
 behind_spaces [] y a dot = dot
-behind_spaces (c ∷ x) y a dot = let is : c ≡ 32 = eqb-true c 32 a.0 in rw is refl
+behind_spaces (c ∷ x) y a dot = let is : c ≡ 32 = eqb-true c 32 a.0 in rw is (refl, refl)
 
-more_dotless : (ts : Arguments) (t rest : List ℕ) → MoreParts close_bracket (argument_parts ts) t → NoDot (t ++ rest)
-more_dotless none t rest h = rw h refl
-more_dotless (argument a ts) t rest h = rw h.parts refl
+more_breaks : (ts : Arguments) (t rest : List ℕ) → MoreParts close_bracket (argument_parts ts) t → Breaks (t ++ rest)
+unfolding is_name_byte is_digit
+more_breaks none t rest h = rw h (refl, refl)
+more_breaks (argument a ts) t rest h = rw h.parts (refl, refl)
 
 module _ (ks : Keys) where
   mutual
-    argument_unread : (a : Argument) (t rest : List ℕ) → SpellsArgument a t → NoDot rest → some_path_may_lead ks (t ++ rest) ≡ false → argument_reads ks a ≡ false
+    argument_unread : (a : Argument) (t rest : List ℕ) → SpellsArgument a t → Breaks rest → some_path_may_lead ks (t ++ rest) ≡ false → argument_reads ks a ≡ false
     argument_unread (constant d) t rest h dot e = refl
     argument_unread (quoted s) t rest h dot e = refl
     argument_unread (path p) t rest h dot e = lead_unread ks p rest dot (none_here ks (p ++ rest) (rw h.0 at e))
@@ -123,7 +126,7 @@ module _ (ks : Keys) where
         let whole : some_path_may_lead ks (h.front ++ (h.back ++ rest)) ≡ false = rw (h.parts, append_assoc h.front h.back rest) at e in
         let inside : some_path_may_lead ks (f.before ++ (f.inner ++ (f.behind ++ (h.back ++ rest)))) ≡ false = rw (f.parts, append_assoc f.before (f.inner ++ f.behind) (h.back ++ rest), append_assoc f.inner f.behind (h.back ++ rest)) at whole in
         or_from (argument_reads ks a) (some_argument_reads ks ts)
-        (argument_unread a f.inner (f.behind ++ (h.back ++ rest)) f.inner_is (behind_spaces f.behind (h.back ++ rest) f.behind_is (more_dotless ts h.back rest h.back_is)) (none_behind ks f.before (f.inner ++ (f.behind ++ (h.back ++ rest))) inside))
+        (argument_unread a f.inner (f.behind ++ (h.back ++ rest)) f.inner_is (behind_spaces f.behind (h.back ++ rest) f.behind_is (more_breaks ts h.back rest h.back_is)) (none_behind ks f.before (f.inner ++ (f.behind ++ (h.back ++ rest))) inside))
         (more_unread ts h.back rest h.back_is (none_behind ks h.front (h.back ++ rest) whole))
 
     more_unread : (ts : Arguments) (t rest : List ℕ) → MoreParts close_bracket (argument_parts ts) t → some_path_may_lead ks (t ++ rest) ≡ false → some_argument_reads ks ts ≡ false
@@ -135,7 +138,7 @@ module _ (ks : Keys) where
         let whole : some_path_may_lead ks (j.front ++ (j.back ++ rest)) ≡ false = rw (j.parts, append_assoc j.front j.back rest) at (none_behind ks (44 ∷ []) (h.tail ++ rest) all) in
         let inside : some_path_may_lead ks (f.before ++ (f.inner ++ (f.behind ++ (j.back ++ rest)))) ≡ false = rw (f.parts, append_assoc f.before (f.inner ++ f.behind) (j.back ++ rest), append_assoc f.inner f.behind (j.back ++ rest)) at whole in
         or_from (argument_reads ks a) (some_argument_reads ks ts)
-        (argument_unread a f.inner (f.behind ++ (j.back ++ rest)) f.inner_is (behind_spaces f.behind (j.back ++ rest) f.behind_is (more_dotless ts j.back rest j.back_is)) (none_behind ks f.before (f.inner ++ (f.behind ++ (j.back ++ rest))) inside))
+        (argument_unread a f.inner (f.behind ++ (j.back ++ rest)) f.inner_is (behind_spaces f.behind (j.back ++ rest) f.behind_is (more_breaks ts j.back rest j.back_is)) (none_behind ks f.before (f.inner ++ (f.behind ++ (j.back ++ rest))) inside))
         (more_unread ts j.back rest j.back_is (none_behind ks j.front (j.back ++ rest) whole))
 
   -- a call doesn't begin with a dollar

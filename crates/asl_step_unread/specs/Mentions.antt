@@ -1,7 +1,7 @@
 -- A plainer test of texts, by their bytes alone: whether a text may read what stands at a chain of keys of the Context Object.
-use Rattle.std.specs.Prelude.{ℕ, List, [], ◌∷◌, drop, Bool, true, false, ◌==◌, ◌&&◌, ◌||◌, if◌then◌else◌, Option, Some, None}
+use Rattle.std.specs.Prelude.{ℕ, List, [], ◌∷◌, drop, Bool, true, false, not, ◌==◌, ◌&&◌, ◌||◌, if◌then◌else◌, Option, Some, None}
 use Rattle.asl_json.specs.Data.{Data}
-use Rattle.asl_path.specs.Grammar.{full_stop}
+use Rattle.asl_path.specs.Grammar.{full_stop, is_name_byte}
 use Rattle.asl_intrinsic.specs.Calls.{is_context}
 use Rattle.asl_template.specs.Filling.{is_path}
 use Rattle.asl_step_unread.specs.Reading.{Keys, some_text}
@@ -17,11 +17,13 @@ holds_of f None = false
 holds_of f (Some t) = f t
 
 -- A path that goes on so behind its root may lead to the keys, to what holds what stands there, or
--- into it. It doesn't where a dot and another name than the next key come; all else may.
+-- into it. It doesn't where a dot and another name than the next key come, one that only begins with
+-- the key among them; all else may.
 abbrev pub may_lead : Keys → List ℕ → Bool
 may_lead [] t = true
 may_lead (k ∷ ks) [] = true
-may_lead (k ∷ ks) (c ∷ t) = if c == full_stop then holds_of (may_lead ks) (behind k t) else true
+may_lead (k ∷ ks) (c ∷ t) =
+    if c == full_stop then holds_of (may_lead ks) (behind k t) else not (is_name_byte c)
 
 -- two dollars stand first, and a path of the Context Object that goes on so may lead there
 abbrev pub path_may_lead : Keys → List ℕ → Bool

@@ -2,6 +2,7 @@
 ghost use Rattle.std.specs.Prelude.{◌≡◌, map, option_map};
 ghost use Rattle.asl_json.specs.Data.{chain, pairs};
 ghost use Rattle.asl_json.specs.View.{data_of};
+ghost use Rattle.asl_path.specs.Grammar.{is_name_byte as name_byte};
 ghost use Rattle.asl_step_unread.specs.Reading.{some_text_in, some_text_among};
 ghost use Rattle.asl_step_unread.specs.Mentions.{behind as left_behind, may_lead, path_may_lead, some_path_may_lead, text_may_read, may_read};
 
@@ -24,6 +25,14 @@ fn behind<'a>(key: &[u8], bytes: &'a [u8]) -> Option<&'a [u8]>
     Some(rest)
 }
 
+/// Whether a name in a path may hold the byte.
+#[tactic(auto, unfolding(asl_path::specs::Grammar::is_name_byte, asl_path::specs::Grammar::is_digit))]
+fn is_name_byte(byte: u8) -> bool
+    ensures { result ≡ name_byte byte }
+{
+    byte >= 128 || byte.is_ascii_alphanumeric() || byte == b'_' || byte == b'-'
+}
+
 /// Whether a path that goes on so behind its root may lead to the keys, to what holds what stands there, or into it.
 fn may_lead(keys: &[&str], bytes: &[u8]) -> bool
     ensures { result ≡ may_lead (map (λ k. k.now) keys.now) bytes.now }
@@ -34,7 +43,7 @@ fn may_lead(keys: &[&str], bytes: &[u8]) -> bool
             return true;
         };
         if *first != b'.' {
-            return true;
+            return !is_name_byte(*first);
         }
         let Some(further) = behind(key.as_bytes(), others) else {
             return false;
