@@ -86,5 +86,6 @@ if ! command -v rt > /dev/null; then
   echo "asl: $why, and Rattle's command rt isn't on the PATH: README.md says where it comes from" >&2
   exit 2
 fi
-echo "asl: $why: compiling the sources takes two to three minutes, each time, and proves nothing; tools/build proves and builds it once, and an archive needs neither" >&2
+echo "asl: $why: compiling the sources takes two to three minutes, each time, and proves nothing; \
+tools/build proves and builds it once, and an archive needs neither" >&2
 run_sources "$@"

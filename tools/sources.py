@@ -86,7 +86,8 @@ class Source:
     @staticmethod
     def braces(lines, head, depth):
         """The numbers of the lines of the braces around a function's body."""
-        opens = lambda number: lines[number] in (f"{depth}{{", f"{depth}{{}}") or lines[number].endswith("{") and (number == head or lines[number].startswith(f"{depth})"))
+        whole = (f"{depth}{{", f"{depth}{{}}")
+        opens = lambda number: lines[number] in whole or lines[number].endswith("{") and (number == head or lines[number].startswith(f"{depth})"))
         body = next((number for number in range(head, len(lines)) if opens(number)), len(lines))
         return body, next((number for number in range(body, len(lines)) if lines[number] == f"{depth}}}"), body)
 
