@@ -25,13 +25,18 @@ def digest_of(parts):
     return hashlib.sha256(repr(parts).encode()).hexdigest()[:20]
 
 
+def kept():
+    """The digests that are kept, by their crates."""
+    lines = text_of(PATH).splitlines() if os.path.isfile(PATH) else []
+    return dict(line.split() for line in lines if line and not line.startswith("#"))
+
+
 class Tried:
     """The digests that are kept, and those of the crates as they are now."""
 
     def __init__(self, below):
         self.below, self.interfaces, self.lock = below, {}, threading.RLock()
-        lines = text_of(PATH).splitlines() if os.path.isfile(PATH) else []
-        self.kept = dict(line.split() for line in lines if line and not line.startswith("#"))
+        self.kept = kept()
 
     def interface(self, crate):
         """A digest of what a crate's definitions and contracts say."""
@@ -54,7 +59,8 @@ class Tried:
         with self.lock:
             self.interfaces.clear()
             if digest == self.digest(crate):
-                self.kept[crate] = digest
+                # (another run may have written others meanwhile)
+                self.kept = {**kept(), crate: digest}
                 self.write()
 
     def write(self):
