@@ -8,10 +8,11 @@ import unittest
 from program import run_program
 
 # A line feed, controls, marks that turn the direction of what follows, and nearly as many characters of four bytes as a name may have.
-NAMES = ["line\nfeed", "esc\x1b[2J\x7f\x85", "left\u202egpj\u200f\u2066", 79 * "\U0001f600"]
+# One of characters that show as nothing.
+NAMES = ["line\nfeed", "esc\x1b[2J\x7f\x85", "left\u202egpj\u200f\u2066", "no\u115f\u3164\ufe0f\U000e0041\U000e01efthing", 79 * "\U0001f600"]
 # What no text has, since JSON spells it as an escape; and what no fault and no finding has either.
 CONTROL = re.compile("[\x00-\x09\x0b-\x1f]")
-UNSHOWN = re.compile("[\x00-\x09\x0b-\x1f\x7f-\x9f\u061c\u200e\u200f\u202a-\u202e\u2066-\u2069]")
+UNSHOWN = re.compile("[\x00-\x09\x0b-\x1f\x7f-\x9f\u061c\u200e\u200f\u202a-\u202e\u2066-\u2069\u115f\u3164\ufe00-\ufe0f\U000e0000-\U000e0fff]")
 
 
 def definition(name):

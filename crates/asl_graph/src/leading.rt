@@ -9,8 +9,9 @@ ghost use Rattle.asl_graph.specs.Graphs.{text_in, text_at, items_in, items_at, r
 use crate::edges::{Edge, Way, is_taken};
 use crate::language::Language;
 use crate::lines::{put_begin_lines, put_labelled_line, put_plain_line, put_state_line};
-use crate::naming::{put_number, put_shown};
+use crate::naming::put_shown;
 use asl_json::Json;
+use asl_terminal::put_decimal;
 use std::alloc::{AllocError, Global};
 
 /// The text that a value is; empty for any other.
@@ -115,7 +116,7 @@ fn rule_label(alloc: Global, number: usize) -> Result<String, AllocError>
 {
     let mut label = String::new(alloc);
     label.push_str("rule ")?;
-    put_number(&mut label, number as u64)?;
+    put_decimal(&mut label, number as u64)?;
     Ok(label)
 }
 

@@ -4,17 +4,8 @@ ghost use Rattle.std.specs.Fmt.{decimal};
 ghost use Rattle.asl_graph.specs.Names.{is_kept, is_control, entity_lead, entity, shown_char, shown, word_char, word, state_id, box_key};
 
 use crate::language::Language;
-use asl_terminal::is_hidden;
-use itoa::Buffer;
+use asl_terminal::{is_hidden, put_decimal};
 use std::alloc::AllocError;
-
-/// Appends a number in plain decimal.
-pub(crate) fn put_number(out: &mut String, number: u64) -> Result<(), AllocError>
-    ensures { OnOk result (string_bytes out.new ≡ string_bytes out.old ++ decimal number) }
-{
-    let mut buffer = Buffer::new();
-    out.push_str(buffer.format(number))
-}
 
 /// Whether a character stands in a label as it is, in both languages.
 fn is_kept(character: char) -> bool
@@ -51,7 +42,7 @@ fn put_entity(out: &mut String, language: Language, character: char) -> Result<(
         ≡ string_bytes out.old ++ entity language character) }
 {
     out.push_str(entity_lead(language))?;
-    put_number(out, u64::from(u32::from(character)))?;
+    put_decimal(out, u64::from(u32::from(character)))?;
     out.push(';')
 }
 
@@ -86,7 +77,7 @@ fn put_word_char(out: &mut String, character: char) -> Result<(), AllocError>
         return out.push(character);
     }
     out.push('_')?;
-    put_number(out, u64::from(u32::from(character)))?;
+    put_decimal(out, u64::from(u32::from(character)))?;
     out.push('_')
 }
 
@@ -113,7 +104,7 @@ pub(crate) fn put_box_key(out: &mut String, name: &str, number: usize) -> Result
     ensures { OnOk result (string_bytes out.new
         ≡ string_bytes out.old ++ box_key name.now number) }
 {
-    put_number(out, number as u64)?;
+    put_decimal(out, number as u64)?;
     out.push('_')?;
     put_word(out, name)
 }

@@ -9,8 +9,8 @@ use crate::edges::Edge;
 use crate::language::Language;
 use crate::leading::{put_first_lines, put_state_lines};
 use crate::lines::{put_box_ending, put_box_heading, put_inner_mark};
-use crate::naming::put_number;
 use asl_json::{Json, Member};
+use asl_terminal::put_decimal;
 use std::alloc::{AllocError, Global};
 
 /// What tells of the branch with this number.
@@ -19,7 +19,7 @@ fn branch_told(alloc: Global, number: usize) -> Result<String, AllocError>
 {
     let mut told = String::new(alloc);
     told.push_str(" - branch ")?;
-    put_number(&mut told, number as u64)?;
+    put_decimal(&mut told, number as u64)?;
     Ok(told)
 }
 

@@ -1,24 +1,19 @@
 // Texts of which every character shows.
 ghost use Rattle.std.specs.Prelude.{◌≡◌, ◌<◌, ◌∷◌, ◌++◌, [], OnOk, string_bytes};
 ghost use Rattle.std.specs.Char.{digit_char};
-ghost use Rattle.asl_terminal.specs.Shown.{is_hidden, escape, shown_char, shown};
+ghost use Rattle.asl_terminal.specs.Shown.{is_hidden, unit_escape, escape, shown_char, shown};
 
 use std::alloc::AllocError;
+use ucd_derived::is_default_ignorable_code_point;
 
 /// Whether a character is a control, shows as nothing, breaks a line or changes the direction of what follows it.
 pub fn is_hidden(character: char) -> bool
     ensures { result ≡ is_hidden character }
 {
-    let c = u32::from(character);
-    c < 32
-        || (127 <= c && c <= 159)
-        || c == 173
-        || c == 1564
-        || (8203 <= c && c <= 8207)
-        || (8232 <= c && c <= 8238)
-        || (8288 <= c && c <= 8303)
-        || c == 65279
-        || (65529 <= c && c <= 65531)
+    character.is_control()
+        || is_default_ignorable_code_point(character)
+        || ('\u{2028}' <= character && character <= '\u{2029}')
+        || ('\u{fff9}' <= character && character <= '\u{fffb}')
 }
 
 /// Appends the lower-case hexadecimal digit of this value.
@@ -32,17 +27,27 @@ fn put_digit(out: &mut String, value: u32) -> Result<(), AllocError>
     }
 }
 
-/// Appends a character of at most four digits by its number.
+/// Appends a unit of UTF-16 by its number.
+fn put_unit(out: &mut String, unit: u16) -> Result<(), AllocError>
+    ensures { OnOk result (string_bytes out.new ≡ string_bytes out.old ++ unit_escape unit) }
+{
+    let u = u32::from(unit);
+    out.push_str("\\u")?;
+    put_digit(out, u / 4096)?;
+    put_digit(out, u / 256 % 16)?;
+    put_digit(out, u / 16 % 16)?;
+    put_digit(out, u % 16)
+}
+
+/// Appends a character by the numbers of its units of UTF-16, as a JSON text has it.
 fn put_escape(out: &mut String, character: char) -> Result<(), AllocError>
-    requires { character < 65536 }
     ensures { OnOk result (string_bytes out.new ≡ string_bytes out.old ++ escape character) }
 {
-    let c = u32::from(character);
-    out.push_str("\\u")?;
-    put_digit(out, c / 4096)?;
-    put_digit(out, c / 256 % 16)?;
-    put_digit(out, c / 16 % 16)?;
-    put_digit(out, c % 16)
+    let mut units = [0; 2];
+    for unit in character.encode_utf16(&mut units).iter() {
+        put_unit(out, *unit)?;
+    }
+    Ok(())
 }
 
 /// Appends a character; one that is hidden by its number, as `\u000a`. The error is that memory ran out.
