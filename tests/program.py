@@ -28,17 +28,22 @@ def run_program(*words, seconds=60):
 
 
 NO_ANSWER = '{"Error":"States.Runtime","Cause":"no mocked answer"}'
-TASK_EVENT = re.compile(r'\d+ \d+ \S+ .*? (TaskScheduled|TaskFailed) ("(?:[^"\\]|\\.)*") (.*)')
+EVENT = re.compile(r'(\d+) (\d+) \S+Z \S+ (\w+) ("(?:[^"\\]|\\.)*") (.*)')
+HANDS_UP = ("ExecutionFailed", "ParallelStateFailed", "MapStateFailed", "MapIterationFailed")
 
 
 def noted(text, chosen):
     """What is told on standard error of a run that prints this text, where no mock throws what a Task without an answer fails with: which answer it lacked."""
-    events = [match.groups() for match in map(TASK_EVENT.fullmatch, text.splitlines()) if match]
-    failed = [number for number, event in enumerate(events) if event[0] == "TaskFailed"]
-    if not text.splitlines()[-1].startswith("status FAILED ") or not failed or events[failed[-1]][2] != NO_ANSWER:
+    events = [match.groups() for match in map(EVENT.fullmatch, text.splitlines()) if match]
+    if text.splitlines()[-1] != f"status FAILED {NO_ANSWER}":
         return ""
-    name = events[failed[-1]][1]
-    number = sum(event[:2] == ("TaskScheduled", name) for event in events[: failed[-1]]) - 1
+    at = len(events) - 1
+    while events[at][2] in HANDS_UP:
+        at = int(events[at][1]) - 1
+    if events[at][2] != "TaskFailed" or events[at][4] != NO_ANSWER:
+        return ""
+    name = events[at][3]
+    number = sum(event[2:4] == ("TaskScheduled", name) for event in events[:at]) - 1
     case = chosen.partition("#")[2]
     has = f"case {json.dumps(case, ensure_ascii=False)} has" if case else "no case is chosen, so there is"
     return f"note: {has} no answer {number} of the Task {name}\n"

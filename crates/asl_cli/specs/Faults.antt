@@ -21,7 +21,7 @@ use Rattle.asl_session.specs.declared.script_file.ScriptFault.TheVariants as scr
 use Rattle.asl_session.specs.Scripts.{IsScriptRun, IsScriptFault, script_refusal}
 use Rattle.asl_terminal.specs.Shown.{shown}
 use Rattle.asl_cli.specs.Formats.{format_of, IsRunIn}
-use Rattle.asl_cli.specs.Noting.{IsNoteBy}
+use Rattle.asl_run_notes.specs.Notes.{IsNoteOf}
 use Rattle.asl_cli.specs.declared.fault.CommandFault.{CommandFault}
 use Rattle.asl_cli.specs.declared.fault.CommandFault.TheVariants.{File, Definition, Emulation, Script, Expectations, OutOfMemory}
 use Rattle.asl_cli.specs.declared.reading.SetupTexts.{SetupTexts}
@@ -133,7 +133,7 @@ pub record IsEmulated (gives : List ℕ → List ℕ → Type 0) (w : RunWords) 
   pub texts : Texts
   pub given : AreGiven gives w.setup (steps_name w) texts
   pub is_run : IsRunIn (format_of w.format) w.coloured texts most_steps text good
-  pub note_is : IsNoteBy good texts most_steps note
+  pub note_is : IsNoteOf texts most_steps note
 
 -- ---- a session
 

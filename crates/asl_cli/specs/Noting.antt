@@ -1,15 +1,9 @@
 -- What is told on standard error of answers that a run lacked, or the outcomes of a search.
-use Rattle.std.specs.Prelude.{ℕ, Bool, true, false, List, [], ◌∷◌, ◌≡◌, Option, Some, None}
+use Rattle.std.specs.Prelude.{ℕ, List, [], ◌∷◌, ◌≡◌, Option, Some, None}
 use Rattle.asl_run_setup.specs.declared.setup.Setup.{Setup}
-use Rattle.asl_run_setup.specs.Emulations.{Texts}
 use Rattle.asl_explore.specs.declared.found.Found.{Found}
-use Rattle.asl_run_notes.specs.Notes.{IsNoteOf, search_notes, notes_text}
+use Rattle.asl_run_notes.specs.Notes.{search_notes, notes_text}
 use Rattle.asl_host.specs.Outcomes.{IsTold}
-
--- of a run that ended in success nothing is told
-abbrev pub IsNoteBy : Bool → Texts → ℕ → List ℕ → Type 0
-IsNoteBy true t limit note = note ≡ []
-IsNoteBy false t limit note = IsNoteOf t limit note
 
 -- where the steps of one outcome are printed alone, nothing is told
 abbrev pub notes_for : Option ℕ → List ℕ → Setup → List Found → List ℕ

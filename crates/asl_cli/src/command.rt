@@ -2,6 +2,7 @@
 ghost use Rattle.std.specs.Prelude.{◌≡◌, ◌⊎◌, List, ℕ, string_bytes, IfOk, IfErr};
 ghost use Rattle.asl_host.specs.Outcomes.{status_of, IsPrinted, IsTold};
 ghost use Rattle.asl_run_setup.specs.Views.{texts_of};
+ghost use Rattle.asl_exec.specs.Lacking.{IsLackingIn};
 ghost use Rattle.asl_cli.specs.Answers.{IsRan, IsAnswered};
 ghost use Rattle.asl_cli.specs.Formats.{format_of, IsRunIn};
 ghost use Rattle.asl_cli.specs.Faults.{most_steps, steps_name, IsEmulated, IsTextsReason, IsRunReason};
@@ -32,7 +33,7 @@ use asl_run_setup::{EmulateFault, RunTexts};
 use asl_threads_gate::Gate;
 use clap::Error;
 use clap::error::ErrorKind;
-use std::alloc::Global;
+use std::alloc::{AllocError, Global};
 use std::convert::AsStr;
 use std::sync::Wait;
 use std::thread::Threads;
@@ -156,9 +157,9 @@ fn emulate_files<'a, F: Files>(
     let steps = read_named(alloc, files, words.steps)?;
     let given = texts.of_run(steps.as_deref());
     let emulated = emulate_given(alloc, words.format, words.coloured, &given)?;
-    match with_note(alloc, emulated, &given) {
+    match with_note(alloc, given.chosen, emulated) {
         Ok(ran) => Ok(ran),
-        Err(refusal) => Err(refusal),
+        Err(AllocError) => Err(CommandFault::OutOfMemory),
     }
 }
 
@@ -171,6 +172,7 @@ fn emulate_given<'a>(
 ) -> Result<Emulated, CommandFault<'a>>
     ensures run { IfOk result (λ e. IsRunIn (format_of format) is_coloured (texts_of texts.now)
         most_steps (string_bytes e.text) e.good) }
+    ensures lacking { IfOk result (λ e. IsLackingIn (texts_of texts.now) most_steps e.lacking) }
     ensures refused { IfErr result (IsTextsReason (texts_of texts.now)) }
 {
     match emulate_in(alloc, format, is_coloured, texts, MOST_STEPS) {

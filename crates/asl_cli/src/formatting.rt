@@ -3,6 +3,7 @@ ghost use Rattle.std.specs.Prelude.{◌≡◌, IfOk, IfErr, string_bytes};
 ghost use Rattle.asl_run_setup.specs.Emulations.{IsRefused};
 ghost use Rattle.asl_run_setup.specs.Texts.{Unless};
 ghost use Rattle.asl_run_setup.specs.Views.{texts_of};
+ghost use Rattle.asl_exec.specs.Lacking.{IsLackingIn};
 ghost use Rattle.asl_cli.specs.Formats.{format_of, IsPlainRunIn, IsShown, IsRunIn};
 
 use asl_exec::{Emulated, emulate_texts};
@@ -35,6 +36,7 @@ fn emulate_plain(
 ) -> Result<Emulated, EmulateFault>
     ensures run { IfOk result (λ e. IsPlainRunIn (format_of format) (texts_of texts.now) limit
         (string_bytes e.text) e.good) }
+    ensures lacking { IfOk result (λ e. IsLackingIn (texts_of texts.now) limit e.lacking) }
     ensures fault { IfErr result (Unless (IsRefused (texts_of texts.now))) }
 {
     match format_of(format) {
@@ -64,9 +66,18 @@ pub(crate) fn emulate_in(
 ) -> Result<Emulated, EmulateFault>
     ensures run { IfOk result (λ e. IsRunIn (format_of format) is_coloured (texts_of texts.now)
         limit (string_bytes e.text) e.good) }
+    ensures lacking { IfOk result (λ e. IsLackingIn (texts_of texts.now) limit e.lacking) }
     ensures fault { IfErr result (Unless (IsRefused (texts_of texts.now))) }
 {
-    let Emulated { text, good } = emulate_plain(alloc, format, texts, limit)?;
+    let Emulated {
+        text,
+        good,
+        lacking,
+    } = emulate_plain(alloc, format, texts, limit)?;
     let text = shown_as(alloc, is_coloured, text)?;
-    Ok(Emulated { text, good })
+    Ok(Emulated {
+        text,
+        good,
+        lacking,
+    })
 }

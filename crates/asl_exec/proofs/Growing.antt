@@ -1,5 +1,6 @@
 -- Events are only told, and never taken back.
-use Rattle.std.proofs.Common.{ℕ, ◌≡◌, ◌∙◌, Bool, true, false, List, [], ◌∷◌, ◌++◌, Option, Some, None, refl, sym, ap, max, append_assoc, append-nil}
+use Rattle.std.proofs.Common.{ℕ, ◌≡◌, ◌∙◌, Bool, true, false, List, [], ◌∷◌, ◌++◌, Option, Some, None, refl, sym, ap, subst, max, length, take, append_assoc, append-nil}
+use Rattle.std.proofs.Math.Seq.{take-append_seam}
 use Rattle.std.specs.Prelude.{is_none}
 use Rattle.asl_history.specs.declared.event.Event.{Event}
 use Rattle.asl_history.specs.Events.{event_after}
@@ -8,6 +9,8 @@ use Rattle.asl_step_rows.specs.declared.record.Record.{Record}
 use Rattle.asl_run_frames.specs.Branches.{record_at}
 use Rattle.asl_run_world.specs.declared.refusal.Refusal.{Refusal}
 use Rattle.asl_run_world.specs.World.{World, events_after, is_late}
+use Rattle.asl_run_world.specs.Checkpoints.{world_at, IsCheckpointOf}
+use Rattle.asl_run_world.specs.declared.checkpoint.Checkpoint.{Checkpoint}
 use Rattle.asl_run_setup.specs.declared.setup.Setup.{Setup}
 use Rattle.asl_run_setup.specs.declared.step_at.StepAt.{StepAt}
 use Rattle.asl_exec.specs.Steps.{facts_of, effect_in, seen_at, refusal_in, moved_on, step, world_after}
@@ -58,3 +61,15 @@ steps-go-on s w (a ∷ l) = further w.events _ _ (step-goes-on s w a.place a.mom
 pub after-append : (s : Setup) (w : World) (l k : List StepAt) → world_after s w (l ++ k) ≡ world_after s (world_after s w l) k
 after-append s w [] k = refl
 after-append s w (a ∷ l) k = after-append s (step s w a.place a.moment) l k
+
+-- the first so many events are those that there were
+first-events : (es old : List Event) (n : ℕ) → n ≡ length old → GoesOn old es → take n es ≡ old
+first-events es old n e on = ap (take n) on.is ∙ ap (λ (m : ℕ). take m (old ++ on.more)) e ∙ take-append_seam old on.more
+
+-- a checkpoint of a world, among the events that came later
+pub checkpoint-stays : (s : Setup) (w : World) (l : List StepAt) (c : Checkpoint) → IsCheckpointOf c w → (world_at c (world_after s w l).events ≡ w) × IsCheckpointOf c (world_at c (world_after s w l).events)
+checkpoint-stays s w l c is =
+    let later = (world_after s w l).events in
+    let now : take c.told later ≡ take c.told w.events = first-events later w.events c.told is.told (steps-go-on s w l) ∙ sym (first-events w.events w.events c.told is.told (stays w.events)) in
+    let shows : world_at c later ≡ w = ap (λ (es : List Event). record (world_at c later) { events = es }) now ∙ is.shows in
+    (shows, subst (λ (v : World). IsCheckpointOf c v) (sym shows) is)

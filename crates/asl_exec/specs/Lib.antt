@@ -6,3 +6,4 @@ pub mod Emulations
 pub mod Exchanges
 pub mod ObstacleText
 pub mod Laws
+pub mod Lacking

@@ -4,7 +4,9 @@ ghost use Rattle.asl_run_setup.specs.Emulations.{IsRefused, run_texts};
 ghost use Rattle.asl_run_setup.specs.Texts.{Unless};
 ghost use Rattle.asl_run_setup.specs.Views.{texts_of};
 ghost use Rattle.asl_exec.specs.Emulations.{IsRunOf};
+ghost use Rattle.asl_exec.specs.Lacking.{IsLackingIn};
 
+use crate::lacking::Invocation;
 use crate::printing::run;
 use asl_run_setup::{EmulateFault, Emulation, RunTexts};
 use std::alloc::Global;
@@ -12,10 +14,12 @@ use std::alloc::Global;
 /// What becomes of a run.
 #[derive(Drop)]
 pub struct Emulated {
-    /// The lines of the steps, of the history, and of the status.
+    /// What is printed: the lines of the steps, of the history, and of the status.
     pub text: String,
     /// Whether the execution has succeeded.
     pub good: bool,
+    /// Where the execution failed since a service was invoked that its test case doesn't answer: this invocation.
+    pub lacking: Option<Invocation>,
 }
 
 /// Runs an execution: by the steps of a file, where there is one, else by the steps that come next, at most so many, from the epoch
@@ -31,11 +35,12 @@ pub fn emulate_texts(
 ) -> Result<Emulated, EmulateFault>
     ensures run { IfOk result
         (λ e. IsRunOf (texts_of texts.now) limit (string_bytes e.text) e.good) }
+    ensures lacking { IfOk result (λ e. IsLackingIn (texts_of texts.now) limit e.lacking) }
     ensures fault { IfErr result (Unless (IsRefused (texts_of texts.now))) }
 {
     let emulation = Emulation::read(alloc, texts)?;
-    let (text, good) = run(alloc, emulation.setup, emulation.steps.as_deref(), limit)?;
-    Ok(Emulated { text, good })
+    let emulated = run(alloc, emulation.setup, emulation.steps.as_deref(), limit)?;
+    Ok(emulated)
 }
 
 /// `emulate_texts` by a file of steps.
@@ -50,6 +55,8 @@ pub fn emulate<'a>(
     ensures run { IfOk result (λ e. IsRunOf
         (run_texts definition.now mocks.now chosen.now input.now (Some steps.now)) 0
         (string_bytes e.text) e.good) }
+    ensures lacking { IfOk result (λ e. IsLackingIn
+        (run_texts definition.now mocks.now chosen.now input.now (Some steps.now)) 0 e.lacking) }
     ensures fault { IfErr result (Unless (IsRefused
         (run_texts definition.now mocks.now chosen.now input.now (Some steps.now)))) }
 {
@@ -75,6 +82,8 @@ pub fn emulate_driven<'a>(
     ensures run { IfOk result (λ e. IsRunOf
         (run_texts definition.now mocks.now chosen.now input.now None) limit
         (string_bytes e.text) e.good) }
+    ensures lacking { IfOk result (λ e. IsLackingIn
+        (run_texts definition.now mocks.now chosen.now input.now None) limit e.lacking) }
     ensures fault { IfErr result (Unless (IsRefused
         (run_texts definition.now mocks.now chosen.now input.now None))) }
 {

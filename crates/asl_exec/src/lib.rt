@@ -2,12 +2,13 @@
 //!
 //! Modules in reading order: `execution` is what an execution has, `stepping` opens and steps one, `driving` takes the steps
 //! that come next, `rewinding` comes back to an earlier world, `worlds` goes on from another one, `swapping` says which steps may change places, and `obstacle` why
-//! others may not; `printing` prints a run, `emulation` is a whole run, from texts to text, and `laws` says that texts have one.
+//! others may not; `lacking` finds the answer that a failed one lacked; `printing` prints a run, `emulation` is a whole run, from texts to text, and `laws` says that texts have one, and that steps only append events.
 #![tactic(auto)]
 
 mod driving;
 mod emulation;
 mod execution;
+mod lacking;
 mod laws;
 mod obstacle;
 mod printing;
@@ -19,6 +20,7 @@ mod worlds;
 pub use driving::Ended;
 pub use emulation::{Emulated, emulate, emulate_driven, emulate_texts};
 pub use execution::Execution;
-pub use laws::texts_have_one_run;
+pub use lacking::{Invocation, unanswered};
+pub use laws::{steps_only_append_events, texts_have_one_run};
 pub use obstacle::{Obstacle, put_obstacle};
-pub use stepping::{invokes_in, state_of};
+pub use stepping::{facts_of, invokes_in, state_of};

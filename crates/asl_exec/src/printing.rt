@@ -1,10 +1,12 @@
 // The text of a run.
 ghost use Rattle.std.specs.Prelude.{◌≡◌, ◌++◌, OnOk, OnErr, IfOk, option_map, string_bytes};
 ghost use Rattle.asl_run_world.specs.Lines.{end_text, is_success};
+ghost use Rattle.asl_exec.specs.Lacking.{unanswered_in};
 ghost use Rattle.asl_exec.specs.RunText.{step_lines, lines_by, world_by, text_by};
 ghost use Rattle.asl_exec.specs.Steps.{opening, refusal_in, step, world_after};
 ghost use Rattle.asl_exec.specs.Views.{setup_of, world_of};
 
+use crate::emulation::Emulated;
 use crate::execution::Execution;
 use asl_run_setup::{Setup, StepAt};
 use asl_run_world::{Refusal, is_success, put_end, put_step};
@@ -35,6 +37,7 @@ impl Execution {
             ++ step_lines (setup_of self.old) (world_of self.old) steps.now) }
         ensures world { OnOk result (world_of self.new
             ≡ world_after (setup_of self.old) (world_of self.old) steps.now) }
+        ensures setup { setup_of self.new ≡ setup_of self.old }
     {
         for at in steps {
             let reply = self.reply(at)?;
@@ -58,6 +61,7 @@ impl Execution {
         ensures world { OnOk result (world_of self.new
             ≡ world_by limit (setup_of self.old) (world_of self.old)
             (option_map (λ ss. ss.now) steps.entry)) }
+        ensures setup { setup_of self.new ≡ setup_of self.old }
     {
         let Some(steps) = steps else {
             return match self.drive(limit) {
@@ -68,28 +72,38 @@ impl Execution {
         self.put_steps(out, steps)
     }
 
-    /// The text so far with the history and the status behind it, and whether the execution has succeeded. The error is that memory
-    /// ran out.
-    fn ended(&self, text: String) -> Result<(String, bool), AllocError>
-        ensures text { IfOk result (λ r. string_bytes r.0
+    /// The text so far with the history and the status behind it, and what else is told of the run. The error is that memory ran out.
+    fn ended(&self, text: String) -> Result<Emulated, AllocError>
+        ensures text { IfOk result (λ e. string_bytes e.text
             ≡ string_bytes text ++ end_text (world_of self.now)) }
-        ensures good { IfOk result (λ r. r.1 ≡ is_success (world_of self.now).outcome) }
+        ensures good { IfOk result (λ e. e.good ≡ is_success (world_of self.now).outcome) }
+        ensures lacking { IfOk result (λ e. e.lacking
+            ≡ unanswered_in (setup_of self.now).case (world_of self.now)) }
     {
         let mut text = text;
         put_end(self.alloc(), &mut text, self.world())?;
-        Ok((text, is_success(self.outcome())))
+        let lacking = self.lacking()?;
+        Ok(Emulated {
+            text,
+            good: is_success(self.outcome()),
+            lacking,
+        })
     }
 
-    /// Takes steps as `put_run` does: the text of them, of the history and of the status, and whether the execution has succeeded
-    /// then. The error is that memory ran out.
-    fn print(&mut self, steps: Option<&[StepAt]>, limit: u32) -> Result<(String, bool), AllocError>
-        ensures text { IfOk result (λ r. string_bytes r.0
+    /// Takes steps as `put_run` does: the text of them, of the history and of the status, and what else is told of the run. The error is
+    /// that memory ran out.
+    fn print(&mut self, steps: Option<&[StepAt]>, limit: u32) -> Result<Emulated, AllocError>
+        ensures text { IfOk result (λ e. string_bytes e.text
             ≡ lines_by (setup_of self.old) (world_of self.old) (option_map (λ ss. ss.now) steps.entry)
             ++ end_text (world_by limit (setup_of self.old) (world_of self.old)
             (option_map (λ ss. ss.now) steps.entry))) }
-        ensures good { IfOk result (λ r. r.1
+        ensures good { IfOk result (λ e. e.good
             ≡ is_success (world_by limit (setup_of self.old) (world_of self.old)
             (option_map (λ ss. ss.now) steps.entry)).outcome) }
+        ensures lacking { IfOk result (λ e. e.lacking
+            ≡ unanswered_in (setup_of self.old).case
+            (world_by limit (setup_of self.old) (world_of self.old)
+            (option_map (λ ss. ss.now) steps.entry))) }
     {
         let mut text = String::new(self.alloc());
         self.put_run(&mut text, steps, limit)?;
@@ -97,19 +111,21 @@ impl Execution {
     }
 }
 
-/// The text of the run of these steps, or, without a list, of those that come next, at most so many, and whether the execution has
-/// succeeded then. The error is that memory ran out.
+/// The run of these steps, or, without a list, of those that come next, at most so many. The error is that memory ran out.
 pub(crate) fn run(
     alloc: Global,
     setup: Setup,
     steps: Option<&[StepAt]>,
     limit: u32,
-) -> Result<(String, bool), AllocError>
-    ensures text { IfOk result (λ r. string_bytes r.0
+) -> Result<Emulated, AllocError>
+    ensures text { IfOk result (λ e. string_bytes e.text
         ≡ text_by limit setup (option_map (λ ss. ss.now) steps.entry)) }
-    ensures good { IfOk result (λ r. r.1
+    ensures good { IfOk result (λ e. e.good
         ≡ is_success (world_by limit setup (opening setup)
         (option_map (λ ss. ss.now) steps.entry)).outcome) }
+    ensures lacking { IfOk result (λ e. e.lacking
+        ≡ unanswered_in setup.case (world_by limit setup (opening setup)
+        (option_map (λ ss. ss.now) steps.entry))) }
 {
     let mut execution = Execution::open(alloc, setup)?;
     let printed = execution.print(steps, limit);

@@ -30,7 +30,7 @@ impl Execution {
     }
 
     /// Takes steps in order. The error is that memory ran out, behind some of them.
-    fn take_all(&mut self, steps: &[StepAt]) -> Result<(), AllocError>
+    pub fn take_all(&mut self, steps: &[StepAt]) -> Result<(), AllocError>
         ensures world { OnOk result (world_of self.new
             ≡ world_after (setup_of self.old) (world_of self.old) steps.now) }
         ensures setup { setup_of self.new ≡ setup_of self.old }

@@ -33,8 +33,8 @@ fn start_of(alloc: Global, machine: &Machine) -> Result<Name, AllocError>
     Name::new(alloc, machine.start())
 }
 
-/// What stays the same as an execution goes on.
-pub(crate) fn facts_of(alloc: Global, setup: &Setup) -> Result<Facts, AllocError>
+/// What stays the same as an execution goes on. The error is that memory ran out.
+pub fn facts_of(alloc: Global, setup: &Setup) -> Result<Facts, AllocError>
     ensures { IfOk result (λ f. f ≡ facts_of setup.now) }
 {
     Ok(Facts {

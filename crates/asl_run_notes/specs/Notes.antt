@@ -6,17 +6,15 @@ use Rattle.asl_json.specs.Compact.{quoted}
 use Rattle.asl_def_table.specs.Members.{is_among}
 use Rattle.asl_terminal.specs.Shown.{shown}
 use Rattle.asl_run_setup.specs.declared.setup.Setup.{Setup}
-use Rattle.asl_run_setup.specs.declared.step_at.StepAt.{StepAt}
 use Rattle.asl_run_setup.specs.Chosen.{case_name}
-use Rattle.asl_run_setup.specs.Emulations.{Texts, Accepts}
+use Rattle.asl_run_setup.specs.Emulations.{Texts}
 use Rattle.asl_run_world.specs.World.{World}
 use Rattle.asl_run_world.specs.declared.outcome.Outcome.{Outcome}
-use Rattle.asl_run_world.specs.declared.outcome.Outcome.TheVariants.{Running, Succeeded, Failed, TimedOut}
-use Rattle.asl_exec.specs.RunText.{world_by}
+use Rattle.asl_run_world.specs.declared.outcome.Outcome.TheVariants.{Failed}
+use Rattle.asl_exec.specs.Lacking.{unanswered_in, IsLackingIn}
+use Rattle.asl_exec.specs.declared.lacking.Invocation.{Invocation}
 use Rattle.asl_exec.specs.Steps.{opening, world_after}
 use Rattle.asl_explore.specs.declared.found.Found.{Found}
-use Rattle.asl_suite.specs.Reasons.{unanswered}
-use Rattle.asl_suite.specs.declared.reason.Invocation.{Invocation}
 
 -- ---- a line: `note: case "shipped" has no answer 2 of the Task "Charge card"`
 
@@ -38,28 +36,25 @@ abbrev pub note_text : List ℕ → Option Invocation → List ℕ
 note_text chosen None = []
 note_text chosen (Some v) = note_line chosen v
 
--- in a world: the last invocation that failed, if the execution failed and its case, which was chosen by
--- these words, has no answer for it
+-- in a world: the invocation that the execution failed for, if its case, which was chosen by these
+-- words, doesn't answer it
 abbrev pub note_in : List ℕ → Setup → World → List ℕ
-note_in chosen s w = note_text chosen (unanswered s.case w.events w.outcome)
+note_in chosen s w = note_text chosen (unanswered_in s.case w)
 
 -- ---- of a run
 
 -- of the run that the texts spell; where no file names steps, those that come next are taken, at most
 -- so many
 pub record IsNoteOf (t : Texts) (limit : ℕ) (note : List ℕ) : Type 0 where
-  pub setup : Setup
-  pub steps : Option (List StepAt)
-  pub accepted : Accepts t setup steps
-  pub note_is : note ≡ note_in t.chosen setup (world_by limit setup (opening setup) steps)
+  pub lacking : Option Invocation
+  pub is_lacking : IsLackingIn t limit lacking
+  pub note_is : note ≡ note_text t.chosen lacking
 
 -- ---- of a search
 
 abbrev pub if_failed : Outcome → List ℕ → List ℕ
 if_failed (Failed e) t = t
-if_failed Running t = []
-if_failed (Succeeded x) t = []
-if_failed TimedOut t = []
+if_failed o t = []
 
 -- of an outcome, by the steps that end in it
 abbrev pub note_of_found : List ℕ → Setup → Found → List ℕ

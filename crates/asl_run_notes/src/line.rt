@@ -5,11 +5,9 @@ ghost use Rattle.asl_run_setup.specs.Chosen.{case_name};
 ghost use Rattle.asl_exec.specs.Views.{setup_of, world_of};
 ghost use Rattle.asl_run_notes.specs.Notes.{answer_words, case_words, note_in, note_line, note_text, note_words};
 
-use asl_exec::Execution;
+use asl_exec::{Execution, Invocation};
 use asl_json::put_quoted;
-use asl_suite::{Invocation, unanswered};
-use asl_terminal::put_shown;
-use itoa::Buffer;
+use asl_terminal::{put_decimal, put_shown};
 use std::alloc::{AllocError, Global};
 
 /// The name of the case that is chosen.
@@ -33,19 +31,12 @@ fn put_case(out: &mut String, case: &str) -> Result<(), AllocError>
     out.push_str(" has")
 }
 
-fn put_number(out: &mut String, number: u64) -> Result<(), AllocError>
-    ensures { OnOk result (string_bytes out.new ≡ string_bytes out.old ++ decimal number) }
-{
-    let mut buffer = Buffer::new();
-    out.push_str(buffer.format(number))
-}
-
 fn put_answer(out: &mut String, invocation: &Invocation) -> Result<(), AllocError>
     ensures { OnOk result (string_bytes out.new
         ≡ string_bytes out.old ++ answer_words invocation.now) }
 {
     out.push_str(" no answer ")?;
-    put_number(out, invocation.number)?;
+    put_decimal(out, invocation.number)?;
     out.push_str(" of the Task ")?;
     put_quoted(out, invocation.state.as_str())
 }
@@ -70,7 +61,9 @@ fn line_of(alloc: Global, chosen: &str, invocation: &Invocation) -> Result<Strin
     Ok(line)
 }
 
-fn text_of(
+/// The line for the answer that a run lacks, of a case that was chosen by these words; empty where it lacks none. The error is that memory
+/// ran out.
+pub fn note_of(
     alloc: Global,
     chosen: &str,
     invocation: &Option<Invocation>,
@@ -93,11 +86,6 @@ pub(crate) fn note_in(
     ensures { IfOk result (λ t. string_bytes t
         ≡ note_in chosen.now (setup_of execution.now) (world_of execution.now)) }
 {
-    let lacking = unanswered(
-        alloc,
-        &execution.setup().case,
-        execution.history().events(),
-        execution.outcome(),
-    )?;
-    text_of(alloc, chosen, &lacking)
+    let lacking = execution.lacking()?;
+    note_of(alloc, chosen, &lacking)
 }

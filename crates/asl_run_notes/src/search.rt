@@ -6,7 +6,6 @@ ghost use Rattle.asl_exec.specs.Views.{setup_of, world_of};
 ghost use Rattle.asl_run_notes.specs.Notes.{note_in, note_of_found, notes_text, search_notes, with_line};
 
 use crate::line::note_in;
-use crate::taking::take_all;
 use asl_exec::Execution;
 use asl_explore::Found;
 use asl_run_setup::{Setup, StepAt};
@@ -21,7 +20,7 @@ fn replay(execution: &mut Execution, steps: &[StepAt]) -> Result<(), AllocError>
 {
     let world = execution.opening()?;
     execution.enter(world);
-    take_all(execution, steps)
+    execution.take_all(steps)
 }
 
 /// The line for an outcome that was found.

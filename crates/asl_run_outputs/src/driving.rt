@@ -3,7 +3,6 @@ ghost use Rattle.std.specs.Prelude.{◌≡◌, IfOk, OnOk, option_map};
 ghost use Rattle.asl_run_setup.specs.Views.{steps_in};
 ghost use Rattle.asl_exec.specs.Driving.{chosen, after, driven};
 ghost use Rattle.asl_exec.specs.RunText.{world_by};
-ghost use Rattle.asl_exec.specs.Steps.{world_after};
 ghost use Rattle.asl_exec.specs.Views.{setup_of, world_of};
 ghost use Rattle.asl_run_outputs.specs.Taken.{taken, taken_by};
 
@@ -49,18 +48,6 @@ fn drive_taking(
     Ok(steps)
 }
 
-/// Takes steps in order. The error is that memory ran out.
-fn take_all(execution: &mut Execution, steps: &[StepAt]) -> Result<(), AllocError>
-    ensures world { OnOk result (world_of execution.new
-        ≡ world_after (setup_of execution.old) (world_of execution.old) steps.now) }
-    ensures setup { setup_of execution.new ≡ setup_of execution.old }
-{
-    for at in steps {
-        let _refused = execution.reply(at)?;
-    }
-    Ok(())
-}
-
 /// Takes the steps of a list in order; without a list those that come next, at most so many. Tells which they were. The error is that
 /// memory ran out.
 pub fn take_by(
@@ -78,6 +65,6 @@ pub fn take_by(
     let Some(steps) = steps else {
         return drive_taking(alloc, execution, limit);
     };
-    take_all(execution, &steps)?;
+    execution.take_all(&steps)?;
     Ok(steps)
 }

@@ -8,7 +8,7 @@ use crate::reply::Reply;
 use crate::showing::record_json;
 use asl_json::{put, put_quoted, whole_or_none};
 use asl_run_world::put_reply;
-use itoa::Buffer;
+use asl_terminal::put_decimal;
 use std::alloc::{AllocError, Global};
 
 /// Appends the line of a reply. The error is that memory ran out, and then nothing is appended.
@@ -30,15 +30,6 @@ fn put_answer_parts(alloc: Global, out: &mut String, reply: &Reply) -> Result<()
 {
     put_text(alloc, out, reply)?;
     out.push('\n')
-}
-
-/// Appends a number in plain decimal. The error is that memory ran out, and then nothing is appended.
-fn put_number(out: &mut String, number: u64) -> Result<(), AllocError>
-    ensures ok { OnOk result (string_bytes out.new ≡ string_bytes out.old ++ decimal number) }
-    ensures err { OnErr result (string_bytes out.new ≡ string_bytes out.old) }
-{
-    let mut buffer = Buffer::new();
-    out.push_str(buffer.format(number))
 }
 
 /// Appends a reply. Where memory runs out, a part of it may be there.
@@ -67,7 +58,7 @@ fn put_text(alloc: Global, out: &mut String, reply: &Reply) -> Result<(), AllocE
         }
         Reply::WentBack(left) => {
             out.push_str("back ")?;
-            put_number(out, *left)
+            put_decimal(out, *left)
         }
         Reply::TooFar => out.push_str("TooFar"),
     }

@@ -86,18 +86,6 @@ fn lines_of(
     Ok(tree.into_lines())
 }
 
-/// Takes steps in order. The error is that memory ran out.
-fn take_all(execution: &mut Execution, steps: &[StepAt]) -> Result<(), AllocError>
-    ensures world { OnOk result (world_of execution.new
-        ≡ world_after (setup_of execution.old) (world_of execution.old) steps.now) }
-    ensures setup { setup_of execution.new ≡ setup_of execution.old }
-{
-    for at in steps {
-        let _refused = execution.reply(at)?;
-    }
-    Ok(())
-}
-
 /// An execution that has taken the first so many steps of a session. The error is that memory ran out.
 fn replayed(alloc: Global, session: &Session, count: usize) -> Result<Execution, AllocError>
     requires { count ≤ length session.now.steps }
@@ -105,7 +93,7 @@ fn replayed(alloc: Global, session: &Session, count: usize) -> Result<Execution,
 {
     let setup = session.execution().setup().try_clone(alloc)?;
     let mut execution = Execution::open(alloc, setup)?;
-    take_all(&mut execution, &session.steps()[..count])?;
+    execution.take_all(&session.steps()[..count])?;
     Ok(execution)
 }
 

@@ -1,14 +1,12 @@
 -- Why a test isn't passed.
-use Rattle.std.specs.Prelude.{ℕ, ◌+◌, ◌-◌, ◌^◌, Bool, true, false, not, ◌&&◌, nat_lt, if◌then◌else◌, List, [], ◌∷◌, take, Option, Some, None, is_some, Result, Ok, Err, count_by, slice_get}
-use Rattle.asl_json.specs.Same.{bytes_eq}
+use Rattle.std.specs.Prelude.{ℕ, Bool, not, if◌then◌else◌, List, [], ◌∷◌, Option, Some, None, Result, Ok, Err}
 use Rattle.asl_json.specs.View.{data_of}
 use Rattle.asl_json.specs.declared.value.Json.{Json}
 use Rattle.asl_history.specs.declared.event.Event.{Event}
-use Rattle.asl_history.specs.declared.kind.EventKind.{EventKind}
-use Rattle.asl_history.specs.declared.kind.EventKind.TheVariants.{TaskScheduled, TaskFailed}
-use Rattle.asl_mock.specs.Answers.{Case, answer_to}
+use Rattle.asl_mock.specs.Answers.{Case}
 use Rattle.asl_mock.specs.declared.fault.CaseFault.{CaseFault}
 use Rattle.asl_run_world.specs.World.{World, is_over}
+use Rattle.asl_exec.specs.Lacking.{unanswered_in}
 use Rattle.asl_run_world.specs.declared.outcome.Outcome.{Outcome}
 use Rattle.asl_run_world.specs.declared.outcome.Outcome.TheVariants.{Running, Succeeded, Failed, TimedOut}
 use Rattle.asl_run_setup.specs.Chosen.{case_or_empty}
@@ -20,56 +18,8 @@ use Rattle.asl_suite.specs.Cases.{is_wanted, entries, is_visited, test_setup, dr
 use Rattle.asl_suite.specs.declared.suite.Suite.{Suite}
 use Rattle.asl_suite.specs.declared.case_report.Verdict.{Verdict}
 use Rattle.asl_suite.specs.declared.case_report.Verdict.TheVariants as verdict
-use Rattle.asl_suite.specs.declared.reason.Invocation.{Invocation}
 use Rattle.asl_suite.specs.declared.reason.Reason.{Reason}
 use Rattle.asl_suite.specs.declared.reason.Reason.TheVariants as reason
-
--- ---- an invocation without an answer
-
-abbrev pub is_failure : EventKind → Bool
-is_failure TaskFailed = true
-is_failure k = false
-
-abbrev pub is_scheduled : EventKind → Bool
-is_scheduled TaskScheduled = true
-is_scheduled k = false
-
--- the number of the last event of a task that failed, of those from this number on; else the one found before
-abbrev pub last_failure : ℕ → Option ℕ → List Event → Option ℕ
-last_failure i found [] = found
-last_failure i found (e ∷ es) = last_failure (i + 1) (if is_failure e.kind then Some i else found) es
-
-abbrev pub invokes : List ℕ → Event → Bool
-invokes n e = is_scheduled e.kind && bytes_eq e.name n
-
--- the last invocation of this state among these events
-abbrev pub last_invocation : List ℕ → List Event → Invocation
-last_invocation n es = record { state = n; number = count_by (invokes n) es - 1 }
-
-abbrev pub invocation_in : List Event → ℕ → Option Event → Option Invocation
-invocation_in es i None = None
-invocation_in es i (Some e) = Some (last_invocation e.name (take i es))
-
-abbrev pub invocation_at : List Event → Option ℕ → Option Invocation
-invocation_at es None = None
-invocation_at es (Some i) = invocation_in es i (slice_get es i)
-
-abbrev pub failed_invocation : List Event → Option Invocation
-failed_invocation es = invocation_at es (last_failure 0 None es)
-
-abbrev pub is_unanswered : Case → Invocation → Bool
-is_unanswered c v = nat_lt v.number (2 ^ 32) && not (is_some (answer_to c v.state v.number))
-
-abbrev pub if_unanswered : Case → Option Invocation → Option Invocation
-if_unanswered c None = None
-if_unanswered c (Some v) = if is_unanswered c v then Some v else None
-
--- the last invocation that failed, if the execution failed and the case has no answer for it
-abbrev pub unanswered : Case → List Event → Outcome → Option Invocation
-unanswered c es (Failed e) = if_unanswered c (failed_invocation es)
-unanswered c es Running = None
-unanswered c es (Succeeded x) = None
-unanswered c es TimedOut = None
 
 -- ---- the output, and how often states were entered
 
@@ -100,7 +50,7 @@ by_output (Some d) r = reason.Output d
 
 -- how it ended isn't wanted
 abbrev pub by_status : Expectation → Case → World → Reason
-by_status x c w = reason.Status x.status w.outcome (unanswered c w.events w.outcome)
+by_status x c w = reason.Status x.status w.outcome (unanswered_in c w)
 
 -- in a world in which it ended, with this case
 abbrev pub reason_in : Expectation → Case → World → Reason

@@ -1,132 +1,21 @@
 // Finding why a test isn't passed.
-ghost use Rattle.std.specs.Prelude.{◌≡◌, ◌<◌, length, Ok, Some, None, IfOk, slice_get, count_by, take};
+ghost use Rattle.std.specs.Prelude.{◌≡◌, ◌<◌, length, Ok, Some, IfOk, slice_get};
 ghost use Rattle.std.specs.Option.{option_map};
 ghost use Rattle.asl_exec.specs.Views.{world_of};
 ghost use Rattle.asl_suite.specs.Cases.{report_on};
-ghost use Rattle.asl_suite.specs.Reasons.{is_failure, is_scheduled, last_failure, invokes, last_invocation, failed_invocation, is_unanswered, unanswered, no_output, output_difference, first_unmet, by_visits, by_status, reason_in, reason_by, reason_within, reason_for, verdict_by};
+ghost use Rattle.asl_suite.specs.Reasons.{no_output, output_difference, first_unmet, by_visits, by_status, reason_in, reason_by, reason_within, reason_for, verdict_by};
 
 use crate::judging::{entries, is_visited, is_wanted};
-use crate::reason::{Invocation, Reason};
+use crate::reason::Reason;
 use crate::running::{case_of, driven, setup_of, step_limit};
 use crate::suite::Suite;
-use asl_exec::Execution;
-use asl_history::{Event, EventKind};
-use asl_json::{Json, Pointer, Txt};
-use asl_mock::{Case, answer};
+use asl_exec::{Execution, unanswered};
+use asl_history::Event;
+use asl_json::{Json, Pointer};
+use asl_mock::Case;
 use asl_run_world::Outcome;
 use asl_suite_expect::{Difference, Expectation, Visit, first_difference};
 use std::alloc::{AllocError, Global};
-
-fn is_failure(kind: EventKind) -> bool
-    ensures { result ≡ is_failure kind }
-{
-    match kind {
-        EventKind::TaskFailed => true,
-        _ => false,
-    }
-}
-
-fn is_scheduled(kind: EventKind) -> bool
-    ensures { result ≡ is_scheduled kind }
-{
-    match kind {
-        EventKind::TaskScheduled => true,
-        _ => false,
-    }
-}
-
-/// The number of the last event of a task that failed.
-fn last_failure(events: &[Event]) -> Option<usize>
-    ensures { result ≡ last_failure 0 None events.now }
-{
-    let mut found = None;
-    for (i, event) in events.iter().enumerate() {
-        if is_failure(event.kind) {
-            found = Some(i);
-        }
-    }
-    found
-}
-
-fn invokes(name: &str, event: &Event) -> bool
-    ensures { result ≡ invokes name.now event.now }
-{
-    is_scheduled(event.kind) && event.name.as_str() == name
-}
-
-/// How often a state was invoked among the first of these events.
-fn invocations(name: &str, events: &[Event], first: usize) -> usize
-    ensures { result ≡ count_by (invokes name.now) (take first events.now) }
-{
-    events
-        .iter()
-        .take(first)
-        .filter(|event| invokes(name, event))
-        .count()
-}
-
-/// The last invocation of this state among the first of these events. The error is that memory ran out.
-fn last_invocation(
-    alloc: Global,
-    name: &str,
-    events: &[Event],
-    first: usize,
-) -> Result<Invocation, AllocError>
-    ensures { IfOk result (λ v. v ≡ last_invocation name.now (take first events.now)) }
-{
-    let count = invocations(name, events, first);
-    Ok(Invocation {
-        state: Txt::of(alloc, name)?,
-        number: count.saturating_sub(1) as u64,
-    })
-}
-
-fn event_at(events: &[Event], at: usize) -> Option<&Event>
-    ensures { option_map (λ e. e.now) result ≡ slice_get events.now at }
-{
-    events.get(at)
-}
-
-/// The last invocation that failed. The error is that memory ran out.
-fn failed_invocation(alloc: Global, events: &[Event]) -> Result<Option<Invocation>, AllocError>
-    ensures { IfOk result (λ o. o ≡ failed_invocation events.now) }
-{
-    let Some(at) = last_failure(events) else {
-        return Ok(None);
-    };
-    let Some(event) = event_at(events, at) else {
-        return Ok(None);
-    };
-    let invocation = last_invocation(alloc, event.name.as_str(), events, at)?;
-    Ok(Some(invocation))
-}
-
-fn is_unanswered(case: &Case, invocation: &Invocation) -> bool
-    ensures { result ≡ is_unanswered case.now invocation.now }
-{
-    match u32::try_from(invocation.number) {
-        Ok(number) => answer(case, invocation.state.as_str(), number).is_none(),
-        Err(_) => false,
-    }
-}
-
-/// The last invocation that failed, if the execution failed and the case has no answer for it. The error is that memory ran out.
-pub fn unanswered(
-    alloc: Global,
-    case: &Case,
-    events: &[Event],
-    outcome: &Outcome,
-) -> Result<Option<Invocation>, AllocError>
-    ensures { IfOk result (λ o. o ≡ unanswered case.now events.now outcome.now) }
-{
-    let Outcome::Failed(_) = outcome else {
-        return Ok(None);
-    };
-    match failed_invocation(alloc, events)? {
-        Some(invocation) if is_unanswered(case, &invocation) => Ok(Some(invocation)),
-        _ => Ok(None),
-    }
-}
 
 /// The difference where an output is wanted, and there is none. The error is that memory ran out.
 fn no_output(alloc: Global, wanted: &Json) -> Result<Difference, AllocError>

@@ -13,8 +13,8 @@ mod running;
 mod suite;
 
 pub use case_report::{CaseReport, Status, Verdict};
-pub use explaining::{explain, unanswered};
-pub use reason::{Invocation, Reason};
+pub use explaining::explain;
+pub use reason::Reason;
 pub use reporting::{all_passed, report};
 pub use running::run_case;
 pub use suite::Suite;

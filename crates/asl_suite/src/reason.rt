@@ -1,26 +1,8 @@
 // Why a test isn't passed.
-use asl_json::Txt;
+use asl_exec::Invocation;
 use asl_mock::CaseFault;
 use asl_run_world::Outcome;
 use asl_suite_expect::{Difference, Visit, Wanted};
-
-/// An invocation of a task.
-pub struct Invocation {
-    /// The state's name.
-    pub state: Txt,
-    /// Its number among the invocations of that state in the whole execution, from 0.
-    pub number: u64,
-}
-
-// Written out, so that a caller's proof sees one call and not the drop of each part.
-impl Drop for Invocation {
-    fn drop(self) {
-        let Invocation {
-            state: _state,
-            number: _number,
-        } = self;
-    }
-}
 
 /// Why a test isn't passed: the first of these that applies.
 pub enum Reason {
@@ -34,7 +16,7 @@ pub enum Reason {
         wanted: Wanted,
         /// How it ended.
         outcome: Outcome,
-        /// Where it failed: the last invocation of a task that failed, if the case has no answer for it.
+        /// Where it failed since a service was invoked that the case doesn't answer: this invocation.
         unanswered: Option<Invocation>,
     },
     /// It has another output, or none: the first difference.

@@ -5,8 +5,7 @@ ghost use Rattle.std.specs.List.{flat_map, list_all};
 ghost use Rattle.asl_suite.specs.Reports.{verdict_word, status_word, report_head, report_tail, report_line, is_passed, passed, report_text};
 
 use crate::case_report::{CaseReport, Status, Verdict};
-use asl_terminal::put_shown;
-use itoa::Buffer;
+use asl_terminal::{put_decimal, put_shown};
 use std::alloc::{AllocError, Global};
 
 impl Verdict {
@@ -40,14 +39,6 @@ impl Status {
     }
 }
 
-/// Appends a number in plain decimal. The error is that memory ran out.
-fn put_number(out: &mut String, number: u64) -> Result<(), AllocError>
-    ensures { OnOk result (string_bytes out.new ≡ string_bytes out.old ++ decimal number) }
-{
-    let mut buffer = Buffer::new();
-    out.push_str(buffer.format(number))
-}
-
 fn put_head(out: &mut String, report: &CaseReport) -> Result<(), AllocError>
     ensures { OnOk result (string_bytes out.new ≡ string_bytes out.old ++ report_head report.now) }
 {
@@ -63,7 +54,7 @@ fn put_tail(out: &mut String, report: &CaseReport) -> Result<(), AllocError>
 {
     out.push_str(report.status.word())?;
     out.push(' ')?;
-    put_number(out, report.events)?;
+    put_decimal(out, report.events)?;
     out.push('\n')
 }
 
@@ -115,9 +106,9 @@ pub fn report(alloc: Global, reports: &[CaseReport]) -> Result<String, AllocErro
     let mut text = String::new(alloc);
     put_lines(&mut text, reports)?;
     let good = passed(reports);
-    put_number(&mut text, good as u64)?;
+    put_decimal(&mut text, good as u64)?;
     text.push_str(" passed, ")?;
-    put_number(&mut text, (reports.len() - good) as u64)?;
+    put_decimal(&mut text, (reports.len() - good) as u64)?;
     text.push_str(" failed\n")?;
     Ok(text)
 }

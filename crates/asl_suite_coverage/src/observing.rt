@@ -1,11 +1,11 @@
 // What an execution covers.
 use crate::plan::{Plan, Spots};
-use asl_exec::Execution;
+use asl_exec::{Execution, facts_of};
 use asl_history::{Event, EventKind};
 use asl_json::{Json, Name};
 use asl_run_setup::{Setup, StepAt};
 use asl_run_world::Refusal;
-use asl_step_rows::{Context, Facts};
+use asl_step_rows::Context;
 use asl_view_trace::{Deciding, Staged, decided_at};
 use std::alloc::{AllocError, Global};
 
@@ -40,16 +40,6 @@ impl Drop for Before {
             deciding: _deciding,
         } = self;
     }
-}
-
-/// What stays the same as an execution goes on.
-fn facts_of(alloc: Global, setup: &Setup) -> Result<Facts, AllocError> {
-    Ok(Facts {
-        machine: Name::new(alloc, setup.name_of_machine.as_str())?,
-        name: Name::new(alloc, setup.name.as_str())?,
-        input: setup.input.try_clone()?,
-        start: setup.start,
-    })
 }
 
 fn is_entered(kind: EventKind) -> bool {

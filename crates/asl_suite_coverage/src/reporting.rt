@@ -5,7 +5,7 @@ ghost use Rattle.std.specs.List.{flat_map};
 ghost use Rattle.asl_suite_coverage.specs.Points.{is_covered, covered, percent_of, missing, told_line, missing_line, point_line, heading, coverage_text};
 
 use crate::point::Point;
-use itoa::Buffer;
+use asl_terminal::put_decimal;
 use std::alloc::{AllocError, Global};
 
 fn is_covered(point: &Point) -> bool
@@ -32,14 +32,6 @@ pub(crate) fn percent_of(points: &[Point]) -> u32
     }
     let percent = covered(points) as u128 * 100 / total as u128;
     percent as u32
-}
-
-/// Appends a number in plain decimal. The error is that memory ran out.
-fn put_number(out: &mut String, number: u64) -> Result<(), AllocError>
-    ensures { OnOk result (string_bytes out.new ≡ string_bytes out.old ++ decimal number) }
-{
-    let mut buffer = Buffer::new();
-    out.push_str(buffer.format(number))
 }
 
 #[tactic(auto, unfolding(crate::specs::Points::missing))]
@@ -89,11 +81,11 @@ fn put_heading(out: &mut String, points: &[Point]) -> Result<(), AllocError>
     ensures { OnOk result (string_bytes out.new ≡ string_bytes out.old ++ heading points.now) }
 {
     out.push_str("coverage: ")?;
-    put_number(out, u64::from(percent_of(points)))?;
+    put_decimal(out, u64::from(percent_of(points)))?;
     out.push_str("% (")?;
-    put_number(out, covered(points) as u64)?;
+    put_decimal(out, covered(points) as u64)?;
     out.push_str(" of ")?;
-    put_number(out, points.len() as u64)?;
+    put_decimal(out, points.len() as u64)?;
     out.push_str(")\n")
 }
 

@@ -1,8 +1,9 @@
 // What is told of a test that isn't `ok`.
+use asl_exec::Invocation;
 use asl_json::{Json, put, put_quoted};
 use asl_run_world::Outcome;
 use asl_step_rows::error_output;
-use asl_suite::{CaseReport, Invocation, Reason};
+use asl_suite::{CaseReport, Reason};
 use asl_suite_expect::{Difference, Visit, Wanted};
 use std::alloc::{AllocError, Global};
 

@@ -24,7 +24,7 @@ use crate::deciding::{Decided, Deciding, Staged, decided_in, raised_by};
 use crate::sides::{kind_of, policy_of};
 use crate::stopping::put_stopped_under;
 use asl_def_states::State;
-use asl_exec::{Execution, state_of};
+use asl_exec::{Execution, facts_of, state_of};
 use asl_json::{Json, Name, put};
 use asl_json_diff::put_short;
 use asl_run_frames::Frame;
@@ -94,18 +94,6 @@ impl Drop for Before {
             moment: _moment,
         } = self;
     }
-}
-
-/// What stays the same as an execution goes on.
-fn facts_of(alloc: Global, setup: &Setup) -> Result<Facts, AllocError>
-    ensures { IfOk result (λ f. f ≡ facts_of setup.now) }
-{
-    Ok(Facts {
-        machine: Name::new(alloc, setup.name_of_machine.as_str())?,
-        name: Name::new(alloc, setup.name.as_str())?,
-        input: setup.input.try_clone()?,
-        start: setup.start,
-    })
 }
 
 /// The Context Object of an execution that begins with this, for what decides in its steps. The error is that memory ran out.

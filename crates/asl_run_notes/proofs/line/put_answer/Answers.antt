@@ -20,5 +20,5 @@ returns c =
     let v = c.args.invocation.now in
     on_ok_weaker
     c.put_quoted.result
-    (λ h. four out (codes " no answer ") (decimal v.number) (codes " of the Task ") (quoted v.state) (string_bytes c.push_str.new.self) (string_bytes c.put_number.new.out) (string_bytes c.push_str-2.new.self) (string_bytes c.put_quoted.new.out) c.in_ok-push_str.ensures.bytes c.in_ok-put_number.ensures c.in_ok-push_str-2.ensures.bytes (h ∙ ap (λ (t : List ℕ). string_bytes c.push_str-2.new.self ++ quoted t) c.as_str.ensures))
+    (λ h. four out (codes " no answer ") (decimal v.number) (codes " of the Task ") (quoted v.state) (string_bytes c.push_str.new.self) (string_bytes c.put_decimal.new.out) (string_bytes c.push_str-2.new.self) (string_bytes c.put_quoted.new.out) c.in_ok-push_str.ensures.bytes c.in_ok-put_decimal.ensures.ok c.in_ok-push_str-2.ensures.bytes (h ∙ ap (λ (t : List ℕ). string_bytes c.push_str-2.new.self ++ quoted t) c.as_str.ensures))
     c.put_quoted.ensures.ok
