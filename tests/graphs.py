@@ -4,7 +4,7 @@ from typing import NamedTuple
 
 ID = r"[A-Za-z0-9_]+"
 # A label: ASCII letters, digits, space, full stop, hyphen and underscore, whatever is beyond ASCII and shows, and characters by their numbers.
-MERMAID_LABEL = r"(?:[A-Za-z0-9 ._-]|[^\x00-\x9f\xad\u061c\u200b-\u200f\u2028-\u202e\u2060-\u206f\ufeff\ufff9-\ufffb]|#[0-9]+;)*"
+MERMAID_LABEL = r"(?:[A-Za-z0-9 ._-]|[^\x00-\x9f\xad\u061c\u200b-\u200f\u2028-\u202e\u2060-\u206f\ufeff\ufff9-\ufffb\ufffe\uffff\u115f\u3164\ufe00-\ufe0f]|#[0-9]+;)*"
 DOT_LABEL = MERMAID_LABEL.replace("#", "&#")
 
 LINES = {
@@ -35,7 +35,7 @@ LABELLED = {
     "mermaid": (rf'({ID}) (?:--|(==))>\|"({MERMAID_LABEL})"\| ({ID})', (0, 2, 3), 1),
     "dot": (rf'({ID}) -> ({ID}) \[label="({DOT_LABEL})"(, penwidth=4)?\];', (0, 2, 1), 3),
 }
-HEADS = {"mermaid": ["flowchart TD"], "dot": ["digraph {", "node [shape=box];"]}
+HEADS = {"mermaid": ["flowchart TD"], "dot": ["digraph {", "node [shape=box];", "labeljust=l;"]}
 ENTITY = {"mermaid": r"#([0-9]+);", "dot": r"&#([0-9]+);"}
 
 
@@ -52,8 +52,13 @@ class Graph(NamedTuple):
 
 
 def plain(language, label):
-    """The text that a label shows."""
-    return re.sub(ENTITY[language], lambda found: chr(int(found[1])), label)
+    """The text that a label shows. In DOT what stands behind a backslash is an escape, so two of them are one; Markdown reads labels in Mermaid."""
+    text = re.sub(ENTITY[language], lambda found: chr(int(found[1])), label)
+    if language == "mermaid":
+        assert not re.match(r"([0-9]+[.)]|[-+*]) ", label), f"a list in Markdown: {label}"
+        return text
+    assert re.fullmatch(r"(?:[^\\]|\\\\)*", text), f"an escape: {text}"
+    return text.replace("\\\\", "\\")
 
 
 def named(word):

@@ -12,13 +12,13 @@ from program import TOP, ProgramTest, answered, run_program
 LANGUAGES = ["mermaid", "dot"]
 
 # Names that mean something in one of the languages, and some that look alike.
-NAMES = ['"', "\\", "end", "a b", "a_b", "a_32_b", "<b>", "&amp;", "#35;", "%%", "style: x#1;", "x -->|y| z", "é", "😀", "`", "-", "'"]
+NAMES = ['"', "\\", "end", "a b", "a_b", "a_32_b", "<b>", "&amp;", "#35;", "%%", "style: x#1;", "x -->|y| z", "é", "😀", "`", "-", "'", "a\\nb", "\\N\\\\", "1. first", "- then", "a. b", "no\ufffe\uffff"]
 NAMES += ["\u2028", "left\u202egpj\u200f\u2066", "next\x85line"]
 
 
 def shown(name):
-    """A name as a label shows it: a control is the replacement character."""
-    return "".join("\ufffd" if ord(c) < 32 or 127 <= ord(c) <= 159 else c for c in name)
+    """A name as a label shows it: a control, and what XML has not, is the replacement character."""
+    return "".join("\ufffd" if ord(c) < 32 or 127 <= ord(c) <= 159 or c in "\ufffe\uffff" else c for c in name)
 
 
 def drawn(definition, language):

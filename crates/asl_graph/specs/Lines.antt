@@ -8,7 +8,9 @@ use Rattle.asl_graph.specs.Names.{shown, state_id, box_key}
 
 unfoldable pub heading : Language → List ℕ
 heading Mermaid = codes "flowchart TD" ++ 10 ∷ []
-heading Dot = codes "digraph {" ++ 10 ∷ (codes "node [shape=box];" ++ 10 ∷ [])
+heading Dot =
+    codes "digraph {"
+    ++ 10 ∷ (codes "node [shape=box];" ++ 10 ∷ (codes "labeljust=l;" ++ 10 ∷ []))
 
 unfoldable pub ending : Language → List ℕ
 ending Mermaid = []

@@ -12,7 +12,7 @@ pub(crate) fn heading(language: Language) -> &'static str
 {
     match language {
         Language::Mermaid => "flowchart TD\n",
-        Language::Dot => "digraph {\nnode [shape=box];\n",
+        Language::Dot => "digraph {\nnode [shape=box];\nlabeljust=l;\n",
     }
 }
 

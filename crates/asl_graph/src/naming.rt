@@ -1,7 +1,7 @@
 // Names in graphs.
 ghost use Rattle.std.specs.Prelude.{◌≡◌, ◌++◌, OnOk, string_bytes};
 ghost use Rattle.std.specs.Fmt.{decimal};
-ghost use Rattle.asl_graph.specs.Names.{is_kept, is_control, entity_lead, entity, shown_char, shown, word_char, word, state_id, box_key};
+ghost use Rattle.asl_graph.specs.Names.{is_kept, is_refused, entity_lead, numbered, entity, marks_item, shown_char, shown, word_char, word, state_id, box_key};
 
 use crate::language::Language;
 use asl_terminal::{is_hidden, put_decimal};
@@ -12,18 +12,19 @@ fn is_kept(character: char) -> bool
     ensures { result ≡ is_kept character }
 {
     character.is_ascii_alphanumeric()
-        || (u32::from(character) >= 128 && !is_hidden(character))
+        || (u32::from(character) >= 128 && !is_hidden(character) && !is_refused(character))
         || character == ' '
         || character == '.'
         || character == '-'
         || character == '_'
 }
 
-fn is_control(character: char) -> bool
-    ensures { result ≡ is_control character }
+/// Whether a character is a control, or one that XML has not, as which graphs are drawn.
+fn is_refused(character: char) -> bool
+    ensures { result ≡ is_refused character }
 {
     let c = u32::from(character);
-    c < 32 || (127 <= c && c <= 159)
+    c < 32 || (127 <= c && c <= 159) || (0xfffe <= c && c <= 0xffff)
 }
 
 /// What stands before the number of a character in a label.
@@ -36,24 +37,53 @@ fn entity_lead(language: Language) -> &'static str
     }
 }
 
-/// Appends a character by its number.
+/// Appends a character by its number; a backslash in DOT twice, since it begins an escape there.
 fn put_entity(out: &mut String, language: Language, character: char) -> Result<(), AllocError>
     ensures { OnOk result (string_bytes out.new
         ≡ string_bytes out.old ++ entity language character) }
+{
+    if language == Language::Dot && character == '\\' {
+        put_numbered(out, language, character)?;
+    }
+    put_numbered(out, language, character)
+}
+
+fn put_numbered(out: &mut String, language: Language, character: char) -> Result<(), AllocError>
+    ensures { OnOk result (string_bytes out.new
+        ≡ string_bytes out.old ++ numbered language character) }
 {
     out.push_str(entity_lead(language))?;
     put_decimal(out, u64::from(u32::from(character)))?;
     out.push(';')
 }
 
-fn put_shown_char(out: &mut String, language: Language, character: char) -> Result<(), AllocError>
-    ensures { OnOk result (string_bytes out.new
-        ≡ string_bytes out.old ++ shown_char language character) }
+/// Whether a character is a space behind one with which it is a list's item in Markdown, as Mermaid reads labels.
+fn marks_item(language: Language, before: char, character: char) -> bool
+    ensures { result ≡ marks_item language before character }
 {
+    match language {
+        Language::Mermaid => character == ' ' && (before == '.' || before == '-'),
+        Language::Dot => false,
+    }
+}
+
+/// Appends a character behind another one.
+fn put_shown_char(
+    out: &mut String,
+    language: Language,
+    before: char,
+    character: char,
+) -> Result<(), AllocError>
+    ensures { OnOk result (string_bytes out.new
+        ≡ string_bytes out.old ++ shown_char language before character) }
+{
+    if marks_item(language, before, character) {
+        return put_entity(out, language, character);
+    }
     if is_kept(character) {
         return out.push(character);
     }
-    if is_control(character) {
+    if is_refused(character) {
         return out.push('\u{fffd}');
     }
     put_entity(out, language, character)
@@ -64,8 +94,10 @@ pub(crate) fn put_shown(out: &mut String, language: Language, name: &str) -> Res
     ensures { OnOk result (string_bytes out.new
         ≡ string_bytes out.old ++ shown language name.now) }
 {
+    let mut before = '\0';
     for character in name.chars() {
-        put_shown_char(out, language, character)?;
+        put_shown_char(out, language, before, character)?;
+        before = character;
     }
     Ok(())
 }

@@ -1,12 +1,19 @@
-use Rattle.std.proofs.Common.{string_bytes}
+use Rattle.std.proofs.Common.{string_bytes, sym}
 use Rattle.std.proofs.lemmas.Iterator.{YieldsList-from_chars}
 use Rattle.std.proofs.lemmas.Iterator.Consumers.{YieldsList-end}
 use Rattle.std.specs.Str.{chars}
-use Rattle.asl_graph.specs.Names.{shown_char}
-use Rattle.asl_terminal.proofs.Letters.{end}
+use Rattle.asl_graph.proofs.Behind.{end, last_more, step}
 use Rattle.asl_graph.proofs.naming.put_shown.Goals as goal
 
 pub returns : goal.returns
 returns c =
     let t = YieldsList-end (YieldsList-from_chars c.args.name.now c.utf8.name cc) c.loop-character.yielded _ c.loop-character.yielded_by _ _ c.in-None.is c.next.ensures.steps in
-    end (shown_char c.args.language) (string_bytes c.args.out.now) (string_bytes c.loop-character.out) c.loop-character.yielded (chars c.args.name.now) c.loop-character.invariant t.0
+    end c.args.language (string_bytes c.args.out.now) (string_bytes c.loop-character.out) c.loop-character.yielded (chars c.args.name.now) c.loop-character.invariant.so_far t.0
+
+pub loop-character-preserved : goal.loop-character-preserved
+loop-character-preserved c =
+    let l = c.loop-character in
+    record {
+      so_far = step c.args.language (string_bytes c.args.out.now) (string_bytes l.out) (string_bytes c.put_shown_char.new.out) l.yielded l.before c.in-Some.character l.invariant.so_far l.invariant.behind c.in_ok-put_shown_char.ensures;
+      behind = sym (last_more 0 l.yielded c.in-Some.character);
+    }

@@ -1,7 +1,10 @@
 use Rattle.std.proofs.Common.{◌≡◌, ◌++◌, string_bytes}
-use Rattle.std.specs.List.{flat_map}
-use Rattle.asl_graph.specs.Names.{shown_char}
+use Rattle.asl_graph.specs.Names.{shown_behind}
+use Rattle.asl_graph.proofs.Behind.{last_behind}
 use Rattle.asl_graph.proofs.naming.put_shown.Given as goal
 
 abbrev pub invariant-loop-character : goal.invariant-loop-character
-invariant-loop-character l = string_bytes l.out ≡ string_bytes l.fn.out ++ flat_map (shown_char l.language) l.yielded
+invariant-loop-character l = record {
+  so_far : string_bytes l.out ≡ string_bytes l.fn.out ++ shown_behind l.language 0 l.yielded;
+  behind : l.before ≡ last_behind 0 l.yielded;
+}
