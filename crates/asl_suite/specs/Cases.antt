@@ -1,5 +1,6 @@
 -- What is reported of a test.
-use Rattle.std.specs.Prelude.{ℕ, Bool, true, false, not, ◌&&◌, nat_eq, if◌then◌else◌, List, length, map, Option, Some, None, Result, Ok, Err, count_by}
+use Rattle.std.specs.Prelude.{ℕ, Bool, true, false, not, ◌&&◌, nat_eq, if◌then◌else◌, List, length, map, Option, Some, None, option_map, Result, Ok, Err, count_by}
+use Rattle.std.specs.Result.{result_ok}
 use Rattle.std.specs.List.{list_all}
 use Rattle.asl_json.specs.Meaning.{same}
 use Rattle.asl_json.specs.Same.{bytes_eq}
@@ -115,6 +116,10 @@ test_setup s x c = record {
   name = name_or_run x.case;
   start = 0;
 }
+
+-- the same by its case in the mock file; none, where it isn't there
+abbrev pub setup_in : Suite → Expectation → Option Setup
+setup_in s x = option_map (test_setup s x) (result_ok (case_or_empty s.mocks x.machine x.case))
 
 -- the world to which so many steps drive it at most
 abbrev pub driven_within : ℕ → Setup → World

@@ -16,5 +16,5 @@ pub use case_report::{CaseReport, Status, Verdict};
 pub use explaining::explain;
 pub use reason::Reason;
 pub use reporting::{all_passed, report};
-pub use running::run_case;
+pub use running::{run_case, setup_in};
 pub use suite::Suite;

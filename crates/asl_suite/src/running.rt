@@ -3,7 +3,7 @@ ghost use Rattle.std.specs.Prelude.{◌≡◌, ◌<◌, length, Ok, Some, IfOk, 
 ghost use Rattle.std.specs.Option.{option_map};
 ghost use Rattle.asl_exec.specs.Views.{world_of};
 ghost use Rattle.asl_run_setup.specs.Chosen.{name_or_run, case_or_empty};
-ghost use Rattle.asl_suite.specs.Cases.{step_limit, test_setup, driven_within, judged, no_case, report_by, report_within, report_on};
+ghost use Rattle.asl_suite.specs.Cases.{step_limit, test_setup, setup_in, driven_within, judged, no_case, report_by, report_within, report_on};
 
 use crate::case_report::{CaseReport, Status, Verdict};
 use crate::judging::{status_of, verdict_on};
@@ -72,6 +72,20 @@ pub(crate) fn setup_of(
         name,
         start: Moment::FIRST,
     })
+}
+
+/// What the execution of a test begins with; none, where the mock file hasn't its case. The error is that memory ran out.
+pub fn setup_in(
+    alloc: Global,
+    suite: &Suite,
+    test: &Expectation,
+) -> Result<Option<Setup>, AllocError>
+    ensures { IfOk result (λ o. o ≡ setup_in suite.now test.now) }
+{
+    match case_of(&suite.mocks, test)? {
+        Ok(case) => Ok(Some(setup_of(alloc, suite, test, case)?)),
+        Err(_) => Ok(None),
+    }
 }
 
 /// The execution of a setup, driven by at most so many steps. The error is that memory ran out.
