@@ -276,8 +276,9 @@ def target_of(path, name):
 
 
 def of_code(crate, modules, name):
-    """The key of a type or a constant of the code, by its module and what is named behind it."""
-    for it in (name, *reversed(modules)):
+    """The key of a type or a constant of the code, by its module and what is named behind it. A variant stands for its type."""
+    part = next((number for number, it in enumerate(modules) if it in ("TheVariants", "TheInside", "TheImpl")), None)
+    for it in (name, *reversed(modules)) if part is None else (modules[part - 1],):
         for wanted in (it, re.sub(r"^out-|^deep-", "", it), re.sub(r"(PartialEq|Eq|Clone|Drop)$", "", it)):
             if found := in_crate(crate, wanted, modules):
                 return found
@@ -346,7 +347,9 @@ class Code:
 
     def item(self, name):
         """The key of a type, trait or constant that the code names."""
-        return in_crate(self.crate, name, [self.path[4:-3].rpartition("/")[2]]) or name in self.uses and in_crate(*self.uses[name]) or None
+        if self.path in declared(self.crate).get(name, []):
+            return ("code", self.crate, self.path, name)
+        return in_crate(*self.uses.get(name, (self.crate, name)))
 
     def items(self, text):
         """The keys of the types and constants in a text of the code."""
