@@ -4,3 +4,4 @@ pub mod OneRun
 pub mod Growing
 pub mod Going
 pub mod Obstacles
+pub mod Leading
