@@ -10,8 +10,26 @@ from program import NO_ANSWER, TOP, ProgramTest, run_program
 
 START = "1970-01-01T00:00:00.000Z"
 
-# The examples in which the order decides, and how many outcomes they have.
-SEVERAL = {"order#shipped": 2, "orders#declined": 2, "thumbnails#made": 4, "loan#both": 2}
+# The examples with several outcomes, since the order decides or the time may be over, and how many they have.
+SEVERAL = {
+    "approval#approved": 2,
+    "approval#rejected": 2,
+    "order#shipped": 2,
+    "orders#declined": 3,
+    "orders#late": 2,
+    "orders#shipped": 2,
+    "orders#soldout": 2,
+    "thumbnails#made": 4,
+    "loan#both": 2,
+}
+
+# The first line of a search that left out nothing.
+EVERY = "search complete: every order, every moment"
+EARLIEST = "search complete: every order, each step at its earliest moment"
+PROMPT = "search complete: every order in which no branch is late"
+
+TIMED_OUT = 'TIMED_OUT {"Error":"States.Timeout"}'
+TIME_LIMIT = f"note time limit: a late step ends the execution at any time, as {TIMED_OUT}"
 
 
 class Found(NamedTuple):
@@ -47,12 +65,38 @@ class Explored(NamedTuple):
         """The texts of the outcomes."""
         return [one.outcome for one in self.found]
 
+    @property
+    def reads_clock(self):
+        """Whether a text is told that may read the clock."""
+        return any(note.startswith("note the text at ") for note in self.notes)
+
+    @property
+    def complete(self):
+        """Whether nothing was left out."""
+        return self.search in (EVERY, EARLIEST, PROMPT)
+
 
 def called(line):
     """The name and the text of a line that tells how often a Task is invoked."""
     name, told = line.removeprefix("calls ").rsplit(" ", 1)
     assert line.startswith("calls "), line
     return json.loads(name), told
+
+
+def clock_note(place):
+    """The note on the text at this place, which may read the clock."""
+    return f"note the text at {json.dumps(place)} may read the clock: at other moments there may be other outcomes"
+
+
+def late_steps(chance, places, count):
+    """The lines of random steps at these places, many of them late."""
+    moment, lines = 0, []
+    for number in range(count):
+        if number and chance.random() < 0.4:
+            moment += chance.choice([1, 500, 1000, 2000, 3000, 7000, 60000])
+        minutes, seconds = divmod(moment // 1000, 60)
+        lines.append(f"{chance.choice(places)} 1970-01-01T{minutes // 60:02}:{minutes % 60:02}:{seconds:02}.{moment % 1000:03}Z\n")
+    return "".join(lines)
 
 
 def lasso(part):
@@ -158,7 +202,8 @@ class Exploring(Searches):
         ran = self.explore(definition, given, mocks, chosen)
         told = explored(ran.stdout)
         self.assert_noted(ran, told)
-        self.assertEqual(told.search, "search complete")
+        self.assertEqual(told.search, EARLIEST if told.reads_clock else EVERY)
+        self.assertEqual(TIME_LIMIT in told.notes, TIMED_OUT in told.outcomes)
         self.assertEqual(len(set(told.outcomes)), len(told.outcomes))
         good = all(one.startswith("SUCCEEDED ") for one in told.outcomes) and told.endless is None
         self.assertEqual(ran.returncode, 0 if good else 1)
@@ -173,7 +218,7 @@ class Exploring(Searches):
             ran = run_program("explore", *words)
             told = explored(ran.stdout)
             self.assert_noted(ran, told)
-            self.assertEqual((told.search, told.endless), ("search complete", None), chosen)
+            self.assertEqual((told.search, told.endless), (EVERY, None), chosen)
             for number, one in enumerate(told.found, 1):
                 witness = run_program("explore", *words, "--witness", str(number))
                 self.assertEqual((witness.returncode, witness.stderr), (0, ""))
@@ -296,7 +341,7 @@ class Exploring(Searches):
         told = explored(ran.stdout)
         self.assert_noted(ran, told)
         self.assertEqual((told.search, told.notes[0]),
-            ("search complete", "note only orders in which no branch is late: one steps only where none may step earlier"))
+            (PROMPT, "note only orders in which no branch is late: one steps only where none may step earlier"))
         self.assertEqual([one.late for one in told.found], len(told.found) * [False])
         return told
 
@@ -338,23 +383,88 @@ class Exploring(Searches):
     def test_a_branch_that_waits_beyond_the_time_limit(self):
         definition = '{"StartAt":"W","TimeoutSeconds":5,"States":{"W":{"Type":"Wait","Seconds":10,"End":true}}}'
         told = self.complete(definition, chosen="M")
-        self.assertEqual(told.outcomes, ['TIMED_OUT {"Error":"States.Timeout"}'])
-        self.assertEqual([note.split(":")[0] for note in told.notes], ["note time limit"])
+        self.assertEqual([(one.outcome, one.places, one.late) for one in told.found], [(TIMED_OUT, ["/", "/"], False)])
+        self.assertEqual(told.notes, [TIME_LIMIT])
 
-    def test_a_definition_that_reads_the_clock_is_noted(self):
-        for more, noted in [
-            ('"Parameters":{"at.$":"$$.State.EnteredTime"}', True),
-            ('"Parameters":{"at.$":"$$"}', True),
-            ('"Parameters":{"at.$":"States.Format(\'{}\', $$.State.EnteredTime)"}', True),
-            ('"Parameters":{"at.$":"States.JsonToString($$.State)"}', True),
-            ('"Parameters":{"at.$":"$$[\'State\']"}', True),
-            ('"Parameters":{"at.$":"States.JsonToString($$[\'State\'])"}', True),
-            ('"Parameters":{"at.$":"States.Format(\'{}-{}\', $$.Execution.Name, $$.State.RetryCount)"}', False),
-            ('"Parameters":{"at.$":"$$.State.Name"}', False),
-            ('"Parameters":{"at.$":"$$.Execution.StartTime"}', False),
+    # ---- a late step ends an execution that has a time limit
+
+    def late_witness(self, definition, given="{}", mocks="{}", chosen="M#c"):
+        """What a search found of an execution with a time limit: behind the other outcomes that of a late step, whose steps end so."""
+        told = self.complete(definition, given, mocks, chosen)
+        self.assertEqual((told.outcomes.index(TIMED_OUT), told.notes), (len(told.found) - 1, [TIME_LIMIT]))
+        witness = self.explore(definition, given, mocks, chosen, "--witness", str(len(told.found)))
+        self.assertEqual((witness.returncode, witness.stderr), (0, ""))
+        first, last = witness.stdout.splitlines()
+        self.assertEqual((first.split(" ")[1], last.split(" ")[0]), (START, "/"))
+        ran = self.run_texts(definition, mocks, chosen, given, witness.stdout).stdout.splitlines()
+        self.assertEqual((ran[1], ran[-1]), ("step / ok", f"status {TIMED_OUT}"))
+        return told, first, last, ran[0]
+
+    def test_a_late_step_ends_an_execution_at_any_time(self):
+        two = chain("A", 2).replace('"States"', '"TimeoutSeconds":90,"States"', 1)
+        told, first, last, reply = self.late_witness(two, chosen="M")
+        self.assertEqual([(one.outcome, one.late) for one in told.found], [("SUCCEEDED {}", False), (TIMED_OUT, True)])
+        self.assertEqual((first, last, reply), (f"/ {START}", "/ 1970-01-01T00:01:30.000Z", "step / ok"))
+        self.assertEqual(self.prompt(two, chosen="M").outcomes, ["SUCCEEDED {}"])
+
+    def test_a_first_step_that_ends_the_execution_is_replaced_by_one_that_is_refused(self):
+        one = chain("A", 1).replace('"States"', '"TimeoutSeconds":90,"States"', 1)
+        told, first, last, reply = self.late_witness(one, chosen="M")
+        self.assertEqual([(one.outcome, one.late) for one in told.found], [("SUCCEEDED {}", False), (TIMED_OUT, True)])
+        self.assertEqual((first, reply.startswith("step /0 S")), (f"/0 {START}", True))
+
+    def test_polling_with_waits_and_a_time_limit(self):
+        definition = (
+            '{"StartAt":"T","TimeoutSeconds":%d,"States":{"T":{%s,"Next":"C"},"C":{"Type":"Choice","Choices":'
+            '[{"Variable":"$","StringEquals":"done","Next":"S"}],"Default":"W"},"W":{"Type":"Wait","Seconds":5,"Next":"T"},"S":{"Type":"Succeed"}}}'
+        )
+        busy = mocked({"T": '"0-2":{"Return":"busy"},"3-9999":{"Return":"done"}'})
+        told, *_ = self.late_witness(definition % (60, TASK), "{}", busy)
+        self.assertEqual([(one.outcome, one.late) for one in told.found], [('SUCCEEDED "done"', False), (TIMED_OUT, True)])
+        for mocks, limit in [(busy, 12), (busy, 15), (mocked({"T": '"0-9999":{"Return":"busy"}'}), 100)]:
+            told = self.complete(definition % (limit, TASK), "{}", mocks)
+            self.assertEqual([(one.outcome, one.late) for one in told.found], [(TIMED_OUT, False)], limit)
+            self.assertEqual(self.prompt(definition % (limit, TASK), "{}", mocks).outcomes, [TIMED_OUT])
+
+    def test_a_search_that_is_cut_lists_the_late_step(self):
+        definition = parallel([chain("A", 4, TASK), chain("B", 4, TASK)]).replace('"States"', '"TimeoutSeconds":90,"States"', 1)
+        ran = self.explore(definition, "{}", mocked({f"{name}{number}": '"0":{"Return":1}' for name in "AB" for number in range(4)}), "M#c", "--limit", "3")
+        told = explored(ran.stdout)
+        self.assertEqual((ran.returncode, told.search, told.outcomes), (1, "search cut after 2 steps", [TIMED_OUT]))
+
+    # ---- definitions that read the clock
+
+    def test_the_text_that_reads_the_clock_is_told(self):
+        for more, place in [
+            ('"Parameters":{"at.$":"$$.State.EnteredTime"}', "Parameters/at.$"),
+            ('"Parameters":{"at.$":"$$"}', "Parameters/at.$"),
+            ('"Parameters":{"at.$":"States.Format(\'{}\', $$.State.EnteredTime)"}', "Parameters/at.$"),
+            ('"Parameters":{"at.$":"States.JsonToString($$.State)"}', "Parameters/at.$"),
+            ('"Parameters":{"at.$":"$$[\'State\']"}', "Parameters/at.$"),
+            ('"Parameters":{"at.$":"States.JsonToString($$[\'State\'])"}', "Parameters/at.$"),
+            ('"Parameters":{"list":[1,{"a/b~c.$":"$$.State"},{"d.$":"$$"}]}', "Parameters/list/1/a~1b~0c.$"),
+            ('"InputPath":"$$.State.EnteredTime"', "InputPath"),
+            ('"Parameters":{"at.$":"States.Format(\'{}-{}\', $$.Execution.Name, $$.State.RetryCount)"}', None),
+            ('"Parameters":{"at.$":"$$.State.Name"}', None),
+            ('"Parameters":{"at.$":"$$.Execution.StartTime"}', None),
         ]:
             told = self.complete('{"StartAt":"A","States":{"A":{"Type":"Pass",%s,"End":true}}}' % more, chosen="M")
-            self.assertEqual(len(told.notes), noted, more)
+            self.assertEqual(told.notes, [clock_note(f"/States/A/{place}")] if place else [], more)
+
+    def test_the_clock_is_found_in_inner_machines(self):
+        reads = '{"StartAt":"I","States":{"I":{"Type":"Pass","Parameters":{"t.$":"$$.State.EnteredTime"},"End":true}}}'
+        for definition, place in [
+            (parallel([chain("A", 2), reads]), "/States/P/Branches/1/States/I/Parameters/t.$"),
+            (mapped(reads), "/States/M/ItemProcessor/States/I/Parameters/t.$"),
+            (mapped(chain("A", 1), ',"ItemSelector":{"v.$":"$$.State"}'), "/States/M/ItemSelector/v.$"),
+        ]:
+            self.assertEqual(self.complete(definition, "[1]", chosen="M").notes, [clock_note(place)], definition)
+
+    def test_steps_at_other_moments_give_other_outcomes_where_the_clock_is_read(self):
+        definition = chain("A", 2).replace('"A1":{"Type":"Pass"', '"A1":{"Type":"Pass","Parameters":{"t.$":"$$.State.EnteredTime"}')
+        told = self.complete(definition, chosen="M")
+        ran = self.run_texts(definition, "{}", "M", "{}", f"/ {START}\n/ 1970-01-01T00:00:07.000Z\n").stdout.splitlines()[-1]
+        self.assertEqual((told.search, ran.removeprefix("status ") in told.outcomes), (EARLIEST, False))
 
     # ---- whatever steps are taken
 
@@ -385,6 +495,69 @@ class Exploring(Searches):
                     seen.add(last.removeprefix("status "))
             self.assertLessEqual(seen, set(listed))
             self.assertTrue(seen)
+
+    def test_late_steps_of_the_examples_end_in_a_listed_outcome(self):
+        chance = random.Random(63)
+        ended = 0
+        for folder, chosen, given, _ in example_cases():
+            words = [f"{folder}/definition.json", f"{folder}/mocks.json", chosen, given]
+            told = explored(run_program("explore", *words).stdout)
+            self.assertEqual(told.search, EVERY)
+            places = sorted({place for one in told.found for place in one.places})
+            for _ in range(20):
+                with tempfile.NamedTemporaryFile("w", prefix="asl-test-") as file:
+                    file.write(late_steps(chance, places, 60))
+                    file.flush()
+                    last = run_program("run", *words, "--steps", file.name).stdout.splitlines()[-1]
+                if last != "status RUNNING":
+                    ended += 1
+                    self.assertIn(last.removeprefix("status "), told.outcomes, chosen)
+        self.assertGreater(ended, 300)
+
+    def random_timed_machine(self, chance, name):
+        """The text of a machine of a few states: they pass, wait, ask a service that may be retried, or fail."""
+        count = chance.randrange(1, 4)
+        states = []
+        for number in range(count):
+            goes = f'"Next":"{name}{number + 1}"' if number < count - 1 else '"End":true'
+            row = chance.choice(
+                [
+                    f'{{"Type":"Pass",{goes}}}',
+                    f'{{"Type":"Wait","Seconds":{chance.randrange(1, 4)},{goes}}}',
+                    f'{{"Type":"Wait","Timestamp":"1970-01-01T00:00:0{chance.randrange(1, 6)}Z",{goes}}}',
+                    f"{{{TASK},{goes}}}",
+                    f'{{{TASK},"Retry":[{{"ErrorEquals":["Busy"],"IntervalSeconds":{chance.randrange(1, 3)},"MaxAttempts":1}}],{goes}}}',
+                    f'{{"Type":"Fail","Error":"E{name}{number}"}}',
+                ]
+            )
+            states.append(f'"{name}{number}":{row}')
+        return f'{{"StartAt":"{name}0","States":{{{",".join(states)}}}}}'
+
+    def test_late_steps_of_random_definitions_end_in_a_listed_outcome(self):
+        chance = random.Random(64)
+        ended = several = 0
+        for _ in range(300):
+            machines = [self.random_timed_machine(chance, name) for name in "ABC"[: chance.randrange(1, 4)]]
+            caught = chance.choice(["", "", ',"Retry":[{"ErrorEquals":["States.ALL"],"IntervalSeconds":1,"MaxAttempts":1}]'])
+            definition = parallel(machines, caught)
+            if chance.randrange(3) == 0:
+                definition = definition.replace('"States"', f'"TimeoutSeconds":{chance.randrange(1, 9)},"States"', 1)
+            tasks = sorted({part.split('"')[-2] for part in definition.split(':{"Type":"Task"')[:-1]})
+            answers = [FOR_EVER, '"0":{"Throw":{"Error":"Busy"}},"1-9999":{"Return":1}', '"0":{"Return":0},"1":{"Throw":{"Error":"Busy"}}']
+            mocks = mocked({task: chance.choice(answers) for task in tasks})
+            told = explored(self.explore(definition, "{}", mocks, "M#c", "--limit", "5000").stdout)
+            if not told.complete:
+                continue
+            self.assertEqual(told.search, EVERY)
+            several += len(told.found) > 1
+            places = ["/", "/", *[f"/{number}" for number in range(len(machines))]]
+            for _ in range(6):
+                last = self.run_texts(definition, mocks, "M#c", "{}", late_steps(chance, places, 50)).stdout.splitlines()[-1]
+                if last != "status RUNNING":
+                    ended += 1
+                    self.assertIn(last.removeprefix("status "), told.outcomes, (definition, mocks))
+        self.assertGreater(ended, 1000)
+        self.assertGreater(several, 60)
 
     # ---- quiet steps are taken alone
 
@@ -449,10 +622,10 @@ class Exploring(Searches):
                 found.append(explored(ran.stdout))
             plain = explored(self.explore(waits, "{}", mocked(answers), "M#c", "--limit", "1000").stdout)
             reduced = explored(self.explore(body, "{}", mocked(answers), "M#c", "--limit", "1000").stdout)
-            if plain.search == reduced.search == "search complete":
+            if plain.complete and reduced.complete:
                 compared += 1
                 self.assertEqual(sorted(plain.outcomes), sorted(reduced.outcomes), body)
-            if found[0].search == found[1].search == "search complete":
+            if found[0].complete and found[1].complete:
                 self.assertEqual(sorted(found[0].outcomes), sorted(found[1].outcomes), body)
         self.assertGreater(compared, 10)
 
@@ -534,7 +707,7 @@ class Exploring(Searches):
             given = f"[{','.join('0' * chance.randrange(2, 4))}]"
             reduced = self.complete(mapped(body, more), given, mocked(answers))
             plain = explored(self.explore(mapped(body, more), given, mocked(answers), "M#c", "--calls").stdout)
-            self.assertEqual((plain.search, sorted(plain.outcomes)), ("search complete", sorted(reduced.outcomes)), (body, answers))
+            self.assertEqual((plain.search, sorted(plain.outcomes)), (EVERY, sorted(reduced.outcomes)), (body, answers))
             several += len(plain.outcomes) > 1
         self.assertGreater(several, 10)
 
@@ -546,7 +719,7 @@ class Exploring(Searches):
         for words in ([], ["--prompt"], ["--calls"]):
             ran = self.explore(definition, given, mocks, chosen, *words)
             told = explored(ran.stdout)
-            self.assertEqual((ran.returncode, told.search), (1, "search complete"), words)
+            self.assertEqual((ran.returncode, told.search), (1, PROMPT if "--prompt" in words else EVERY), words)
             self.assertTrue(told.endless, words)
             places = told.endless.stem + 5 * told.endless.round
             ran = self.run_texts(definition, mocks, chosen, given, "".join(f"{place} {START}\n" for place in places))
@@ -566,7 +739,7 @@ class Exploring(Searches):
         told = self.endless('{"StartAt":"B","States":{"B":{"Type":"Pass","Next":"A"},"A":{"Type":"Pass","Next":"B"}}}', chosen="M")
         self.assertEqual((told.outcomes, told.endless), ([], Lasso([], ["/", "/"])))
         ran = self.explore(ROUND, "{}", "{}", "M")
-        self.assertEqual(ran.stdout, "search complete\nworlds 1\noutcomes 0\n\nendless\norder\nloop /\n")
+        self.assertEqual(ran.stdout, f"{EVERY}\nworlds 1\noutcomes 0\n\nendless\norder\nloop /\n")
 
     def test_who_gets_the_wrong_answer_goes_round_for_ever(self):
         rules = '[{"And":[{"Variable":"$.item","NumericEquals":1},{"Variable":"$.answer","NumericEquals":0}],"Next":"A"}]'
@@ -630,7 +803,7 @@ class Exploring(Searches):
             mocks = mocked({task: chance.choice([FOR_EVER, '"0":{"Throw":{"Error":"T"}},"1-9999":{"Return":1}']) for task in tasks})
             for words in ([], ["--prompt"]):
                 quiet, each = [explored(self.explore(body, "{}", mocks, "M#c", "--limit", "2000", *words, *more).stdout) for more in ([], ["--calls"])]
-                if quiet.search == each.search == "search complete":
+                if quiet.complete and each.complete:
                     compared += 1
                     never += each.endless is not None
                     self.assertEqual(quiet.endless is None, each.endless is None, (body, mocks, words))
@@ -638,6 +811,11 @@ class Exploring(Searches):
         self.assertGreater(never, 5)
 
     # ---- searches that are cut
+
+    def test_an_order_that_is_longer_than_a_history_cuts_the_search(self):
+        ran = self.explore(chain("A", 12600), chosen="M")
+        told = explored(ran.stdout)
+        self.assertEqual((ran.returncode, told.search, told.outcomes), (1, "search cut: an order has more steps than a history has room for", []))
 
     def test_a_loop_that_goes_on_is_cut(self):
         loop = '{"StartAt":"T","States":{"T":{"Type":"Task","Resource":"r","Next":"T"}}}'
@@ -653,7 +831,7 @@ class Exploring(Searches):
     def test_a_search_of_just_so_many_worlds_is_complete(self):
         definition = parallel([chain("A", 2), chain("B", 2)])
         worlds = self.complete(definition, chosen="M").worlds
-        for limit, search in [(worlds, "search complete"), (worlds - 1, "search cut after ")]:
+        for limit, search in [(worlds, EVERY), (worlds - 1, "search cut after ")]:
             ran = self.explore(definition, "{}", "{}", "M", "--limit", str(limit))
             self.assertTrue(explored(ran.stdout).search.startswith(search), ran.stdout)
 

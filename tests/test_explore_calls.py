@@ -46,7 +46,7 @@ class Telling(Searches):
         ran = self.explore(definition, given, mocks, chosen, *words)
         told = explored(ran.stdout)
         self.assert_noted(ran, told)
-        self.assertEqual(told.search, "search complete")
+        self.assertTrue(told.complete, told.search)
         return told
 
     def calls(self, definition, given="{}", mocks="{}", *words):

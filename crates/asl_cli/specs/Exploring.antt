@@ -1,14 +1,18 @@
 -- What the command `explore` finds, prints and tells.
-use Rattle.std.specs.Prelude.{ℕ, zero, suc, Bool, true, false, is_none, List, Option, Some, None, ◌≡◌, ◌⊎◌, slice_get, codes}
-use Rattle.std.specs.List.{All}
+use Rattle.std.specs.Prelude.{ℕ, zero, suc, Bool, true, false, is_none, is_some, IfSome, ◌≤◌, List, Option, Some, None, ◌≡◌, ◌⊎◌, slice_get, codes}
+use Rattle.std.specs.List.{All, Contains}
 use Rattle.asl_run_setup.specs.declared.setup.Setup.{Setup}
 use Rattle.asl_run_setup.specs.StepsFile.{steps_file}
 use Rattle.asl_explore.specs.declared.found.Found.{Found}
 use Rattle.asl_explore.specs.declared.found.Explored.{Explored}
-use Rattle.asl_explore.specs.Orders.{IsWhole, IsWholeAtAllMoments, IsWholeAtAnyMoment}
-use Rattle.asl_explore.specs.Endless.{NoneIsEndless}
+use Rattle.asl_run_world.specs.declared.outcome.Outcome.TheVariants.{TimedOut}
+use Rattle.asl_exec.specs.Steps.{deadline_of}
+use Rattle.asl_explore.specs.Clock.{clock_place}
+use Rattle.asl_explore.specs.Orders.{IsWhole, IsWholeAtAnyMoment, IsWholeTo}
+use Rattle.asl_explore.specs.Endless.{IsLasso, NoneIsEndless}
+use Rattle.asl_explore.specs.TimeOver.{IsShown}
 use Rattle.asl_explore.specs.Calls.{IsStated, AreCounted}
-use Rattle.asl_explore.specs.Searches.{Shows, AreDistinct, AreLate, outcomes_of}
+use Rattle.asl_explore.specs.Searches.{AreDistinct, AreAllLate, AreLate, outcomes_of}
 use Rattle.asl_explore.specs.declared.orders.Orders.{Orders}
 use Rattle.asl_explore.specs.declared.orders.Orders.TheVariants.{Every, Prompt}
 use Rattle.asl_explore.specs.Reports.{explored_text, is_good}
@@ -27,27 +31,37 @@ orders_for false = Every
 
 -- what a search may find for the setup that the files may give: each outcome with steps that end in
 -- it, none twice, and, where nothing was left out, the outcome of every order that is tried, and of
--- steps at any moments where all are and the definition reads no clock; those
--- that are called late come in no order in which no branch is. Where each step was taken of each
--- world, and no order is told that is endless, each can be gone on with to an end. If that is wanted, where nothing was
+-- steps at any moments where all are and the definition reads no clock; TIMED_OUT is among them where
+-- there is a time limit. Where the first text stands that reads the clock, and whether there is a limit.
+-- Of a search that was cut: how many steps were tried in every order; its limit is the one that was given.
+-- Those that are called late come in no order in which no branch is; where that is known, all of these
+-- are called so. Where each step was taken of each
+-- world, and no order is told that is endless, each can be gone on with to an end; one that is told goes
+-- round. If that is wanted, where nothing was
 -- left out, how often each state is invoked in an order lies within the bounds of its outcome. This is
 -- told of the answers that the outcomes lacked
 pub record IsFoundFor (gives : List ℕ → List ℕ → Type 0) (w : ExploreWords) (x : Explored)
     (notes : List ℕ) : Type 0 where
   pub setup : Setup
   pub begins : IsBegun gives w.setup setup
-  pub shown : All (Shows setup) x.found.items
+  pub shown : All (IsShown x.orders setup) x.found.items
   pub once : AreDistinct (outcomes_of x.found.items)
   pub orders : x.orders ≡ orders_for w.prompt
   pub whole : x.complete ≡ true → IsWhole x.orders setup (outcomes_of x.found.items)
-  pub any_moment : x.complete ≡ true → x.orders ≡ Every → x.clocked ≡ false
+  pub any_moment : x.complete ≡ true → x.orders ≡ Every → is_none x.clock ≡ true
       → IsWholeAtAnyMoment setup (outcomes_of x.found.items)
-  pub all_moments : x.complete ≡ true → x.orders ≡ Every → x.clocked ≡ false → x.limited ≡ false
-      → IsWholeAtAllMoments setup (outcomes_of x.found.items)
+  pub time_over : x.complete ≡ true → x.orders ≡ Every → x.limited ≡ true
+      → Contains (outcomes_of x.found.items) TimedOut
+  pub limited : x.limited ≡ is_some (deadline_of setup)
+  pub clock : x.clock ≡ clock_place setup.machine
+  pub depth : IfSome x.depth (λ d. IsWholeTo d x.orders setup (outcomes_of x.found.items))
+  pub cut : x.complete ≡ false → x.stuck ≡ false → w.limit ≤ x.worlds
   pub ends : x.reduced ≡ false → x.complete ≡ true → is_none x.endless ≡ true
       → NoneIsEndless x.orders setup
   pub plain : w.calls ≡ true → x.complete ≡ true → x.reduced ≡ false
+  pub lasso : IfSome x.endless (IsLasso x.orders setup)
   pub late : AreLate setup x.found.items x.late.items
+  pub all_late : x.marked ≡ true → AreAllLate setup x.found.items x.late.items
   pub calls : w.calls ≡ true → x.complete ≡ true
       → AreCounted x.orders setup (outcomes_of x.found.items) x.calls.items
   pub states : All (IsStated setup.machine) x.states.items

@@ -1,6 +1,6 @@
 // The command `explore`.
-ghost use Rattle.std.specs.Prelude.{◌≡◌, List, ℕ, None, true, false, is_none, IfOk, IfErr, string_bytes};
-ghost use Rattle.std.specs.List.{All};
+ghost use Rattle.std.specs.Prelude.{◌≡◌, ◌≤◌, List, ℕ, None, true, false, is_none, is_some, IfOk, IfErr, IfSome, string_bytes};
+ghost use Rattle.std.specs.List.{All, Contains};
 ghost use Rattle.std.specs.Option.{option_copied};
 ghost use Rattle.asl_run_setup.specs.StepsFile.{steps_file};
 ghost use Rattle.asl_explore.specs.Reports.{explored_text};
@@ -10,9 +10,13 @@ ghost use Rattle.asl_cli.specs.Faults.{IsRunReason};
 ghost use Rattle.asl_cli.specs.Noting.{notes_for};
 ghost use Rattle.asl_explore.specs.Calls.{AreCounted, IsStated};
 ghost use Rattle.asl_explore.specs.declared.orders.Orders.TheVariants.{Every};
-ghost use Rattle.asl_explore.specs.Endless.{NoneIsEndless};
-ghost use Rattle.asl_explore.specs.Orders.{IsWhole, IsWholeAtAllMoments, IsWholeAtAnyMoment};
-ghost use Rattle.asl_explore.specs.Searches.{AreDistinct, AreLate, Shows, outcomes_of};
+ghost use Rattle.asl_explore.specs.Clock.{clock_place};
+ghost use Rattle.asl_explore.specs.Endless.{IsLasso, NoneIsEndless};
+ghost use Rattle.asl_explore.specs.Orders.{IsWhole, IsWholeAtAnyMoment, IsWholeTo};
+ghost use Rattle.asl_explore.specs.Searches.{AreAllLate, AreDistinct, AreLate, outcomes_of};
+ghost use Rattle.asl_explore.specs.TimeOver.{IsShown};
+ghost use Rattle.asl_exec.specs.Steps.{deadline_of};
+ghost use Rattle.asl_run_world.specs.declared.outcome.Outcome.TheVariants.{TimedOut};
 
 use crate::command::{FAILED, GOOD, REFUSED, print_good, tell_error};
 use crate::debugging::setup_of;
@@ -93,22 +97,30 @@ fn search_from<W: Watch>(
     chosen: &str,
     setup: Setup,
 ) -> Result<Searched, AllocError>
-    ensures shown { IfOk result (λ r. All (Shows setup) r.explored.found.items) }
+    ensures shown { IfOk result (λ r. All (IsShown r.explored.orders setup) r.explored.found.items) }
     ensures once { IfOk result (λ r. AreDistinct (outcomes_of r.explored.found.items)) }
     ensures orders { IfOk result (λ r. r.explored.orders ≡ orders_for words.now.prompt) }
     ensures whole { IfOk result (λ r. r.explored.complete ≡ true
         → IsWhole r.explored.orders setup (outcomes_of r.explored.found.items)) }
     ensures any_moment { IfOk result (λ r. r.explored.complete ≡ true → r.explored.orders ≡ Every
-        → r.explored.clocked ≡ false
+        → is_none r.explored.clock ≡ true
         → IsWholeAtAnyMoment setup (outcomes_of r.explored.found.items)) }
-    ensures all_moments { IfOk result (λ r. r.explored.complete ≡ true → r.explored.orders ≡ Every
-        → r.explored.clocked ≡ false → r.explored.limited ≡ false
-        → IsWholeAtAllMoments setup (outcomes_of r.explored.found.items)) }
+    ensures time_over { IfOk result (λ r. r.explored.complete ≡ true → r.explored.orders ≡ Every
+        → r.explored.limited ≡ true → Contains (outcomes_of r.explored.found.items) TimedOut) }
+    ensures limited { IfOk result (λ r. r.explored.limited ≡ is_some (deadline_of setup)) }
+    ensures clock { IfOk result (λ r. r.explored.clock ≡ clock_place setup.machine) }
+    ensures depth { IfOk result (λ r. IfSome r.explored.depth
+        (λ d. IsWholeTo d r.explored.orders setup (outcomes_of r.explored.found.items))) }
+    ensures cut { IfOk result (λ r. r.explored.complete ≡ false → r.explored.stuck ≡ false
+        → words.now.limit ≤ r.explored.worlds) }
     ensures ends { IfOk result (λ r. r.explored.reduced ≡ false → r.explored.complete ≡ true
         → is_none r.explored.endless ≡ true → NoneIsEndless r.explored.orders setup) }
     ensures plain { IfOk result (λ r. words.now.calls ≡ true → r.explored.complete ≡ true
         → r.explored.reduced ≡ false) }
+    ensures lasso { IfOk result (λ r. IfSome r.explored.endless (IsLasso r.explored.orders setup)) }
     ensures late { IfOk result (λ r. AreLate setup r.explored.found.items r.explored.late.items) }
+    ensures all_late { IfOk result (λ r. r.explored.marked ≡ true
+        → AreAllLate setup r.explored.found.items r.explored.late.items) }
     ensures calls { IfOk result (λ r. words.now.calls ≡ true → r.explored.complete ≡ true
         → AreCounted r.explored.orders setup (outcomes_of r.explored.found.items)
         r.explored.calls.items) }

@@ -1,6 +1,6 @@
 -- A search of all orders left out nothing that comes at other moments, where the definition reads no clock.
 use Rattle.std.proofs.Common.{ℕ, ◌≡◌, ◌⊎◌, inl, inr, ◌∙◌, ap, subst, sym, refl, Bool, true, false, List, [], ◌∷◌, None}
-use Rattle.std.specs.Prelude.{is_some, IsSome}
+use Rattle.std.specs.Prelude.{IsSome}
 use Rattle.std.specs.List.{Contains}
 use Rattle.asl_step_unread.specs.Reading.{reads}
 use Rattle.asl_step_unread.specs.Steps.{clock_keys}
@@ -13,7 +13,7 @@ use Rattle.asl_run_world.specs.Bare.{bare}
 use Rattle.asl_run_moments.specs.Moments.{DifferInMoments}
 use Rattle.asl_run_moments.proofs.Runs.{any-moments, step-aside, bare-aside}
 use Rattle.asl_explore.specs.declared.orders.Orders.TheVariants.{Every}
-use Rattle.asl_explore.specs.Orders.{due, after_order, AreTried, IsWhole, IsWholeAtAnyMoment, IsWholeAtAllMoments}
+use Rattle.asl_explore.specs.Orders.{due, after_order, AreTried, IsWhole, IsWholeAtAnyMoment}
 use Rattle.asl_explore.specs.Searches.{IsMetAside, IsExpandedAside}
 use Rattle.asl_explore.specs.Laws.{TimelessIsWhole}
 use Rattle.asl_explore.proofs.Bare.{step-bare}
@@ -23,26 +23,16 @@ pub all-tried : (s : Setup) (w : World) (ps : List (List ℕ)) → AreTried Ever
 all-tried s w [] = tt
 all-tried s w (p ∷ ps) = (tt, all-tried s (step s w p (due w p)) ps)
 
-pub any-moment : (s : Setup) (os : List Outcome) → reads clock_keys s.machine ≡ false → IsWhole Every s os → IsWholeAtAnyMoment s os
-any-moment s os unread whole l over = by (any-moments s l unread)
+-- where a time limit ends the execution, this is one of the outcomes
+pub any-moment : (s : Setup) (os : List Outcome) → reads clock_keys s.machine ≡ false → IsWhole Every s os → (IsSome (deadline_of s) → Contains os TimedOut) → IsWholeAtAnyMoment s os
+any-moment s os unread whole limited l over = by (any-moments s l unread)
   where
     w : World
     w = world_after s (opening s) l
 
-    by : ((w.outcome ≡ TimedOut) × IsSome (deadline_of s)) ⊎ ((ps : List (List ℕ)) × DifferInMoments w (after_order s (opening s) ps)) → Contains os w.outcome ⊎ ((w.outcome ≡ TimedOut) × IsSome (deadline_of s))
-    by (inl e) = inr e
-    by (inr e) = inl (subst (Contains os) (sym e.1.outcome) (whole e.0 (all-tried s (opening s) e.0) (subst (λ (x : Outcome). is_over x ≡ true) e.1.outcome over)))
-
--- without a time limit no time is over
-pub all-moments : (s : Setup) (os : List Outcome) → deadline_of s ≡ None → IsWholeAtAnyMoment s os → IsWholeAtAllMoments s os
-all-moments s os none whole l over = by (whole l over)
-  where
-    w : World
-    w = world_after s (opening s) l
-
-    by : Contains os w.outcome ⊎ ((w.outcome ≡ TimedOut) × IsSome (deadline_of s)) → Contains os w.outcome
-    by (inl c) = c
-    by (inr x) = let y : false ≡ true = ap is_some (sym none) ∙ x.1 in absurd (cc)
+    by : ((w.outcome ≡ TimedOut) × IsSome (deadline_of s)) ⊎ ((ps : List (List ℕ)) × DifferInMoments w (after_order s (opening s) ps)) → Contains os w.outcome
+    by (inl e) = subst (Contains os) (sym e.0) (limited e.1)
+    by (inr e) = subst (Contains os) (sym e.1.outcome) (whole e.0 (all-tried s (opening s) e.0) (subst (λ (x : Outcome). is_over x ≡ true) e.1.outcome over))
 
 -- ---- where one world stands for all that differ from it in moments alone
 

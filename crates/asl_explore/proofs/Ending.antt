@@ -26,7 +26,7 @@ met-ends o s ws os w all m = by (is_over w.outcome) refl
 pub expanded-ends : (o : Orders) (s : Setup) (ws : List World) (os : List Outcome) → IsMet ws os (opening s) → All (IsExpanded o s ws os) ws → All (CanEnd o s) ws → NoneIsEndless o s
 expanded-ends o s ws os m all ends ps tried = met-ends o s ws os (after_order s (opening s) ps) ends (met-after o s ws os (opening s) ps all tried m)
 
-taken-expanded : (o : Orders) (s : Setup) (ws : List World) (os : List Outcome) (i : ℕ) (w : World) → o ≡ Every → IsTakenOn o s ws os i w → IsExpanded o s ws os w
+pub taken-expanded : (o : Orders) (s : Setup) (ws : List World) (os : List Outcome) (i : ℕ) (w : World) → o ≡ Every → IsTakenOn o s ws os i w → IsExpanded o s ws os w
 taken-expanded o s ws os i w e (inl x) = x
 taken-expanded o s ws os i w e (inr x) = let c : Every ≡ Prompt = sym e ∙ x.0 in absurd (cc)
 

@@ -117,8 +117,8 @@ next-is s z ws number w v u next d p t ez ev eu en at = en ∙ ap bare eu ∙ (�
 
 -- ---- by the parts of a loop
 
-pub shown-as : (s z : Setup) (fs gs : List Found) → s ≡ z → (All (Shows s) fs → All (Shows s) gs) → All (Shows z) fs → All (Shows z) gs
-shown-as s z fs gs e f = subst (λ (x : Setup). All (Shows x) fs → All (Shows x) gs) e f
+pub shown-as : (o : Orders) (s z : Setup) (fs gs : List Found) → s ≡ z → (All (Shows o s) fs → All (Shows o s) gs) → All (Shows o z) fs → All (Shows o z) gs
+shown-as o s z fs gs e f = subst (λ (x : Setup). All (Shows o x) fs → All (Shows o x) gs) e f
 
 pub met-at : (s z : Setup) (ws vs xs : List World) (os us ys : List Outcome) (number : ℕ) (bound : Option ℕ) (turns : List Earliest) (i : ℕ) (turn : Earliest) → z ≡ s → IsLater ws os vs us → number < length ws → i < length turns → turn ≡ get_or turns i turn
     → (is_beyond bound turn.moment ≡ false → (d : World) → IsMet xs ys (step z (get_or vs number d) turn.place turn.moment)) → (d : Earliest) → IsMetBy s ws number xs ys bound (get_or turns i d)

@@ -7,10 +7,11 @@ use Rattle.asl_run_world.specs.World.{World, is_over}
 use Rattle.asl_run_setup.specs.declared.setup.Setup.{Setup}
 use Rattle.asl_exec.specs.Steps.{opening, world_after}
 use Rattle.asl_explore.proofs.Growing.{distinct-more}
-use Rattle.asl_explore.specs.Orders.{timed, places_of}
+use Rattle.asl_explore.specs.Orders.{timed, places_of, AreTried}
 use Rattle.asl_run_world.proofs.Bareness.{outcome_eq, outcome-one, outcome-refl}
 use Rattle.asl_run_world.specs.declared.outcome.Outcome.{Outcome}
 use Rattle.asl_explore.specs.declared.found.Found.{Found}
+use Rattle.asl_explore.specs.declared.orders.Orders.{Orders}
 use Rattle.asl_explore.specs.Searches.{outcomes_of, Shows, AreDistinct, IsLater}
 
 pub at-map : (fs : List Found) (i : ℕ) (f : Found) (e : Outcome) → i < length fs → f ≡ get_or fs i f → get_or (outcomes_of fs) i e ≡ f.outcome
@@ -40,12 +41,13 @@ outcomes-more fs gs f e = ap outcomes_of e ∙ map-append (λ (z : Found). z.out
 pub later-found : (ws : List World) (fs gs : List Found) (f : Found) → gs ≡ fs ++ f ∷ [] → IsLater ws (outcomes_of fs) ws (outcomes_of gs)
 later-found ws fs gs f e = record { more_worlds = []; more_outcomes = f.outcome ∷ []; worlds = sym (append-nil ws); outcomes = outcomes-more fs gs f e }
 
-pub shown-more : (s : Setup) (fs gs : List Found) (f : Found) (o reached : Outcome) (w : World) → gs ≡ fs ++ f ∷ [] → f.outcome ≡ o → is_over o ≡ true → w ≡ world_after s (opening s) f.steps.items → reached ≡ w.outcome → reached ≡ o → f.steps.items ≡ timed s (opening s) (places_of f.steps.items) → All (Shows s) fs → All (Shows s) gs
-shown-more s fs gs f o reached w e eo over ew er same et all =
-    subst (All (Shows s)) (sym e) (All-push (Shows s) fs f all (record {
+pub shown-more : (r : Orders) (s : Setup) (fs gs : List Found) (f : Found) (o reached : Outcome) (w : World) → gs ≡ fs ++ f ∷ [] → f.outcome ≡ o → is_over o ≡ true → w ≡ world_after s (opening s) f.steps.items → reached ≡ w.outcome → reached ≡ o → f.steps.items ≡ timed s (opening s) (places_of f.steps.items) → AreTried r s (opening s) (places_of f.steps.items) → All (Shows r s) fs → All (Shows r s) gs
+shown-more r s fs gs f o reached w e eo over ew er same et tried all =
+    subst (All (Shows r s)) (sym e) (All-push (Shows r s) fs f all (record {
       over = ap is_over eo ∙ over;
       gives = ap (λ (v : World). v.outcome) (sym ew) ∙ sym er ∙ same ∙ sym eo;
       timed = et;
+      tried = tried;
     }))
 
 pub once-more : (fs gs : List Found) (f : Found) (o : Outcome) → gs ≡ fs ++ f ∷ [] → f.outcome ≡ o → All (Other o) (outcomes_of fs) → AreDistinct (outcomes_of fs) → AreDistinct (outcomes_of gs)

@@ -25,3 +25,7 @@ pub mod SettledTasks
 pub mod Reaching
 pub mod Ending
 pub mod Driven
+pub mod Clocking
+pub mod Prompting
+pub mod Levels
+pub mod Concluding

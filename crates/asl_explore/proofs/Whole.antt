@@ -31,7 +31,7 @@ met-alike ws os u v e m = record {
   runs = λ r. subst (Contains ws) e (m.runs (ap (λ (w : World). is_over w.outcome) e ∙ r));
 }
 
-met-same : (ws : List World) (os : List Outcome) (u v : World) → u ≡ v → IsMet ws os v → IsMet ws os u
+pub met-same : (ws : List World) (os : List Outcome) (u v : World) → u ≡ v → IsMet ws os v → IsMet ws os u
 met-same ws os u v e m = subst (IsMet ws os) (sym e) m
 
 -- ---- so each order that is tried leads to a world that is met

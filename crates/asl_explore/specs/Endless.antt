@@ -1,11 +1,13 @@
 -- Orders that never end.
-use Rattle.std.specs.Prelude.{ℕ, ◌≡◌, ⊤, true, List, [], ◌∷◌}
+use Rattle.std.specs.Prelude.{ℕ, ◌≡◌, ◌<◌, ⊤, true, false, length, List, [], ◌∷◌}
 use Rattle.asl_run_world.specs.World.{World, is_over}
 use Rattle.asl_run_world.specs.Bare.{bare}
 use Rattle.asl_run_setup.specs.declared.setup.Setup.{Setup}
+use Rattle.asl_run_setup.specs.declared.step_at.StepAt.{StepAt}
 use Rattle.asl_exec.specs.Steps.{step, opening}
 use Rattle.asl_explore.specs.declared.orders.Orders.{Orders}
-use Rattle.asl_explore.specs.Orders.{due, IsTried, AreTried, after_order}
+use Rattle.asl_explore.specs.declared.endless.Lasso.{Lasso}
+use Rattle.asl_explore.specs.Orders.{due, places_of, MayStep, IsTried, AreTried, after_order}
 
 -- the world that a step of the branch at a place leaves, without its history
 abbrev pub go : Setup → World → List ℕ → World
@@ -33,3 +35,26 @@ abbrev pub NoneIsEndless : Orders → Setup → Type 0
 NoneIsEndless o s =
     (ps : List (List ℕ)) → AreTried o s (opening s) ps
     → CanEnd o s (bare (after_order s (opening s) ps))
+
+-- ---- one that is told
+
+-- each of these steps may be taken, is one that is tried, and comes at the earliest moment
+abbrev pub AreTaken : Orders → Setup → World → List StepAt → Type 0
+AreTaken o s w [] = ⊤
+AreTaken o s w (a ∷ l) =
+    MayStep s w a.place × (due w a.place ≡ a.moment) × IsTried o s w a.place
+    × AreTaken o s (go s w a.place) l
+
+-- the world to which the first steps lead
+abbrev pub turning : Setup → Lasso → World
+turning s l = after_bare s (bare (opening s)) (places_of l.stem.items)
+
+-- steps lead to a world that runs, and others lead from there back to it, but for its history: so
+-- these may be taken again and again
+pub record IsLasso (o : Orders) (s : Setup) (l : Lasso) : Type 0 where
+  pub stem_taken : AreTaken o s (bare (opening s)) l.stem.items
+  pub runs : is_over (turning s l).outcome ≡ false
+  pub some : 0 < length l.round.items
+  pub round_taken : AreTaken o s (turning s l) l.round.items
+  pub back :
+      bare (after_bare s (turning s l) (places_of l.round.items)) ≡ bare (turning s l)

@@ -1,6 +1,8 @@
 pub mod Orders
 pub mod Settled
 pub mod Searches
+pub mod Clock
+pub mod TimeOver
 pub mod Endless
 pub mod Calls
 pub mod Telling

@@ -1,15 +1,14 @@
 -- Orders of branches: which branch steps, one after another, each at the earliest moment at which it
 -- may.
-use Rattle.std.specs.Prelude.{ℕ, ◌≡◌, ◌⊎◌, ◌≤◌, ⊤, true, is_some, IsSome, List, [], ◌∷◌, map, None}
+use Rattle.std.specs.Prelude.{ℕ, ◌≡◌, ◌≤◌, ⊤, true, is_some, length, List, [], ◌∷◌, map, None}
 use Rattle.std.specs.List.{Contains}
 use Rattle.asl_run_frames.specs.Branches.{record_at}
 use Rattle.asl_run_world.specs.World.{World, is_over}
 use Rattle.asl_run_world.specs.Bare.{bare}
 use Rattle.asl_run_world.specs.declared.outcome.Outcome.{Outcome}
-use Rattle.asl_run_world.specs.declared.outcome.Outcome.TheVariants.{TimedOut}
 use Rattle.asl_run_setup.specs.declared.setup.Setup.{Setup}
 use Rattle.asl_run_setup.specs.declared.step_at.StepAt.{StepAt}
-use Rattle.asl_exec.specs.Steps.{deadline_of, step, opening, world_after, refusal_in}
+use Rattle.asl_exec.specs.Steps.{step, opening, world_after, refusal_in}
 use Rattle.asl_explore.specs.declared.orders.Orders.{Orders}
 use Rattle.asl_explore.specs.declared.orders.Orders.TheVariants.{Every, Prompt}
 pub use Rattle.asl_run_moments.specs.Orders.{due_of, due, after_order}
@@ -53,16 +52,15 @@ IsWhole o s os =
     → is_over (after_order s (opening s) ps).outcome ≡ true
     → Contains os (after_order s (opening s) ps).outcome
 
--- in whatever order the branches step, at whatever moments, the outcome is one of those; or the
--- execution's time is over
+-- the same of orders of at most so many steps
+abbrev pub IsWholeTo : ℕ → Orders → Setup → List Outcome → Type 0
+IsWholeTo most o s os =
+    (ps : List (List ℕ)) → length ps ≤ most → AreTried o s (opening s) ps
+    → is_over (after_order s (opening s) ps).outcome ≡ true
+    → Contains os (after_order s (opening s) ps).outcome
+
+-- whatever steps are taken, in whatever order and at whatever moments, the outcome is one of those
 abbrev pub IsWholeAtAnyMoment : Setup → List Outcome → Type 0
 IsWholeAtAnyMoment s os =
-    (l : List StepAt) → is_over (world_after s (opening s) l).outcome ≡ true
-    → Contains os (world_after s (opening s) l).outcome
-    ⊎ (((world_after s (opening s) l).outcome ≡ TimedOut) × IsSome (deadline_of s))
-
--- the same without a time limit: the outcome is one of those
-abbrev pub IsWholeAtAllMoments : Setup → List Outcome → Type 0
-IsWholeAtAllMoments s os =
     (l : List StepAt) → is_over (world_after s (opening s) l).outcome ≡ true
     → Contains os (world_after s (opening s) l).outcome

@@ -1,9 +1,9 @@
 -- What is told of a search.
-use Rattle.std.specs.Prelude.{ℕ, ◌+◌, ◌&&◌, ◌||◌, Bool, true, false, Option, Some, None, List, [], ◌∷◌, ◌++◌, length, codes, is_none, nat_eq, if◌then◌else◌}
+use Rattle.std.specs.Prelude.{ℕ, ◌+◌, ◌&&◌, ◌||◌, Bool, true, false, Option, Some, None, List, [], ◌∷◌, ◌++◌, length, codes, is_none, is_some, nat_eq, if◌then◌else◌}
 use Rattle.std.specs.Fmt.{decimal}
 use Rattle.std.specs.List.{flat_map, list_all, list_any}
 use Rattle.asl_json.specs.View.{data_of}
-use Rattle.asl_json.specs.Compact.{compact}
+use Rattle.asl_json.specs.Compact.{compact, quoted}
 use Rattle.asl_history.specs.Places.{place_text}
 use Rattle.asl_step_rows.specs.Rows.{error_output}
 use Rattle.asl_run_world.specs.Lines.{is_success}
@@ -68,14 +68,31 @@ endless_text (Some l) = lasso_text l
 abbrev pub number_line : List ℕ → ℕ → List ℕ
 number_line word n = word ++ (decimal n ++ 10 ∷ [])
 
-abbrev pub cut_text : Option ℕ → List ℕ
-cut_text None = codes "search cut\n"
-cut_text (Some depth) = codes "search cut after " ++ (decimal depth ++ codes " steps\n")
+-- how many steps were tried in every order
+abbrev pub tried_text : Option ℕ → List ℕ
+tried_text None = codes "search cut\n"
+tried_text (Some depth) = codes "search cut after " ++ (decimal depth ++ codes " steps\n")
 
--- whether nothing was left out; else how many steps were tried in every order
-abbrev pub searched_text : Bool → Option ℕ → List ℕ
-searched_text true depth = codes "search complete\n"
-searched_text false depth = cut_text depth
+-- something else than its limit ended the search
+unfoldable pub stuck_text : List ℕ
+stuck_text = codes "search cut: an order has more steps than a history has room for\n"
+
+abbrev pub cut_text : Bool → Option ℕ → List ℕ
+cut_text stuck depth = if stuck then stuck_text else tried_text depth
+
+-- of which orders nothing was left out: of steps at every moment, where the definition reads no clock
+unfoldable pub scope_text : Orders → Option (List ℕ) → List ℕ
+scope_text Every None = codes "every order, every moment\n"
+scope_text Every (Some place) = codes "every order, each step at its earliest moment\n"
+scope_text Prompt place = codes "every order in which no branch is late\n"
+
+abbrev pub complete_text : Orders → Option (List ℕ) → List ℕ
+complete_text orders clock = codes "search complete: " ++ scope_text orders clock
+
+-- whether nothing was left out, and of what; else how far the search came
+abbrev pub searched_text : Explored → List ℕ
+searched_text x =
+    if x.complete then complete_text x.orders x.clock else cut_text x.stuck x.depth
 
 abbrev pub note_text : Bool → List ℕ → List ℕ
 note_text wanted line = if wanted then line else []
@@ -84,15 +101,18 @@ note_text wanted line = if wanted then line else []
 abbrev pub gap : List ℕ
 gap = 10 ∷ []
 
--- steps at later moments may end the execution
+-- steps at later moments end the execution
 unfoldable pub time_limit_note : List ℕ
 time_limit_note =
-    codes "note time limit: where a branch is late enough, any order ends as TIMED_OUT {\"Error\":\"States.Timeout\"}\n"
+    codes "note time limit: a late step ends the execution at any time, as TIMED_OUT {\"Error\":\"States.Timeout\"}\n"
 
--- steps at other moments may give other outcomes
-unfoldable pub clock_note : List ℕ
-clock_note =
-    codes "note the definition may read the clock: each step is taken at its earliest moment only\n"
+unfoldable pub clock_words : List ℕ
+clock_words = codes " may read the clock: at other moments there may be other outcomes\n"
+
+-- steps at other moments may give other outcomes, since the text at this place may read the clock
+abbrev pub clock_note : Option (List ℕ) → List ℕ
+clock_note None = []
+clock_note (Some place) = codes "note the text at " ++ (quoted place ++ clock_words)
 
 -- only these orders were tried
 unfoldable pub prompt_note : List ℕ
@@ -107,14 +127,14 @@ is_prompt Prompt = true
 -- moments
 abbrev pub notes_text : Explored → List ℕ
 notes_text x =
-    note_text (is_prompt x.orders || (x.limited || (x.clocked || are_remarks x.remarks))) gap
+    note_text (is_prompt x.orders || (x.limited || (is_some x.clock || are_remarks x.remarks))) gap
     ++ (remarks_text x.remarks ++ (note_text (is_prompt x.orders) prompt_note
-    ++ (note_text x.limited time_limit_note ++ note_text x.clocked clock_note)))
+    ++ (note_text x.limited time_limit_note ++ clock_note x.clock)))
 
 -- what a search found
 abbrev pub explored_text : Explored → List ℕ
 explored_text x =
-    searched_text x.complete x.depth
+    searched_text x
     ++ (number_line (codes "worlds ") x.worlds
     ++ (number_line (codes "outcomes ") (length x.found.items)
     ++ (founds_text x 1 x.found.items ++ (endless_text x.endless ++ notes_text x))))

@@ -119,11 +119,26 @@ worlds_of ns = map (λ (n : Node). bare n.world) ns
 abbrev pub outcomes_of : List Found → List Outcome
 outcomes_of fs = map (λ (f : Found). f.outcome) fs
 
--- these steps, of branches each at the earliest moment, end in that outcome
-pub record Shows (s : Setup) (f : Found) : Type 0 where
+-- these steps, each one that is tried and at the earliest moment of its branch, end in that outcome
+pub record Shows (o : Orders) (s : Setup) (f : Found) : Type 0 where
   pub over : is_over f.outcome ≡ true
   pub gives : (world_after s (opening s) f.steps.items).outcome ≡ f.outcome
   pub timed : f.steps.items ≡ timed s (opening s) (places_of f.steps.items)
+  pub tried : AreTried o s (opening s) (places_of f.steps.items)
+
+-- an order in which no branch is late ends in this outcome
+pub record IsPromptOutcome (s : Setup) (o : Outcome) : Type 0 where
+  pub places : List (List ℕ)
+  pub tried : AreTried Prompt s (opening s) places
+  pub ends : (after_order s (opening s) places).outcome ≡ o
+
+-- so it is with an outcome that was found
+abbrev pub ComesPromptly : Setup → Found → Type 0
+ComesPromptly s f = IsPromptOutcome s f.outcome
+
+-- each of these has ended the execution
+abbrev pub AreOver : List Found → Type 0
+AreOver fs = All (λ (f : Found). is_over f.outcome ≡ true) fs
 
 -- no order in which no branch is late ends in this outcome
 abbrev pub IsLateOutcome : Setup → Outcome → Type 0
@@ -139,6 +154,12 @@ IsNumbered P fs (suc i) = (i < length fs) × ((d : Found) → P (get_or fs i d).
 -- the outcomes of these numbers come only where a branch is late
 abbrev pub AreLate : Setup → List Found → List ℕ → Type 0
 AreLate s fs ns = All (IsNumbered (IsLateOutcome s) fs) ns
+
+-- whatever outcome comes only where a branch is late, its number is listed
+abbrev pub AreAllLate : Setup → List Found → List ℕ → Type 0
+AreAllLate s fs ns =
+    (i : ℕ) → i < length fs → ((d : Found) → IsLateOutcome s (get_or fs i d).outcome)
+    → Contains ns (suc i)
 
 -- an outcome isn't among those that were found
 abbrev pub IsMissing : List Found → Outcome → Type 0

@@ -6,10 +6,11 @@ ghost use Rattle.asl_run_world.specs.World.{World};
 ghost use Rattle.asl_run_setup.specs.declared.setup.Setup.{Setup};
 ghost use Rattle.asl_exec.specs.Views.{setup_of};
 ghost use Rattle.asl_explore.specs.declared.orders.Orders.{Orders};
-ghost use Rattle.asl_explore.specs.Endless.{CanEnd};
+ghost use Rattle.asl_explore.specs.Endless.{CanEnd, IsLasso};
 ghost use Rattle.asl_explore.specs.private.Reaching.{AllBefore, AreReaching, IsLead, IsLeast, IsSoon, LeadsOn, Reaches, is_known};
 ghost use Rattle.asl_explore.specs.Searches.{worlds_of};
 
+use crate::lasso::is_lasso;
 use crate::met::{Met, Node};
 use crate::order::{chance, path};
 use crate::orders::Orders;
@@ -417,6 +418,26 @@ fn lasso_through(
     lasso_of(alloc, stem, steps, count)
 }
 
+/// What is known of orders that never end.
+#[derive(Drop)]
+pub(crate) struct Endless {
+    /// One of them.
+    pub(crate) endless: Option<Lasso>,
+    /// Whether there is none where none is told.
+    pub(crate) whole: bool,
+}
+
+/// None is told; and there is none, if this is true.
+fn nothing_endless(whole: bool) -> Endless
+    ensures none { is_none result.endless ≡ true }
+    ensures whole { result.whole ≡ whole }
+{
+    Endless {
+        endless: None,
+        whole,
+    }
+}
+
 /// An order that never ends, through the first world that was met from which no end is reached; none where one is from each, and where
 /// worlds were left out. The error is that memory ran out.
 pub(crate) fn endless_in(
@@ -425,18 +446,25 @@ pub(crate) fn endless_in(
     orders: Orders,
     met: &Met,
     complete: bool,
-) -> Result<Option<Lasso>, AllocError>
-    ensures none { IfOk result (λ o. complete ≡ true → is_none o ≡ true
+) -> Result<Endless, AllocError>
+    ensures none { IfOk result (λ x. complete ≡ true → x.whole ≡ true → is_none x.endless ≡ true
         → All (CanEnd orders (setup_of execution.old)) (worlds_of met.now.nodes.items)) }
+    ensures lasso { IfOk result (λ x. IfSome x.endless (IsLasso orders (setup_of execution.old))) }
     ensures setup { setup_of execution.new ≡ setup_of execution.old }
 {
     if !complete {
-        return Ok(None);
+        return Ok(nothing_endless(true));
     }
     let reaching = reaching_in(execution, alloc, orders, met)?;
     let Some(first) = first_lost(&reaching, met.nodes.len()) else {
-        return Ok(None);
+        return Ok(nothing_endless(true));
     };
     let lasso = lasso_through(execution, alloc, orders, met, &reaching, first)?;
-    Ok(Some(lasso))
+    if !is_lasso(execution, alloc, orders, &lasso)? {
+        return Ok(nothing_endless(false));
+    }
+    Ok(Endless {
+        endless: Some(lasso),
+        whole: true,
+    })
 }

@@ -1,12 +1,13 @@
 // Outcomes that come only where a branch is late.
-ghost use Rattle.std.specs.Prelude.{◌≡◌, false, IfOk};
+ghost use Rattle.std.specs.Prelude.{◌≡◌, [], true, false, IfOk};
 ghost use Rattle.std.specs.List.{All};
 ghost use Rattle.asl_exec.specs.Views.{setup_of};
-ghost use Rattle.asl_explore.specs.Searches.{AreAllListed, AreLate, IsMissing, IsNumbered, NoneWaits, Shows, Waits, worlds_of};
+ghost use Rattle.asl_explore.specs.Searches.{AreAllLate, AreAllListed, AreLate, AreOver, ComesPromptly, IsMissing, IsNumbered, IsPromptOutcome, NoneWaits, Waits, worlds_of};
 ghost use Rattle.asl_run_world.specs.Bare.{bare};
 
 use crate::found::Found;
 use crate::met::Node;
+use crate::order::replay;
 use crate::orders::Orders;
 use crate::search::search;
 use crate::visiting::{is_found, turns_in};
@@ -59,26 +60,85 @@ fn others_in(alloc: Global, found: &[Found], prompt: &[Found]) -> Result<Vec<usi
     Ok(others)
 }
 
-/// The numbers, from 1, of the outcomes that come only where a branch is late. None is told where that isn't known: where a search of the
-/// orders in which no branch is late is cut. The error is that memory ran out.
+/// Whether the steps of an outcome are those of an order in which no branch is late. The error is that memory ran out.
+fn comes_promptly(
+    execution: &mut Execution,
+    alloc: Global,
+    found: &Found,
+) -> Result<bool, AllocError>
+    ensures prompt { IfOk result (λ b. b ≡ true
+        → IsPromptOutcome (setup_of execution.old) found.now.outcome) }
+    ensures setup { setup_of execution.new ≡ setup_of execution.old }
+{
+    if !replay(execution, alloc, Orders::Prompt, &found.steps)? {
+        return Ok(false);
+    }
+    Ok(*execution.outcome() == found.outcome)
+}
+
+/// The same of the steps of each of these outcomes.
+fn come_promptly(
+    execution: &mut Execution,
+    alloc: Global,
+    found: &[Found],
+) -> Result<bool, AllocError>
+    ensures prompt { IfOk result (λ b. b ≡ true
+        → All (ComesPromptly (setup_of execution.old)) found.now) }
+    ensures setup { setup_of execution.new ≡ setup_of execution.old }
+{
+    for one in found {
+        if !comes_promptly(execution, alloc, one)? {
+            return Ok(false);
+        }
+    }
+    Ok(true)
+}
+
+/// Which outcomes come only where a branch is late.
+#[derive(Drop)]
+pub(crate) struct Lateness {
+    /// Their numbers, from 1.
+    pub(crate) numbers: Vec<usize>,
+    /// Whether these are all.
+    pub(crate) marked: bool,
+}
+
+/// The outcomes that come only where a branch is late: none, where the steps of each are those of an order in which none is; else those
+/// that a search of such orders doesn't find. None is told where this search is cut. The error is that memory ran out.
 pub(crate) fn late_among(
     execution: &mut Execution,
     alloc: Global,
-    nodes: &[Node],
     found: &[Found],
     limit: u32,
-) -> Result<Vec<usize>, AllocError>
-    ensures { IfOk result (λ v. All (Shows (setup_of execution.old)) found.now
-        → AreLate (setup_of execution.old) found.now v.items) }
+) -> Result<Lateness, AllocError>
+    ensures late { IfOk result (λ x. AreOver found.now
+        → AreLate (setup_of execution.old) found.now x.numbers.items) }
+    ensures all { IfOk result (λ x. x.marked ≡ true
+        → AreAllLate (setup_of execution.old) found.now x.numbers.items) }
 {
-    if found.is_empty() || !any_waits(alloc, nodes)? {
-        return Ok(Vec::new(alloc));
+    if come_promptly(execution, alloc, found)? {
+        return Ok(no_lateness(alloc, true));
     }
     let Some(prompt) = search(execution, alloc, Orders::Prompt, true, limit, &Unwatched)? else {
-        return Ok(Vec::new(alloc));
+        return Ok(no_lateness(alloc, false));
     };
     if !prompt.complete {
-        return Ok(Vec::new(alloc));
+        return Ok(no_lateness(alloc, false));
     }
-    others_in(alloc, found, &prompt.found)
+    let numbers = others_in(alloc, found, &prompt.found)?;
+    Ok(Lateness {
+        numbers,
+        marked: true,
+    })
+}
+
+/// None is told; and there is none, if this is true.
+fn no_lateness(alloc: Global, marked: bool) -> Lateness
+    ensures none { result.numbers.items ≡ [] }
+    ensures marked { result.marked ≡ marked }
+{
+    Lateness {
+        numbers: Vec::new(alloc),
+        marked,
+    }
 }

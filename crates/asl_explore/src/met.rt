@@ -17,8 +17,6 @@ pub(crate) struct Node {
     /// The number of the world in which the step was taken that led to it.
     pub parent: usize,
     pub at: StepAt,
-    /// So many steps led to it.
-    pub depth: u32,
     /// By which it is looked up.
     pub digest: u64,
     /// The number, from 1, of the last world before it in the same part of the table; 0 where there is none.
@@ -50,7 +48,6 @@ impl Met {
             world,
             parent: 0,
             at,
-            depth: 0,
             digest,
             before: 0,
         })?;
@@ -96,7 +93,6 @@ impl Met {
         &mut self,
         next: World,
         parent: usize,
-        depth: u32,
         at: StepAt,
     ) -> Result<usize, AllocError>
         ensures at { IfOk result
@@ -114,7 +110,6 @@ impl Met {
             world: next,
             parent,
             at,
-            depth,
             digest,
             before,
         })?;

@@ -4,11 +4,13 @@ ghost use Rattle.asl_run_frames.specs.Earliest.{due_from};
 ghost use Rattle.asl_run_world.specs.Bare.{earliest};
 ghost use Rattle.asl_exec.specs.Steps.{opening, world_after};
 ghost use Rattle.asl_exec.specs.Views.{setup_of, world_of};
-ghost use Rattle.asl_explore.specs.Orders.{due, timed, places_of, MayStep};
+ghost use Rattle.asl_explore.specs.Orders.{due, timed, places_of, MayStep, IsPrompt, IsTried, AreTried};
 ghost use Rattle.asl_explore.specs.private.Reaching.{IsLeast};
 ghost use Rattle.asl_explore.specs.Searches.{IsOpenAt};
 
 use crate::met::Node;
+use crate::orders::Orders;
+use crate::visiting::turns_in;
 use asl_exec::Execution;
 use asl_history::Place;
 use asl_run_frames::{Earliest, due_from};
@@ -95,18 +97,72 @@ pub(crate) fn soonest(execution: &Execution, turns: &[Earliest]) -> Option<Momen
     least
 }
 
-/// Takes these steps from the beginning, if this is true: each is at the earliest moment. The error is that memory ran out.
-pub(crate) fn replay(execution: &mut Execution, steps: &[StepAt]) -> Result<bool, AllocError>
+/// Whether a moment isn't later than another one.
+fn is_by(moment: Moment, other: Moment) -> bool
+    ensures { result ≡ true → moment ≤ other }
+{
+    moment.millis() <= other.millis()
+}
+
+/// Whether a branch may step at a place, and none may earlier. The error is that memory ran out.
+fn is_prompt(execution: &Execution, alloc: Global, place: &Place) -> Result<bool, AllocError>
+    ensures { IfOk result (λ b. b ≡ true
+        → IsPrompt (setup_of execution.now) (world_of execution.now) place.now) }
+{
+    if execution.world().is_full() {
+        return Ok(false);
+    }
+    let Some(moment) = chance(execution, place) else {
+        return Ok(false);
+    };
+    let Some(turns) = turns_in(alloc, execution.world())? else {
+        return Ok(false);
+    };
+    match soonest(execution, &turns) {
+        Some(least) => Ok(is_by(moment, least)),
+        None => Ok(false),
+    }
+}
+
+/// Whether the step of the branch at a place is one that is tried. The error is that memory ran out.
+pub(crate) fn is_tried(
+    execution: &Execution,
+    alloc: Global,
+    orders: Orders,
+    place: &Place,
+) -> Result<bool, AllocError>
+    ensures { IfOk result (λ b. b ≡ true
+        → IsTried orders (setup_of execution.now) (world_of execution.now) place.now) }
+{
+    match orders {
+        Orders::Every => Ok(true),
+        Orders::Prompt => is_prompt(execution, alloc, place),
+    }
+}
+
+/// Takes these steps from the beginning, if this is true: each is one that is tried, at the earliest moment. The error is that memory ran
+/// out.
+pub(crate) fn replay(
+    execution: &mut Execution,
+    alloc: Global,
+    orders: Orders,
+    steps: &[StepAt],
+) -> Result<bool, AllocError>
     ensures world { IfOk result (λ b. b ≡ true → world_of execution.new
         ≡ world_after (setup_of execution.old) (opening (setup_of execution.old)) steps.now) }
     ensures timed { IfOk result (λ b. b ≡ true → steps.now
         ≡ timed (setup_of execution.old) (opening (setup_of execution.old)) (places_of steps.now)) }
+    ensures tried { IfOk result (λ b. b ≡ true → AreTried orders (setup_of execution.old)
+        (opening (setup_of execution.old)) (places_of steps.now)) }
     ensures setup { setup_of execution.new ≡ setup_of execution.old }
 {
     let world = execution.opening()?;
     execution.enter(world);
     for at in steps {
         if due(execution, &at.place).millis() != at.moment.millis() {
+            return Ok(false);
+        }
+        if !is_tried(execution, alloc, orders, &at.place)? {
             return Ok(false);
         }
         let _reply = execution.reply(at)?;

@@ -112,7 +112,6 @@ fn take_quietly(
         moment: turn.moment,
     };
     let node = &met.nodes[number];
-    let depth = node.depth.saturating_add(1);
     if !enter(execution, alloc, &node.world)? {
         return Ok(false);
     }
@@ -122,7 +121,7 @@ fn take_quietly(
     let Some(next) = execution.world().bare_copy(alloc)? else {
         return Ok(false);
     };
-    let index = met.put(next, number, depth, at)?;
+    let index = met.put(next, number, at)?;
     Ok(number < index)
 }
 

@@ -1,18 +1,18 @@
 // What is told of a search.
-ghost use Rattle.std.specs.Prelude.{◌≡◌, ◌++◌, ◌||◌, OnOk, string_bytes, nat_eq};
+ghost use Rattle.std.specs.Prelude.{◌≡◌, ◌++◌, ◌||◌, OnOk, string_bytes, nat_eq, is_some};
 ghost use Rattle.std.specs.Fmt.{decimal};
 ghost use Rattle.std.specs.List.{list_any};
 ghost use Rattle.asl_json.specs.View.{data_of};
 ghost use Rattle.asl_json.specs.Compact.{compact};
 ghost use Rattle.asl_step_rows.specs.Rows.{error_output};
 ghost use Rattle.asl_explore.specs.Telling.{are_remarks};
-ghost use Rattle.asl_explore.specs.Reports.{ended_text, place_word, order_line, loop_line, endless_text, outcome_line, found_text, late_line, founds_text, number_line, note_text, gap, prompt_note, is_prompt, time_limit_note, clock_note, notes_text, searched_text, explored_text, are_good, is_good};
+ghost use Rattle.asl_explore.specs.Reports.{ended_text, place_word, order_line, loop_line, endless_text, outcome_line, found_text, late_line, founds_text, number_line, note_text, gap, prompt_note, is_prompt, time_limit_note, clock_words, clock_note, notes_text, tried_text, stuck_text, cut_text, scope_text, complete_text, searched_text, explored_text, are_good, is_good};
 
 use crate::endless::Lasso;
 use crate::found::{Explored, Found};
 use crate::orders::Orders;
 use crate::telling::{are_remarks, put_calls, put_number, put_remarks};
-use asl_json::{Json, put};
+use asl_json::{Json, Pointer, put, put_quoted};
 use asl_run_setup::StepAt;
 use asl_run_world::{Outcome, is_success};
 use asl_step_rows::{ErrorOut, error_output};
@@ -167,22 +167,64 @@ fn put_founds(alloc: Global, out: &mut String, explored: &Explored) -> Result<()
     Ok(())
 }
 
-/// Appends the line that says whether anything was left out. The error is that memory ran out.
-fn put_searched(out: &mut String, explored: &Explored) -> Result<(), AllocError>
-    ensures { OnOk result (string_bytes out.new
-        ≡ string_bytes out.old ++ searched_text explored.now.complete explored.now.depth) }
+/// Appends how many steps were tried in every order by a search that its limit cut. The error is that memory ran out.
+fn put_tried(out: &mut String, depth: Option<usize>) -> Result<(), AllocError>
+    ensures { OnOk result (string_bytes out.new ≡ string_bytes out.old ++ tried_text depth) }
 {
-    if explored.complete {
-        return out.push_str("search complete\n");
-    }
-    match explored.depth {
+    match depth {
         None => out.push_str("search cut\n"),
         Some(depth) => {
             out.push_str("search cut after ")?;
-            put_number(out, u64::from(depth))?;
+            put_number(out, depth as u64)?;
             out.push_str(" steps\n")
         }
     }
+}
+
+/// Appends how far a search came that was cut. The error is that memory ran out.
+#[tactic(auto, unfolding(crate::specs::Reports::stuck_text))]
+fn put_cut(out: &mut String, stuck: bool, depth: Option<usize>) -> Result<(), AllocError>
+    ensures { OnOk result (string_bytes out.new ≡ string_bytes out.old ++ cut_text stuck depth) }
+{
+    if stuck {
+        return out.push_str("search cut: an order has more steps than a history has room for\n");
+    }
+    put_tried(out, depth)
+}
+
+/// Appends of which orders nothing was left out. The error is that memory ran out.
+#[tactic(auto, unfolding(crate::specs::Reports::scope_text))]
+fn put_scope(out: &mut String, orders: Orders, clock: &Option<Pointer>) -> Result<(), AllocError>
+    ensures { OnOk result (string_bytes out.new
+        ≡ string_bytes out.old ++ scope_text orders clock.now) }
+{
+    match (orders, clock) {
+        (Orders::Every, None) => out.push_str("every order, every moment\n"),
+        (Orders::Every, Some(_)) => {
+            out.push_str("every order, each step at its earliest moment\n")
+        }
+        (Orders::Prompt, _) => out.push_str("every order in which no branch is late\n"),
+    }
+}
+
+/// Appends that nothing was left out, and of what. The error is that memory ran out.
+fn put_complete(out: &mut String, orders: Orders, clock: &Option<Pointer>) -> Result<(), AllocError>
+    ensures { OnOk result (string_bytes out.new
+        ≡ string_bytes out.old ++ complete_text orders clock.now) }
+{
+    out.push_str("search complete: ")?;
+    put_scope(out, orders, clock)
+}
+
+/// Appends the line that says whether anything was left out, and of what. The error is that memory ran out.
+fn put_searched(out: &mut String, explored: &Explored) -> Result<(), AllocError>
+    ensures { OnOk result (string_bytes out.new
+        ≡ string_bytes out.old ++ searched_text explored.now) }
+{
+    if explored.complete {
+        return put_complete(out, explored.orders, &explored.clock);
+    }
+    put_cut(out, explored.stuck, explored.depth)
 }
 
 /// Whether only orders were tried in which no branch is late.
@@ -198,11 +240,11 @@ fn is_prompt(orders: Orders) -> bool
 /// Whether anything is told behind the outcomes.
 fn has_notes(explored: &Explored) -> bool
     ensures { result ≡ (is_prompt explored.now.orders
-        || (explored.now.limited || (explored.now.clocked || are_remarks explored.now.remarks))) }
+        || (explored.now.limited || (is_some explored.now.clock || are_remarks explored.now.remarks))) }
 {
     is_prompt(explored.orders)
         || explored.limited
-        || explored.clocked
+        || explored.clock.is_some()
         || are_remarks(&explored.remarks)
 }
 
@@ -238,24 +280,32 @@ fn put_time_limit(out: &mut String, wanted: bool) -> Result<(), AllocError>
 {
     if wanted {
         return out.push_str(
-            "note time limit: where a branch is late enough, any order ends as TIMED_OUT {\"Error\":\"States.Timeout\"}\n",
+            "note time limit: a late step ends the execution at any time, as TIMED_OUT {\"Error\":\"States.Timeout\"}\n",
         );
     }
     Ok(())
 }
 
-/// Appends the note on the clock, where it is wanted. The error is that memory ran out.
-#[tactic(auto, unfolding(crate::specs::Reports::clock_note))]
-fn put_clock(out: &mut String, wanted: bool) -> Result<(), AllocError>
-    ensures { OnOk result (string_bytes out.new
-        ≡ string_bytes out.old ++ note_text wanted clock_note) }
+/// Appends what may come of a text that may read the clock. The error is that memory ran out.
+#[tactic(auto, unfolding(crate::specs::Reports::clock_words))]
+fn put_clock_words(out: &mut String) -> Result<(), AllocError>
+    ensures { OnOk result (string_bytes out.new ≡ string_bytes out.old ++ clock_words) }
 {
-    if wanted {
-        return out.push_str(
-            "note the definition may read the clock: each step is taken at its earliest moment only\n",
-        );
+    out.push_str(" may read the clock: at other moments there may be other outcomes\n")
+}
+
+/// Appends the note on the text at this place, which may read the clock. The error is that memory ran out.
+fn put_clock(out: &mut String, clock: &Option<Pointer>) -> Result<(), AllocError>
+    ensures { OnOk result (string_bytes out.new ≡ string_bytes out.old ++ clock_note clock.now) }
+{
+    match clock {
+        None => Ok(()),
+        Some(place) => {
+            out.push_str("note the text at ")?;
+            put_quoted(out, place.as_str())?;
+            put_clock_words(out)
+        }
     }
-    Ok(())
 }
 
 /// Appends the lines of what is remarkable, of which orders were tried, and of what else may come at other moments. The error is that
@@ -267,7 +317,7 @@ fn put_notes(out: &mut String, explored: &Explored) -> Result<(), AllocError>
     put_remarks(out, &explored.remarks)?;
     put_prompt(out, is_prompt(explored.orders))?;
     put_time_limit(out, explored.limited)?;
-    put_clock(out, explored.clocked)
+    put_clock(out, &explored.clock)
 }
 
 /// Appends what a search found. The error is that memory ran out.

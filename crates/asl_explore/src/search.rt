@@ -1,19 +1,22 @@
 // A search over the worlds that steps lead to.
-ghost use Rattle.std.specs.Prelude.{◌≡◌, ◌<◌, ◌≤◌, ◌⊎◌, ◌∷◌, [], true, false, is_none, length, get_or, slice_index_or, None, IfOk, IfSome};
-ghost use Rattle.std.specs.List.{All, HoldsAt};
+ghost use Rattle.std.specs.Prelude.{◌≡◌, ◌<◌, ◌≤◌, ◌⊎◌, ◌∷◌, [], true, false, is_none, length, get_or, slice_index_or, nat_eq, ◌+◌, is_some, None, IfOk, IfSome};
+ghost use Rattle.std.specs.List.{All, Contains, HoldsAt};
 ghost use Rattle.asl_run_world.specs.Bare.{bare, earliest};
 ghost use Rattle.asl_run_world.specs.World.{World, is_over};
+ghost use Rattle.asl_run_world.specs.declared.outcome.Outcome.TheVariants.{TimedOut};
 ghost use Rattle.asl_exec.specs.Steps.{deadline_of, opening, step};
 ghost use Rattle.asl_exec.specs.Views.{setup_of};
-ghost use Rattle.asl_explore.specs.Endless.{CanEnd, NoneIsEndless};
+ghost use Rattle.asl_explore.specs.Clock.{clock_place};
+ghost use Rattle.asl_explore.specs.Endless.{CanEnd, IsLasso, NoneIsEndless};
 ghost use Rattle.asl_explore.specs.private.Reaching.{IsLeast};
-ghost use Rattle.asl_explore.specs.Orders.{IsWhole, IsWholeAtAllMoments, IsWholeAtAnyMoment};
+ghost use Rattle.asl_explore.specs.Orders.{IsWhole, IsWholeAtAnyMoment, IsWholeTo};
+ghost use Rattle.asl_explore.specs.TimeOver.{IsShown};
 ghost use Rattle.asl_explore.specs.declared.orders.Orders.TheVariants.{Every};
 ghost use Rattle.asl_explore.specs.Settled.{AreSettledFrom};
 ghost use Rattle.asl_explore.specs.Calls.{IsStated, AllAreExpanded, AreCounted};
-ghost use Rattle.asl_explore.specs.Searches.{IsMet, IsExpanded, IsTakenOn, IsClosed, IsBound, AreLate, worlds_of, outcomes_of, Shows, AreDistinct, IsLater, is_beyond};
+ghost use Rattle.asl_explore.specs.Searches.{IsMet, IsExpanded, IsTakenOn, IsClosed, IsBound, AreAllLate, AreLate, worlds_of, outcomes_of, Shows, AreDistinct, IsLater, is_beyond};
 
-use crate::clock::may_read_clock;
+use crate::clock::clock_in;
 use crate::counting::{Counted, count_calls};
 use crate::endless::endless_in;
 use crate::found::{Explored, Found};
@@ -25,6 +28,7 @@ use crate::quiet::quietly;
 use crate::seeing::{no_remarks, remarks_on};
 use crate::settling::{Settling, settling_in};
 use crate::states::states_in;
+use crate::time_over::{deadline_of, put_time_over};
 use crate::visiting::{enter, turns_in, visit};
 use crate::watch::Watch;
 use asl_exec::Execution;
@@ -74,6 +78,7 @@ pub(crate) fn is_beyond(bound: &Option<Moment>, moment: Moment) -> bool
 fn take(
     execution: &mut Execution,
     alloc: Global,
+    orders: Orders,
     met: &mut Met,
     found: &mut Vec<Found>,
     number: usize,
@@ -89,8 +94,8 @@ fn take(
         turn.now.place turn.now.moment)) }
     ensures later { IsLater (worlds_of met.old.nodes.items) (outcomes_of found.old.items)
         (worlds_of met.new.nodes.items) (outcomes_of found.new.items) }
-    ensures shown { All (Shows (setup_of execution.old)) found.old.items
-        → All (Shows (setup_of execution.old)) found.new.items }
+    ensures shown { All (Shows orders (setup_of execution.old)) found.old.items
+        → All (Shows orders (setup_of execution.old)) found.new.items }
     ensures once { AreDistinct (outcomes_of found.old.items)
         → AreDistinct (outcomes_of found.new.items) }
     ensures setup { setup_of execution.new ≡ setup_of execution.old }
@@ -102,7 +107,7 @@ fn take(
         place: turn.place.try_clone()?,
         moment: turn.moment,
     };
-    visit(execution, alloc, met, found, number, at)
+    visit(execution, alloc, orders, met, found, number, at)
 }
 
 /// Takes a step of each branch in a world that was met, each at the earliest moment: whichever branch steps of those that are tried, the
@@ -122,8 +127,8 @@ fn expand(
         (worlds_of met.new.nodes.items) number) }
     ensures later { IsLater (worlds_of met.old.nodes.items) (outcomes_of found.old.items)
         (worlds_of met.new.nodes.items) (outcomes_of found.new.items) }
-    ensures shown { All (Shows (setup_of execution.old)) found.old.items
-        → All (Shows (setup_of execution.old)) found.new.items }
+    ensures shown { All (Shows orders (setup_of execution.old)) found.old.items
+        → All (Shows orders (setup_of execution.old)) found.new.items }
     ensures once { AreDistinct (outcomes_of found.old.items)
         → AreDistinct (outcomes_of found.new.items) }
     ensures setup { setup_of execution.new ≡ setup_of execution.old }
@@ -135,7 +140,7 @@ fn expand(
     let mut whole = true;
     for index in 0..turns.len() {
         let turn = &turns[index];
-        let is_met = take(execution, alloc, met, found, number, turn, &bound)?;
+        let is_met = take(execution, alloc, orders, met, found, number, turn, &bound)?;
         whole = whole && is_met;
     }
     Ok(whole)
@@ -159,8 +164,8 @@ fn take_on(
         (outcomes_of found.new.items) number (get_or (worlds_of met.new.nodes.items) number d)) }
     ensures later { IsLater (worlds_of met.old.nodes.items) (outcomes_of found.old.items)
         (worlds_of met.new.nodes.items) (outcomes_of found.new.items) }
-    ensures shown { All (Shows (setup_of execution.old)) found.old.items
-        → All (Shows (setup_of execution.old)) found.new.items }
+    ensures shown { All (Shows orders (setup_of execution.old)) found.old.items
+        → All (Shows orders (setup_of execution.old)) found.new.items }
     ensures once { AreDistinct (outcomes_of found.old.items)
         → AreDistinct (outcomes_of found.new.items) }
     ensures setup { setup_of execution.new ≡ setup_of execution.old }
@@ -198,8 +203,8 @@ fn go_on(
         (worlds_of met.new.nodes.items) number) }
     ensures later { IsLater (worlds_of met.old.nodes.items) (outcomes_of found.old.items)
         (worlds_of met.new.nodes.items) (outcomes_of found.new.items) }
-    ensures shown { All (Shows (setup_of execution.old)) found.old.items
-        → All (Shows (setup_of execution.old)) found.new.items }
+    ensures shown { All (Shows orders (setup_of execution.old)) found.old.items
+        → All (Shows orders (setup_of execution.old)) found.new.items }
     ensures once { AreDistinct (outcomes_of found.old.items)
         → AreDistinct (outcomes_of found.new.items) }
     ensures setup { setup_of execution.new ≡ setup_of execution.old }
@@ -237,8 +242,34 @@ pub(crate) struct Searched {
     pub(crate) found: Vec<Found>,
     /// Whether each world that was met was tried.
     pub(crate) complete: bool,
-    /// Where the search was cut, all orders of at most so many steps were tried; none where that isn't known.
-    pub(crate) depth: Option<u32>,
+    /// Whether each world that was tried was tried wholly.
+    pub(crate) whole: bool,
+    /// All orders of at most so many steps were tried; none where that isn't known.
+    pub(crate) depth: Option<usize>,
+}
+
+/// Worlds by the number of steps that lead to them.
+#[derive(Clone, Copy)]
+pub(crate) struct Level {
+    /// So many steps lead to a world of a number below the end.
+    pub(crate) depth: usize,
+    pub(crate) end: usize,
+}
+
+/// The level, where so many worlds were tried, of so many that were met: the next one, where all of this one were.
+fn level_after(level: Level, tried: usize, met: usize) -> Level
+    requires { level.depth < tried }
+    ensures same { nat_eq tried level.end ≡ false → result ≡ level }
+    ensures next { nat_eq tried level.end ≡ true
+        → (result.depth ≡ level.depth + 1) × (result.end ≡ met) }
+{
+    if tried == level.end {
+        return Level {
+            depth: level.depth + 1,
+            end: met,
+        };
+    }
+    level
 }
 
 /// Whether quiet steps may be taken alone.
@@ -264,7 +295,7 @@ pub(crate) fn search<W: Watch>(
     watch: &W,
 ) -> Result<Option<Searched>, AllocError>
     ensures shown { IfOk result (λ o. IfSome o
-        (λ x. All (Shows (setup_of execution.old)) x.found.items)) }
+        (λ x. All (Shows orders (setup_of execution.old)) x.found.items)) }
     ensures once { IfOk result (λ o. IfSome o (λ x. AreDistinct (outcomes_of x.found.items))) }
     ensures whole { IfOk result (λ o. IfSome o (λ x. x.complete ≡ true
         → IsWhole orders (setup_of execution.old) (outcomes_of x.found.items))) }
@@ -280,6 +311,12 @@ pub(crate) fn search<W: Watch>(
     ensures ending { IfOk result (λ o. IfSome o (λ x. x.reduced ≡ false → x.complete ≡ true
         → All (CanEnd x.tried (setup_of execution.old)) (worlds_of x.met.nodes.items)
         → NoneIsEndless orders (setup_of execution.old))) }
+    ensures depth { IfOk result (λ o. IfSome o (λ x. IfSome x.depth
+        (λ d. (orders ≡ Every)
+        × IsWholeTo d orders (setup_of execution.old) (outcomes_of x.found.items)))) }
+    ensures cut { IfOk result (λ o. IfSome o (λ x. x.complete ≡ false → x.whole ≡ true
+        → limit ≤ length x.met.nodes.items)) }
+    ensures tried { IfOk result (λ o. IfSome o (λ x. (x.tried ≡ orders) ⊎ (orders ≡ Every))) }
     ensures setup { setup_of execution.new ≡ setup_of execution.old }
 {
     let mut found = Vec::new(alloc);
@@ -290,23 +327,25 @@ pub(crate) fn search<W: Watch>(
     let limit = limit as usize;
     let mut number = 0;
     let mut whole = true;
+    let mut level = Level { depth: 0, end: 1 };
     while number < met.nodes.len() && number < limit {
         let is_enough = go_on(
             execution, alloc, orders, alone, &settling, &mut met, &mut found, number,
         )?;
         whole = whole && is_enough;
         number += 1;
+        level = level_after(level, number, met.nodes.len());
         watch.tried(number);
     }
     let complete = is_complete(whole, number, met.nodes.len());
-    let depth = depth_of(orders, &met, number, whole);
     Ok(Some(Searched {
         tried: orders,
         reduced: is_reduced(orders, alone),
         met,
         found,
         complete,
-        depth,
+        whole,
+        depth: depth_of(orders, whole, level.depth),
     }))
 }
 
@@ -331,13 +370,19 @@ fn try_orders<W: Watch>(
     watch: &W,
 ) -> Result<Option<Searched>, AllocError>
     ensures shown { IfOk result (λ o. IfSome o
-        (λ x. All (Shows (setup_of execution.old)) x.found.items)) }
+        (λ x. All (Shows orders (setup_of execution.old)) x.found.items)) }
     ensures once { IfOk result (λ o. IfSome o (λ x. AreDistinct (outcomes_of x.found.items))) }
     ensures whole { IfOk result (λ o. IfSome o (λ x. x.complete ≡ true
         → IsWhole orders (setup_of execution.old) (outcomes_of x.found.items))) }
     ensures ending { IfOk result (λ o. IfSome o (λ x. x.reduced ≡ false → x.complete ≡ true
         → All (CanEnd x.tried (setup_of execution.old)) (worlds_of x.met.nodes.items)
         → NoneIsEndless orders (setup_of execution.old))) }
+    ensures depth { IfOk result (λ o. IfSome o (λ x. IfSome x.depth
+        (λ d. (orders ≡ Every)
+        × IsWholeTo d orders (setup_of execution.old) (outcomes_of x.found.items)))) }
+    ensures cut { IfOk result (λ o. IfSome o (λ x. x.complete ≡ false → x.whole ≡ true
+        → limit ≤ length x.met.nodes.items)) }
+    ensures tried { IfOk result (λ o. IfSome o (λ x. (x.tried ≡ orders) ⊎ (orders ≡ Every))) }
     ensures setup { setup_of execution.new ≡ setup_of execution.old }
 {
     if !is_unlimited(execution, orders) {
@@ -362,7 +407,7 @@ fn search_for<W: Watch>(
     watch: &W,
 ) -> Result<Option<Searched>, AllocError>
     ensures shown { IfOk result (λ o. IfSome o
-        (λ x. All (Shows (setup_of execution.old)) x.found.items)) }
+        (λ x. All (Shows orders (setup_of execution.old)) x.found.items)) }
     ensures once { IfOk result (λ o. IfSome o (λ x. AreDistinct (outcomes_of x.found.items))) }
     ensures whole { IfOk result (λ o. IfSome o (λ x. x.complete ≡ true
         → IsWhole orders (setup_of execution.old) (outcomes_of x.found.items))) }
@@ -373,36 +418,18 @@ fn search_for<W: Watch>(
     ensures ending { IfOk result (λ o. IfSome o (λ x. x.reduced ≡ false → x.complete ≡ true
         → All (CanEnd x.tried (setup_of execution.old)) (worlds_of x.met.nodes.items)
         → NoneIsEndless orders (setup_of execution.old))) }
+    ensures depth { IfOk result (λ o. IfSome o (λ x. IfSome x.depth
+        (λ d. (orders ≡ Every)
+        × IsWholeTo d orders (setup_of execution.old) (outcomes_of x.found.items)))) }
+    ensures cut { IfOk result (λ o. IfSome o (λ x. x.complete ≡ false → x.whole ≡ true
+        → limit ≤ length x.met.nodes.items)) }
+    ensures tried { IfOk result (λ o. IfSome o (λ x. (x.tried ≡ orders) ⊎ (orders ≡ Every))) }
     ensures setup { setup_of execution.new ≡ setup_of execution.old }
 {
     if calls {
         return search(execution, alloc, orders, false, limit, watch);
     }
     try_orders(execution, alloc, orders, limit, watch)
-}
-
-/// The outcomes of a search that come only where a branch is late, by their numbers from 1; none where only orders were tried in which no
-/// branch is. The error is that memory ran out.
-fn late_in(
-    execution: &mut Execution,
-    alloc: Global,
-    orders: Orders,
-    searched: &Searched,
-    limit: u32,
-) -> Result<Vec<usize>, AllocError>
-    ensures { IfOk result (λ v. All (Shows (setup_of execution.old)) searched.now.found.items
-        → AreLate (setup_of execution.old) searched.now.found.items v.items) }
-{
-    match orders {
-        Orders::Every => late_among(
-            execution,
-            alloc,
-            &searched.met.nodes,
-            &searched.found,
-            limit,
-        ),
-        Orders::Prompt => Ok(Vec::new(alloc)),
-    }
 }
 
 /// How often each state is invoked in the orders that end in each outcome of a search, if that is wanted. The error is that memory ran
@@ -438,13 +465,6 @@ fn calls_in(
     )
 }
 
-/// Whether the execution has a time limit.
-fn is_limited(setup: &Setup) -> bool
-    ensures { result ≡ false → deadline_of setup.now ≡ None }
-{
-    setup.machine.timeout().is_some()
-}
-
 /// Tries the orders of the branches of an execution, each branch at the earliest moments at which it may step: its outcomes, each
 /// once, with steps that end in it, and, if that is wanted, how often each state is invoked in the orders that do. At most so many
 /// worlds are tried; complete says that none was left. The error is that memory ran out.
@@ -456,43 +476,52 @@ pub fn explore<W: Watch>(
     limit: u32,
     watch: &W,
 ) -> Result<Explored, AllocError>
-    ensures shown { IfOk result (λ x. All (Shows setup) x.found.items) }
+    ensures shown { IfOk result (λ x. All (IsShown orders setup) x.found.items) }
     ensures once { IfOk result (λ x. AreDistinct (outcomes_of x.found.items)) }
     ensures whole { IfOk result (λ x. x.complete ≡ true
         → IsWhole orders setup (outcomes_of x.found.items)) }
-    ensures any_moment { IfOk result (λ x. x.complete ≡ true → orders ≡ Every → x.clocked ≡ false
-        → IsWholeAtAnyMoment setup (outcomes_of x.found.items)) }
-    ensures limited { IfOk result (λ x. x.limited ≡ false → deadline_of setup ≡ None) }
-    ensures all_moments { IfOk result (λ x. x.complete ≡ true → orders ≡ Every → x.clocked ≡ false
-        → x.limited ≡ false → IsWholeAtAllMoments setup (outcomes_of x.found.items)) }
+    ensures any_moment { IfOk result (λ x. x.complete ≡ true → orders ≡ Every
+        → is_none x.clock ≡ true → IsWholeAtAnyMoment setup (outcomes_of x.found.items)) }
+    ensures time_over { IfOk result (λ x. x.complete ≡ true → orders ≡ Every → x.limited ≡ true
+        → Contains (outcomes_of x.found.items) TimedOut) }
+    ensures limited { IfOk result (λ x. x.limited ≡ is_some (deadline_of setup)) }
+    ensures clock { IfOk result (λ x. x.clock ≡ clock_place setup.machine) }
+    ensures depth { IfOk result (λ x. IfSome x.depth
+        (λ d. IsWholeTo d orders setup (outcomes_of x.found.items))) }
+    ensures cut { IfOk result (λ x. x.complete ≡ false → x.stuck ≡ false → limit ≤ x.worlds) }
     ensures ends { IfOk result (λ x. x.reduced ≡ false → x.complete ≡ true
         → is_none x.endless ≡ true → NoneIsEndless orders setup) }
     ensures plain { IfOk result (λ x. calls ≡ true → x.complete ≡ true → x.reduced ≡ false) }
+    ensures lasso { IfOk result (λ x. IfSome x.endless (IsLasso orders setup)) }
     ensures late { IfOk result (λ x. AreLate setup x.found.items x.late.items) }
+    ensures all_late { IfOk result (λ x. x.marked ≡ true
+        → AreAllLate setup x.found.items x.late.items) }
     ensures calls { IfOk result (λ x. calls ≡ true → x.complete ≡ true
         → AreCounted orders setup (outcomes_of x.found.items) x.calls.items) }
     ensures states { IfOk result (λ x. All (IsStated setup.machine) x.states.items) }
     ensures orders { IfOk result (λ x. x.orders ≡ orders) }
 {
-    let limited = is_limited(&setup);
-    let clocked = may_read_clock(alloc, &setup.machine)?;
+    let limited = deadline_of(&setup).is_some();
+    let clock = clock_in(alloc, &setup.machine)?;
     let states = states_in(alloc, &setup.machine)?;
     let mut execution = Execution::open(alloc, setup)?;
     let Some(searched) = search_for(&mut execution, alloc, orders, calls, limit, watch)? else {
         return Ok(Explored {
             found: Vec::new(alloc),
             late: Vec::new(alloc),
+            marked: false,
             endless: None,
             reduced: true,
             orders,
             complete: false,
+            stuck: true,
             worlds: 0,
             depth: None,
             states,
             calls: Vec::new(alloc),
             remarks: no_remarks(alloc),
             limited,
-            clocked,
+            clock,
         });
     };
     let counted = calls_in(&mut execution, alloc, orders, &searched, calls)?;
@@ -503,8 +532,12 @@ pub fn explore<W: Watch>(
         &searched.met,
         searched.complete,
     )?;
-    let late = late_in(&mut execution, alloc, orders, &searched, limit)?;
-    let complete = are_both(searched.complete, counted.whole);
+    let mut found = searched.found;
+    let is_over = put_time_over(&mut execution, alloc, orders, &mut found)?;
+    let late = late_among(&mut execution, alloc, &found, limit)?;
+    let others = are_all(counted.whole, endless.whole, is_over);
+    let complete = are_both(searched.complete, others);
+    let stuck = is_stuck(searched.whole, others);
     let worlds = searched.met.nodes.len();
     let remarks = remarks_on(
         &mut execution,
@@ -515,43 +548,60 @@ pub fn explore<W: Watch>(
         complete,
     )?;
     Ok(Explored {
-        found: searched.found,
-        late,
-        endless,
+        found,
+        late: late.numbers,
+        marked: late.marked,
+        endless: endless.endless,
         reduced: searched.reduced,
         orders,
         complete,
+        stuck,
         worlds,
         depth: searched.depth,
         states,
         calls: counted.calls,
         remarks,
         limited,
-        clocked,
+        clock,
     })
 }
 
 /// Whether both are so.
 fn are_both(one: bool, other: bool) -> bool
-    ensures { result ≡ true → (one ≡ true) × (other ≡ true) }
+    ensures yes { result ≡ true → (one ≡ true) × (other ≡ true) }
+    ensures no { result ≡ false → other ≡ true → one ≡ false }
 {
     one && other
 }
 
+/// Whether one of these isn't so.
+fn is_stuck(one: bool, other: bool) -> bool
+    ensures { result ≡ false → (one ≡ true) × (other ≡ true) }
+{
+    !(one && other)
+}
+
+/// Whether all three are so.
+fn are_all(one: bool, other: bool, third: bool) -> bool
+    ensures { result ≡ true → (one ≡ true) × ((other ≡ true) × (third ≡ true)) }
+{
+    one && other && third
+}
+
 /// Whether nothing was left out: so many worlds were tried, each wholly, of so many that were met.
 fn is_complete(whole: bool, tried: usize, met: usize) -> bool
-    ensures { result ≡ true → (whole ≡ true) × (met ≤ tried) }
+    ensures yes { result ≡ true → (whole ≡ true) × (met ≤ tried) }
+    ensures no { result ≡ false → whole ≡ true → tried < met }
 {
     whole && tried >= met
 }
 
-/// How many steps led to the first world that wasn't tried, where there is one, and all before it were tried wholly.
-fn depth_of(orders: Orders, met: &Met, number: usize, whole: bool) -> Option<u32> {
+/// So many steps, where every order is tried and each world that was tried was tried wholly.
+fn depth_of(orders: Orders, whole: bool, depth: usize) -> Option<usize>
+    ensures { IfSome result (λ d. (orders ≡ Every) × ((whole ≡ true) × (d ≡ depth))) }
+{
     match orders {
-        Orders::Every if whole => {
-            let node = met.nodes.get(number)?;
-            Some(node.depth)
-        }
+        Orders::Every if whole => Some(depth),
         _ => None,
     }
 }

@@ -12,6 +12,7 @@ ghost use Rattle.asl_explore.specs.Searches.{IsMet, worlds_of, outcomes_of, Show
 use crate::found::Found;
 use crate::met::{Met, Node};
 use crate::order::{path, replay};
+use crate::orders::Orders;
 use asl_exec::Execution;
 use asl_history::Place;
 use asl_run_frames::Earliest;
@@ -76,6 +77,7 @@ pub(crate) fn enter(
 fn conclude(
     execution: &mut Execution,
     alloc: Global,
+    orders: Orders,
     nodes: &[Node],
     found: &mut Vec<Found>,
     outcome: &Outcome,
@@ -87,8 +89,8 @@ fn conclude(
         (λ b. b ≡ true → Contains (outcomes_of found.new.items) outcome.now) }
     ensures later { (ws : List World)
         → IsLater ws (outcomes_of found.old.items) ws (outcomes_of found.new.items) }
-    ensures shown { All (Shows (setup_of execution.old)) found.old.items
-        → All (Shows (setup_of execution.old)) found.new.items }
+    ensures shown { All (Shows orders (setup_of execution.old)) found.old.items
+        → All (Shows orders (setup_of execution.old)) found.new.items }
     ensures once { AreDistinct (outcomes_of found.old.items)
         → AreDistinct (outcomes_of found.new.items) }
     ensures setup { setup_of execution.new ≡ setup_of execution.old }
@@ -97,7 +99,7 @@ fn conclude(
         return Ok(true);
     }
     let steps = path(alloc, nodes, parent, at)?;
-    if !replay(execution, &steps)? {
+    if !replay(execution, alloc, orders, &steps)? {
         return Ok(false);
     }
     if execution.outcome() != outcome {
@@ -112,6 +114,7 @@ fn conclude(
 pub(crate) fn visit(
     execution: &mut Execution,
     alloc: Global,
+    orders: Orders,
     met: &mut Met,
     found: &mut Vec<Found>,
     number: usize,
@@ -126,14 +129,13 @@ pub(crate) fn visit(
         at.place at.moment)) }
     ensures later { IsLater (worlds_of met.old.nodes.items) (outcomes_of found.old.items)
         (worlds_of met.new.nodes.items) (outcomes_of found.new.items) }
-    ensures shown { All (Shows (setup_of execution.old)) found.old.items
-        → All (Shows (setup_of execution.old)) found.new.items }
+    ensures shown { All (Shows orders (setup_of execution.old)) found.old.items
+        → All (Shows orders (setup_of execution.old)) found.new.items }
     ensures once { AreDistinct (outcomes_of found.old.items)
         → AreDistinct (outcomes_of found.new.items) }
     ensures setup { setup_of execution.new ≡ setup_of execution.old }
 {
     let node = &met.nodes[number];
-    let depth = node.depth.saturating_add(1);
     if !enter(execution, alloc, &node.world)? {
         return Ok(false);
     }
@@ -144,12 +146,13 @@ pub(crate) fn visit(
         return Ok(false);
     };
     if next.is_running() {
-        let _index = met.put(next, number, depth, at)?;
+        let _index = met.put(next, number, at)?;
         return Ok(true);
     }
     conclude(
         execution,
         alloc,
+        orders,
         &met.nodes,
         found,
         next.outcome(),

@@ -1,5 +1,5 @@
 -- Why a test isn't passed.
-use Rattle.std.specs.Prelude.{ℕ, Bool, not, if◌then◌else◌, List, [], ◌∷◌, Option, Some, None, Result, Ok, Err}
+use Rattle.std.specs.Prelude.{ℕ, not, if◌then◌else◌, List, [], ◌∷◌, Option, Some, None, Result, Ok, Err}
 use Rattle.asl_json.specs.View.{data_of}
 use Rattle.asl_json.specs.declared.value.Json.{Json}
 use Rattle.asl_history.specs.declared.event.Event.{Event}

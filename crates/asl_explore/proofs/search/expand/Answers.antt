@@ -43,7 +43,7 @@ take-requires-clause-runs c d =
     (node-at ns c.args.number c.index.result.now d c.requires c.index.ensures) (rw c.in-Some.is at c.in_ok-turns.ensures.runs)
 
 pub returns-in_err-is_met-clause-shown : goal.returns-in_err-is_met-clause-shown
-returns-in_err-is_met-clause-shown c h = shown-as (setup_of c.loop-index.execution) (setup_of c.args.execution.now) c.loop-index.found.items c.take.new.found.items c.loop-index.invariant.setup c.take.ensures.shown (c.loop-index.invariant.shown h)
+returns-in_err-is_met-clause-shown c h = shown-as c.args.orders (setup_of c.loop-index.execution) (setup_of c.args.execution.now) c.loop-index.found.items c.take.new.found.items c.loop-index.invariant.setup c.take.ensures.shown (c.loop-index.invariant.shown h)
 
 pub returns-in_err-is_met-clause-once : goal.returns-in_err-is_met-clause-once
 returns-in_err-is_met-clause-once c h = c.take.ensures.once (c.loop-index.invariant.once h)
@@ -65,7 +65,7 @@ loop-index-preserved c =
     record {
       later = later-then ws vs xs os us ys inv.later c.take.ensures.later;
       setup = c.take.ensures.setup ∙ inv.setup;
-      shown = λ h. shown-as (setup_of c.loop-index.execution) s c.loop-index.found.items c.take.new.found.items inv.setup c.take.ensures.shown (inv.shown h);
+      shown = λ h. shown-as c.args.orders (setup_of c.loop-index.execution) s c.loop-index.found.items c.take.new.found.items inv.setup c.take.ensures.shown (inv.shown h);
       once = λ h. c.take.ensures.once (inv.once h);
       met = λ w.
           let both : (c.loop-index.whole ≡ true) × (c.in_ok-is_met.is_met ≡ true) = elim c.if-whole.branch [ then-whole b ↦ (b.if-whole.true, sym b.whole-is ∙ w) | else-whole b ↦ let e : true ≡ false = sym w ∙ b.whole-is ∙ b.if-whole.false in absurd (cc) ] in

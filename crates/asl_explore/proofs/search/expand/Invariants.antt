@@ -10,7 +10,7 @@ abbrev pub invariant-loop-index : goal.invariant-loop-index
 invariant-loop-index l = record {
   later : IsLater (worlds_of l.fn.met.nodes.items) (outcomes_of l.fn.found.items) (worlds_of l.met.nodes.items) (outcomes_of l.found.items);
   setup : setup_of l.execution ≡ setup_of l.fn.execution;
-  shown : All (Shows (setup_of l.fn.execution)) l.fn.found.items → All (Shows (setup_of l.fn.execution)) l.found.items;
+  shown : All (Shows l.orders (setup_of l.fn.execution)) l.fn.found.items → All (Shows l.orders (setup_of l.fn.execution)) l.found.items;
   once : AreDistinct (outcomes_of l.fn.found.items) → AreDistinct (outcomes_of l.found.items);
   met : l.whole ≡ true → AreMet (setup_of l.fn.execution) (worlds_of l.fn.met.nodes.items) l.number (worlds_of l.met.nodes.items) (outcomes_of l.found.items) l.bound l.turns.items l.index;
 }

@@ -31,4 +31,4 @@ returns-else-branch-clause-later c =
 
 pub returns-else-branch-clause-shown : goal.returns-else-branch-clause-shown
 returns-else-branch-clause-shown c h =
-    shown-as (setup_of c.quietly.new.execution) (setup_of c.args.execution.now) c.args.found.now.items c.expand-in-Prompt.new.found.items c.quietly.ensures.setup c.expand-in-Prompt.ensures.shown h
+    shown-as c.args.orders (setup_of c.quietly.new.execution) (setup_of c.args.execution.now) c.args.found.now.items c.expand-in-Prompt.new.found.items c.quietly.ensures.setup c.expand-in-Prompt.ensures.shown h

@@ -1,4 +1,4 @@
-use Rattle.std.proofs.Common.{◌≡◌, subst, sym, true, false, List}
+use Rattle.std.proofs.Common.{inr, ◌≡◌, subst, sym, true, false, List}
 use Rattle.std.specs.Prelude.{IfOk, IfSome}
 use Rattle.asl_run_setup.specs.declared.setup.Setup.{Setup}
 use Rattle.asl_exec.specs.Views.{setup_of}
@@ -8,7 +8,8 @@ use Rattle.asl_explore.specs.declared.orders.Orders.TheVariants.{Prompt}
 use Rattle.std.specs.List.{All}
 use Rattle.asl_explore.specs.Endless.{CanEnd, NoneIsEndless}
 use Rattle.asl_explore.specs.Orders.{IsWhole}
-use Rattle.asl_explore.specs.Searches.{IsClosed, NoneWaits, worlds_of, outcomes_of}
+use Rattle.asl_explore.specs.Searches.{IsClosed, NoneWaits, Shows, worlds_of, outcomes_of}
+use Rattle.asl_explore.proofs.Concluding.{shown-every, no-depth}
 use Rattle.asl_explore.proofs.Ending.{never-plain}
 use Rattle.asl_explore.proofs.Waiting.{every-whole}
 use Rattle.asl_explore.proofs.search.try_orders.Goals as goal
@@ -22,6 +23,18 @@ returns-then-not-branch-clause-whole g c t =
     let closed : IsClosed Prompt s ws os = (rw c.in-Some.is at c.in_ok-prompt.ensures.closed) t in
     let none : NoneWaits ws = subst (λ (ns : List Node). NoneWaits (worlds_of ns)) c.deref.ensures.value (c.in_ok-any_waits.ensures c.if-not-branch.true) in
     subst (λ (o : Orders). IsWhole o s os) (sym (c.is_unlimited.ensures.every unlimited)) (every-whole s ws os closed.begins closed.taken none (c.is_unlimited.ensures.limit unlimited))
+
+pub returns-then-not-branch-clause-shown : goal.returns-then-not-branch-clause-shown
+returns-then-not-branch-clause-shown g c =
+    let s = setup_of c.args.execution.now in
+    let fs = c.in-Some.prompt.found.items in
+    subst (λ (o : Orders). All (Shows o s) fs) (sym (c.is_unlimited.ensures.every c.if-not-is_unlimited.false)) (shown-every s fs (rw c.in-Some.is at c.in_ok-prompt.ensures.shown))
+
+pub returns-then-not-branch-clause-depth : goal.returns-then-not-branch-clause-depth
+returns-then-not-branch-clause-depth g c = no-depth c.in-Some.prompt.depth _ _ (rw c.in-Some.is at c.in_ok-prompt.ensures.depth)
+
+pub returns-then-not-branch-clause-tried : goal.returns-then-not-branch-clause-tried
+returns-then-not-branch-clause-tried g c = inr (c.is_unlimited.ensures.every c.if-not-is_unlimited.false)
 
 pub returns-then-not-branch-clause-ending : goal.returns-then-not-branch-clause-ending
 returns-then-not-branch-clause-ending g c r = absurd (never-plain ((rw c.in-Some.is at c.in_ok-prompt.ensures.reduced) r))
