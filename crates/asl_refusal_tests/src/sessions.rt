@@ -193,8 +193,11 @@ fn steps_are_taken_and_taken_back_once(rt: HostRuntime) -> Result<(), Fail> {
 }
 
 /// A loop of three states, twice, for the input `{"n":0}`.
-const LOOP: &str =
-    r#"{"StartAt":"A","States":{"A":{"Type":"Pass","Parameters":{"n.$":"States.MathAdd($.n, 1)"},"Next":"D"},"D":{"Type":"Pass","Next":"C"},"C":{"Type":"Choice","Choices":[{"Variable":"$.n","NumericLessThan":2,"Next":"A"}],"Default":"Z"},"Z":{"Type":"Succeed"}}}"#;
+const LOOP: &str = r#"{"StartAt":"A","States":{
+"A":{"Type":"Pass","Parameters":{"n.$":"States.MathAdd($.n, 1)"},"Next":"D"},
+"D":{"Type":"Pass","Next":"C"},
+"C":{"Type":"Choice","Choices":[{"Variable":"$.n","NumericLessThan":2,"Next":"A"}],"Default":"Z"},
+"Z":{"Type":"Succeed"}}}"#;
 
 /// The steps of the loop.
 const SEVEN_STEPS: &str = "/ 2024-01-01T00:00:00Z
