@@ -82,11 +82,12 @@ fn a_state_that_goes_on_to_itself_fills_the_history(rt: HostRuntime) -> Result<(
 }
 
 /// A Task that is retried three seconds after its first failure, and what it answers.
-const RETRIED: &str =
-    r#"{"StartAt":"W","States":{"W":{"Type":"Task","Resource":"r","Retry":[{"ErrorEquals":["E.A","E.B"],"IntervalSeconds":3,"MaxAttempts":3,"BackoffRate":1.5}],"End":true}}}"#;
+const RETRIED: &str = r#"{"StartAt":"W","States":{"W":{"Type":"Task","Resource":"r",
+"Retry":[{"ErrorEquals":["E.A","E.B"],"IntervalSeconds":3,"MaxAttempts":3,"BackoffRate":1.5}],"End":true}}}"#;
 
 const FAILURES: &str =
-    r#"{"StateMachines":{"M":{"TestCases":{"c":{"W":"w"}}}},"MockedResponses":{"w":{"0":{"Throw":{"Error":"E.A"}},"1-2":{"Throw":{"Error":"E.B","Cause":"slow"}},"3":{"Return":{"ok":true}}}}}"#;
+    r#"{"StateMachines":{"M":{"TestCases":{"c":{"W":"w"}}}},"MockedResponses":{"w":{
+"0":{"Throw":{"Error":"E.A"}},"1-2":{"Throw":{"Error":"E.B","Cause":"slow"}},"3":{"Return":{"ok":true}}}}}"#;
 
 #[test]
 fn the_moment_of_the_retry_comes_next_after_the_first_failure(rt: HostRuntime) -> Result<(), Fail> {
