@@ -55,6 +55,12 @@ class DataTest(ProgramTest):
         status = 'status SUCCEEDED {"a":"2024-01-01T00:00:00.000Z","b":"2024-01-01T00:00:05.000Z","start":"2024-01-01T00:00:00.000Z","name":"c","state":"B"}'
         self.assertEqual(text.splitlines()[-1], status)
 
+    def test_a_call_whose_path_names_nothing_fails_a_pass(self):
+        definition = """{"StartAt":"P","States":{"P":{"Type":"Pass","Parameters":{"s.$":"States.Format('{} is {}', $.n, 2.50)"},"End":true}}}"""
+        self.assert_ends(self.told(definition, '{"n":"x"}', TWO_STEPS), 7, 'status SUCCEEDED {"s":"x is 2.50"}')
+        failure = 'status FAILED {"Error":"States.IntrinsicFailure","Cause":"s.$: path"}'
+        self.assert_ends(self.told(definition, "{}", TWO_STEPS), 6, failure)
+
     def test_an_output_has_at_most_262144_bytes(self):
         # Beside the characters, two quotes.
         most = '"' + 262_142 * "x" + '"'

@@ -216,6 +216,11 @@ status SUCCEEDED {"a":{"b":7}}
             (STEP, "S7 NotYet 2024-01-01T00:00:03.000Z"), ("resume /", "NotPaused"), (at("/", 3), "ok"), (at("/", 9), "ok")]
         self.assert_ends(self.replies(RETRIED, exchanged, mocks=THREE_ANSWERS, chosen="M#c"), 14, 'status SUCCEEDED "third"')
 
+    def test_a_wait_of_no_seconds_is_over_with_its_second_step_at_one_moment(self):
+        definition = '{"StartAt":"W","States":{"W":{"Type":"Wait","Seconds":0,"End":true}}}'
+        exchanged = [(STEP, "ok"), ("show /", 'shown ["Pausing","W",{},"2024-01-01T00:00:00.000Z","2024-01-01T00:00:00.000Z"]'), (STEP, "ok")]
+        self.assert_ends(self.replies(definition, exchanged), 5, "status SUCCEEDED {}")
+
     def test_a_step_of_a_branch_takes_the_releases_under_it_away(self):
         exchanged = [(at("/"), "ok"), ('break "B"', "set"), ("resume /1", "resumed"), (at("/0"), "ok"), (at("/1"), "S3 Stopped"),
             (at("/"), "ok"), ("resume /1", "NotPaused"), (at("/", 1), "ok"), (at("/1", 1), 'paused "B"')]

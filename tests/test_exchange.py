@@ -9,7 +9,7 @@ from itertools import combinations
 from typing import NamedTuple
 
 import program
-from program import TOP, ProgramTest, run_program
+from program import TOP, ProgramTest, run_program, steps
 
 # Iterations, two at once, of which each passes, waits and calls a service, which throws at first; beside them a branch that fails
 # where the input says so. All are retried once.
@@ -24,6 +24,14 @@ MIXED = (
 MIXED_MOCKS = '{"StateMachines":{"M":{"TestCases":{"c":{"T":"a"}}}},"MockedResponses":{"a":{"0-1":{"Throw":{"Error":"E"}},"2-99":{"Return":0}}}}'
 MIXED_INPUTS = ['{"items":[0,1,2],"fails":false}', '{"items":[0,1,2],"fails":true}']
 MIXED_PLACES = ["/", "/0", "/0/0", "/0/1", "/0/2", "/1"]
+
+# Two branches of a Pass and a Succeed each.
+TWO_BRANCHES = (
+    '{"StartAt":"Q","States":{"Q":{"Type":"Parallel","Branches":[{"StartAt":"A","States":{"A":{"Type":"Pass","Result":"a","Next":"A2"},'
+    '"A2":{"Type":"Succeed"}}},{"StartAt":"B","States":{"B":{"Type":"Pass","Result":"b","Next":"B2"},"B2":{"Type":"Succeed"}}}],"End":true}}}'
+)
+# What is shown of them once both have passed.
+PASSED = ['shown ["Forked","Q",{},"2024-01-01T00:00:00.000Z",[],[]]', 'shown ["Ready","A2","a"]', 'shown ["Ready","B2","b"]']
 
 
 class Told(NamedTuple):
@@ -136,6 +144,19 @@ class ExchangeTest(ProgramTest):
         """The debugger says of these pairs of steps whether they may change places."""
         told = run.debugged(front, [f"swap {one[0]} {stamp(one[1])} {other[0]} {stamp(other[1])}" for one, other, _ in pairs])
         self.assertEqual([it == "exchangeable" for it in told], [is_so for _, _, is_so in pairs], told)
+
+    def passed(self, order):
+        """What is told of the first of two branches that pass in this order, and what is shown of both then."""
+        text = self.told(TWO_BRANCHES, steps=steps(["/", *order]))
+        script = "".join(f"step {place} {stamp(0)}\n" for place in ["/", *order]) + "show /\nshow /0\nshow /1\n"
+        shown = self.on_texts("debug", TWO_BRANCHES, "{}", "M", "{}", script).stdout.splitlines()[3:6]
+        return [line for line in text.splitlines() if " /0 Pass" in line], shown
+
+    def test_a_branch_tells_the_same_under_other_numbers_where_two_steps_change_places(self):
+        first = ['4 3 2024-01-01T00:00:00.000Z /0 PassStateEntered "A" {}', '5 4 2024-01-01T00:00:00.000Z /0 PassStateExited "A" "a"']
+        self.assertEqual(self.passed(["/0", "/1"]), (first, PASSED))
+        second = ['6 3 2024-01-01T00:00:00.000Z /0 PassStateEntered "A" {}', '7 6 2024-01-01T00:00:00.000Z /0 PassStateExited "A" "a"']
+        self.assertEqual(self.passed(["/1", "/0"]), (second, PASSED))
 
     def try_walk(self, run, seed):
         """Tries pairs of steps on a walk, and returns how many could change places, and how many not."""

@@ -183,6 +183,16 @@ class FaultTest(DefinitionTest):
     def test_maps_in_both_spellings(self):
         self.assert_told([(STATE.around(members), line) for members, line in SPELLINGS])
 
+    def test_a_map_has_one_machine_for_its_items_in_one_spelling(self):
+        machine = '{%%s"StartAt":"%s","States":{"%s":{"Type":"Pass","End":true}}}'
+        first, second = (machine % (name, name) for name in "PQ")
+        wanted = [
+            (f'"Iterator":{first % ""},"ItemProcessor":{second % ""},', "F8 Both /States/M/ItemProcessor"),
+            ("", "F9 Neither /States/M"),
+            ('"ItemProcessor":%s,' % (first % '"ProcessorConfig":{"Mode":"DISTRIBUTED"},'), "F5 Unsupported /States/M/ItemProcessor/ProcessorConfig/Mode"),
+        ]
+        self.assert_told([('{"StartAt":"M","States":{"M":{"Type":"Map",%s"End":true}}}' % members, line) for members, line in wanted])
+
     def test_states_of_inner_machines(self):
         self.assert_told([inside(members, line, around) for members, line in STATES for around in (1, 4)])
 

@@ -202,3 +202,15 @@ fn states_lend_paths_and_templates_by_their_members(rt: HostRuntime) -> Result<(
     assert!(rt; lends_template(&rt, &machine, "P", "ResultSelector", "none"));
     Ok(())
 }
+
+/// A Pass that places 7 at `$.a.b`, and a Succeed.
+const WITH_RESULT_PATH: &str =
+    r#"{"StartAt":"P","States":{"P":{"Type":"Pass","Result":7,"ResultPath":"$.a.b","Next":"S"},"S":{"Type":"Succeed"}}}"#;
+
+#[test]
+fn a_pass_lends_its_result_path_and_no_input_path(rt: HostRuntime) -> Result<(), Fail> {
+    let machine = machine(&rt, WITH_RESULT_PATH).ok_or("refused")?;
+    assert!(rt; lends_path(&machine, "P", "ResultPath", Some("$.a.b")));
+    assert!(rt; lends_path(&machine, "P", "InputPath", None));
+    Ok(())
+}

@@ -23,18 +23,35 @@ pub(crate) const MOCKS: &str = r#"{"StateMachines":{"M":{"TestCases":{"c":{"T":"
 /// The input.
 pub(crate) const INPUT: &str = r#"{"n":0}"#;
 
-fn read(alloc: Global, definition: &str) -> Result<Setup, EmulateFault> {
-    let (definition, mocks) = (definition.as_bytes(), MOCKS.as_bytes());
-    Setup::read(alloc, definition, mocks, "M#c", INPUT.as_bytes())
+fn read(
+    alloc: Global,
+    definition: &str,
+    mocks: &str,
+    chosen: &str,
+    input: &str,
+) -> Result<Setup, EmulateFault> {
+    let (definition, mocks) = (definition.as_bytes(), mocks.as_bytes());
+    Setup::read(alloc, definition, mocks, chosen, input.as_bytes())
+}
+
+/// What an execution of this definition on this input begins with, by the test case that is chosen of a mock file.
+pub(crate) fn setup_by(
+    alloc: Global,
+    definition: &str,
+    mocks: &str,
+    chosen: &str,
+    input: &str,
+) -> Result<Setup, Fail> {
+    let setup = match read(alloc, definition, mocks, chosen, input) {
+        Err(EmulateFault::OutOfMemory) => read(alloc, definition, mocks, chosen, input),
+        read => read,
+    };
+    Ok(setup.map_err(|_| "refused")?)
 }
 
 /// What an execution of this definition begins with.
 pub(crate) fn setup_of(alloc: Global, definition: &str) -> Result<Setup, Fail> {
-    let setup = match read(alloc, definition) {
-        Err(EmulateFault::OutOfMemory) => read(alloc, definition),
-        read => read,
-    };
-    Ok(setup.map_err(|_| "refused")?)
+    setup_by(alloc, definition, MOCKS, "M#c", INPUT)
 }
 
 /// The steps of these lines.

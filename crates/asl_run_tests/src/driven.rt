@@ -1,7 +1,9 @@
 // Runs without a file of steps: each step is the one that comes next.
-use crate::opened::{LOOP, opened};
+use crate::opened::{LOOP, opened, setup_of};
 use asl_exec::{Ended, Execution};
-use asl_run_world::Next;
+use asl_history::Place;
+use asl_run_world::{Next, Refusal};
+use asl_time::{Moment, read_stamp};
 use std::test::Fail;
 
 /// What comes next, as a text: the place of a step, or the milliseconds of a moment.
@@ -55,6 +57,46 @@ fn a_run_ends_where_its_history_is_full(rt: HostRuntime) -> Result<(), Fail> {
     let told = driven(&rt, definition, "0", &[20_000])?;
     // Each step has two events, behind the first one of the execution.
     assert_eq!(rt; told.as_str(), "12496 full full, 24993 events");
+    Ok(())
+}
+
+/// A state that goes on to itself.
+const ROUND: &str = r#"{"StartAt":"P","States":{"P":{"Type":"Pass","Next":"P"}}}"#;
+
+#[test]
+fn a_state_that_goes_on_to_itself_is_driven_to_the_limit(rt: HostRuntime) -> Result<(), Fail> {
+    let told = driven(&rt, ROUND, "{}", &[100])?;
+    assert_eq!(rt; told.as_str(), "100 limit /, 201 events");
+    Ok(())
+}
+
+#[test]
+fn a_state_that_goes_on_to_itself_fills_the_history(rt: HostRuntime) -> Result<(), Fail> {
+    let mut execution = opened(&rt, ROUND, "{}")?;
+    let (count, ended) = execution.drive(20_000).map_err(|_| "no memory")?;
+    assert!(rt; matches!(ended, Ended::Full));
+    assert_eq!(rt; (count, execution.history().len()), (12_496, 24_993));
+    let further = execution.step(&Place::root(), Moment::FIRST);
+    assert!(rt; matches!(further, Err(Refusal::HistoryFull)));
+    Ok(())
+}
+
+/// A Task that is retried three seconds after its first failure, and what it answers.
+const RETRIED: &str = r#"{"StartAt":"W","States":{"W":{"Type":"Task","Resource":"r",
+"Retry":[{"ErrorEquals":["E.A","E.B"],"IntervalSeconds":3,"MaxAttempts":3,"BackoffRate":1.5}],"End":true}}}"#;
+
+const FAILURES: &str =
+    r#"{"StateMachines":{"M":{"TestCases":{"c":{"W":"w"}}}},"MockedResponses":{"w":{
+"0":{"Throw":{"Error":"E.A"}},"1-2":{"Throw":{"Error":"E.B","Cause":"slow"}},"3":{"Return":{"ok":true}}}}}"#;
+
+#[test]
+fn the_moment_of_the_retry_comes_next_after_the_first_failure(rt: HostRuntime) -> Result<(), Fail> {
+    let setup = setup_of(rt.alloc(), RETRIED, FAILURES, "M#c", "{}")?;
+    let mut execution = Execution::open(rt.alloc(), setup)?;
+    let first = read_stamp("2024-01-01T00:00:00.000Z").ok_or("no moment")?;
+    let retry = read_stamp("2024-01-01T00:00:03.000Z").ok_or("no moment")?;
+    assert!(rt; execution.step(&Place::root(), first).is_ok());
+    assert!(rt; matches!(execution.next(), Next::At(moment) if moment == retry));
     Ok(())
 }
 

@@ -143,6 +143,15 @@ fn a_sink_that_fails_has_a_beginning(rt: HostRuntime) -> Result<(), Fail> {
     Ok(())
 }
 
+#[test]
+fn a_sink_that_takes_single_bytes_may_fail_at_each(rt: HostRuntime) -> Result<(), Fail> {
+    let history = pass_and_succeed(rt.alloc()).ok_or("no history")?;
+    for taken in 0..LINES.len() {
+        assert!(rt; is_cut(rt.alloc(), &history, taken, 1), "{taken}");
+    }
+    Ok(())
+}
+
 /// Places of events, and the number of the event that each is linked to.
 const LINKS: &[(&str, u64)] = &[
     ("/", 0),

@@ -49,6 +49,12 @@ fn clones(alloc: Global, text: &str) -> Option<bool> {
     Some(copy == value)
 }
 
+/// The compact text of a clone of what a text is read as.
+fn clone_text(alloc: Global, text: &str) -> Option<String> {
+    let copy = value_of(alloc, text)?.try_clone(alloc).ok()?;
+    write(alloc, &copy).ok()
+}
+
 /// Whether a value that two own is one value, and is had outright by the first of them and by the last.
 fn is_shared(alloc: Global, text: &str) -> Option<bool> {
     let value = value_of(alloc, text)?;
@@ -315,6 +321,14 @@ fn objects_in_another_order_mean_the_same(rt: HostRuntime) -> Result<(), Fail> {
 fn clones_are_equal(rt: HostRuntime) -> Result<(), Fail> {
     let text = "{\"a\":1,\"b\":{\"c\":\"x\"},\"d\":null}";
     assert!(rt; clones(rt.alloc(), text) == Some(true));
+    Ok(())
+}
+
+#[test]
+fn a_clone_is_written_as_what_it_is_a_clone_of(rt: HostRuntime) -> Result<(), Fail> {
+    let text = "{\"a\":[1.0,\"x\"]}";
+    let copied = clone_text(rt.alloc(), text).ok_or("no clone")?;
+    assert_eq!(rt; copied.as_str(), text);
     Ok(())
 }
 
