@@ -813,7 +813,11 @@ class Exploring(Searches):
     # ---- searches that are cut
 
     def test_an_order_that_is_longer_than_a_history_cuts_the_search(self):
-        ran = self.explore(chain("A", 12600), chosen="M")
+        counts = (
+            '{"StartAt":"A","States":{"A":{"Type":"Pass","Parameters":{"n.$":"States.MathAdd($.n, 1)"},"Next":"C"},"C":{"Type":"Choice",'
+            '"Choices":[{"Variable":"$.n","NumericGreaterThanEquals":6300,"Next":"S"}],"Default":"A"},"S":{"Type":"Succeed"}}}'
+        )
+        ran = self.explore(counts, '{"n":0}', chosen="M")
         told = explored(ran.stdout)
         self.assertEqual((ran.returncode, told.search, told.outcomes), (1, "search cut: an order has more steps than a history has room for", []))
 

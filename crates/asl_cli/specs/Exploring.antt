@@ -10,7 +10,7 @@ use Rattle.asl_exec.specs.Steps.{deadline_of}
 use Rattle.asl_explore.specs.Clock.{clock_place}
 use Rattle.asl_explore.specs.Orders.{IsWhole, IsWholeAtAnyMoment, IsWholeTo}
 use Rattle.asl_explore.specs.Endless.{IsLasso, NoneIsEndless}
-use Rattle.asl_explore.specs.TimeOver.{IsShown}
+use Rattle.asl_explore.specs.TimeOver.{IsWitnessed}
 use Rattle.asl_explore.specs.Calls.{IsStated, AreCounted}
 use Rattle.asl_explore.specs.Searches.{AreDistinct, AreAllLate, AreLate, outcomes_of}
 use Rattle.asl_explore.specs.declared.orders.Orders.{Orders}
@@ -44,7 +44,7 @@ pub record IsFoundFor (gives : List ℕ → List ℕ → Type 0) (w : ExploreWor
     (notes : List ℕ) : Type 0 where
   pub setup : Setup
   pub begins : IsBegun gives w.setup setup
-  pub shown : All (IsShown x.orders setup) x.found.items
+  pub shown : All (IsWitnessed x.orders setup) x.found.items
   pub once : AreDistinct (outcomes_of x.found.items)
   pub orders : x.orders ≡ orders_for w.prompt
   pub whole : x.complete ≡ true → IsWhole x.orders setup (outcomes_of x.found.items)

@@ -14,7 +14,7 @@ ghost use Rattle.asl_explore.specs.Clock.{clock_place};
 ghost use Rattle.asl_explore.specs.Endless.{IsLasso, NoneIsEndless};
 ghost use Rattle.asl_explore.specs.Orders.{IsWhole, IsWholeAtAnyMoment, IsWholeTo};
 ghost use Rattle.asl_explore.specs.Searches.{AreAllLate, AreDistinct, AreLate, outcomes_of};
-ghost use Rattle.asl_explore.specs.TimeOver.{IsShown};
+ghost use Rattle.asl_explore.specs.TimeOver.{IsWitnessed};
 ghost use Rattle.asl_exec.specs.Steps.{deadline_of};
 ghost use Rattle.asl_run_world.specs.declared.outcome.Outcome.TheVariants.{TimedOut};
 
@@ -97,7 +97,7 @@ fn search_from<W: Watch>(
     chosen: &str,
     setup: Setup,
 ) -> Result<Searched, AllocError>
-    ensures shown { IfOk result (λ r. All (IsShown r.explored.orders setup) r.explored.found.items) }
+    ensures shown { IfOk result (λ r. All (IsWitnessed r.explored.orders setup) r.explored.found.items) }
     ensures once { IfOk result (λ r. AreDistinct (outcomes_of r.explored.found.items)) }
     ensures orders { IfOk result (λ r. r.explored.orders ≡ orders_for words.now.prompt) }
     ensures whole { IfOk result (λ r. r.explored.complete ≡ true

@@ -20,7 +20,7 @@ use Rattle.asl_explore.specs.Calls.{AreCounted, IsCounted}
 use Rattle.asl_explore.specs.Endless.{after_bare, go, turning, AreTaken, IsLasso}
 use Rattle.asl_explore.specs.Orders.{after_order, places_of, IsWhole, IsWholeTo}
 use Rattle.asl_explore.specs.Searches.{IsLater, Shows, AreOver}
-use Rattle.asl_explore.specs.TimeOver.{RunsOut, IsShown}
+use Rattle.asl_explore.specs.TimeOver.{RunsOut, IsWitnessed}
 use Rattle.asl_explore.proofs.AnyMoment.{all-tried}
 
 -- ---- one outcome more
@@ -49,14 +49,14 @@ counted-later o s ws vs os us cs l h ps tried over =
 
 -- ---- outcomes that are shown
 
-shown-over : (o : Orders) (s : Setup) (f : Found) → IsShown o s f → is_over f.outcome ≡ true
+shown-over : (o : Orders) (s : Setup) (f : Found) → IsWitnessed o s f → is_over f.outcome ≡ true
 shown-over o s f (inl h) = h.over
 shown-over o s f (inr h) = ap is_over h.1.outcome_is
 
-pub all-over : (o : Orders) (s : Setup) (fs : List Found) → All (IsShown o s) fs → AreOver fs
+pub all-over : (o : Orders) (s : Setup) (fs : List Found) → All (IsWitnessed o s) fs → AreOver fs
 all-over o s fs h i d l = shown-over o s (get_or fs i d) (h i d l)
 
-pub all-shown : (o : Orders) (s : Setup) (fs : List Found) → All (Shows o s) fs → All (IsShown o s) fs
+pub all-shown : (o : Orders) (s : Setup) (fs : List Found) → All (Shows o s) fs → All (IsWitnessed o s) fs
 all-shown o s fs h i d l = inl (h i d l)
 
 -- what comes in an order in which no branch is late, comes in one of all
@@ -71,9 +71,9 @@ no-depth None P Q h = tt
 no-depth (Some d) P Q h = let e : Prompt ≡ Every = h.0 in absurd (cc)
 
 -- that of a late step behind them
-pub late-shown : (o : Orders) (s z : Setup) (fs gs : List Found) (f : Found) → z ≡ s → gs ≡ fs ++ f ∷ [] → o ≡ Every → RunsOut z f → All (Shows o s) fs → All (IsShown o s) gs
+pub late-shown : (o : Orders) (s z : Setup) (fs gs : List Found) (f : Found) → z ≡ s → gs ≡ fs ++ f ∷ [] → o ≡ Every → RunsOut z f → All (Shows o s) fs → All (IsWitnessed o s) gs
 late-shown o s z fs gs f ez e every late shown =
-    subst (All (IsShown o s)) (sym e) (All-push (IsShown o s) fs f (all-shown o s fs shown) (inr (every, subst (λ (x : Setup). RunsOut x f) ez late)))
+    subst (All (IsWitnessed o s)) (sym e) (All-push (IsWitnessed o s) fs f (all-shown o s fs shown) (inr (every, subst (λ (x : Setup). RunsOut x f) ez late)))
 
 -- ---- orders that never end
 

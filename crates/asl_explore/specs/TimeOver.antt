@@ -25,5 +25,5 @@ pub record RunsOut (s : Setup) (f : Found) : Type 0 where
 
 -- an outcome that was found, with steps that end in it: each at the earliest moment, but for one that
 -- ends the execution since it is late, where branches may be
-abbrev pub IsShown : Orders → Setup → Found → Type 0
-IsShown o s f = Shows o s f ⊎ ((o ≡ Every) × RunsOut s f)
+abbrev pub IsWitnessed : Orders → Setup → Found → Type 0
+IsWitnessed o s f = Shows o s f ⊎ ((o ≡ Every) × RunsOut s f)

@@ -10,7 +10,7 @@ ghost use Rattle.asl_explore.specs.Clock.{clock_place};
 ghost use Rattle.asl_explore.specs.Endless.{CanEnd, IsLasso, NoneIsEndless};
 ghost use Rattle.asl_explore.specs.private.Reaching.{IsLeast};
 ghost use Rattle.asl_explore.specs.Orders.{IsWhole, IsWholeAtAnyMoment, IsWholeTo};
-ghost use Rattle.asl_explore.specs.TimeOver.{IsShown};
+ghost use Rattle.asl_explore.specs.TimeOver.{IsWitnessed};
 ghost use Rattle.asl_explore.specs.declared.orders.Orders.TheVariants.{Every};
 ghost use Rattle.asl_explore.specs.Settled.{AreSettledFrom};
 ghost use Rattle.asl_explore.specs.Calls.{IsStated, AllAreExpanded, AreCounted};
@@ -476,7 +476,7 @@ pub fn explore<W: Watch>(
     limit: u32,
     watch: &W,
 ) -> Result<Explored, AllocError>
-    ensures shown { IfOk result (λ x. All (IsShown orders setup) x.found.items) }
+    ensures shown { IfOk result (λ x. All (IsWitnessed orders setup) x.found.items) }
     ensures once { IfOk result (λ x. AreDistinct (outcomes_of x.found.items)) }
     ensures whole { IfOk result (λ x. x.complete ≡ true
         → IsWhole orders setup (outcomes_of x.found.items)) }

@@ -7,7 +7,7 @@ ghost use Rattle.asl_exec.specs.Steps.{deadline_of};
 ghost use Rattle.asl_exec.specs.Views.{setup_of};
 ghost use Rattle.asl_explore.specs.declared.orders.Orders.TheVariants.{Every};
 ghost use Rattle.asl_explore.specs.Searches.{outcomes_of, AreDistinct, IsLater, Shows};
-ghost use Rattle.asl_explore.specs.TimeOver.{IsShown, RunsOut};
+ghost use Rattle.asl_explore.specs.TimeOver.{IsWitnessed, RunsOut};
 
 use crate::found::Found;
 use crate::orders::Orders;
@@ -95,7 +95,7 @@ pub(crate) fn put_time_over(
     ensures later { (ws : List World)
         → IsLater ws (outcomes_of found.old.items) ws (outcomes_of found.new.items) }
     ensures shown { All (Shows orders (setup_of execution.old)) found.old.items
-        → All (IsShown orders (setup_of execution.old)) found.new.items }
+        → All (IsWitnessed orders (setup_of execution.old)) found.new.items }
     ensures once { AreDistinct (outcomes_of found.old.items)
         → AreDistinct (outcomes_of found.new.items) }
     ensures setup { setup_of execution.new ≡ setup_of execution.old }

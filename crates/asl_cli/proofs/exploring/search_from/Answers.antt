@@ -4,7 +4,7 @@ use Rattle.std.specs.Prelude.{IfSome}
 use Rattle.std.specs.List.{All}
 use Rattle.asl_explore.specs.Orders.{IsWhole, IsWholeTo}
 use Rattle.asl_explore.specs.Endless.{IsLasso, NoneIsEndless}
-use Rattle.asl_explore.specs.TimeOver.{IsShown}
+use Rattle.asl_explore.specs.TimeOver.{IsWitnessed}
 use Rattle.asl_explore.specs.Searches.{outcomes_of}
 use Rattle.asl_explore.specs.Calls.{AreCounted}
 use Rattle.asl_cli.proofs.exploring.search_from.Goals as goal
@@ -22,7 +22,7 @@ pub returns-clause-time_over : goal.returns-clause-time_over
 returns-clause-time_over g c = λ t every limited. c.in_ok-explored.ensures.time_over t (sym c.in_ok-explored.ensures.orders ∙ every) limited
 
 pub returns-clause-shown : goal.returns-clause-shown
-returns-clause-shown g c = subst (λ (o : Orders). All (IsShown o c.args.setup) c.in_ok-explored.explored.found.items) (sym c.in_ok-explored.ensures.orders) c.in_ok-explored.ensures.shown
+returns-clause-shown g c = subst (λ (o : Orders). All (IsWitnessed o c.args.setup) c.in_ok-explored.explored.found.items) (sym c.in_ok-explored.ensures.orders) c.in_ok-explored.ensures.shown
 
 pub returns-clause-depth : goal.returns-clause-depth
 returns-clause-depth g c = subst (λ (o : Orders). IfSome c.in_ok-explored.explored.depth (λ d. IsWholeTo d o c.args.setup (outcomes_of c.in_ok-explored.explored.found.items))) (sym c.in_ok-explored.ensures.orders) c.in_ok-explored.ensures.depth

@@ -9,7 +9,7 @@ use Rattle.asl_explore.specs.Endless.{CanEnd, NoneIsEndless}
 use Rattle.asl_explore.specs.Orders.{IsWhole, IsWholeTo}
 use Rattle.asl_explore.specs.Calls.{AllAreExpanded, AreCounted}
 use Rattle.asl_explore.specs.Searches.{Shows, AreAllLate, AreLate, AreOver, outcomes_of, worlds_of}
-use Rattle.asl_explore.specs.TimeOver.{IsShown}
+use Rattle.asl_explore.specs.TimeOver.{IsWitnessed}
 use Rattle.asl_explore.specs.declared.found.Found.{Found}
 use Rattle.asl_explore.specs.declared.orders.Orders.{Orders}
 use Rattle.asl_explore.specs.declared.orders.Orders.TheVariants.{Every}
@@ -23,7 +23,7 @@ returns-clause-shown g c =
     let fs = c.in-Some.searched.found.items in
     let e = c.endless_in.ensures.setup ∙ c.calls_in.ensures.setup ∙ c.search_for.ensures.setup ∙ c.in_ok-execution.ensures.setup in
     let shown : All (Shows c.args.orders c.args.setup) fs = subst (λ (s : Setup). All (Shows c.args.orders s) fs) c.in_ok-execution.ensures.setup (rw c.in-Some.is at c.in_ok-searched.ensures.shown) in
-    subst (λ (s : Setup). All (Shows c.args.orders s) fs → All (IsShown c.args.orders s) c.put_time_over.new.found.items) e c.put_time_over.ensures.shown shown
+    subst (λ (s : Setup). All (Shows c.args.orders s) fs → All (IsWitnessed c.args.orders s) c.put_time_over.new.found.items) e c.put_time_over.ensures.shown shown
 
 pub returns-clause-once : goal.returns-clause-once
 returns-clause-once g c = c.put_time_over.ensures.once (rw c.in-Some.is at c.in_ok-searched.ensures.once)
@@ -91,7 +91,7 @@ returns-clause-late g c =
     let gs = c.put_time_over.new.found.items in
     let e = c.endless_in.ensures.setup ∙ c.calls_in.ensures.setup ∙ c.search_for.ensures.setup ∙ c.in_ok-execution.ensures.setup in
     let shown : All (Shows c.args.orders c.args.setup) fs = subst (λ (s : Setup). All (Shows c.args.orders s) fs) c.in_ok-execution.ensures.setup (rw c.in-Some.is at c.in_ok-searched.ensures.shown) in
-    let over : AreOver gs = all-over c.args.orders c.args.setup gs (subst (λ (s : Setup). All (Shows c.args.orders s) fs → All (IsShown c.args.orders s) gs) e c.put_time_over.ensures.shown shown) in
+    let over : AreOver gs = all-over c.args.orders c.args.setup gs (subst (λ (s : Setup). All (Shows c.args.orders s) fs → All (IsWitnessed c.args.orders s) gs) e c.put_time_over.ensures.shown shown) in
     subst (λ (s : Setup). AreOver gs → AreLate s gs c.in_ok-late.late.numbers.items) (c.put_time_over.ensures.setup ∙ e)
     (subst (λ (xs : List Found). AreOver xs → AreLate (setup_of c.put_time_over.new.execution) xs c.in_ok-late.late.numbers.items) c.deref.ensures.value c.in_ok-late.ensures.late) over
 
