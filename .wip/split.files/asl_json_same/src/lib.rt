@@ -1,6 +1,0 @@
-//! Whether two JSON values mean the same.
-#![tactic(auto)]
-
-mod sameness;
-
-pub use sameness::same;
