@@ -181,6 +181,60 @@ class LintTest(ProgramTest):
         for it in found:
             self.assertEqual(text.splitlines()[it["line"] - 1][it["column"] - 1 :].strip(), '"?"')
 
+    def test_a_fault_inside_a_faulty_object(self):
+        # a state lacks what it needs, which is told at its closing brace, behind the faults of the retrier in it; a rule without a test names no state
+        lines = [
+            '{ "StartAt": "A", "States": {',
+            '  "A": {',
+            '    "Type": "Task", "Nope": 1,',
+            '    "Retry": [ { "MaxAttempts": -1 } ],',
+            '    "Next": "B"',
+            "  },",
+            '  "B": { "Type": "Choice", "Choices": [ { "Variable": "$.a", "Next": "C" } ], "Default": "A" }',
+            "} }",
+        ]
+        found = self.findings("\n".join(lines))
+        self.assertEqual(
+            [(it["name"], it["line"], it["column"]) for it in found],
+            [("F4", 3, 21), ("F7", 4, 33), ("F3", 4, 36), ("F3", 6, 3), ("F9", 7, 41), ("F10", 7, 70)],
+        )
+
+    def test_two_faults_of_one_object(self):
+        # a Wait that says neither how long nor where it goes on: both are told, at one place
+        found = self.findings('{"StartAt":"W","States":{"W":{"Type":"Wait"}}}')
+        self.assertEqual(
+            [(it["name"], it["line"], it["column"], it["message"]) for it in found],
+            [
+                ("F9", 1, 30, 'a Wait state needs one of Seconds, SecondsPath, Timestamp and TimestampPath, and "W" has none'),
+                ("F9", 1, 30, 'a Wait state needs one of Next and "End": true, and "W" has none'),
+            ],
+        )
+
+    def test_each_format_tells_the_same(self):
+        mocks = MOCKS.replace('"0": {', '"0": { "Return": 1 }, "2": {')
+        definition = GOOD.replace('"Next": "Ship"', '"Next": "Shipp"').replace('"States.Timeout"', '"States.Timout"')
+        found = self.findings(definition, mocks)
+        self.assertEqual([it["name"] for it in found], ["unknown-error", "F10", "missing-answer"])
+        lines = [f"{it['file']}:{it['line']}:{it['column']}: {it['severity']} {it['name']}: {it['message']}" for it in found]
+        self.assertEqual(self.lint(definition, mocks=mocks).stdout.splitlines(), [*lines, "1 error, 2 warnings"])
+        results = json.loads(self.lint(definition, "--format", "sarif", mocks=mocks).stdout)["runs"][0]["results"]
+        self.assertEqual(
+            [(it["ruleId"], it["level"], it["message"]["text"]) for it in results],
+            [(it["name"], it["severity"], it["message"]) for it in found],
+        )
+        for result, it in zip(results, found):
+            (location,) = result["locations"]
+            self.assertEqual(location["physicalLocation"]["region"], {"startLine": it["line"], "startColumn": it["column"]})
+
+    def test_a_file_name_as_a_uri(self):
+        with tempfile.TemporaryDirectory(prefix="asl-test-") as room:
+            name = os.path.join(room, "a b\u00e9%~_.-9.json")
+            with open(name, "w", encoding="utf-8") as file:
+                file.write("{}")
+            log = json.loads(run_program("lint", name, "--format", "sarif").stdout)
+        places = [it["locations"][0]["physicalLocation"] for it in log["runs"][0]["results"]]
+        self.assertEqual({place["artifactLocation"]["uri"] for place in places}, {f"{room}/a%20b%C3%A9%25~_.-9.json"})
+
     def test_lines_and_columns(self):
         # characters of 1 to 4 bytes before it in its line, a tab, line feeds behind carriage returns
         for name, width in [("a", 1), ("é", 2), ("€", 3), ("😀", 4), ("\t", None)]:

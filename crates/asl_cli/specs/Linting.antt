@@ -1,7 +1,7 @@
 -- What the command `lint` finds and prints.
 use Rattle.std.specs.Prelude.{ℕ, List, Bool, ◌∷◌, ◌≡◌, Option, option_map, string_bytes}
 use Rattle.std.specs.List.{All}
-use Rattle.asl_lint.specs.declared.finding.Report.{Report}
+use Rattle.asl_lint.specs.declared.report.Report.{Report}
 use Rattle.asl_lint.specs.Linted.{AreLinted}
 use Rattle.asl_lint.specs.Places.{IsAt, AreIn}
 use Rattle.asl_lint.specs.Reports.{is_good}

@@ -1,2 +1,4 @@
 pub mod Telling
 pub mod Mocking
+pub mod Sorting
+pub mod Sentences

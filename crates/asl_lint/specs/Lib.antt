@@ -1,6 +1,9 @@
+pub mod Told
 pub mod Findings
 pub mod Places
 pub mod Mocks
 pub mod Linted
 pub mod Reports
+pub mod Rules
+pub mod Lines
 pub mod private

@@ -1,7 +1,8 @@
 -- Where findings stand.
 use Rattle.std.specs.Prelude.{ℕ, ◌-◌, List, [], ◌∷◌, ◌≡◌, ◌≤◌, Option, Some, None, length, take}
 use Rattle.std.specs.List.{All}
-use Rattle.std.specs.List.Sorted.{IsPermutation}
+use Rattle.std.specs.List.Sorted.{IsNonDecreasingBy, IsPermutation, IsStableByKey}
+use Rattle.std.specs.Ordering.{nat_cmp}
 use Rattle.asl_json.specs.Data.{Data}
 use Rattle.asl_json_outline.specs.declared.span.Span.{Span}
 use Rattle.asl_json_outline.specs.declared.span.Node.{Node}
@@ -56,8 +57,15 @@ AllPoint b d [] (r ∷ rs) = ⊥
 AllPoint b d (n ∷ ns) [] = ⊥
 AllPoint b d (n ∷ ns) (r ∷ rs) = Points b d n r × AllPoint b d ns rs
 
--- each of these once, at its stretch, and no other, in some order
+-- the byte at which it begins
+abbrev pub begin_of : Ruled → ℕ
+begin_of r = r.1.begin
+
+-- each of these once, at its stretch, and no other, in the order in which the stretches begin; those
+-- that begin together stand as they stood
 pub record ArePlaced (b : List ℕ) (d : Data) (ns : List Noted) (rs : List Ruled) : Type 0 where
   pub pointed : List Ruled
   pub point : AllPoint b d ns pointed
   pub same : IsPermutation pointed rs
+  pub sorted : IsNonDecreasingBy begin_of rs
+  pub stable : IsStableByKey begin_of nat_cmp pointed rs

@@ -5,7 +5,7 @@ ghost use Rattle.asl_lint_warnings.specs.Warnings.{warnings_of};
 ghost use Rattle.asl_lint.specs.Findings.{numbers, of_fault, of_warning, is_of_ways, is_kept, is_faulty, told_of, warnings_told, AreFound};
 ghost use Rattle.asl_lint.specs.private.Founds.{noted};
 
-use crate::finding::Found;
+use crate::finding::{Found, said};
 use crate::rule::Rule;
 use asl_def_table::{Fault, FaultKind, Step};
 use asl_json::Json;
@@ -49,6 +49,7 @@ fn number_of(before: &[Fault], fault: &Fault) -> usize {
     number
 }
 
+#[tactic(auto, unfolding(crate::specs::Told::is_told))]
 fn found_of<'a>(
     alloc: Global,
     places: &mut Places<'a>,
@@ -72,10 +73,11 @@ fn found_of<'a>(
         states,
         effort,
     )?;
+    let rule = Rule::Fault(fault.kind());
     Ok(Found {
-        rule: Rule::Fault(fault.kind()),
+        rule,
         place: place_of(alloc, steps)?,
-        message,
+        message: said(rule, message)?,
     })
 }
 
@@ -93,6 +95,7 @@ fn is_kept(is_faulty: bool, warning: &Warning) -> bool
     !(is_faulty && is_of_ways(warning.kind()))
 }
 
+#[tactic(auto, unfolding(crate::specs::Told::is_told))]
 fn found_of_warning<'a>(
     alloc: Global,
     places: &mut Places<'a>,
@@ -106,10 +109,11 @@ fn found_of_warning<'a>(
     let standing = places.standing();
     let mut message = String::new(alloc);
     put_warning(alloc, &mut message, warning.kind(), &standing, effort)?;
+    let rule = Rule::Warning(warning.kind());
     Ok(Found {
-        rule: Rule::Warning(warning.kind()),
+        rule,
         place: place_of(alloc, steps)?,
-        message,
+        message: said(rule, message)?,
     })
 }
 

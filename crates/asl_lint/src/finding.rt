@@ -1,10 +1,10 @@
 // What is told.
-ghost use Rattle.std.specs.Prelude.{◌≡◌};
-ghost use Rattle.std.specs.List.{list_any};
-ghost use Rattle.asl_lint.specs.Reports.{counts, is_good};
+ghost use Rattle.std.specs.Prelude.{◌≡◌, true, IfOk, string_bytes};
+ghost use Rattle.asl_lint.specs.Told.{has_some, is_told};
 
-use crate::rule::{Rule, Severity};
+use crate::rule::Rule;
 use asl_json_outline::{Position, Span};
+use std::alloc::AllocError;
 
 /// A finding that isn't placed yet: its place is the numbers of members and items, from the outermost value in.
 #[derive(Drop)]
@@ -12,61 +12,44 @@ pub(crate) struct Found {
     pub(crate) rule: Rule,
     pub(crate) place: Vec<usize>,
     pub(crate) message: String,
+    /// The message was made for this rule at this place.
+    ghost told: { is_told rule place.items (string_bytes message) ≡ true },
 }
 
 /// Something that is wrong or suspicious, and where it stands in its file.
 #[derive(Drop)]
 pub struct Finding {
     pub rule: Rule,
+    /// The numbers of the members and items on the way to its place, from the outermost in.
+    pub place: Vec<usize>,
     /// Where it begins and ends, in bytes.
     pub span: Span,
     /// The line and the column where it begins.
     pub position: Position,
     /// One sentence, on one line.
     pub message: String,
+    /// The message was made for this rule at this place.
+    pub ghost told: { is_told rule place.items (string_bytes message) ≡ true },
 }
 
-/// All that is found in a definition, and in the mock file beside it.
-#[derive(Drop)]
-pub struct Report {
-    /// In the order of their places.
-    pub definition: Vec<Finding>,
-    /// The same of the mock file.
-    pub mocks: Vec<Finding>,
-}
-
-fn count_in(findings: &[Finding], severity: Severity) -> usize {
-    let mut count: usize = 0;
-    for finding in findings {
-        if finding.rule.severity() == severity {
-            count = count.saturating_add(1);
-        }
-    }
-    count
-}
-
-/// Whether one of these counts as an error.
-fn has_any(findings: &[Finding], strict: bool) -> bool
-    ensures { result ≡ list_any (counts strict) findings.now }
+fn has_some(bytes: &[u8]) -> bool
+    ensures { result ≡ has_some bytes.now }
 {
-    for finding in findings {
-        if strict || finding.rule.is_error() {
-            return true;
-        }
+    match bytes {
+        [] => false,
+        _ => true,
     }
-    false
 }
 
-impl Report {
-    /// How many findings are so bad.
-    pub fn count(&self, severity: Severity) -> usize {
-        count_in(&self.definition, severity).saturating_add(count_in(&self.mocks, severity))
+/// These words; where there are none, the sentence of the rule. So no message is empty. The error is that memory ran out.
+#[tactic(auto, using(crate::proofs::Sentences::says, crate::proofs::Sentences::says_behind))]
+pub(crate) fn said(rule: Rule, words: String) -> Result<String, AllocError>
+    ensures { IfOk result (λ t. has_some (string_bytes t) ≡ true) }
+{
+    if has_some(words.as_bytes()) {
+        return Ok(words);
     }
-
-    /// Whether nothing is wrong: no error and, where warnings count as errors, no warning.
-    pub fn is_good(&self, strict: bool) -> bool
-        ensures { result ≡ is_good strict self.now }
-    {
-        !has_any(&self.definition, strict) && !has_any(&self.mocks, strict)
-    }
+    let mut words = words;
+    words.push_str(rule.sentence())?;
+    Ok(words)
 }

@@ -3,7 +3,7 @@ ghost use Rattle.std.specs.Prelude.{◌≡◌, ◌∷◌, [], map, IfOk};
 ghost use Rattle.std.specs.List.{All};
 ghost use Rattle.asl_lint.specs.Places.{IsAt};
 
-use crate::finding::Finding;
+use crate::finding::{Finding, said};
 use crate::placing::position_of;
 use crate::rule::Rule;
 use asl_json::JsonFault;
@@ -97,6 +97,7 @@ fn put_unread(out: &mut String, text: &[u8], fault: JsonFault) -> Result<(), All
 }
 
 /// The finding of a text that is no JSON, at its byte. The error is that memory ran out.
+#[tactic(auto, unfolding(crate::specs::Told::is_told))]
 pub(crate) fn unread(
     alloc: Global,
     rule: Rule,
@@ -112,9 +113,10 @@ pub(crate) fn unread(
     let mut findings = Vec::new(alloc);
     findings.push(Finding {
         rule,
+        place: Vec::new(alloc),
         span: Span { begin: at, end: at },
         position: position_of(text, at),
-        message,
+        message: said(rule, message)?,
     })?;
     Ok(findings)
 }

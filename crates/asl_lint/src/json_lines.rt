@@ -1,5 +1,6 @@
 // Findings as lines of JSON.
-use crate::finding::{Finding, Report};
+use crate::finding::Finding;
+use crate::report::Report;
 use asl_json::put_quoted;
 use std::alloc::{AllocError, Global};
 

@@ -1,8 +1,8 @@
 //! Everything that is wrong or suspicious in a definition and in the mock file beside it, where it stands, and how it is mended.
 //!
-//! Modules in reading order: `rule` and `finding` are what is told, and `part` at what it points; `json_faults` says what is wrong with a text that is no JSON; `placing` finds
+//! Modules in reading order: `rule`, `finding` and `report` are what is told, and `part` at what it points; `json_faults` says what is wrong with a text that is no JSON; `placing` finds
 //! lines and columns; `definition` has the findings of a definition, `mocks` those of a mock file, by itself and beside a definition, `mock_words` and `gaps` what
-//! is said of them, and `linting` all; `lines`, `json_lines` and `sarif_log` are the formats.
+//! is said of them, and `linting` all; `lines`, `json_lines` and `sarif_log` are the formats, and `pieces` has what lines tell of places.
 #![tactic(auto)]
 
 mod definition;
@@ -15,13 +15,16 @@ mod linting;
 mod mock_words;
 mod mocks;
 mod part;
+mod pieces;
 mod placing;
+mod report;
 mod rule;
 mod sarif_log;
 
-pub use finding::{Finding, Report};
+pub use finding::Finding;
 pub use json_lines::json;
 pub use lines::text;
 pub use linting::{Source, lint};
+pub use report::Report;
 pub use rule::{MockRule, Rule, Severity};
 pub use sarif_log::sarif;

@@ -1,37 +1,77 @@
 // Findings as lines for people.
-use crate::finding::{Finding, Report};
+ghost use Rattle.std.specs.Prelude.{◌≡◌, ◌++◌, IfOk, OnOk, string_bytes};
+ghost use Rattle.std.specs.List.{flat_map};
+ghost use Rattle.asl_lint.specs.Lines.{counted, finding_line, lines_of, place_text, told_text, total_line};
+
+use crate::finding::Finding;
+use crate::pieces::{column_of, line_of};
+use crate::report::Report;
 use crate::rule::Severity;
 use asl_terminal::put_shown;
 use std::alloc::{AllocError, Global};
 
-/// Appends a finding on a line: `FILE:LINE:COLUMN: error F10: ..`.
-fn put_finding(out: &mut String, file: &str, finding: &Finding) -> Result<(), AllocError> {
-    let line = finding.position.lines.saturating_add(1);
-    let column = finding.position.characters.saturating_add(1);
+/// Appends where a finding is: `FILE:LINE:COLUMN: `.
+fn put_place(out: &mut String, file: &str, finding: &Finding) -> Result<(), AllocError>
+    ensures { OnOk result (string_bytes out.new
+        ≡ string_bytes out.old ++ place_text file.now finding.now) }
+{
+    let line = line_of(finding);
+    let column = column_of(finding);
     put_shown(out, file)?;
-    write!(out, ":{line}:{column}: ")?;
+    write!(out, ":{line}:{column}: ")
+}
+
+/// Appends what it is: `error F10: ..`.
+fn put_told(out: &mut String, finding: &Finding) -> Result<(), AllocError>
+    ensures { OnOk result (string_bytes out.new ≡ string_bytes out.old ++ told_text finding.now) }
+{
     out.push_str(finding.rule.severity().word())?;
-    out.push(' ')?;
+    out.push_str(" ")?;
     out.push_str(finding.rule.name())?;
     out.push_str(": ")?;
-    out.push_str(finding.message.as_str())?;
+    out.push_str(finding.message.as_str())
+}
+
+/// Appends a finding on a line.
+#[tactic(auto, unfolding(crate::specs::Lines::finding_line))]
+fn put_finding(out: &mut String, file: &str, finding: &Finding) -> Result<(), AllocError>
+    ensures { OnOk result (string_bytes out.new
+        ≡ string_bytes out.old ++ finding_line file.now finding.now) }
+{
+    put_place(out, file, finding)?;
+    put_told(out, finding)?;
     out.push('\n')
 }
 
+/// Appends each of these findings of a file on a line.
+fn put_findings(out: &mut String, file: &str, findings: &[Finding]) -> Result<(), AllocError>
+    ensures { OnOk result (string_bytes out.new
+        ≡ string_bytes out.old ++ flat_map (finding_line file.now) findings.now) }
+{
+    for finding in findings {
+        put_finding(out, file, finding)?;
+    }
+    Ok(())
+}
+
 /// Appends a number of things.
-fn put_count(out: &mut String, count: usize, word: &str) -> Result<(), AllocError> {
+fn put_count(out: &mut String, count: u128, word: &str) -> Result<(), AllocError>
+    ensures { OnOk result (string_bytes out.new ≡ string_bytes out.old ++ counted count word.now) }
+{
     write!(out, "{count} ")?;
     out.push_str(word)?;
     if count != 1 {
-        out.push('s')?;
+        out.push_str("s")?;
     }
     Ok(())
 }
 
 /// Appends how many errors and warnings there are.
-fn put_total(out: &mut String, report: &Report) -> Result<(), AllocError> {
-    let errors = report.count(Severity::Error);
-    let warnings = report.count(Severity::Warning);
+#[tactic(auto, unfolding(crate::specs::Lines::total_line))]
+fn put_total(out: &mut String, errors: u128, warnings: u128) -> Result<(), AllocError>
+    ensures { OnOk result (string_bytes out.new
+        ≡ string_bytes out.old ++ total_line errors warnings) }
+{
     if errors == 0 && warnings == 0 {
         return out.push_str("no findings\n");
     }
@@ -47,14 +87,14 @@ pub fn text(
     definition: &str,
     mocks: &str,
     report: &Report,
-) -> Result<String, AllocError> {
+) -> Result<String, AllocError>
+    ensures { IfOk result (λ t. string_bytes t ≡ lines_of definition.now mocks.now report.now) }
+{
     let mut out = String::new(alloc);
-    for finding in &report.definition {
-        put_finding(&mut out, definition, finding)?;
-    }
-    for finding in &report.mocks {
-        put_finding(&mut out, mocks, finding)?;
-    }
-    put_total(&mut out, report)?;
+    put_findings(&mut out, definition, &report.definition)?;
+    put_findings(&mut out, mocks, &report.mocks)?;
+    let errors = report.count(Severity::Error);
+    let warnings = report.count(Severity::Warning);
+    put_total(&mut out, errors, warnings)?;
     Ok(out)
 }

@@ -8,11 +8,12 @@ ghost use Rattle.asl_lint.specs.Places.{IsAt, AreIn};
 ghost use Rattle.asl_lint.specs.private.Founds.{Adds, noted};
 
 use crate::definition::found_in;
-use crate::finding::{Finding, Found, Report};
+use crate::finding::{Finding, Found};
 use crate::json_faults::unread;
 use crate::mock_words::Beside;
 use crate::mocks::{add_unanswered, found_in_mocks};
 use crate::placing::placed;
+use crate::report::Report;
 use crate::rule::{MockRule, Rule};
 use asl_json::{Json, JsonFault, read};
 use asl_lint_words::States;

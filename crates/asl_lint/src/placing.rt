@@ -7,6 +7,7 @@ ghost use Rattle.asl_json.specs.View.{data_of};
 ghost use Rattle.asl_json_outline.specs.Position.{IsPosition};
 ghost use Rattle.asl_json_outline.specs.Standing.{IsOutline, AllFind};
 ghost use Rattle.asl_lint.specs.Findings.{part_of, pointed};
+ghost use Rattle.asl_lint.specs.Told.{has_some};
 ghost use Rattle.asl_lint.specs.Places.{IsAt, end_of, span_by, AllPoint, ArePlaced, ruled};
 ghost use Rattle.asl_lint.specs.private.Founds.{noted, spanned, front, behind, with_nodes};
 
@@ -167,6 +168,7 @@ fn positioned(alloc: Global, text: &[u8], all: Vec<Spanned>) -> Result<Vec<Findi
         here = reached(text, here, span.begin);
         findings.push(Finding {
             rule: found.rule,
+            place: found.place,
             span,
             position: here,
             message: found.message,
@@ -175,8 +177,18 @@ fn positioned(alloc: Global, text: &[u8], all: Vec<Spanned>) -> Result<Vec<Findi
     Ok(findings)
 }
 
+fn has_some(found: &[Found]) -> bool
+    ensures { result ≡ has_some found.now }
+{
+    match found {
+        [] => false,
+        _ => true,
+    }
+}
+
 /// Places findings in the text of this value, and orders them by their places. Those at one place keep their order. The error is that memory ran
 /// out.
+#[tactic(auto, using(crate::proofs::Sorting::none_placed))]
 pub(crate) fn placed(
     alloc: Global,
     text: &[u8],
@@ -187,7 +199,7 @@ pub(crate) fn placed(
     ensures placed { IfOk result (λ fs. IsText text.now (data_of value.now)
         → ArePlaced text.now (data_of value.now) (map noted found.items) (map ruled fs.items)) }
 {
-    if found.is_empty() {
+    if !has_some(&found) {
         return Ok(Vec::new(alloc));
     }
     let outline = outline(alloc, text, value)?;

@@ -1,6 +1,7 @@
 // What a finding is of.
-ghost use Rattle.std.specs.Prelude.{◌≡◌, if◌then◌else◌};
+ghost use Rattle.std.specs.Prelude.{◌≡◌};
 ghost use Rattle.asl_lint.specs.Reports.{is_mock_error, is_error};
+ghost use Rattle.asl_lint.specs.Rules.{severity_of, word_of, rule_name, fault_name, mock_name, sentence, fault_sentence, warning_sentence, mock_sentence};
 
 use asl_def_table::FaultKind;
 use asl_lint_warnings::WarningKind;
@@ -16,7 +17,10 @@ pub enum Severity {
 
 impl Severity {
     /// The word for it.
-    pub fn word(self) -> &'static str {
+    #[tactic(auto, unfolding(crate::specs::Rules::word_of))]
+    pub fn word(self) -> &'static str
+        ensures { result.now ≡ word_of self }
+    {
         match self {
             Severity::Error => "error",
             Severity::Warning => "warning",
@@ -78,7 +82,7 @@ impl Rule {
 
     /// How bad it is.
     pub fn severity(self) -> Severity
-        ensures { result ≡ (if is_error self then Severity.Error else Severity.Warning) }
+        ensures { result ≡ severity_of self }
     {
         if self.is_error() {
             Severity::Error
@@ -88,7 +92,10 @@ impl Rule {
     }
 
     /// Its name: a number or words.
-    pub fn name(self) -> &'static str {
+    #[tactic(auto, unfolding(crate::specs::Rules::rule_name))]
+    pub fn name(self) -> &'static str
+        ensures { result.now ≡ rule_name self }
+    {
         match self {
             Rule::Json => "F1",
             Rule::Fault(kind) => fault_name(kind),
@@ -98,7 +105,10 @@ impl Rule {
     }
 
     /// What is wrong, in one sentence.
-    pub fn sentence(self) -> &'static str {
+    #[tactic(auto, unfolding(crate::specs::Rules::sentence))]
+    pub fn sentence(self) -> &'static str
+        ensures { result.now ≡ sentence self }
+    {
         match self {
             Rule::Json => "The definition is no JSON text.",
             Rule::Fault(kind) => fault_sentence(kind),
@@ -124,7 +134,10 @@ fn is_mock_error(rule: MockRule) -> bool
     }
 }
 
-fn fault_name(kind: FaultKind) -> &'static str {
+#[tactic(auto, unfolding(crate::specs::Rules::fault_name))]
+fn fault_name(kind: FaultKind) -> &'static str
+    ensures { result.now ≡ fault_name kind }
+{
     match kind {
         FaultKind::NotObject => "F2",
         FaultKind::Missing => "F3",
@@ -143,7 +156,10 @@ fn fault_name(kind: FaultKind) -> &'static str {
     }
 }
 
-fn fault_sentence(kind: FaultKind) -> &'static str {
+#[tactic(auto, unfolding(crate::specs::Rules::fault_sentence))]
+fn fault_sentence(kind: FaultKind) -> &'static str
+    ensures { result.now ≡ fault_sentence kind }
+{
     match kind {
         FaultKind::NotObject => "The definition isn't an object.",
         FaultKind::Missing => "A required member is missing.",
@@ -162,7 +178,10 @@ fn fault_sentence(kind: FaultKind) -> &'static str {
     }
 }
 
-fn warning_sentence(kind: WarningKind) -> &'static str {
+#[tactic(auto, unfolding(crate::specs::Rules::warning_sentence))]
+fn warning_sentence(kind: WarningKind) -> &'static str
+    ensures { result.now ≡ warning_sentence kind }
+{
     match kind {
         WarningKind::UnreachableState => "Nothing leads to a state.",
         WarningKind::NoEnd => "From a state no end can be reached.",
@@ -177,7 +196,10 @@ fn warning_sentence(kind: WarningKind) -> &'static str {
     }
 }
 
-fn mock_name(rule: MockRule) -> &'static str {
+#[tactic(auto, unfolding(crate::specs::Rules::mock_name))]
+fn mock_name(rule: MockRule) -> &'static str
+    ensures { result.now ≡ mock_name rule }
+{
     match rule {
         MockRule::Json => "M1",
         MockRule::Shape => "M2",
@@ -193,7 +215,10 @@ fn mock_name(rule: MockRule) -> &'static str {
     }
 }
 
-fn mock_sentence(rule: MockRule) -> &'static str {
+#[tactic(auto, unfolding(crate::specs::Rules::mock_sentence))]
+fn mock_sentence(rule: MockRule) -> &'static str
+    ensures { result.now ≡ mock_sentence rule }
+{
     match rule {
         MockRule::Json => "The mock file is no JSON text.",
         MockRule::Shape => "A value of the mock file doesn't fit.",

@@ -1,5 +1,6 @@
 // Findings in SARIF. (Static Analysis Results Interchange Format, version 2.1.0, OASIS.)
-use crate::finding::{Finding, Report};
+use crate::finding::Finding;
+use crate::report::Report;
 use crate::rule::{MockRule, Rule};
 use asl_def_table::FaultKind;
 use asl_json::put_quoted;

@@ -1,0 +1,53 @@
+-- The format `text`: a line for each finding, and how many there are.
+use Rattle.std.specs.Prelude.{ℕ, ◌+◌, ◌==◌, ◌&&◌, List, [], ◌∷◌, ◌++◌, codes, if◌then◌else◌, string_bytes}
+use Rattle.std.specs.List.{flat_map}
+use Rattle.std.specs.Fmt.{decimal}
+use Rattle.asl_terminal.specs.Shown.{shown}
+use Rattle.asl_lint.specs.declared.finding.Finding.{Finding}
+use Rattle.asl_lint.specs.declared.report.Report.{Report}
+use Rattle.asl_lint.specs.declared.rule.Severity.TheVariants as severity
+use Rattle.asl_lint.specs.Reports.{count}
+use Rattle.asl_lint.specs.Rules.{severity_of, word_of, rule_name}
+
+-- ---- a finding
+
+-- its line and its column, from 1
+abbrev pub line_of : Finding → ℕ
+line_of f = f.position.lines + 1
+
+abbrev pub column_of : Finding → ℕ
+column_of f = f.position.characters + 1
+
+-- FILE:LINE:COLUMN:
+abbrev pub place_text : List ℕ → Finding → List ℕ
+place_text file f =
+    shown file
+    ++ (codes ":" ++ (decimal (line_of f) ++ (codes ":" ++ (decimal (column_of f) ++ codes ": "))))
+
+-- error F10: ..
+abbrev pub told_text : Finding → List ℕ
+told_text f =
+    word_of (severity_of f.rule)
+    ++ (codes " " ++ (rule_name f.rule ++ (codes ": " ++ string_bytes f.message)))
+
+unfoldable pub finding_line : List ℕ → Finding → List ℕ
+finding_line file f = place_text file f ++ (told_text f ++ 10 ∷ [])
+
+-- ---- how many there are
+
+abbrev pub counted : ℕ → List ℕ → List ℕ
+counted n word = decimal n ++ (codes " " ++ (word ++ (if n == 1 then [] else codes "s")))
+
+unfoldable pub total_line : ℕ → ℕ → List ℕ
+total_line errors warnings =
+    (if errors == 0 && (warnings == 0) then codes "no findings"
+    else counted errors (codes "error") ++ (codes ", " ++ counted warnings (codes "warning")))
+    ++ 10 ∷ []
+
+-- ---- all
+
+-- the findings in the definition, then those in the mock file; these are the names of the files
+abbrev pub lines_of : List ℕ → List ℕ → Report → List ℕ
+lines_of definition mocks r =
+    flat_map (finding_line definition) r.definition.items
+    ++ (flat_map (finding_line mocks) r.mocks.items ++ total_line (count severity.Error r) (count severity.Warning r))
