@@ -44,6 +44,7 @@ pub(crate) fn printed(
         (world_by limit (setup_of execution.old) (world_of execution.old) (steps_in steps))) }
     ensures world { OnOk result (world_of execution.new
         ≡ world_by limit (setup_of execution.old) (world_of execution.old) (steps_in steps)) }
+    ensures setup { setup_of execution.new ≡ setup_of execution.old }
 {
     match format {
         Format::Json => {

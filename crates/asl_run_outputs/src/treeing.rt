@@ -45,6 +45,7 @@ fn tell_driven(tree: &mut Tree, execution: &mut Execution, limit: u32) -> Result
     ensures text { OnOk result (text_of tree.new ≡ text_of tree.old
         ++ tree_lines (shows_of tree.old) (setup_of execution.old) (world_of execution.old)
         (taken limit (setup_of execution.old) (world_of execution.old))) }
+    ensures setup { setup_of execution.new ≡ setup_of execution.old }
 {
     for _ in 0..limit {
         let Some(_at) = tell_next(tree, execution)? else {
@@ -68,6 +69,7 @@ fn tell_by(
     ensures text { OnOk result (text_of tree.new ≡ text_of tree.old
         ++ tree_lines (shows_of tree.old) (setup_of execution.old) (world_of execution.old)
         (taken_by limit (setup_of execution.old) (world_of execution.old) (steps_in steps))) }
+    ensures setup { setup_of execution.new ≡ setup_of execution.old }
 {
     match steps {
         None => tell_driven(tree, execution, limit),
@@ -90,6 +92,7 @@ pub(crate) fn tree_by(
         ≡ tree_text shows (setup_of execution.old) (world_of execution.old)
         (taken_by limit (setup_of execution.old) (world_of execution.old) (steps_in steps))
         (world_by limit (setup_of execution.old) (world_of execution.old) (steps_in steps))) }
+    ensures setup { setup_of execution.new ≡ setup_of execution.old }
 {
     let mut tree = Tree::open(alloc, execution, shows)?;
     tell_by(&mut tree, execution, steps, limit)?;
