@@ -289,5 +289,5 @@ class Telling(Searches):
     def test_remarks_stand_before_notes(self):
         definition = '{"StartAt":"A","TimeoutSeconds":100,"States":{"A":{"Type":"Succeed"},"B":{"Type":"Succeed"}}}'
         ran = self.explore(definition, "{}", "{}", "M")
-        note = 'note time limit: where a branch is late enough, any order ends as TIMED_OUT {"Error":"States.Timeout"}\n'
+        note = 'note time limit: a late step ends the execution at any time, as TIMED_OUT {"Error":"States.Timeout"}\n'
         self.assertTrue(ran.stdout.endswith('\n\nnever entered "B"\n' + note))
