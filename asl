@@ -21,6 +21,7 @@ answer_help() { # the words; fails where no help is stored for them
     '2 debug --help' | '2 debug -h' | '2 help debug') cat "$help/debug.txt" ;;
     '2 test --help' | '2 test -h' | '2 help test') cat "$help/test.txt" ;;
     '2 explore --help' | '2 explore -h' | '2 help explore') cat "$help/explore.txt" ;;
+    '2 explain --help' | '2 explain -h' | '2 help explain') cat "$help/explain.txt" ;;
     '1 --version' | '1 -V') echo "asl $("$top/tools/version")" ;;
     *) return 1 ;;
   esac
@@ -37,11 +38,23 @@ hand_in() { # a word; where it names a file, the run gets a copy of it under tha
   fi
   name=$file
   case /$file/ in
-    *//* | */./* | */../* | *=* | /program/* | /stdin/* | /stdout/* | /stderr/*) name=file${#files[@]} ;;
+    *//* | */./* | */../* | *=* | /program/* | /stdin/* | /stdout/* | /stderr/*)
+      name=file${#files[@]}
+      given[$name]=$file
+      ;;
   esac
   cat < "$file" > "$room/file${#files[@]}"
   files+=(--data "$name=$room/file${#files[@]}")
   words+=("$option$name")
+}
+
+with_given() { # lines; those that begin with a name that stood in for another one begin with that one
+  local line name
+  while IFS= read -r line; do
+    name=${line%%:*}
+    if [ -n "$name" ] && [ -n "${given[$name]-}" ]; then line=${given[$name]}${line#"$name"}; fi
+    printf '%s\n' "$line"
+  done
 }
 
 run_sources() { # the words
@@ -49,6 +62,7 @@ run_sources() { # the words
   room=$(mktemp -d)
   trap 'rm -rf "$room"' EXIT
   words=() files=()
+  declare -gA given=()
   for word in "$@"; do hand_in "$word"; done
   (cd "$crate" && "$top/tools/rt" try "${files[@]}" -- "${words[@]}") > "$room/out" 2> "$room/err" || true
   last=$(tail -n 1 "$room/err")
@@ -59,7 +73,7 @@ run_sources() { # the words
   fi
   status=${BASH_REMATCH[1]}
   cat "$room/out"
-  sed '/^\(interpreter\|checked\): /,$d' "$room/err" >&2 # rt try's own lines come last
+  sed '/^\(interpreter\|checked\): /,$d' "$room/err" | with_given >&2 # rt try's own lines come last
   exit "$status"
 }
 

@@ -4,7 +4,7 @@ import tempfile
 from concurrent.futures import ThreadPoolExecutor
 from typing import NamedTuple
 
-from program import ProgramTest, run_program
+from program import ProgramTest, run_program, without_mending
 
 
 class Frame(NamedTuple):
@@ -36,8 +36,9 @@ def answer(text):
         ran = run_program("print", file.name)
     if ran.returncode == 0 and ran.stderr == "" and ran.stdout.endswith("\n"):
         return ran.stdout[:-1]
-    if ran.returncode == 2 and ran.stdout == "" and ran.stderr.startswith("fault: definition: ") and ran.stderr.endswith("\n"):
-        return ran.stderr[len("fault: definition: ") : -1]
+    told = without_mending(ran.stderr)
+    if ran.returncode == 2 and ran.stdout == "" and told.startswith("fault: definition: ") and told.endswith("\n"):
+        return told[len("fault: definition: ") : -1]
     return f"status {ran.returncode}, {ran.stdout!r}, {ran.stderr!r}"
 
 

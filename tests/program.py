@@ -27,6 +27,15 @@ def run_program(*words, seconds=60):
     return subprocess.run([PROGRAM, *words], stdin=subprocess.DEVNULL, capture_output=True, encoding="utf-8", timeout=seconds)
 
 
+# What may stand behind the line of a fault: lines for a person, each with the name of a file in front.
+MENDING = r"(?:[^\n]+: error[^\n]*\n)*"
+
+
+def without_mending(told):
+    """What is told of a refusal, without the lines that stand behind a fault."""
+    return re.sub(rf"\A(fault: [^\n]+\n){MENDING}\Z", r"\1", told)
+
+
 NO_ANSWER = '{"Error":"States.Runtime","Cause":"no mocked answer"}'
 EVENT = re.compile(r'(\d+) (\d+) \S+Z \S+ (\w+) ("(?:[^"\\]|\\.)*") (.*)')
 HANDS_UP = ("ExecutionFailed", "ParallelStateFailed", "MapStateFailed", "MapIterationFailed")
@@ -91,8 +100,9 @@ class ProgramTest(unittest.TestCase):
         """The line of the fault for which a run is refused. Nothing else is printed."""
         ran = self.run_texts(definition, mocks, chosen, given, steps)
         self.assertEqual((ran.returncode, ran.stdout), (2, ""))
-        self.assertRegex(ran.stderr, r"\Afault: [^\n]+\n\Z")
-        return ran.stderr[len("fault: ") : -1]
+        told = without_mending(ran.stderr)
+        self.assertRegex(told, r"\Afault: [^\n]+\n\Z")
+        return told[len("fault: ") : -1]
 
     def assert_ends(self, text, lines, status):
         """The text has so many lines, those of the steps, the events and the status, and ends with this one."""

@@ -209,10 +209,10 @@ class ThisTree(unittest.TestCase):
         return {it.name for it in its}
 
     def test_pointer(self):
-        self.assertEqual(self.found("asl_json", "pointer", "at_name"), {"Pointer", "name_part", "escaped", "escaped_char"})
+        self.assertEqual(self.found("asl_json_write", "pointer", "at_name"), {"Pointer", "name_part", "escaped", "escaped_char"})
 
     def test_colours(self):
-        self.assertEqual(self.found("asl_view_colour", "colouring", "coloured"), {"Paint", "IsPainted", "Piece", "control", "plain_piece", "shown_piece"})
+        self.assertEqual(self.found("asl_text", "colouring", "coloured"), {"Paint", "IsPainted", "Piece", "control", "plain_piece", "shown_piece"})
 
     def test_path(self):
         """The two clauses of reading at a path: by the grammar and the steps, and by a function of the text, which goes by a machine."""

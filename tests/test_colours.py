@@ -113,7 +113,12 @@ class TreeInDebuggerTest(ProgramTest):
         last = once[len(self.tree(words, "next\nnext\n").removesuffix("status RUNNING\n")) :]
         self.assertTrue(last.startswith("00:05.000 /"), last)
         again = self.tree(words, "next\nnext\nnext\nback 1\nnext\n")
-        self.assertEqual(again, once + "back 2\n" + last + "status RUNNING\n")
+        self.assertEqual(again, once + "back 2\n" + self.places(words, "next\nnext\n") + last + "status RUNNING\n")
+        there = self.places(words, "next\n")
+        self.assertIn('/ Ready "Charge card" ok', there)
+        self.assertTrue(self.tree(words, "next 3\nback 2\n").endswith(f"\nback 1\n{there}status RUNNING\n"))
+        # (the transcript is that of a script)
+        self.assertIn("\nback 1\nback 0\n1 0 ", self.transcript(words, "next 3\nback 2\nback 1\n"))
         self.assertEqual(self.tree(words, "next 3\nback 3\nnext 3\n").count("00:05.000 /    Charge card"), 2)
 
     def test_a_breakpoint(self):

@@ -1,4 +1,5 @@
 """Command lines: what each command prints and tells, and its status."""
+import glob
 import json
 import os
 import resource
@@ -7,7 +8,7 @@ import signal
 import subprocess
 import tempfile
 
-from program import PROGRAM, TOP, ProgramTest, run_program
+from program import PROGRAM, TOP, ProgramTest, run_program, without_mending
 
 DEFINITION = '{"StartAt":"P","States":{"P":{"Type":"Pass","Result":7,"ResultPath":"$.a.b","Next":"S"},"S":{"Type":"Succeed"}}}'
 
@@ -128,8 +129,8 @@ NO_CASES = [
 HELPS = [
     (["--help"], "Usage: asl <COMMAND>"),
     (["check", "--help"], "Usage: asl check <DEF>"),
-    (["print", "--help"], "Usage: asl print <DEF>"),
-    (["upgrade", "--help"], "Usage: asl upgrade <DEF>"),
+    (["print", "--help"], "Usage: asl print [OPTIONS] <DEF>"),
+    (["upgrade", "--help"], "Usage: asl upgrade [OPTIONS] <DEF>"),
     (["help"], "Usage: asl <COMMAND>"),
     (["run", "--help"], "Usage: asl run [OPTIONS] <DEF> [MOCKS] [CHOSEN] [INPUT]"),
     (["debug", "--help"], "Usage: asl debug [OPTIONS] <DEF> [MOCKS] [CHOSEN] [INPUT] [SCRIPT]"),
@@ -145,6 +146,13 @@ WRONG = [
     (["upgrade", "machine", "other"], "unexpected argument 'other'", True),
     (["walk"], "unrecognized subcommand 'walk'", True),
     (["run", "machine", "mocks", "M", "--steps", "steps"], "<INPUT>", True),
+    (["run", "machine", "--case", "M"], "not provided:\n  <MOCKS>\n  <INPUT>\n\nUsage: asl run [OPTIONS] <DEF>", True),
+    (["debug", "machine", "mocks", "M", "input", "script", "--script", "other"], "'[SCRIPT]' cannot be used with '--script <FILE>'", True),
+    (["debug", "machine", "mocks", "M", "input", "script", "--format", "tree"], "a script is told as text", True),
+    (["graph", "machine", "mocks"], "not provided:\n  --run\n\nUsage: asl graph [OPTIONS] <DEF>", True),
+    (["graph", "machine", "--run", "--case", "M"], "not provided:\n  <MOCKS>\n  <INPUT>", True),
+    (["test", "machine", "mocks", "expect", "--shard", "0/2"], "a shard is I/N", True),
+    (["run", "machine", "mocks", "M", "input", "--format", "jsn"], "a similar value exists: 'json'", False),
     (["run", "machine", "mocks", "M", "input", "--steps"], "a value is required for '--steps <FILE>'", False),
     (["debug"], "<DEF>", True),
     (["debug", "machine", "mocks", "M"], "<INPUT>", True),
@@ -153,10 +161,21 @@ WRONG = [
 ]
 
 
+# Words with characters that don't show, and how these are told.
+HIDDEN = [
+    (["wa\x1b]0;title\x07lk"], "'wa\\u001b]0;title\\u0007lk'"),
+    (["check", "machine", "\x1b[31mred"], "'\\u001b[31mred'"),
+    (["check", "machine", "\u202ethgir"], "'\\u202ethgir'"),
+    (["run", "machine", "mocks", "M", "input", "--format", "\x9bjson"], "'\\u009bjson'"),
+    (["test", "machine", "mocks", "expect", "--workers", "1\x7f"], "'1\\u007f'"),
+    (["walk\nfault: forged"], "'walk\\u000afault: forged'"),
+]
+
+
 class CommandTest(ProgramTest):
     def assert_ran(self, words, status, out, err):
         ran = run_program(*words)
-        self.assertEqual((ran.returncode, ran.stdout, ran.stderr), (status, out, err))
+        self.assertEqual((ran.returncode, ran.stdout, without_mending(ran.stderr)), (status, out, err))
 
     def setUp(self):
         room = tempfile.TemporaryDirectory(prefix="asl-test-")
@@ -192,6 +211,17 @@ class CommandTest(ProgramTest):
                 self.file("machine", text)
                 for command, told in [("check", judged), ("print", printed or judged), ("upgrade", printed or judged)]:
                     self.assert_ran([command, self.files[0]], 0 if printed else 2, told if printed else "", "" if printed else told)
+
+    def test_what_is_printed_for_a_person_is_the_same_value(self):
+        empty = self.file("empty", '{"States":{"A":{"Result":{"a":[],"b":{},"c":["\\u000b",{"d":1.50}]},"Type":"Pass","End":true}},"StartAt":"A"}')
+        for definition in [empty, *sorted(glob.glob(f"{TOP}/examples/*/definition.json"))]:
+            for command in (["print"], ["upgrade"], ["mocks"]):
+                with self.subTest(definition, command=command):
+                    compact, pretty = (run_program(*command, definition, *more).stdout for more in ([], ["--pretty"]))
+                    self.assertEqual(pretty.replace("1.50", "1.5"), json.dumps(json.loads(compact), indent=2, ensure_ascii=False) + "\n")
+                    if command != ["mocks"]:
+                        self.assert_ran(["print", self.file("pretty", pretty)], 0, compact, "")
+        self.assert_ran(["print", "--pretty", self.file("faulty", "{}")], 2, "", "fault: definition: F3 Missing /StartAt\n")
 
     def test_a_script_is_carried_out(self):
         self.assert_ran(["debug", *self.files, self.script], 0, DEBUGGED, "")
@@ -287,9 +317,22 @@ class CommandTest(ProgramTest):
         ran = subprocess.run([PROGRAM, "check", "-"], input=DEFINITION, capture_output=True, encoding="utf-8", timeout=60)
         self.assertEqual((ran.returncode, ran.stdout, ran.stderr), (0, "ok\n", ""))
         ran = subprocess.run([PROGRAM, "check", "-"], input="{", capture_output=True, encoding="utf-8", timeout=60)
-        self.assertEqual((ran.returncode, ran.stdout, ran.stderr), (2, "", "fault: definition: F1 Json J1 Syntax 1\n"))
+        self.assertEqual((ran.returncode, ran.stdout, without_mending(ran.stderr)), (2, "", "fault: definition: F1 Json J1 Syntax 1\n"))
         ran = subprocess.run([PROGRAM, "check", "-"], input=16_777_217 * " ", capture_output=True, encoding="utf-8", timeout=60)
         self.assertEqual((ran.returncode, ran.stdout, ran.stderr), (2, "", "fault: file -: it has more than 16777216 bytes\n"))
+
+    def test_a_text_in_place_of_a_name_is_read_itself(self):
+        words = [*self.files, *self.steps]
+        for at, text in [(0, DEFINITION), (1, MOCKS), (3, "{}")]:
+            self.assert_ran(["run", *words[:at], text, *words[at + 1 :]], 0, STEPPED, "")
+        self.assert_ran(["run", *self.files[:3], "--input", "{}", *self.steps], 0, STEPPED, "")
+        ran = run_program("run", *self.files[:3], '{"n":}')
+        self.assertEqual((ran.returncode, ran.stdout), (2, ""))
+        self.assertTrue(ran.stderr.startswith('fault: input: J1 Syntax 5\n{"n":}:1:6: '), ran.stderr)
+        for word in ('"text"', "[1,2]"):
+            driven = run_program("run", *self.files[:3], word)
+            self.file("given", word)
+            self.assertEqual(driven.stdout, run_program("run", *self.files[:3], f"{self.room}/given").stdout)
 
     def test_standard_input_is_read_once(self):
         ran = subprocess.run([PROGRAM, "run", "-", "-", *self.files[2:]], input=DEFINITION, capture_output=True, encoding="utf-8", timeout=60)
@@ -374,6 +417,23 @@ class CommandTest(ProgramTest):
         self.assertEqual(self.written(9, "stdout", ["upgrade", self.files[0]]), (2, DEFINITION[:9]))
         self.file("machine", "{")
         self.assertEqual(self.written(3, "stderr", ["check", self.files[0]]), (2, "fau"))
+
+    def test_a_failed_write_is_told(self):
+        for words in (["check", self.files[0]], ["run", *self.files, *self.steps], ["debug", *self.files, self.script], ["lint", *self.files[:2]], ["--help"]):
+            with self.subTest(words), open("/dev/full", "wb") as full:
+                ran = subprocess.run(
+                    [PROGRAM, *words], stdin=subprocess.DEVNULL, stdout=full, stderr=subprocess.PIPE, encoding="utf-8", timeout=60, check=False
+                )
+                self.assertEqual((ran.returncode, ran.stderr), (2, "fault: file standard output: a write failed\n"))
+
+    def test_words_are_told_with_every_character_shown(self):
+        for words, shown in HIDDEN:
+            with self.subTest(words):
+                ran = run_program(*words)
+                self.assertEqual((ran.returncode, ran.stdout), (2, ""))
+                self.assertIn(shown, ran.stderr)
+                self.assertNotRegex(ran.stderr, r"[^\n -~]")
+                self.assertFalse([line for line in ran.stderr.splitlines() if line.startswith("fault: ")])
 
     def test_mock_files_and_cases_are_refused(self):
         for mocks, chosen, told in NO_CASES:

@@ -139,11 +139,18 @@ def tests(cases, status="SUCCEEDED"):
     return json.dumps([{"machine": "M", "case": case, "input": given, "status": status} for case, given in cases])
 
 
+def share(covered, points):
+    """How many of points are covered."""
+    percent = 100 * len(covered) // len(points) if points else 100
+    return f"{percent}% ({len(covered)} of {len(points)})\n"
+
+
 def told(points, numbers):
     """What is told of points, of which those of these numbers are covered."""
-    percent = 100 * len(numbers) // len(points)
-    rest = [f"not covered: {point}\n" for number, point in enumerate(points) if number not in numbers]
-    return f"coverage: {percent}% ({len(numbers)} of {len(points)})\n" + "".join(rest)
+    text = "coverage: " + share(numbers, points)
+    for file, is_in in (("definition", lambda point: not point.startswith("answer ")), ("mock file", lambda point: point.startswith("answer "))):
+        text += f"{file}: " + share([number for number in numbers if is_in(points[number])], [point for point in points if is_in(point)])
+    return text + "".join(f"not covered: {point}\n" for number, point in enumerate(points) if number not in numbers)
 
 
 class CoverageTest(ProgramTest):
@@ -152,10 +159,10 @@ class CoverageTest(ProgramTest):
         return self.suite_texts(definition, mocks, expectations, *words)
 
     def told_of(self, *given, **more):
-        """What is told of coverage: the lines behind the remarks on the tests."""
+        """What is told of coverage: the lines behind the remarks and notes on the tests."""
         ran = self.on_suite(*given, **more)
         lines = ran.stderr.splitlines(keepends=True)
-        return "".join(line for line in lines if not line.startswith("test "))
+        return "".join(line for line in lines if not line.startswith(("test ", "note: ")))
 
     def test_each_kind_of_point(self):
         for definition, mocks, points, suites in SUITES:
@@ -182,7 +189,8 @@ class CoverageTest(ProgramTest):
         for least, status in [(0, 0), (1, 0), (70, 0), (71, 0), (72, 1), (100, 1)]:
             ran = self.on_suite(suite, "--min", str(least))
             self.assertEqual((ran.returncode, ran.stdout), (status, "ok M# SUCCEEDED 8\n1 passed, 0 failed\n"), least)
-            self.assertEqual(ran.stderr, told(CHOICE_POINTS, [0, 1, 4, 5, 6]))
+            lacking = f"coverage 71% is below {least}%\n" if status else ""
+            self.assertEqual(ran.stderr, told(CHOICE_POINTS, [0, 1, 4, 5, 6]) + lacking)
         whole = tests([("", {"v": v}) for v in [1, 2, 3]])
         self.assertEqual(self.on_suite(whole, "--min", "100", "--coverage").returncode, 0)
 
@@ -195,6 +203,12 @@ class CoverageTest(ProgramTest):
         suite = tests([("", {"v": v}) for v in [1, 2, 3]])
         for shard, numbers in [("1/3", [0, 1, 4, 5, 6]), ("2/3", [0, 2, 4, 5, 6]), ("3/3", [0, 3, 6]), ("1/2", [0, 1, 3, 4, 5, 6])]:
             self.assertEqual(self.told_of(suite, "--coverage", "--shard", shard), told(CHOICE_POINTS, numbers))
+
+    def test_a_test_with_steps_covers_what_these_do(self):
+        for count, numbers in [(0, []), (1, [0, 1]), (2, [0, 1, 4, 5]), (3, [0, 1, 4, 5, 6])]:
+            steps = ["/7 2024-01-01T00:00:00Z"] + ["/ 2024-01-01T00:00:00Z"] * count
+            suite = json.dumps([{"machine": "M", "case": "", "input": {"v": 1}, "status": "SUCCEEDED", "steps": steps}])
+            self.assertEqual(self.told_of(suite, "--coverage"), told(CHOICE_POINTS, numbers), count)
 
     def test_wrong_command_lines(self):
         for words in WRONG:

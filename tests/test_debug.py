@@ -1,7 +1,7 @@
 """Sessions of the debugger, by scripts: what each command is answered, and what the execution has done in the end."""
 import random
 
-from program import MIDNIGHT, ProgramTest, answered, steps
+from program import MIDNIGHT, ProgramTest, answered, steps, without_mending
 
 
 def at(place, second=0):
@@ -264,13 +264,13 @@ status SUCCEEDED {"a":{"b":7}}
             for number, script in [(1, bad + b"\n"), (2, STEP.encode() + b"\n" + bad + b"\n"), (2, b"back 1\n" + bad + b"\njump\n")]:
                 with self.subTest(script=script):
                     ran = self.on_texts("debug", LOOP, "{}", "M", "{}", script)
-                    self.assertEqual((ran.returncode, ran.stdout, ran.stderr), (2, "", f"fault: script: E2 ScriptLine {number}\n"))
+                    self.assertEqual((ran.returncode, ran.stdout, without_mending(ran.stderr)), (2, "", f"fault: script: E2 ScriptLine {number}\n"))
 
     def test_other_texts_are_judged_before_the_script(self):
         for texts, told in [(("[]", "[]", "X#c", "x"), "definition: F2 NotObject"), ((LOOP, "[]", "X#c", "x"), "mocks: M2 Shape"),
             ((LOOP, "{}", "X#c", "x"), "case: M7 NoMachine"), ((LOOP, "{}", "X", "x"), "input: J1 Syntax 0")]:
             ran = self.on_texts("debug", *texts, "jump\n")
-            self.assertEqual((ran.returncode, ran.stdout, ran.stderr), (2, "", f"fault: {told}\n"))
+            self.assertEqual((ran.returncode, ran.stdout, without_mending(ran.stderr)), (2, "", f"fault: {told}\n"))
 
     def test_the_last_line_may_go_without_its_line_feed_and_counts_may_begin_with_zeros(self):
         ran = self.on_texts("debug", LOOP, "{}", "M", "{}", f"{STEP}\nback 000000001")

@@ -19,6 +19,7 @@ OWN = {
     "ExecutionFailed": "error",
     "ExecutionTimedOut": "error",
     "TaskFailed": "error",
+    "TaskTimedOut": "error",
     "MapStateStarted": "length",
     "MapIterationStarted": "index",
     "MapIterationSucceeded": "index",
@@ -31,8 +32,34 @@ def said(key, body):
     return {key: body, f"{key}Details": {"truncated": False}}
 
 
-def details(kind, name, body):
+def resources_in(value):
+    """The resource of each Task in a part of a definition, by its name."""
+    if isinstance(value, list):
+        return {name: resource for item in value for name, resource in resources_in(item).items()}
+    if not isinstance(value, dict):
+        return {}
+    own = {name: state["Resource"] for name, state in value.get("States", {}).items() if "Resource" in state}
+    return {**own, **resources_in(list(value.values()))}
+
+
+def called(resource):
+    """What a Task of this resource calls."""
+    arn = resource.split(":")
+    if arn[2:3] != ["states"]:
+        return {"resourceType": "".join(arn[2:3]), "resource": resource}
+    front = 2 if arn[5] == "aws-sdk" else 1
+    return {"resourceType": ":".join(arn[5 : 5 + front]), "resource": ":".join(arn[5 + front :])}
+
+
+def details(kind, name, body, resources):
     """The details of an event, in a member; `body` is a text."""
+    if kind.startswith("Task") and "State" not in kind:
+        key = OWN.get(kind)
+        more = {"region": "us-east-1", "parameters": body} if key == "parameters" else said("output", body) if key == "output" else {}
+        if key == "error":
+            value = json.loads(body)
+            more = {low: value[low.capitalize()] for low in ("error", "cause") if low.capitalize() in value}
+        return {f"{kind[0].lower()}{kind[1:]}EventDetails": {**called(resources[name]), **more}}
     state = re.fullmatch(r"\w+State(Entered|Exited)", kind)
     if state:
         member, key = STATE[state[1]]
@@ -45,7 +72,6 @@ def details(kind, name, body):
         "error": lambda: {low: value[low.capitalize()] for low in ("error", "cause") if low.capitalize() in value},
         "length": lambda: {"length": value["length"]},
         "index": lambda: {"name": name, "index": value["index"]},
-        "parameters": lambda: {"parameters": body},
     }.get(key, lambda: said(key, body))()
     return {f"{kind[0].lower()}{kind[1:]}EventDetails": inside}
 
@@ -88,12 +114,39 @@ class FormatsTest(ProgramTest):
         for words, text in self.cases():
             with self.subTest(words[2]):
                 wanted = []
+                with open(words[0], encoding="utf-8") as file:
+                    resources = resources_in(json.load(file))
                 for number, previous, stamp, _, kind, name, body in events_in(text):
+                    kind = "TaskTimedOut" if kind == "TaskFailed" and json.loads(body).get("Error") == "States.Timeout" else kind
                     event = {"timestamp": stamp, "type": kind, "id": int(number), "previousEventId": int(previous)}
-                    wanted.append({**event, **details(kind, json.loads(name), body)})
+                    wanted.append({**event, **details(kind, json.loads(name), body, resources)})
                 told = self.formatted(words, text, "aws")
                 self.assertEqual(json.loads(told), {"events": wanted})
                 self.assertEqual(told.count("\n"), 1)
+
+    def test_what_a_task_calls(self):
+        for resource, kind, called_so in (
+            ("arn:aws:states:::lambda:invoke", "lambda", "invoke"),
+            ("arn:aws-cn:states:::sqs:sendMessage.waitForTaskToken", "sqs", "sendMessage.waitForTaskToken"),
+            ("arn:aws:states:::aws-sdk:s3:getObject", "aws-sdk:s3", "getObject"),
+            ("arn:aws:states:::states:startExecution.sync:2", "states", "startExecution.sync:2"),
+            ("arn:aws:lambda:eu-west-1:123456789012:function:Charge:1", "lambda", "arn:aws:lambda:eu-west-1:123456789012:function:Charge:1"),
+            ("arn:aws:states:eu-west-1:123456789012:activity:Approve", "activity", "Approve"),
+            ("charge", "", "charge"),
+        ):
+            with self.subTest(resource), tempfile.TemporaryDirectory(prefix="asl-test-") as folder:
+                state = {"Type": "Task", "Resource": resource, "End": True}
+                texts = {
+                    "definition": {"StartAt": "T", "States": {"T": state}},
+                    "mocks": {"StateMachines": {"m": {"TestCases": {"c": {"T": "R"}}}}, "MockedResponses": {"R": {"0": {"Return": 1}}}},
+                    "input": {},
+                }
+                for name, value in texts.items():
+                    with open(f"{folder}/{name}", "w", encoding="utf-8") as file:
+                        json.dump(value, file)
+                told = self.formatted([f"{folder}/definition", f"{folder}/mocks", "m#c", f"{folder}/input"], "status SUCCEEDED ", "aws")
+                found = [event["taskScheduledEventDetails"] for event in json.loads(told)["events"] if event["type"] == "TaskScheduled"]
+                self.assertEqual([(one["resourceType"], one["resource"], one["region"]) for one in found], [(kind, called_so, "us-east-1")])
 
     def test_steps_lead_to_the_same_history(self):
         for words, text in self.cases():

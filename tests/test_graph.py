@@ -7,7 +7,7 @@ import tempfile
 
 from definitions import answer
 from graphs import graph_of, named
-from program import TOP, ProgramTest, answered, run_program
+from program import TOP, ProgramTest, answered, run_program, without_mending
 
 LANGUAGES = ["mermaid", "dot"]
 
@@ -101,7 +101,7 @@ class GraphTest(ProgramTest):
 
     def test_a_faulty_definition_is_refused(self):
         ran = run_program("graph", f"{TOP}/examples/refused.json")
-        self.assertEqual((ran.returncode, ran.stdout, ran.stderr), (2, "", "fault: definition: F10 NoTarget /States/A/Next\n"))
+        self.assertEqual((ran.returncode, ran.stdout, without_mending(ran.stderr)), (2, "", "fault: definition: F10 NoTarget /States/A/Next\n"))
 
     def test_a_file_that_is_not_there(self):
         ran = run_program("graph", "nowhere.json", "--format", "dot")

@@ -85,7 +85,7 @@ class InstallTest(unittest.TestCase):
 
     def test_bash(self):
         self.assertEqual(self.completed(""), [*self.words, "help", "--help", "--version"])
-        self.assertEqual(self.completed("ex"), ["explore"])
+        self.assertEqual(self.completed("ex"), ["explore", "explain"])
         self.assertEqual(self.completed("help", ""), [*self.words, "help"])
         for name, options in self.words.items():
             self.assertEqual(self.completed(name, "-"), [*options], name)

@@ -3,7 +3,7 @@ import os
 import re
 import tempfile
 
-from program import ProgramTest, run_program
+from program import ProgramTest, run_program, without_mending
 
 # What a run or a search may tell besides: which answer was lacking.
 NOTES = re.compile("(note: .*\n)*")
@@ -135,7 +135,7 @@ class Limits(ProgramTest):
                     for words in self.commands(room):
                         ran = run_program(*words)
                         notes = NOTES.match(ran.stderr)[0] if words[0] in ("run", "explore") else ""
-                        self.assertEqual(ran.stderr[len(notes) :], told, (what, words[0]))
+                        self.assertEqual(without_mending(ran.stderr[len(notes) :]), told, (what, words[0]))
                         if told:
                             self.assertEqual((ran.returncode, ran.stdout), (2, ""), (what, words[0]))
                         else:
@@ -185,7 +185,7 @@ class Limits(ProgramTest):
                 for words in self.commands(room):
                     if words[0] in commands:
                         ran = run_program(*words)
-                        self.assertEqual(ran.stderr, told, (name, words[0], text[:80]))
+                        self.assertEqual(without_mending(ran.stderr), told, (name, words[0], text[:80]))
                         self.assertEqual(ran.returncode == 2, bool(told), (name, words[0], text[:80]))
                 if name == "mocks":
                     ran = run_program("lint", os.path.join(room, "definition"), os.path.join(room, "mocks"))

@@ -4,7 +4,7 @@ import json
 import os
 import tempfile
 
-from program import TOP, ProgramTest, run_program
+from program import TOP, ProgramTest, run_program, without_mending
 
 # Resources, and what is returned for each.
 ANSWERS = {
@@ -77,4 +77,4 @@ class MocksTest(ProgramTest):
 
     def test_a_faulty_definition_is_refused(self):
         ran = run_program("mocks", f"{TOP}/examples/refused.json")
-        self.assertEqual((ran.returncode, ran.stdout, ran.stderr), (2, "", "fault: definition: F10 NoTarget /States/A/Next\n"))
+        self.assertEqual((ran.returncode, ran.stdout, without_mending(ran.stderr)), (2, "", "fault: definition: F10 NoTarget /States/A/Next\n"))

@@ -5,7 +5,7 @@ import re
 import tempfile
 import unittest
 
-from program import run_program
+from program import run_program, without_mending
 
 # A line feed, controls, marks that turn the direction of what follows, and nearly as many characters of four bytes as a name may have.
 # One of characters that show as nothing.
@@ -91,7 +91,7 @@ class Names(unittest.TestCase):
             ]
             for words in faults:
                 ran = run_program(*words)
-                self.assertEqual((ran.returncode, ran.stdout, ran.stderr.count("\n")), (2, "", 1), (name, words[0], ran.stderr))
+                self.assertEqual((ran.returncode, ran.stdout, without_mending(ran.stderr).count("\n")), (2, "", 1), (name, words[0], ran.stderr))
                 self.assertEqual(UNSHOWN.findall(ran.stderr), [], (name, ran.stderr))
             for kind in ("text", "json", "sarif"):
                 found = run_program("lint", self.file("wrong", wrong), self.file("gap", mocks(name, {"0": {name: 1}})), "--format", kind)

@@ -84,6 +84,7 @@ class Streams(unittest.TestCase):
             while (ran := self.run_by(words, WRITE_FAILS=number))[0] == 2:
                 # What was printed before it stays, and is a beginning of the whole.
                 self.assertTrue(out.startswith(ran[1]) and len(ran[1]) < len(out), words)
+                self.assertTrue(ran[2].endswith(b"fault: file standard output: a write failed\n"), words)
                 number, printed = number + 1, ran[1]
             self.assertGreater(number, 1, words)
             self.assertEqual(ran[:2], (status, out), words)

@@ -23,6 +23,13 @@ TOO_LONG = '{"StartAt":"W","TimeoutSeconds":5,"States":{"W":{"Type":"Wait","Seco
 RETRIED = '{"StartAt":"W","States":{"W":{"Type":"Task","Resource":"r","Retry":[{"ErrorEquals":["E"],"IntervalSeconds":1}],"End":true}}}'
 ONE_FAILURE = '{"StateMachines":{"M":{"TestCases":{"c":{"W":"a"}}}},"MockedResponses":{"a":{"0":{"Throw":{"Error":"E"}},"1":{"Return":7}}}}'
 
+# A Task whose data can't be made, which is caught; then a Parallel of a Pass and a Fail.
+CAUGHT = (
+    '{"StartAt":"W","States":{"W":{"Type":"Task","Resource":"r","Parameters":{"n.$":"$.n"},"Catch":[{"ErrorEquals":["States.ALL"],"Next":"Q"}],'
+    '"End":true},"Q":{"Type":"Parallel","End":true,"Branches":[{"StartAt":"A","States":{"A":{"Type":"Pass","End":true}}},'
+    '{"StartAt":"B","States":{"B":{"Type":"Fail"}}}]}}}'
+)
+
 # A Map over two items, whose iterations are a Task, one at a time.
 ONE_BY_ONE = '{"StartAt":"M","States":{"M":{"Type":"Map","MaxConcurrency":1,"Iterator":{"StartAt":"K","States":{"K":{"Type":"Pass","End":true}}},"End":true}}}'
 
@@ -96,6 +103,13 @@ class TerminalTest(ProgramTest):
                 f"step / {START} ok", f"step / {START} ok"],
         )
 
+    def test_a_name_needs_no_quotes(self):
+        usage = "write it as: break NAME, or break on error"
+        self.assertEqual(
+            self.answers(LOOP, 'break P\nnext 3\nclear P\nnext 2\nbreak  P\nbreak "P\nbreak\nbreak Q\n'),
+            ["set", f"step / {START} ok", f'step / {START} paused "P"', "cleared", f"step / {START} ok", f"step / {START} ok", usage, usage, usage, "NoSuchState"],
+        )
+
     def test_another_branch_first(self):
         self.assertEqual(
             self.answers(FORK, f"next 3\nback 2\nstep /1 {START}\nsteps\ndata /0\n"),
@@ -118,6 +132,83 @@ class TerminalTest(ProgramTest):
                 "the execution is over",
             ],
         )
+
+    def test_steps_stop_where_something_fails(self):
+        # An invocation that is retried, and a state that fails.
+        self.assertEqual(
+            self.answers(RETRIED, "break on error\ncontinue\ncontinue\n", mocks=ONE_FAILURE, chosen="M#c"),
+            ["set", f"step / {START} ok", "something failed", "step / 1970-01-01T00:00:01.000Z ok", "the execution is over"],
+        )
+        self.assertEqual(
+            self.answers(CAUGHT, "break on error\nnext 9\nnext 9\nnext 9\n"),
+            ["set", f"step / {START} ok", "something failed", f"step / {START} ok", f"step /0 {START} ok", f"step /1 {START} ok", "something failed",
+                f"step / {START} ok", "something failed"],
+        )
+        # The time of the execution is over.
+        told = self.typed(TOO_LONG, "break on error\nuntil +1d\n").splitlines()
+        self.assertEqual(told[:4], ["set", f"step / {START} ok", "step / 1970-01-01T00:00:05.000Z ok", "something failed"])
+        # It is taken back.
+        told = self.answers(RETRIED, "break on error\nclear on error\ncontinue\n", mocks=ONE_FAILURE, chosen="M#c")
+        self.assertEqual(told, ["set", "cleared", f"step / {START} ok", "step / 1970-01-01T00:00:01.000Z ok", "the execution is over"])
+        # A state of that name is named in quotes.
+        definition = '{"StartAt":"on error","States":{"on error":{"Type":"Pass","End":true}}}'
+        self.assertEqual(self.answers(definition, 'break "on error"\nstep /\nclear "on error"\nclear  on error\nbreak on errors\n'),
+            ["set", f'step / {START} paused "on error"', "cleared", "write it as: clear NAME, or clear on error", "NoSuchState"])
+
+    def test_a_step_without_a_moment_is_as_early_as_it_may_be(self):
+        self.assertEqual(
+            self.answers(FORK, "step /\nstep /1\nstep /1\nstep /0\nstep /7\nstep /\n"),
+            [
+                f"step / {START} ok",
+                f"step /1 {START} ok",
+                "step /1 1970-01-01T00:00:05.000Z ok",
+                "step /0 1970-01-01T00:00:05.000Z ok",
+                "step /7 1970-01-01T00:00:05.000Z S2 NoSuchPlace",
+                "step / 1970-01-01T00:00:05.000Z S5 Busy",
+            ],
+        )
+        # The time of the execution is over before.
+        self.assertEqual(self.answers(TOO_LONG, "step /\nstep /\n"), [f"step / {START} ok", "step / 1970-01-01T00:00:05.000Z ok"])
+        # A breakpoint is no moment to wait for.
+        self.assertEqual(self.answers(LOOP, "break P\nstep /\n"), ["set", f'step / {START} paused "P"'])
+
+    def test_spans_begin_at_the_last_moment(self):
+        spans = [("+0s", "00:00:00.000"), ("+5s", "00:00:05.000"), ("+1m", "00:01:05.000"), ("+2h", "02:01:05.000"), ("+007s", "02:01:12.000")]
+        self.assertEqual(
+            self.answers(LOOP, "".join(f"step / {span}\n" for span, _ in spans) + "step / +1d\nstep / +999999999d\nstep / +1s\n"),
+            [f"step / 1970-01-01T{clock}Z ok" for _, clock in spans]
+            + ["step / 1970-01-02T02:01:12.000Z ok", "step / 9999-12-31T23:59:59.999Z ok", "step / 9999-12-31T23:59:59.999Z ok"],
+        )
+        self.assertEqual(
+            self.answers(FORK, "next 4\nuntil +4s\nuntil +5s\nswap /0 +1s /1 +2s\n"),
+            [f"step / {START} ok", f"step /0 {START} ok", f"step /0 {START} ok", f"step /1 {START} ok", "the next step is at 1970-01-01T00:00:05.000Z"]
+            + [f"step {place} 1970-01-01T00:00:05.000Z ok" for place in ("/1", "/1", "/")]
+            + ["the execution is over", "not exchangeable: the moments differ"],
+        )
+        self.assertEqual(self.answers(FORK, "next\nswap /0 +1s /1 1970-01-01T00:00:01Z\n"), [f"step / {START} ok", "exchangeable"])
+
+    def test_times_since_the_start_are_read_as_the_tree_tells_them(self):
+        start = "step / 2024-01-01T12:00:00Z"
+        times = [("00:00.000", "12:00:00.000"), ("00:05.001", "12:00:05.001"), ("59:59.999", "12:59:59.999"), ("1:00:00.000", "13:00:00.000")]
+        told = self.typed(LOOP, "\n".join([start] + [f"step / {time}" for time, _ in times]) + "\nstep / 12:00:00.000\nstep / 999999999:59:59.999\n")
+        self.assertEqual(told.splitlines()[:7], ["ok"] + [f"step / 2024-01-01T{clock}Z ok" for _, clock in times]
+            + ["step / 2024-01-02T00:00:00.000Z ok", "step / 9999-12-31T23:59:59.999Z ok"])
+        self.assertEqual(self.answers(FORK, "next 4\nuntil 00:04.999\nuntil 00:05.000\n")[4:], ["the next step is at 1970-01-01T00:00:05.000Z"]
+            + [f"step {place} 1970-01-01T00:00:05.000Z ok" for place in ("/1", "/1", "/")] + ["the execution is over"])
+
+    def test_a_span_does_not_start_the_execution(self):
+        told = self.typed(LOOP, "step / +5s\nstep / 2024-01-01T00:00:00Z\n").splitlines()
+        self.assertEqual(told[:2], ["step / 1970-01-01T00:00:05.000Z ok", "ok"])
+        self.assertIn("1970-01-01T00:00:00.000Z / ExecutionStarted", told[2])
+        told = self.typed(LOOP, "step / 2024-01-01T00:00:00Z\nstep / +5s\n").splitlines()
+        self.assertEqual(told[:2], ["ok", "step / 2024-01-01T00:00:05.000Z ok"])
+        self.assertIn("2024-01-01T00:00:00.000Z / ExecutionStarted", told[2])
+
+    def test_what_names_no_moment(self):
+        lines = ["+5", "5s", "+s", "+ 5s", "+5 s", "+5S", "+5ms", "+-5s", "+5s ", "+1234567890s", "-5s", "+5s+5s", "soon", "00:05", "0:05.000", "00:60.000", "60:00.000", ":00:05.000", "00:05.00",
+            "00:05.0000", "00:00:00:05.000", "00.05.000", "1:0:05.000", "1:00:05.000Z", "\u0665s", "+\u0665s"]
+        self.assertEqual(self.answers(LOOP, "".join(f"step / {line}\n" for line in lines)), ["write it as: step PLACE [MOMENT]"] * len(lines))
+        self.assertEqual(self.answers(LOOP, "".join(f"until {line}\n" for line in lines)), ["write it as: until MOMENT"] * len(lines))
 
     def test_what_each_branch_waits_for(self):
         self.assertEqual(
@@ -149,16 +240,16 @@ class TerminalTest(ProgramTest):
 
     def test_bad_lines_lose_nothing(self):
         self.assertEqual(
-            self.answers(FORK, "next\n\nfoo\nnext x\nnext 1234567890\nnext  2\n next\ncontinue 2\nstep /0\nstep / 2024\nsteps 1\nbreak "
-                "A2\nuntil\nuntil soon\ndata\ndata 0\nplaces \nevents -1\nswap /0\nback\nquit now\nplaces\n"),
+            self.answers(FORK, "next\n\nfoo\nnext x\nnext 1234567890\nnext  2\n next\ncontinue 2\nstep 0\nstep / 2024\nsteps 1\nbreak "
+                "\"A2\nuntil\nuntil soon\ndata\ndata 0\nplaces \nevents -1\nswap /0\nback\nquit now\nplaces\n"),
             [f"step / {START} ok", WORDS[:-1], WORDS[:-1]]
             + ["write it as: next [N]"] * 3
             + [WORDS[:-1], "write it as: continue"]
-            + ["write it as: step PLACE STAMP"] * 2
-            + ["write it as: steps", "write it as: break NAME"]
-            + ["write it as: until STAMP"] * 2
+            + ["write it as: step PLACE [MOMENT]"] * 2
+            + ["write it as: steps", "write it as: break NAME, or break on error"]
+            + ["write it as: until MOMENT"] * 2
             + ["write it as: data PLACE"] * 2
-            + ["write it as: places", "write it as: events [N]", "write it as: swap PLACE STAMP PLACE STAMP", "write it as: back N", "write it as: quit"]
+            + ["write it as: places", "write it as: events [N]", "write it as: swap PLACE MOMENT PLACE MOMENT", "write it as: back N", "write it as: quit"]
             + ['/ Forked "Q" S5 Busy', '/0 Ready "A" ok', '/1 Ready "B" ok'],
         )
 
@@ -211,7 +302,7 @@ class TerminalTest(ProgramTest):
             ran.kill()
             ran.stdout.close()
 
-    def test_a_terminal_gets_a_prompt(self):
+    def test_a_terminal_gets_a_greeting_and_a_prompt(self):
         folder = f"{TOP}/examples/hello"
         ours, theirs = pty.openpty()
         ran = subprocess.Popen([PROGRAM, "debug", f"{folder}/definition.json", f"{folder}/mocks.json", "M", f"{folder}/input.json"],
@@ -220,7 +311,8 @@ class TerminalTest(ProgramTest):
         os.write(ours, b"next\nquit\n")
         out, err = ran.communicate(timeout=60)
         os.close(ours)
-        self.assertEqual(err, "asl> asl> ")
+        # (greeted once, before the first prompt)
+        self.assertEqual(err, '/ Ready "P" ok\nnext takes a step, help tells what else a line may say\nasl> asl> ')
         self.assertEqual(out.splitlines()[0], f"step / {START} ok")
 
     def test_refused_before_a_line_is_read(self):

@@ -145,7 +145,9 @@ def complaint(words):
         return f"asl: {wrong}\nUsage: {told.usage}"
     files = [word for word, it in zip(plain, told.arguments) if it.name in FILES]
     files += [value for it in told.options if it.value == "FILE" and (value := given.get(it.name)) is not None]
-    missing = next((it for it in files if it != "-" and it.isprintable() and not os.path.lexists(it)), None)
+    # A JSON text in place of a name is the file's text itself.
+    named = [it for it in files if it != "-" and not it.startswith(("{", "[", '"'))]
+    missing = next((it for it in named if it.isprintable() and not os.path.lexists(it)), None)
     return f"fault: file {missing}" if missing is not None else None
 
 

@@ -3,7 +3,8 @@
 #![tactic(auto)]
 
 use asl_cli::{Progress, refuse_words, run_words};
-use asl_host::{HostFiles, Screen, Stream, Typed, given, tell_fault};
+use asl_host::{HostFiles, Stream, Typed, given, tell_fault};
+use asl_words::Screen;
 use std::io::{BufReader, IsTerminal};
 use std::process::ExitCode;
 use std::sync::Wait;
@@ -35,7 +36,7 @@ fn program<R: Threads + Wait + Sync>(handle: &R, rt: HostRuntime) -> u8 {
     let mut input = Typed::new(reader, prompt);
     let screen = Screen::new(&rt, rt.stdin().is_terminal(), rt.stdout().is_terminal());
     let progress = Progress::new(&rt, rt.stderr().is_terminal());
-    match given(&rt) {
+    let status = match given(&rt) {
         Ok(words) => run_words(
             handle,
             &progress,
@@ -48,7 +49,11 @@ fn program<R: Threads + Wait + Sync>(handle: &R, rt: HostRuntime) -> u8 {
             &mut err,
         ),
         Err(fault) => refuse_words(alloc, fault, &mut err),
+    };
+    if out.has_failed() {
+        tell_fault(&mut err, "file standard output: a write failed");
     }
+    status
 }
 
 /// Tells that the system gives no stack.

@@ -3,14 +3,14 @@ use Rattle.std.proofs.Common.{◌≡◌, ℕ, List, [], ◌∷◌, ◌++◌, Boo
 use Rattle.std.specs.Prelude.{Option, Some, None}
 use Rattle.std.specs.Str.{IsUtf8}
 use Rattle.std.specs.Cmp.Lexicographic.{same_text}
-use Rattle.asl_json.specs.Data.{Data, null, boolean, number, text, list, dict, Chain, no_items, item, Pairs, no_members, member, pairs}
+use Rattle.asl_json_data.specs.Data.{Data, null, boolean, number, text, list, dict, Chain, no_items, item, Pairs, no_members, member, pairs}
 use Rattle.asl_json.specs.Same.{bytes_eq}
 use Rattle.asl_json.specs.Meaning.{value_at}
-use Rattle.asl_def_table.specs.declared.sort.Sort.{Sort}
-use Rattle.asl_def_table.specs.declared.sort.Sort.TheVariants as sort
-use Rattle.asl_def_table.specs.Members.{Row, Shape, shape_in, sort_at, item_sort}
-use Rattle.asl_def_table.specs.Canon.{Named, opt, kept, canon, canon_items, canon_members, arranged, listed, picked}
-use Rattle.asl_def_canonical.proofs.Amounts.{kept_is}
+use Rattle.asl_def_schema.specs.declared.sort.Sort.{Sort}
+use Rattle.asl_def_schema.specs.declared.sort.Sort.TheVariants as sort
+use Rattle.asl_def_schema.specs.Members.{Row, Shape, shape_in, sort_at, item_sort}
+use Rattle.asl_def_schema.specs.Canon.{Named, opt, kept, canon, canon_items, canon_members, arranged, listed, picked}
+use Rattle.asl_def_canonical_laws.proofs.Amounts.{kept_is}
 use Rattle.asl_json.specs.Sound.{IsSound, AreSoundItems, AreSoundMembers}
 
 -- a member that is found, with its key

@@ -5,7 +5,7 @@ use Rattle.std.proofs.Math.Seq.{take-append_seam, drop-append_seam, get_or-appen
 use Rattle.std.proofs.lemmas.Str.{IsUtf8-take, IsUtf8-append, IsUtf8-from_ascii, IsCharBoundary-before_ascii}
 use Rattle.std.proofs.lemmas.Str.Ascii.{IsAscii-nil, IsAscii-cons}
 use Rattle.std.specs.Str.{IsUtf8}
-use Rattle.asl_json.proofs.Fronts.{utf8_past, utf8_after}
+use Rattle.asl_json_scan.proofs.Fronts.{utf8_past, utf8_after}
 
 pub utf8_byte : (c : ℕ) → c < 128 → IsUtf8 (c ∷ [])
 utf8_byte c lt = IsUtf8-from_ascii (c ∷ []) (IsAscii-cons c [] lt IsAscii-nil)

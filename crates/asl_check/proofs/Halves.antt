@@ -1,7 +1,7 @@
 -- What is wrong with a text, or with the value that it spells, is why the text is no definition.
 use Rattle.std.proofs.Common.{◌≡◌, ℕ, List}
-use Rattle.asl_json.specs.Data.{Data}
-use Rattle.asl_json.specs.Wrong.{ReadsAs}
+use Rattle.asl_json_data.specs.Data.{Data}
+use Rattle.asl_json_data.specs.Reads.{ReadsAs}
 use Rattle.asl_check.specs.declared.fault.Fault.{Fault}
 use Rattle.asl_check.specs.declared.fault.Fault.TheVariants.{Json, Definition, OutOfMemory}
 use Rattle.asl_check.specs.Judged.{IsUnread, IsFaulty, IsFaultOf}

@@ -1,10 +1,10 @@
 -- The limits of a value: what is allowed nests no deeper than the limit and has no key twice, and what is sound, nests no deeper
 -- and has no key twice is allowed.
 use Rattle.std.proofs.Common.{◌≡◌, ℕ, suc, ◌+◌, ◌≤◌, true, false, nat_le, [], ◌∷◌, ◌++◌, arith}
-use Rattle.asl_json.specs.Data.{Data, null, boolean, number, text, list, dict, Chain, no_items, item, Pairs, no_members, member, depth, items_depth, members_depth}
-use Rattle.asl_json.specs.Distinct.{Members, AreDistinct}
+use Rattle.asl_json_data.specs.Data.{Data, null, boolean, number, text, list, dict, Chain, no_items, item, Pairs, no_members, member, depth, items_depth, members_depth}
+use Rattle.asl_json_data.specs.Distinct.{Members, AreDistinct}
 use Rattle.asl_json.specs.View.{unpaired}
-use Rattle.asl_json.specs.Limits.{max_depth, Allowed, AllowedItems, AllowedMembers}
+use Rattle.asl_json_data.specs.Limits.{max_depth, Allowed, AllowedItems, AllowedMembers}
 use Rattle.asl_json.specs.Sound.{KeysDiffer, KeysDifferInItems, KeysDifferInMembers}
 use Rattle.asl_json.specs.Sound.{IsSound, AreSoundItems, AreSoundMembers}
 

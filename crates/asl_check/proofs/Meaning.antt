@@ -6,9 +6,9 @@ use lib.Utf8.{encode}
 use Rattle.std.specs.Str.{IsUtf8}
 use Rattle.std.specs.Char.{IsScalar, InScalarRange, digit_value}
 use Rattle.std.specs.Char.Utf16.{is_high_surrogate, is_low_surrogate, surrogate_pair_char}
-use Rattle.asl_json.specs.Text.{quote, backslash, letter_u, is_letter, letter_value, is_hex, Quad, quad, AreHex, digits_of, unit_of, escape, Piece, plain, short, single, pair, ArePieces, all_spelled, all_meant, SpellsText}
-use Rattle.asl_json.proofs.Escapes.{letter_ascii, single_range, high_range, low_range}
-use Rattle.asl_json.proofs.Fronts.{utf8_after}
+use Rattle.asl_json_data.specs.Text.{quote, backslash, letter_u, is_letter, letter_value, is_hex, Quad, quad, AreHex, digits_of, unit_of, escape, Piece, plain, short, single, pair, ArePieces, all_spelled, all_meant, SpellsText}
+use Rattle.asl_json_scan.proofs.Escapes.{letter_ascii, single_range, high_range, low_range}
+use Rattle.asl_json_scan.proofs.Fronts.{utf8_after}
 use Rattle.asl_check.proofs.Cutting.{utf8_byte, cut_before, cut_behind, one_more}
 
 ranged : (c : ℕ) → InScalarRange c → IsScalar c

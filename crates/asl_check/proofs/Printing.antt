@@ -1,20 +1,20 @@
 -- What is printed for a machine is accepted.
 use Rattle.std.proofs.Common.{◌≡◌, ◌≤◌, ℕ, List, true, length, sym, subst, ap, ◌∙◌, arith}
-use Rattle.asl_json.specs.Data.{Data, depth}
-use Rattle.asl_json.specs.Compact.{compact}
-use Rattle.asl_json.specs.Limits.{max_len, max_depth}
-use Rattle.asl_json.specs.Wrong.{ReadsAs}
-use Rattle.asl_json.proofs.Faulting.{same_value}
-use Rattle.asl_json.proofs.Passing.{text_read}
-use Rattle.asl_json.proofs.Round.{compact_is_text, no_text_is_shorter}
-use Rattle.asl_def_table.specs.declared.sort.Sort.TheVariants.{Definition}
-use Rattle.asl_def_table.specs.Canon.{canonical}
-use Rattle.asl_def_table.specs.Faults.{Accepted}
+use Rattle.asl_json_data.specs.Data.{Data, depth}
+use Rattle.asl_json_data.specs.Compact.{compact}
+use Rattle.asl_json_data.specs.Limits.{max_len, max_depth}
+use Rattle.asl_json_data.specs.Reads.{ReadsAs}
+use Rattle.asl_json_read.proofs.Faulting.{same_value}
+use Rattle.asl_json_scan.proofs.Passing.{text_read}
+use Rattle.asl_json_write.proofs.Round.{compact_is_text, no_text_is_shorter}
+use Rattle.asl_def_schema.specs.declared.sort.Sort.TheVariants.{Definition}
+use Rattle.asl_def_schema.specs.Canon.{canonical}
+use Rattle.asl_def_schema.specs.Faults.{Accepted}
 use Rattle.asl_json.specs.Sound.{KeysDiffer}
-use Rattle.asl_def_canonical.proofs.Accepted.{accepted_canonical}
-use Rattle.asl_def_canonical.proofs.Twice.{canonical_twice}
-use Rattle.asl_def_canonical.proofs.Length.{no_longer, no_deeper}
-use Rattle.asl_def_canonical.proofs.Keys.{keys_canon}
+use Rattle.asl_def_canonical_laws.proofs.Accepted.{accepted_canonical}
+use Rattle.asl_def_canonical_laws.proofs.Twice.{canonical_twice}
+use Rattle.asl_def_canonical_laws.proofs.Length.{no_longer, no_deeper}
+use Rattle.asl_def_canonical_laws.proofs.Keys.{keys_canon}
 use Rattle.asl_check.specs.Judged.{IsMachineOf}
 use Rattle.asl_json.specs.Sound.{IsSound}
 use Rattle.asl_check.proofs.CanonicalSound.{sound_canon}

@@ -2,12 +2,12 @@
 use Rattle.std.proofs.Common.{◌≡◌, ℕ, suc, true, List, [], ◌∷◌, ◌++◌, sym, subst, ap, ◌∙◌, refl}
 use Rattle.std.proofs.lemmas.List.{append-nil, append_assoc}
 use Rattle.std.specs.Str.{IsUtf8}
-use Rattle.asl_json.specs.Data.{Data, null, boolean, number, text, list, dict, Chain, no_items, item, Pairs, no_members, member}
-use Rattle.asl_json.specs.Distinct.{Members}
-use Rattle.asl_json.specs.Limits.{Allowed, AllowedItems, AllowedMembers}
-use Rattle.asl_json.specs.Grammar.{colon, open_bracket, open_brace, SpellsKey, Padded, IsMember, Spells, IsText}
-use Rattle.asl_json.specs.Parts.{comma}
-use Rattle.asl_json.specs.private.Lists.{SpellsItems, SpellsMoreItems, SpellsMembers, SpellsMore}
+use Rattle.asl_json_data.specs.Data.{Data, null, boolean, number, text, list, dict, Chain, no_items, item, Pairs, no_members, member}
+use Rattle.asl_json_data.specs.Distinct.{Members}
+use Rattle.asl_json_data.specs.Limits.{Allowed, AllowedItems, AllowedMembers}
+use Rattle.asl_json_data.specs.Grammar.{colon, open_bracket, open_brace, SpellsKey, Padded, IsMember, Spells, IsText}
+use Rattle.asl_json_data.specs.Parts.{comma}
+use Rattle.asl_json_data.specs.private.Lists.{SpellsItems, SpellsMoreItems, SpellsMembers, SpellsMore}
 use Rattle.asl_json.specs.Sound.{IsSound, AreSoundItems, AreSoundMembers}
 use Rattle.asl_check.proofs.Meaning.{text_utf8}
 

@@ -4,14 +4,14 @@ use Rattle.std.specs.Prelude.{Option, Some, None}
 use Rattle.std.proofs.lemmas.Str.{IsUtf8-append}
 use Rattle.std.specs.Str.{IsUtf8}
 use Rattle.std.specs.Char.{digit_char}
-use Rattle.asl_json.specs.Data.{Data, null, boolean, number, text, list, dict, Chain, no_items, item, Pairs, no_members, member}
-use Rattle.asl_json.specs.Grammar.{colon, open_bracket, close_bracket, open_brace, close_brace}
-use Rattle.asl_json.specs.Parts.{comma}
-use Rattle.asl_json.specs.Text.{quote, backslash, letter_u, is_plain}
-use Rattle.asl_json.specs.Compact.{control_letter, escaped_control, escaped_byte, escaped, quoted, compact, compact_items, compact_more_items, compact_members, compact_more, IsSpellable, AreSpellableItems, AreSpellable}
-use Rattle.asl_json.proofs.Fronts.{not_plain_ascii}
-use Rattle.asl_json.proofs.Quoting.{escaped_plain}
-use Rattle.asl_json.proofs.Figures.{number_utf8}
+use Rattle.asl_json_data.specs.Data.{Data, null, boolean, number, text, list, dict, Chain, no_items, item, Pairs, no_members, member}
+use Rattle.asl_json_data.specs.Grammar.{colon, open_bracket, close_bracket, open_brace, close_brace}
+use Rattle.asl_json_data.specs.Parts.{comma}
+use Rattle.asl_json_data.specs.Text.{quote, backslash, letter_u, is_plain}
+use Rattle.asl_json_data.specs.Compact.{control_letter, escaped_control, escaped_byte, escaped, quoted, compact, compact_items, compact_more_items, compact_members, compact_more, IsSpellable, AreSpellableItems, AreSpellable}
+use Rattle.asl_json_scan.proofs.Fronts.{not_plain_ascii}
+use Rattle.asl_json_write.proofs.Quoting.{escaped_plain}
+use Rattle.asl_json_data.proofs.Figures.{number_utf8}
 use Rattle.asl_json.specs.Sound.{IsSound, AreSoundItems, AreSoundMembers}
 use Rattle.asl_check.proofs.Cutting.{utf8_byte, utf8_cons, cut_before, cut_behind, one_more}
 

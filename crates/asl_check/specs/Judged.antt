@@ -1,15 +1,16 @@
 -- Which texts are definitions, and which fault is answered for any other.
 use Rattle.std.specs.Prelude.{◌≡◌, ℕ, List}
-use Rattle.asl_json.specs.Data.{Data}
-use Rattle.asl_json.specs.Wrong.{ReadsAs, IsFaultOf as IsJsonFaultOf, IsFirstOf}
-use Rattle.asl_json.specs.declared.fault.JsonFault.{JsonFault}
-use Rattle.asl_json.specs.declared.fault.JsonFault.TheVariants as json
-use Rattle.asl_def_table.specs.declared.fault.FaultKind.{FaultKind}
-use Rattle.asl_def_table.specs.declared.fault.Step.{Step}
-use Rattle.asl_def_table.specs.Faults.{Accepted, claims_of}
-use Rattle.asl_def_table.specs.Canon.{canonical}
-use Rattle.asl_def_table.specs.First.{IsFirst}
-use Rattle.asl_def_table.specs.Pointers.{pointer_text}
+use Rattle.asl_json_data.specs.Data.{Data}
+use Rattle.asl_json_data.specs.Reads.{ReadsAs}
+use Rattle.asl_json_read.specs.Wrong.{IsFaultOf as IsJsonFaultOf, IsFirstOf}
+use Rattle.asl_json_read.specs.declared.fault.JsonFault.{JsonFault}
+use Rattle.asl_json_read.specs.declared.fault.JsonFault.TheVariants as json
+use Rattle.asl_def_schema.specs.declared.fault.FaultKind.{FaultKind}
+use Rattle.asl_def_schema.specs.declared.fault.Step.{Step}
+use Rattle.asl_def_schema.specs.Faults.{Accepted, claims_of}
+use Rattle.asl_def_schema.specs.Canon.{canonical}
+use Rattle.asl_def_schema.specs.First.{IsFirst}
+use Rattle.asl_def_schema.specs.Pointers.{pointer_text}
 use Rattle.asl_check.specs.declared.fault.Fault.{Fault}
 use Rattle.asl_check.specs.declared.fault.Fault.TheVariants.{Json, Definition, OutOfMemory}
 

@@ -1,10 +1,10 @@
 -- Laws of what is accepted and of what is printed for it, over all texts.
 use Rattle.std.specs.Prelude.{◌≡◌, ◌≤◌, ℕ, List, length}
-use Rattle.asl_json.specs.Data.{Data, depth}
-use Rattle.asl_json.specs.Compact.{compact}
-use Rattle.asl_json.specs.Limits.{max_len, max_depth}
-use Rattle.asl_def_table.specs.Canon.{canonical}
-use Rattle.asl_def_table.specs.Faults.{Accepted}
+use Rattle.asl_json_data.specs.Data.{Data, depth}
+use Rattle.asl_json_data.specs.Compact.{compact}
+use Rattle.asl_json_data.specs.Limits.{max_len, max_depth}
+use Rattle.asl_def_schema.specs.Canon.{canonical}
+use Rattle.asl_def_schema.specs.Faults.{Accepted}
 use Rattle.asl_check.specs.Judged.{IsMachineOf}
 
 -- what is printed for a machine that a text spells is accepted as that machine

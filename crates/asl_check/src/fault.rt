@@ -2,8 +2,9 @@
 ghost use Rattle.std.specs.Prelude.{◌≡◌, IfOk, string_bytes};
 ghost use Rattle.asl_check.specs.Lines.{fault_line};
 
-use asl_def_table::FaultKind;
-use asl_json::{JsonFault, Pointer};
+use asl_def_schema::FaultKind;
+use asl_json_read::JsonFault;
+use asl_json_write::Pointer;
 use std::alloc::{AllocError, Global};
 use std::error::Error;
 use std::fmt;

@@ -1,15 +1,16 @@
 // The judge of a definition's text.
 ghost use Rattle.std.specs.Prelude.{◌≡◌, IfOk, IfErr};
-ghost use Rattle.asl_json.specs.Data.{Data};
+ghost use Rattle.asl_json_data.specs.Data.{Data};
 ghost use Rattle.asl_json.specs.View.{data_of};
-ghost use Rattle.asl_json.specs.Wrong.{ReadsAs};
-ghost use Rattle.asl_def_table.specs.Faults.{Accepted};
-ghost use Rattle.asl_def_table.specs.Canon.{canonical};
+ghost use Rattle.asl_json_data.specs.Reads.{ReadsAs};
+ghost use Rattle.asl_def_schema.specs.Faults.{Accepted};
+ghost use Rattle.asl_def_schema.specs.Canon.{canonical};
 ghost use Rattle.asl_check.specs.Judged.{IsDefinition, IsMachineOf, IsFaultOf, IsUnread, IsFaulty};
 
 use crate::fault::Fault;
 use asl_def::{DefFault, Machine, parse};
-use asl_json::{Json, JsonFault, read};
+use asl_json::Json;
+use asl_json_read::{JsonFault, read};
 use std::alloc::Global;
 
 /// The value that a text spells.

@@ -1,11 +1,12 @@
 // Laws of what is accepted and of what is printed for it.
 ghost use Rattle.asl_check.specs.Laws.{PrintedIsAccepted, PrintedIsNoLonger, FittingIsAccepted, MachineIsAccepted, OneMachine};
 ghost use Rattle.asl_json.specs.View.{data_of};
-ghost use Rattle.asl_json.specs.Compact.{compact};
+ghost use Rattle.asl_json_data.specs.Compact.{compact};
 ghost use Rattle.std.specs.Prelude.{◌≡◌, IfOk, string_bytes};
 
 use asl_def::Machine;
-use asl_json::{Json, every_value_is_sound, write};
+use asl_json::{Json, every_value_is_sound};
+use asl_json_write::write;
 use std::alloc::{AllocError, Global};
 
 /// What is printed for a machine is accepted as that machine, over all texts. The laws have no code.

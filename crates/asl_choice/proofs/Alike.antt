@@ -3,7 +3,7 @@ use Rattle.std.proofs.Common.{◌≡◌, ◌∙◌, ℕ, Bool, true, false, List
 use Rattle.std.specs.Prelude.{◌&&◌, Option, Some, None, if◌then◌else◌}
 use Rattle.std.specs.Bool.{Decides, one_answer}
 use Rattle.std.specs.Cmp.Lexicographic.{same_text}
-use Rattle.asl_json.specs.Data.{Data, boolean, number, text, pairs}
+use Rattle.asl_json_data.specs.Data.{Data, boolean, number, text, pairs}
 use Rattle.asl_json.specs.Same.{equal, equal_members, bytes_eq}
 use Rattle.asl_json.specs.private.SameLaws.{bytes_refl, equal_true, equal_refl}
 use Rattle.asl_choice.specs.declared.operator.Order.TheVariants as order

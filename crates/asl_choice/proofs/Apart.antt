@@ -1,9 +1,9 @@
 -- The keys of a rule differ.
 use Rattle.std.proofs.Common.{◌≡◌, ℕ, List, [], ◌∷◌, ◌++◌, Bool, true, false, refl, sym, subst, ap, ◌∙◌}
 use Rattle.std.specs.Prelude.{Option, Some, None, Result, IfOk, codes}
-use Rattle.asl_json.specs.Data.{Data}
+use Rattle.asl_json_data.specs.Data.{Data}
 use Rattle.asl_json.specs.Same.{bytes_eq}
-use Rattle.asl_json.specs.Distinct.{Members, has_key}
+use Rattle.asl_json_data.specs.Distinct.{Members, has_key}
 use Rattle.asl_choice.specs.declared.comparison.Comparison.{Comparison}
 use Rattle.asl_choice.specs.declared.operator.RuleKind.TheVariants as kind
 use Rattle.asl_choice.specs.declared.rule.Condition.{Condition}

@@ -2,14 +2,14 @@
 use Rattle.std.proofs.Common.{◌≡◌, ℕ, ◌+◌, ◌<◌, ◌≤◌, List, ◌∷◌, length, drop, get_or, true, false, refl, sym, subst, ap, ◌∙◌}
 use Rattle.std.specs.Prelude.{Some}
 use Rattle.std.proofs.lemmas.List.{drop_more, drop_all}
-use Rattle.asl_json.specs.Data.{Pairs, pairs}
+use Rattle.asl_json_data.specs.Data.{Pairs, pairs}
 use Rattle.asl_json.specs.Same.{bytes_eq}
 use Rattle.asl_json.specs.private.SameLaws.{bytes_refl}
 use Rattle.asl_json.specs.Meaning.{value_at}
 use Rattle.asl_json.specs.View.{data_of, members_of}
 use Rattle.asl_json.specs.declared.value.Member.{Member}
-use Rattle.asl_def_table.specs.Members.{is_among}
-use Rattle.asl_def_table.specs.Claims.{any_in}
+use Rattle.asl_def_schema.specs.Members.{is_among}
+use Rattle.asl_def_schema.specs.Claims.{any_in}
 use Rattle.asl_choice.specs.declared.operator.RuleKind.{RuleKind}
 use Rattle.asl_choice.specs.Rules.{deciding, kind_name, kind_names}
 use Rattle.asl_choice.proofs.Names.{kind_stood, apart_from}

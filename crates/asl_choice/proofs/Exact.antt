@@ -1,9 +1,9 @@
 -- `==` of rules and tests is true exactly where two are one.
 use Rattle.std.proofs.Common.{◌≡◌, true, List, ap}
 use Rattle.asl_json.specs.declared.value.Json.TheVariants.{Dict}
-use Rattle.asl_def_table.specs.Canon.{Named}
-use Rattle.asl_def_members.specs.Equal.{IsExact}
-use Rattle.asl_def_members.specs.private.EqualLaws.{split, exact, texts_exact, jsons_exact}
+use Rattle.asl_def_schema.specs.Canon.{Named}
+use Rattle.asl_def_fields.specs.Equal.{IsExact}
+use Rattle.asl_def_fields.specs.private.EqualLaws.{split, exact, texts_exact, jsons_exact}
 use Rattle.asl_choice.specs.declared.comparison.Test.{Test}
 use Rattle.asl_choice.specs.contracts.operator.OrderEq.TheImpl.Laws as order_laws
 use Rattle.asl_choice.specs.contracts.operator.PropertyEq.TheImpl.Laws as property_laws

@@ -3,8 +3,8 @@ use Rattle.std.proofs.Common.{◌≡◌, ℕ, ◌<◌, zero, suc, length, get_or
 use Rattle.std.specs.Prelude.{codes}
 use Rattle.std.specs.Cmp.Lexicographic.{same_text}
 use Rattle.asl_json.specs.Same.{bytes_eq}
-use Rattle.asl_def_table.specs.declared.sort.Sort.TheVariants.{InnerRule, InnerRules, Unknown}
-use Rattle.asl_def_table.specs.Members.{Row, optional, is_among, sort_in, row_names, operators, inner_rule_rows, test_rows}
+use Rattle.asl_def_schema.specs.declared.sort.Sort.TheVariants.{InnerRule, InnerRules, Unknown}
+use Rattle.asl_def_schema.specs.Members.{Row, optional, is_among, sort_in, row_names, operators, inner_rule_rows, test_rows}
 use Rattle.asl_choice.specs.declared.operator.Order.{Order}
 use Rattle.asl_choice.specs.declared.operator.Order.TheVariants as order
 use Rattle.asl_choice.specs.declared.operator.Property.{Property}

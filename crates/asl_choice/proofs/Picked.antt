@@ -3,14 +3,14 @@ use Rattle.std.proofs.Common.{◌≡◌, ℕ, List, [], ◌∷◌, ◌++◌, Boo
 use Rattle.std.specs.Prelude.{None}
 use Rattle.std.specs.Cmp.Lexicographic.{same_text}
 use Rattle.std.proofs.lemmas.List.{append-nil}
-use Rattle.asl_json.specs.Data.{Pairs}
+use Rattle.asl_json_data.specs.Data.{Pairs}
 use Rattle.asl_json.specs.Same.{bytes_eq}
 use Rattle.asl_json.specs.private.SameLaws.{bytes_refl}
 use Rattle.asl_json.specs.Meaning.{value_at}
-use Rattle.asl_def_table.specs.declared.sort.Sort.{Sort}
-use Rattle.asl_def_table.specs.Members.{Row, Shape, sort_at, sort_in, is_among, row_names}
-use Rattle.asl_def_table.specs.Canon.{Named, opt, kept_at, picked_at}
-use Rattle.asl_def_table.proofs.Inside.{or_right}
+use Rattle.asl_def_schema.specs.declared.sort.Sort.{Sort}
+use Rattle.asl_def_schema.specs.Members.{Row, Shape, sort_at, sort_in, is_among, row_names}
+use Rattle.asl_def_schema.specs.Canon.{Named, opt, kept_at, picked_at}
+use Rattle.asl_def_schema.proofs.Inside.{or_right}
 use Rattle.asl_choice.proofs.Names.{is_once, apart}
 
 picked_none : (sh : Shape) (rs : List Row) (ms : Pairs) → ((l : List ℕ) → is_among l (row_names rs) ≡ true → value_at l ms ≡ None) → picked_at sh rs ms ≡ []

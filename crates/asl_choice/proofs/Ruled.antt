@@ -1,16 +1,16 @@
 -- What the members of a rule are.
 use Rattle.std.proofs.Common.{◌≡◌, ℕ, List, ◌∷◌, Bool, true, false, refl, sym, subst, ap, ◌∙◌, inl, inr}
 use Rattle.std.specs.Prelude.{Option, Some, None, is_some, codes}
-use Rattle.asl_json.specs.Data.{Data, Pairs}
+use Rattle.asl_json_data.specs.Data.{Data, Pairs}
 use Rattle.asl_json.specs.Same.{bytes_eq}
 use Rattle.asl_json.specs.Meaning.{value_at}
-use Rattle.asl_def_table.specs.declared.sort.Sort.{Sort}
-use Rattle.asl_def_table.specs.declared.sort.Sort.TheVariants as sort
-use Rattle.asl_def_table.specs.Members.{Group, Shape, shape_of, sort_at, is_among, operators, connectives, rule_groups, at_most_one, inner_rule_rows, rule_rows, test_rows}
-use Rattle.asl_def_table.specs.Claims.{counts, any_in}
-use Rattle.asl_def_table.specs.Clean.{IsCleanInside, Fits, IsThere, IsThereAmong, is_beside}
-use Rattle.asl_def_table.proofs.Inside.{fits_at, there_beside, clean}
-use Rattle.asl_def_table.proofs.Deciding.{IsGroup, one_counts, some_counts}
+use Rattle.asl_def_schema.specs.declared.sort.Sort.{Sort}
+use Rattle.asl_def_schema.specs.declared.sort.Sort.TheVariants as sort
+use Rattle.asl_def_schema.specs.Members.{Group, Shape, shape_of, sort_at, is_among, operators, connectives, rule_groups, at_most_one, inner_rule_rows, rule_rows, test_rows}
+use Rattle.asl_def_schema.specs.Claims.{counts, any_in}
+use Rattle.asl_def_schema.specs.Clean.{IsCleanInside, Fits, IsThere, IsThereAmong, is_beside}
+use Rattle.asl_def_schema.proofs.Inside.{fits_at, there_beside, clean}
+use Rattle.asl_def_schema.proofs.Deciding.{IsGroup, one_counts, some_counts}
 use Rattle.asl_choice.specs.declared.operator.Operator.{Operator}
 use Rattle.asl_choice.specs.declared.operator.RuleKind.{RuleKind}
 use Rattle.asl_choice.specs.declared.operator.RuleKind.TheVariants as kind

@@ -2,19 +2,19 @@
 use Rattle.std.proofs.Common.{◌≡◌, ℕ, ◌+◌, ◌<◌, ◌≤◌, List, [], ◌∷◌, ◌++◌, length, take, get_or, Bool, true, false, ◌||◌, refl, sym, subst, ap, ◌∙◌, arith}
 use Rattle.std.specs.Prelude.{Option, Some, None, Result, Ok, Err, IfOk, option_map, codes, map}
 use Rattle.std.proofs.lemmas.List.{take_more, take_all, map-append}
-use Rattle.asl_json.specs.Data.{Data, text, list, dict, chain, Pairs, no_members, member, pairs, depth, members_depth}
+use Rattle.asl_json_data.specs.Data.{Data, text, list, dict, chain, Pairs, no_members, member, pairs, depth, members_depth}
 use Rattle.asl_json.specs.Same.{bytes_eq}
 use Rattle.asl_json.specs.Meaning.{value_at}
 use Rattle.asl_json.specs.View.{data_of, items_of}
 use Rattle.asl_json.specs.declared.value.Json.{Json}
-use Rattle.asl_def_table.specs.declared.sort.Sort.{Sort}
-use Rattle.asl_def_table.specs.declared.sort.Sort.TheVariants.{Text, Path, InnerRule, InnerRules}
-use Rattle.asl_def_table.specs.Members.{shape_of, sort_at, is_among, inner_rule_rows, row_names, operators, connectives, test_rows}
-use Rattle.asl_def_table.specs.Canon.{Named, is_plain, opt, kept, kept_at, canon, canon_items, picked_at}
-use Rattle.asl_def_table.specs.Clean.{IsClean}
-use Rattle.asl_def_table.proofs.Canons.{picked-canon, plain_kept, plain_canon, not_end}
-use Rattle.asl_def_table.proofs.Inside.{object_inside, clean}
-use Rattle.asl_def_table.proofs.Parts.{items_clean, item_clean}
+use Rattle.asl_def_schema.specs.declared.sort.Sort.{Sort}
+use Rattle.asl_def_schema.specs.declared.sort.Sort.TheVariants.{Text, Path, InnerRule, InnerRules}
+use Rattle.asl_def_schema.specs.Members.{shape_of, sort_at, is_among, inner_rule_rows, row_names, operators, connectives, test_rows}
+use Rattle.asl_def_schema.specs.Canon.{Named, is_plain, opt, kept, kept_at, canon, canon_items, picked_at}
+use Rattle.asl_def_schema.specs.Clean.{IsClean}
+use Rattle.asl_def_schema.proofs.Canons.{picked-canon, plain_kept, plain_canon, not_end}
+use Rattle.asl_def_schema.proofs.Inside.{object_inside, clean}
+use Rattle.asl_def_schema.proofs.Parts.{items_clean, item_clean}
 use Rattle.asl_choice.specs.declared.operator.RuleKind.{RuleKind}
 use Rattle.asl_choice.specs.declared.operator.RuleKind.TheVariants as kind
 use Rattle.asl_choice.specs.declared.operator.Operator.{Operator}

@@ -1,7 +1,7 @@
 -- What a list holds is no deeper than what it holds together.
 use Rattle.std.proofs.Common.{◌≡◌, ◌<◌, ◌≤◌, ℕ, zero, suc, List, [], ◌∷◌, length, get_or, ap, arith}
 use Rattle.std.specs.Prelude.{map}
-use Rattle.asl_json.specs.Data.{Data, depth, items_depth, chain}
+use Rattle.asl_json_data.specs.Data.{Data, depth, items_depth, chain}
 
 pub item_within : {A : Type 0} (f : A → Data) (xs : List A) (i : ℕ) (x : A) → i < length xs → x ≡ get_or xs i x → depth (f x) ≤ items_depth (chain (map f xs))
 item_within f [] i x lt at = omega (arith, lt)

@@ -1,9 +1,9 @@
 -- Rules are equal where their members are, and tests where operator and operand are, numbers and
 -- timestamps by their spelling.
 use Rattle.std.specs.Prelude.{List, Bool, false, ◌&&◌}
-use Rattle.asl_json.specs.Data.{pairs}
+use Rattle.asl_json_data.specs.Data.{pairs}
 use Rattle.asl_json.specs.Same.{bool_eq, bytes_eq, equal_members}
-use Rattle.asl_def_table.specs.Canon.{Named}
+use Rattle.asl_def_schema.specs.Canon.{Named}
 use Rattle.asl_choice.specs.declared.operator.Order.{Order}
 use Rattle.asl_choice.specs.declared.operator.Property.{Property}
 use Rattle.asl_choice.specs.declared.comparison.Comparison.{Comparison}

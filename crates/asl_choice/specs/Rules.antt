@@ -1,12 +1,12 @@
 -- Rules of Choice states. (Amazon States Language, "Choice State".)
 use Rattle.std.specs.Prelude.{◌≡◌, ℕ, List, [], ◌∷◌, ◌++◌, Bool, true, ◌&&◌, Option, None, codes, map, option_map}
-use Rattle.asl_json.specs.Data.{Data, boolean, number, text, list, dict, chain, Pairs, pairs}
+use Rattle.asl_json_data.specs.Data.{Data, boolean, number, text, list, dict, chain, Pairs, pairs}
 use Rattle.asl_json.specs.Same.{bytes_eq}
-use Rattle.asl_def_table.specs.declared.sort.Sort.{Sort}
-use Rattle.asl_def_table.specs.declared.sort.Sort.TheVariants as sort
-use Rattle.asl_def_table.specs.Members.{Group, exactly_one, shape_of, operators, connectives, inner_rule_rows}
-use Rattle.asl_def_table.specs.Canon.{Named, opt, picked_at}
-use Rattle.asl_def_table.specs.Clean.{IsCleanInside, IsThere}
+use Rattle.asl_def_schema.specs.declared.sort.Sort.{Sort}
+use Rattle.asl_def_schema.specs.declared.sort.Sort.TheVariants as sort
+use Rattle.asl_def_schema.specs.Members.{Group, exactly_one, shape_of, operators, connectives, inner_rule_rows}
+use Rattle.asl_def_schema.specs.Canon.{Named, opt, picked_at}
+use Rattle.asl_def_schema.specs.Clean.{IsCleanInside, IsThere}
 use Rattle.asl_choice.specs.declared.operator.Order.{Order}
 use Rattle.asl_choice.specs.declared.operator.Order.TheVariants as order
 use Rattle.asl_choice.specs.declared.operator.Property.{Property}
@@ -100,9 +100,7 @@ kind_sort kind.Not = sort.InnerRule
 -- a test has a variable
 abbrev pub HasVariable : RuleKind → Option Data → Type 0
 HasVariable (kind.Test o) v = IsThere sort.Path v
-HasVariable kind.And v = v ≡ None
-HasVariable kind.Or v = v ≡ None
-HasVariable kind.Not v = v ≡ None
+HasVariable _ v = v ≡ None
 
 -- ---- a test as it is written
 

@@ -4,8 +4,9 @@ use Rattle.std.specs.Prelude.{ℕ, List, [], ◌∷◌, ◌++◌, Bool, true, fa
 use Rattle.std.specs.declared.cmp.Ordering.{Ordering}
 use Rattle.std.specs.Ordering.{is_eq, is_lt, is_gt, is_le, is_ge, nat_cmp, int_cmp}
 use Rattle.std.specs.Cmp.Lexicographic.{slice_cmp}
-use Rattle.asl_json.specs.Data.{Data, null, boolean, number, text, list, dict, Chain, no_items, item, Pairs, no_members, member}
-use Rattle.asl_json.specs.Number.{units_of}
+use Rattle.asl_json_data.specs.Results.{◌>>=◌}
+use Rattle.asl_json_data.specs.Data.{Data, null, boolean, number, text, list, dict, Chain, no_items, item, Pairs, no_members, member}
+use Rattle.asl_json_data.specs.Number.{units_of}
 use Rattle.asl_json.specs.Same.{bool_eq, bytes_eq}
 use Rattle.asl_json.specs.Meaning.{value_at}
 use Rattle.asl_path.specs.Paths.{part_at}
@@ -33,11 +34,6 @@ abbrev pub Verdict : Type 0
 Verdict = Result Bool Fault
 
 -- go on with what was found
-abbrev pub and_then : {A : Type 0} {B : Type 0} → Result A Fault → (A → Result B Fault)
-    → Result B Fault
-and_then (Ok a) f = f a
-and_then (Err e) f = Err e
-
 -- ---- values
 
 -- what a value is, where it is of this type
@@ -151,8 +147,10 @@ judged (operator.Is p) v w = Ok (truths (boolean (has p v)) w)
 
 -- Both paths are looked up before any type is judged: first the variable's, then the operand's.
 abbrev pub looked_up : Operator → List ℕ → Data → Data → Data → Verdict
-looked_up o p d x c =
-    and_then (found p x c) (λ v. and_then (operand_value o d x c) (λ w. judged o v w))
+looked_up o p d x c = do
+  v ← found p x c
+  w ← operand_value o d x c
+  judged o v w
 
 -- of the variable at the path p by an operator with the operand d; IsPresent has an answer also
 -- where nothing is found
@@ -211,14 +209,20 @@ chosen None every some opposite tested others = others
 -- decided where the first doesn't hold, else by the others; a fault is one where nothing was
 -- decided before it
 abbrev pub and_also : Verdict → Verdict → Verdict
-and_also v others = and_then v (λ b. if b then others else Ok false)
+and_also v others = do
+  b ← v
+  if b then others else Ok false
 
 -- decided where the first holds
 abbrev pub or_else : Verdict → Verdict → Verdict
-or_else v others = and_then v (λ b. if b then Ok true else others)
+or_else v others = do
+  b ← v
+  if b then Ok true else others
 
 abbrev pub negated : Verdict → Verdict
-negated v = and_then v (λ b. Ok (not b))
+negated v = do
+  b ← v
+  Ok (not b)
 
 abbrev mutual
   -- a rule, from its object

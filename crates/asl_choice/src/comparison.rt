@@ -1,13 +1,13 @@
 // Tests of a variable.
 ghost use Rattle.std.specs.Prelude.{◌≡◌, IfOk};
 ghost use Rattle.asl_json.specs.View.{data_of};
-ghost use Rattle.asl_json.specs.Data.{text};
-ghost use Rattle.asl_def_table.specs.declared.sort.Sort.TheVariants.{Path};
-ghost use Rattle.asl_def_table.specs.Clean.{IsClean};
+ghost use Rattle.asl_json_data.specs.Data.{text};
+ghost use Rattle.asl_def_schema.specs.declared.sort.Sort.TheVariants.{Path};
+ghost use Rattle.asl_def_schema.specs.Clean.{IsClean};
 ghost use Rattle.asl_choice.specs.Rules.{comparison_operator, operand, operand_sort, operator_name, test_named};
 
 use crate::operator::{Operator, Order, Property};
-use asl_def_members::{Compile, Compiled, Stamp, TryClone};
+use asl_def_fields::{Compile, Compiled, Stamp, TryClone};
 use asl_json::{Dec, Json, Txt};
 use asl_path::RefPath;
 use std::alloc::{AllocError, Global};

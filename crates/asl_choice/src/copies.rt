@@ -3,7 +3,7 @@ ghost use Rattle.std.specs.Prelude.{◌≡◌, IfOk};
 ghost use Rattle.asl_choice.specs.Rules.{condition_named};
 
 use crate::rule::{Condition, Rule};
-use asl_def_members::TryClone;
+use asl_def_fields::TryClone;
 use std::alloc::{AllocError, Global};
 
 #[cycle(copy)]

@@ -1,6 +1,6 @@
 // Whether two rules are equal, spelling included.
 ghost use Rattle.std.specs.Prelude.{◌≡◌};
-ghost use Rattle.asl_json.specs.Data.{pairs};
+ghost use Rattle.asl_json_data.specs.Data.{pairs};
 ghost use Rattle.asl_json.specs.Same.{equal, equal_members};
 ghost use Rattle.asl_choice.specs.Rules.{condition_named, rule_list};
 

@@ -1,5 +1,5 @@
 // A law: a contract over all values.
-ghost use Rattle.asl_def_members.specs.Equal.{IsExact};
+ghost use Rattle.asl_def_fields.specs.Equal.{IsExact};
 ghost use Rattle.asl_choice.specs.Equal.{order_eq, property_eq, comparison_equal, rule_equal};
 ghost use Rattle.asl_choice.specs.Laws.{test_eq};
 

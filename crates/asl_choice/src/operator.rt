@@ -1,6 +1,6 @@
 // The operators of rules.
 ghost use Rattle.std.specs.Prelude.{◌≡◌, ◌++◌, true, false, IfOk, IfSome, IsNone};
-ghost use Rattle.asl_def_table.specs.Members.{is_among};
+ghost use Rattle.asl_def_schema.specs.Members.{is_among};
 ghost use Rattle.asl_choice.specs.Rules.{order_name, property_name, operator_name, kind_name, kind_names, written, are_named};
 
 use asl_json::Txt;
@@ -252,7 +252,7 @@ impl Operator {
     }
 }
 
-#[tactic(auto, unfolding(asl_def_table::specs::Members::operators, asl_def_table::specs::Members::test_rows))]
+#[tactic(auto, unfolding(asl_def_schema::specs::Members::operators, asl_def_schema::specs::Members::test_rows))]
 fn rule_kinds() -> &'static [Row]
     ensures all { written result.now ≡ kind_names }
     ensures named { are_named result.now ≡ true }

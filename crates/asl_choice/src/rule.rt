@@ -1,19 +1,19 @@
 // Rules of Choice states.
 ghost use Rattle.std.specs.Prelude.{◌≡◌, ◌++◌, ◌∷◌, [], Some, false, IfOk, IfSome, IsNone, codes, option_map};
 ghost use Rattle.asl_json.specs.View.{data_of, members_of};
-ghost use Rattle.asl_json.specs.Data.{text, pairs};
+ghost use Rattle.asl_json_data.specs.Data.{text, pairs};
 ghost use Rattle.asl_json.specs.Meaning.{value_at};
-ghost use Rattle.asl_json.specs.Distinct.{has_key};
-ghost use Rattle.asl_def_table.specs.declared.sort.Sort.TheVariants.{Path, InnerRule, InnerRules};
-ghost use Rattle.asl_def_table.specs.Canon.{canon, opt};
-ghost use Rattle.asl_def_table.specs.Claims.{any_in};
-ghost use Rattle.asl_def_table.specs.Clean.{IsClean, IsThere};
+ghost use Rattle.asl_json_data.specs.Distinct.{has_key};
+ghost use Rattle.asl_def_schema.specs.declared.sort.Sort.TheVariants.{Path, InnerRule, InnerRules};
+ghost use Rattle.asl_def_schema.specs.Canon.{canon, opt};
+ghost use Rattle.asl_def_schema.specs.Claims.{any_in};
+ghost use Rattle.asl_def_schema.specs.Clean.{IsClean, IsThere};
 ghost use Rattle.asl_choice.specs.Rules.{IsRule, HasVariable, canonical_rule, rule_object, rule_list, condition_named, comment_named, rule_named, kind_name, kind_sort, deciding as decides, comparison_operator, operand_sort, operator_name, test_named};
 
 use crate::comparison::{Comparison, Test, path};
 use crate::operator::{Operator, RuleKind};
-use asl_def_members::{Compiled, read_optional};
-use asl_def_table::find;
+use asl_def_fields::{Compiled, read_optional};
+use asl_def_schema::find;
 use asl_json::{Items, Json, Member, Members, Txt};
 use std::alloc::{AllocError, Global};
 use std::marker::Model;
@@ -43,7 +43,7 @@ pub(crate) enum Condition {
 
 impl Model for Rule {
     ghost use Rattle.std.specs.Prelude.{List, ℕ};
-    ghost use Rattle.asl_json.specs.Data.{Data, members_size};
+    ghost use Rattle.asl_json_data.specs.Data.{Data, members_size};
     ghost use Rattle.asl_json.specs.private.Code.{coded_members};
 
     ghost Value = { List (List ℕ × Data) };

@@ -1,9 +1,10 @@
 // Whether rules hold.
 ghost use Rattle.std.specs.Prelude.{◌≡◌, false, codes};
+ghost use Rattle.asl_json_data.specs.Results.{◌>>=◌ as and_then};
 ghost use Rattle.asl_json.specs.View.{data_of};
-ghost use Rattle.asl_json.specs.Distinct.{has_key};
+ghost use Rattle.asl_json_data.specs.Distinct.{has_key};
 ghost use Rattle.asl_choice.specs.Rules.{comparison_operator, operand, rule_object, condition_named, rule_list};
-ghost use Rattle.asl_choice.specs.Truth.{and_then, operand_value, judged, test, holds, each, any};
+ghost use Rattle.asl_choice.specs.Truth.{operand_value, judged, test, holds, each, any};
 ghost use Rattle.asl_choice.specs.Seen.{seen};
 
 use crate::comparison::{Comparison, Test};

@@ -1,11 +1,11 @@
 -- The texts of a run that files may give.
 use Rattle.std.proofs.Common.{ℕ, ◌≡◌, List, sym, subst}
 use Rattle.std.specs.Prelude.{Option, Some, None}
-use Rattle.asl_run_setup.specs.Emulations.{Texts}
+use Rattle.asl_run_input.specs.Emulations.{Texts}
 use Rattle.asl_host.specs.Reading.{Lacks}
-use Rattle.asl_host.specs.declared.words.SetupWords.{SetupWords}
+use Rattle.asl_words.specs.declared.words.SetupWords.{SetupWords}
 use Rattle.asl_cli.specs.declared.fault.CommandFault.{CommandFault}
-use Rattle.asl_cli.specs.declared.fault.CommandFault.TheVariants.{File, Definition, Emulation, Script, Expectations, OutOfMemory}
+use Rattle.asl_cli.specs.declared.fault.CommandFault.TheVariants.{File, Definition, Emulation, Script, Expectations, Code, OutOfMemory}
 use Rattle.asl_cli.specs.declared.reading.SetupTexts.{SetupTexts}
 use Rattle.asl_cli.specs.Faults.{IsGiven, read_texts, AreGiven, IsTextsReason, IsRunReason}
 
@@ -29,8 +29,9 @@ given-run gives w name steps r t e g s = subst (AreGiven gives w name) (sym e) (
 -- where such texts are refused, nothing is run
 pub refused-run : (gives : List ℕ → List ℕ → Type 0) (lacks : Lacks) (w : SetupWords) (name : Option (List ℕ)) (t : Texts) (r : CommandFault) → AreGiven gives w name t → IsTextsReason t r → IsRunReason gives lacks w name r
 refused-run gives lacks w name t (File f why) g h = absurd h
-refused-run gives lacks w name t (Definition f) g h = h
-refused-run gives lacks w name t (Emulation f) g h = record { texts = t; given = g; refused = h }
-refused-run gives lacks w name t (Script f) g h = h
-refused-run gives lacks w name t (Expectations f) g h = h
+refused-run gives lacks w name t (Definition f lines) g h = h
+refused-run gives lacks w name t (Emulation f lines) g h = record { texts = t; given = g; refused = h }
+refused-run gives lacks w name t (Script f lines) g h = h
+refused-run gives lacks w name t (Expectations f lines) g h = h
+refused-run gives lacks w name t (Code word lines) g h = h
 refused-run gives lacks w name t OutOfMemory g h = h

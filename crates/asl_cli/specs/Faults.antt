@@ -1,36 +1,38 @@
 -- What is read for a command, what is judged or emulated then, and why nothing is.
 use Rattle.std.specs.Prelude.{ℕ, Bool, Option, Some, None, option_map, string_bytes, List, [], ◌∷◌, ◌≡◌, ◌++◌, ◌⊎◌, ⊤, codes}
-use Rattle.asl_json.specs.Data.{Data}
-use Rattle.asl_json.specs.Compact.{compact}
-use Rattle.asl_json.specs.Wrong.{ReadsAs}
-use Rattle.asl_def_table.specs.Canon.{canonical}
-use Rattle.asl_def_table.specs.Faults.{Accepted}
+use Rattle.asl_json_data.specs.Data.{Data}
+use Rattle.asl_json_data.specs.Reads.{ReadsAs}
+use Rattle.asl_def_schema.specs.Canon.{canonical}
+use Rattle.asl_def_schema.specs.Faults.{Accepted}
 use Rattle.asl_def.specs.Upgraded.{upgraded}
 use Rattle.asl_check.specs.Judged.{IsDefinition, IsMachineOf, IsFaultOf}
 use Rattle.asl_check.specs.Lines.{fault_line as definition_fault_line}
 use Rattle.asl_check.specs.declared.fault.Fault.{Fault}
 use Rattle.asl_check.specs.declared.fault.Fault.TheVariants as fault
-use Rattle.asl_suite_expect.specs.Lines.{expect_line}
-use Rattle.asl_run_setup.specs.declared.fault.EmulateFault.{EmulateFault}
-use Rattle.asl_run_setup.specs.declared.setup.Setup.{Setup}
-use Rattle.asl_mock_chosen.specs.Chosen.{IsChosen}
-use Rattle.asl_run_setup.specs.Emulations.{Texts, run_texts, Accepts, IsRefused}
-use Rattle.asl_run_setup.specs.Texts.{Unless, refusal_line}
+use Rattle.asl_suite_file.specs.Lines.{expect_line}
+use Rattle.asl_run_input.specs.declared.fault.EmulateFault.{EmulateFault}
+use Rattle.asl_run_input.specs.declared.setup.Setup.{Setup}
+use Rattle.asl_mock.specs.Chosen.{IsChosen}
+use Rattle.asl_run_input.specs.Emulations.{Texts, run_texts, Accepts, IsRefused}
+use Rattle.asl_run_input.specs.Texts.{Unless, refusal_line}
 use Rattle.asl_session.specs.declared.script_file.ScriptFault.{ScriptFault}
 use Rattle.asl_session.specs.declared.script_file.ScriptFault.TheVariants as script
 use Rattle.asl_session.specs.Scripts.{IsScriptRun, IsScriptFault, script_refusal}
-use Rattle.asl_terminal.specs.Shown.{shown}
+use Rattle.asl_text.specs.Shown.{shown}
+use Rattle.asl_cli.specs.Layouts.{laid_out}
 use Rattle.asl_cli.specs.Formats.{format_of, IsRunIn}
 use Rattle.asl_run_notes.specs.Notes.{IsNoteOf}
 use Rattle.asl_cli.specs.declared.fault.CommandFault.{CommandFault}
-use Rattle.asl_cli.specs.declared.fault.CommandFault.TheVariants.{File, Definition, Emulation, Script, Expectations, OutOfMemory}
+use Rattle.asl_cli.specs.declared.fault.CommandFault.TheVariants.{File, Definition, Emulation, Script, Expectations, Code, OutOfMemory}
 use Rattle.asl_cli.specs.declared.reading.SetupTexts.{SetupTexts}
+use Rattle.asl_host.specs.Outcomes.{fault_line}
 use Rattle.asl_host.specs.Reading.{Lacks, unreadable_words}
 use Rattle.asl_host.specs.declared.files.Unreadable.{Unreadable}
-use Rattle.asl_host.specs.declared.words.DefinitionWords.{DefinitionWords}
-use Rattle.asl_host.specs.declared.words.SetupWords.{SetupWords}
-use Rattle.asl_host.specs.declared.words.RunWords.{RunWords}
-use Rattle.asl_host.specs.declared.words.DebugWords.{DebugWords}
+use Rattle.asl_words.specs.declared.words.DefinitionWords.{DefinitionWords}
+use Rattle.asl_words.specs.declared.words.PrintWords.{PrintWords}
+use Rattle.asl_words.specs.declared.words.SetupWords.{SetupWords}
+use Rattle.asl_words.specs.declared.words.RunWords.{RunWords}
+use Rattle.asl_words.specs.declared.words.DebugWords.{DebugWords}
 
 -- ---- a file
 
@@ -93,7 +95,7 @@ pub record AreGiven (gives : List ℕ → List ℕ → Type 0) (w : SetupWords) 
 
 -- why these texts are refused, or memory ran out
 abbrev pub IsTextsReason : Texts → CommandFault → Type 0
-IsTextsReason t (Emulation fault) = Unless (IsRefused t) fault
+IsTextsReason t (Emulation fault lines) = Unless (IsRefused t) fault
 IsTextsReason t OutOfMemory = ⊤
 IsTextsReason t _ = ⊥
 
@@ -110,11 +112,9 @@ abbrev pub IsRunReason : (List ℕ → List ℕ → Type 0) → Lacks → SetupW
     → Option (List ℕ) → CommandFault → Type 0
 IsRunReason gives lacks w steps (File name why) =
     IsFirstUnread gives lacks (names_in w steps) name.now why
-IsRunReason gives lacks w steps (Definition fault) = ⊥
-IsRunReason gives lacks w steps (Emulation fault) = IsRefusedRun gives w steps fault
-IsRunReason gives lacks w steps (Script fault) = ⊥
-IsRunReason gives lacks w steps (Expectations fault) = ⊥
+IsRunReason gives lacks w steps (Emulation fault lines) = IsRefusedRun gives w steps fault
 IsRunReason gives lacks w steps OutOfMemory = ⊤
+IsRunReason gives lacks w steps _ = ⊥
 
 -- ---- a run
 
@@ -163,7 +163,7 @@ pub record IsScriptFaulty (bytes : List ℕ) (f : ScriptFault) : Type 0 where
 
 -- why these bytes are no script, or memory ran out
 abbrev pub IsScriptReason : List ℕ → CommandFault → Type 0
-IsScriptReason bytes (Script fault) = IsScriptFaulty bytes fault
+IsScriptReason bytes (Script fault lines) = IsScriptFaulty bytes fault
 IsScriptReason bytes OutOfMemory = ⊤
 IsScriptReason bytes _ = ⊥
 
@@ -182,10 +182,11 @@ abbrev pub IsDebugReason : (List ℕ → List ℕ → Type 0) → Lacks → Setu
     → CommandFault → Type 0
 IsDebugReason gives lacks w script (File name why) =
     IsFirstUnread gives lacks (names_in w (Some script)) name.now why
-IsDebugReason gives lacks w script (Definition fault) = ⊥
-IsDebugReason gives lacks w script (Emulation fault) = IsRefusedRun gives w None fault
-IsDebugReason gives lacks w script (Script fault) = IsBadScript gives w script fault
-IsDebugReason gives lacks w script (Expectations fault) = ⊥
+IsDebugReason gives lacks w script (Definition fault lines) = ⊥
+IsDebugReason gives lacks w script (Emulation fault lines) = IsRefusedRun gives w None fault
+IsDebugReason gives lacks w script (Script fault lines) = IsBadScript gives w script fault
+IsDebugReason gives lacks w script (Expectations fault lines) = ⊥
+IsDebugReason gives lacks w script (Code word lines) = ⊥
 IsDebugReason gives lacks w script OutOfMemory = ⊤
 
 -- ---- a definition
@@ -203,23 +204,22 @@ pub record IsAccepted (gives : List ℕ → List ℕ → Type 0) (w : Definition
   pub given : gives w.definition.now text
   pub is_machine : IsMachineOf text machine
 
--- it may give a definition of which this is the canonical form, compact and with a line feed
-pub record IsForm (gives : List ℕ → List ℕ → Type 0) (w : DefinitionWords) (form : List ℕ) : Type 0
+-- it may give a definition of which this is the canonical form, with a line feed
+pub record IsForm (gives : List ℕ → List ℕ → Type 0) (w : PrintWords) (form : List ℕ) : Type 0
   where
     pub machine : Data
-    pub accepted : IsAccepted gives w machine
-    pub printed : form ≡ compact machine ++ 10 ∷ []
+    pub accepted : IsAccepted gives w.definition machine
+    pub printed : form ≡ laid_out w.pretty machine ++ 10 ∷ []
 
--- it may give a definition of which this is the canonical form in the newer spelling, compact and
--- with a line feed
-pub record IsNewerForm (gives : List ℕ → List ℕ → Type 0) (w : DefinitionWords)
-    (form : List ℕ) : Type 0 where
-  pub text : List ℕ
-  pub given : gives w.definition.now text
-  pub definition : Data
-  pub reads : ReadsAs text definition
-  pub accepted : Accepted definition
-  pub printed : form ≡ compact (canonical (upgraded definition)) ++ 10 ∷ []
+-- it may give a definition of which this is the canonical form in the newer spelling, with a line feed
+pub record IsNewerForm (gives : List ℕ → List ℕ → Type 0) (w : PrintWords) (form : List ℕ) : Type 0
+  where
+    pub text : List ℕ
+    pub given : gives w.definition.definition.now text
+    pub definition : Data
+    pub reads : ReadsAs text definition
+    pub accepted : Accepted definition
+    pub printed : form ≡ laid_out w.pretty (canonical (upgraded definition)) ++ 10 ∷ []
 
 -- it may give a text with this fault; want of memory is no fault of a text
 pub record IsFaulty (gives : List ℕ → List ℕ → Type 0) (w : DefinitionWords) (f : Fault) : Type 0
@@ -235,23 +235,34 @@ abbrev pub IsDefinitionReason : (List ℕ → List ℕ → Type 0) → Lacks →
     → CommandFault → Type 0
 IsDefinitionReason gives lacks w (File name why) =
     (name.now ≡ w.definition.now) × lacks name.now why
-IsDefinitionReason gives lacks w (Definition f) = IsFaulty gives w f
-IsDefinitionReason gives lacks w (Emulation f) = ⊥
-IsDefinitionReason gives lacks w (Script f) = ⊥
-IsDefinitionReason gives lacks w (Expectations f) = ⊥
+IsDefinitionReason gives lacks w (Definition f lines) = IsFaulty gives w f
 IsDefinitionReason gives lacks w OutOfMemory = ⊤
+IsDefinitionReason gives lacks w _ = ⊥
 
 -- ---- what is told
 
 -- the text of a refusal
 abbrev pub reason_text : CommandFault → List ℕ
 reason_text (File name why) = codes "file " ++ (name.now ++ unreadable_words why)
-reason_text (Definition fault) = codes "definition: " ++ definition_fault_line fault
-reason_text (Emulation fault) = refusal_line fault
-reason_text (Script fault) = script_refusal fault
-reason_text (Expectations fault) = codes "expectations: " ++ expect_line fault
+reason_text (Definition fault lines) = codes "definition: " ++ definition_fault_line fault
+reason_text (Emulation fault lines) = refusal_line fault
+reason_text (Script fault lines) = script_refusal fault
+reason_text (Expectations fault lines) = codes "expectations: " ++ expect_line fault
+reason_text (Code word lines) = codes "code " ++ word.now
 reason_text OutOfMemory = codes "OutOfMemory"
 
--- the text that is told, of which every character shows, where memory may run out before it is made
+-- what stands behind its line
+abbrev pub mending : CommandFault → List ℕ
+mending (Definition fault lines) = string_bytes lines
+mending (Emulation fault lines) = string_bytes lines
+mending (Script fault lines) = string_bytes lines
+mending (Expectations fault lines) = string_bytes lines
+mending (Code word lines) = string_bytes lines
+mending _ = []
+
+-- what is told: the line of the refusal, of which every character shows, and what stands behind it;
+-- or that memory ran out, where it may before they are made
 abbrev pub Tells : CommandFault → List ℕ → Type 0
-Tells r text = (text ≡ shown (reason_text r)) ⊎ (text ≡ codes "OutOfMemory")
+Tells r text =
+    (text ≡ fault_line (shown (reason_text r)) ++ mending r)
+    ⊎ (text ≡ fault_line (codes "OutOfMemory"))

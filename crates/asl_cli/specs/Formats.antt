@@ -1,13 +1,13 @@
 -- What a run prints in the format that is asked for.
 use Rattle.std.specs.Prelude.{ℕ, Bool, true, false, List, ◌≡◌, Option, Some, None}
-use Rattle.asl_view_colour.specs.Painted.{IsPainted}
-use Rattle.asl_run_setup.specs.Emulations.{Texts}
+use Rattle.asl_text.specs.Painted.{IsPainted}
+use Rattle.asl_run_input.specs.Emulations.{Texts}
 use Rattle.asl_exec.specs.Emulations.{IsRunOf}
-use Rattle.asl_run_outputs.specs.declared.format.Format.{Format}
-use Rattle.asl_run_outputs.specs.declared.format.Format.TheVariants.{Json, Aws, Steps, Tree, Data}
-use Rattle.asl_run_outputs.specs.Told.{IsToldRunOf}
-use Rattle.asl_host.specs.declared.words.RunFormat.{RunFormat}
-use Rattle.asl_host.specs.declared.words.RunFormat.TheVariants as word
+use Rattle.asl_run_formats.specs.declared.format.Format.{Format}
+use Rattle.asl_run_formats.specs.declared.format.Format.TheVariants.{Json, Aws, Steps, Tree, Data}
+use Rattle.asl_run_formats.specs.Told.{IsToldRunOf}
+use Rattle.asl_words.specs.declared.words.RunFormat.{RunFormat}
+use Rattle.asl_words.specs.declared.words.RunFormat.TheVariants as word
 
 -- the format that isn't the usual text
 abbrev pub format_of : RunFormat → Option Format

@@ -1,18 +1,19 @@
 -- The graph of a definition that a file holds, or of a run of it.
 use Rattle.std.specs.Prelude.{ℕ, List, ◌≡◌, Option, Some, None}
-use Rattle.asl_json.specs.Data.{Data}
+use Rattle.asl_json_data.specs.Data.{Data}
 use Rattle.asl_graph.specs.declared.language.Language.{Language}
 use Rattle.asl_graph.specs.declared.language.Language.TheVariants.{Mermaid, Dot}
 use Rattle.asl_graph.specs.Graphs.{graph_text}
-use Rattle.asl_run_setup.specs.Emulations.{Texts}
-use Rattle.asl_run_outputs.specs.Marked.{IsMarkedRunOf}
+use Rattle.asl_run_input.specs.Emulations.{Texts}
+use Rattle.asl_run_formats.specs.Marked.{IsMarkedRunOf}
 use Rattle.asl_host.specs.Reading.{Lacks}
-use Rattle.asl_host.specs.declared.words.SetupWords.{SetupWords}
-use Rattle.asl_host.specs.declared.words.GraphFormat.{GraphFormat}
-use Rattle.asl_host.specs.declared.words.GraphFormat.TheVariants as format
-use Rattle.asl_host.specs.declared.words.GraphWords.{GraphWords}
+use Rattle.asl_words.specs.declared.words.SetupWords.{SetupWords}
+use Rattle.asl_words.specs.declared.words.GraphFormat.{GraphFormat}
+use Rattle.asl_words.specs.declared.words.GraphFormat.TheVariants as format
+use Rattle.asl_words.specs.declared.words.GraphWords.{GraphWords}
 use Rattle.asl_cli.specs.declared.fault.CommandFault.{CommandFault}
 use Rattle.asl_cli.specs.Faults.{AreGiven, most_steps, IsRunReason, IsAccepted, IsDefinitionReason}
+use Rattle.asl_cli.specs.Streams.{FileSystem, Io}
 use Rattle.asl_cli.specs.Answers.{IsDone}
 
 abbrev pub language_of : GraphFormat → Language
@@ -52,9 +53,8 @@ abbrev pub IsGraphReason : (List ℕ → List ℕ → Type 0) → Lacks → Grap
 IsGraphReason gives lacks w r = IsGraphReasonBy gives lacks w w.run r
 
 -- the graph of these words: it was printed
-abbrev pub IsDrawn : {O E : Type 0} → (O → List ℕ) → (O → ℕ) → (E → List ℕ) → (E → ℕ)
-    → (List ℕ → List ℕ → Type 0) → Lacks
-    → GraphWords → O → O → E → E → ℕ → Type 0
-IsDrawn out_taken out_failures err_taken err_failures gives lacks w =
-    IsDone out_taken out_failures err_taken err_failures
-    (λ text status. IsGraph gives w text × (status ≡ 0)) (IsGraphReason gives lacks w)
+abbrev pub IsDrawn : {O E : Type 0} → FileSystem → Io O E → GraphWords → Type 0
+IsDrawn files io w =
+    IsDone io
+    (λ text status. IsGraph files.gives w text × (status ≡ 0))
+    (IsGraphReason files.gives files.lacks w)

@@ -1,9 +1,14 @@
 pub mod Formats
+pub mod Streams
+pub mod Layouts
 pub mod Answers
 pub mod Noting
 pub mod Faults
 pub mod Exploring
+pub mod Choosing
+pub mod Covers
 pub mod Suites
+pub mod Explaining
 pub mod Obeyed
 pub mod Talking
 pub mod Graphing

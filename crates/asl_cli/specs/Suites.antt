@@ -1,32 +1,36 @@
 -- What the command `test` reads, why nothing is tested, and what is printed and told of a suite.
-use Rattle.std.specs.Prelude.{ℕ, Bool, not, ◌&&◌, nat_lt, List, [], ◌∷◌, ◌++◌, Option, Some, None, ◌≡◌, ◌⊎◌, ⊤}
+use Rattle.std.specs.Prelude.{ℕ, Bool, true, false, codes, not, ◌&&◌, if◌then◌else◌, nat_lt, map, List, [], ◌∷◌, ◌++◌, Option, Some, None, ◌≡◌, ◌⊎◌, ⊤}
 use Rattle.std.specs.List.{list_all}
+use Rattle.std.specs.Fmt.{decimal}
 use Rattle.asl_check.specs.Judged.{IsDefinition, IsMachineOf}
 use Rattle.asl_mock.specs.Told.{IsMockFile}
 use Rattle.asl_mock.specs.Answers.{Machines}
-use Rattle.asl_suite_expect.specs.Told.{IsExpectationsFile, IsAnswer as IsExpectAnswer}
-use Rattle.asl_suite_expect.specs.Shards.{every}
-use Rattle.asl_suite_expect.specs.declared.expectation.Expectation.{Expectation}
-use Rattle.asl_suite_expect.specs.declared.fault.ExpectFault.{ExpectFault}
-use Rattle.asl_suite_expect.specs.declared.fault.ExpectFault.TheVariants as expect
-use Rattle.asl_run_setup.specs.Texts.{IsDefinitionFault, IsMockFault}
-use Rattle.asl_run_setup.specs.declared.fault.EmulateFault.{EmulateFault}
-use Rattle.asl_run_setup.specs.declared.fault.EmulateFault.TheVariants as setup
+use Rattle.asl_suite_file.specs.Told.{IsExpectationsFile, IsAnswer as IsExpectAnswer}
+use Rattle.asl_suite_file.specs.Shards.{every}
+use Rattle.asl_suite_file.specs.declared.expectation.Expectation.{Expectation}
+use Rattle.asl_suite_file.specs.declared.fault.ExpectFault.{ExpectFault}
+use Rattle.asl_suite_file.specs.declared.fault.ExpectFault.TheVariants as expect
+use Rattle.asl_run_input.specs.Texts.{IsDefinitionFault, IsMockFault}
+use Rattle.asl_run_input.specs.declared.fault.EmulateFault.{EmulateFault}
+use Rattle.asl_run_input.specs.declared.fault.EmulateFault.TheVariants as setup
 use Rattle.asl_suite_coverage.specs.declared.point.Point.{Point}
 use Rattle.asl_suite_coverage.specs.Points.{percent_of, coverage_text}
-use Rattle.asl_suite.specs.Cases.{reports_of}
+use Rattle.asl_suite.specs.Cases.{reports_of, strict_report}
 use Rattle.asl_suite.specs.Reports.{is_passed, report_text}
 use Rattle.asl_suite.specs.declared.suite.Suite.{Suite}
 use Rattle.asl_suite.specs.declared.case_report.CaseReport.{CaseReport}
+use Rattle.asl_words.specs.declared.words.TestWords.{TestWords}
+use Rattle.asl_words.specs.declared.words.ReportFormat.{ReportFormat}
+use Rattle.asl_words.specs.declared.words.ReportFormat.TheVariants as format
 use Rattle.asl_host.specs.Reading.{Lacks}
-use Rattle.asl_host.specs.declared.words.TestWords.{TestWords}
-use Rattle.asl_host.specs.declared.words.Shard.{Shard}
-use Rattle.asl_host.specs.declared.words.ReportFormat.{ReportFormat}
-use Rattle.asl_host.specs.declared.words.ReportFormat.TheVariants as format
-use Rattle.asl_host.specs.Outcomes.{status_of, fault_line, IsPrinted, IsTold}
+use Rattle.asl_host.specs.Outcomes.{status_of, IsTold}
 use Rattle.asl_cli.specs.declared.fault.CommandFault.{CommandFault}
 use Rattle.asl_cli.specs.declared.fault.CommandFault.TheVariants.{File, Definition, Emulation, Expectations, OutOfMemory}
-use Rattle.asl_cli.specs.Faults.{AreUnread, Tells}
+use Rattle.asl_cli.specs.Choosing.{list_text, meant}
+use Rattle.asl_cli.specs.Covers.{ArePointsOf}
+use Rattle.asl_cli.specs.Streams.{FileSystem, Io, Prints}
+use Rattle.asl_cli.specs.Answers.{IsRefusedFor}
+use Rattle.asl_cli.specs.Faults.{AreUnread}
 
 -- ---- the files
 
@@ -43,19 +47,23 @@ suite_names w = w.definition.now ∷ w.mocks.now ∷ w.expectations.now ∷ []
 
 -- ---- the suite
 
--- the tests of a file, or those of them that a shard has
-pub record AreTestsOf (expectations : List ℕ) (shard : Shard) (tests : List Expectation) : Type 0
+-- the tests that the words choose: those that the shard has and the word means
+abbrev pub chosen : TestWords → List Expectation → List Expectation
+chosen w all = meant w.filter (every w.shard.first w.shard.apart all)
+
+-- those of the tests of a file
+pub record AreTestsOf (expectations : List ℕ) (w : TestWords) (tests : List Expectation) : Type 0
   where
     pub all : List Expectation
     pub are_all : IsExpectationsFile expectations all
-    pub chosen : tests ≡ every shard.first shard.apart all
+    pub are_chosen : tests ≡ chosen w all
 
 -- the suite that texts spell
-pub record IsSuiteOf (definition mocks expectations : List ℕ) (shard : Shard) (s : Suite) : Type 0
+pub record IsSuiteOf (definition mocks expectations : List ℕ) (w : TestWords) (s : Suite) : Type 0
   where
     pub is_machine : IsMachineOf definition s.machine
     pub are_mocks : IsMockFile mocks s.mocks
-    pub are_tests : AreTestsOf expectations shard s.tests.list.items
+    pub are_tests : AreTestsOf expectations w s.tests.list.items
 
 -- the suite that the files may give
 pub record IsSuiteIn (gives : List ℕ → List ℕ → Type 0) (w : TestWords) (s : Suite) : Type 0 where
@@ -63,12 +71,12 @@ pub record IsSuiteIn (gives : List ℕ → List ℕ → Type 0) (w : TestWords) 
   pub mocks : List ℕ
   pub expectations : List ℕ
   pub given : AreSuiteTexts gives w definition mocks expectations
-  pub is_suite : IsSuiteOf definition mocks expectations w.shard s
+  pub is_suite : IsSuiteOf definition mocks expectations w s
 
 -- ---- why there is none
 
 abbrev pub IsDefinitionTextReason : List ℕ → CommandFault → Type 0
-IsDefinitionTextReason b (Definition f) = IsDefinitionFault b f
+IsDefinitionTextReason b (Definition f lines) = IsDefinitionFault b f
 IsDefinitionTextReason b OutOfMemory = ⊤
 IsDefinitionTextReason b _ = ⊥
 
@@ -77,7 +85,7 @@ IsMocksFault b (setup.Mocks f) = IsMockFault b f
 IsMocksFault b _ = ⊥
 
 abbrev pub IsMocksTextReason : List ℕ → CommandFault → Type 0
-IsMocksTextReason b (Emulation f) = IsMocksFault b f
+IsMocksTextReason b (Emulation f lines) = IsMocksFault b f
 IsMocksTextReason b OutOfMemory = ⊤
 IsMocksTextReason b _ = ⊥
 
@@ -87,7 +95,7 @@ pub record IsExpectFault (b : List ℕ) (f : ExpectFault) : Type 0 where
   pub told : f ≡ expect.OutOfMemory → ⊥
 
 abbrev pub IsTestsTextReason : List ℕ → CommandFault → Type 0
-IsTestsTextReason b (Expectations f) = IsExpectFault b f
+IsTestsTextReason b (Expectations f lines) = IsExpectFault b f
 IsTestsTextReason b OutOfMemory = ⊤
 IsTestsTextReason b _ = ⊥
 
@@ -98,10 +106,10 @@ AreMocks b = (ms : Machines) × IsMockFile b ms
 -- why texts spell no suite: the first of them that has a fault, with its fault; or memory ran out
 abbrev pub IsSuiteTextReason : List ℕ → List ℕ → List ℕ → CommandFault → Type 0
 IsSuiteTextReason definition mocks expectations (File name why) = ⊥
-IsSuiteTextReason definition mocks expectations (Definition f) = IsDefinitionFault definition f
-IsSuiteTextReason definition mocks expectations (Emulation f) =
+IsSuiteTextReason definition mocks expectations (Definition f lines) = IsDefinitionFault definition f
+IsSuiteTextReason definition mocks expectations (Emulation f lines) =
     IsDefinition definition × IsMocksFault mocks f
-IsSuiteTextReason definition mocks expectations (Expectations f) =
+IsSuiteTextReason definition mocks expectations (Expectations f lines) =
     IsDefinition definition × AreMocks mocks × IsExpectFault expectations f
 IsSuiteTextReason definition mocks expectations OutOfMemory = ⊤
 IsSuiteTextReason definition mocks expectations _ = ⊥
@@ -128,22 +136,47 @@ IsReportText format.Text reports text = text ≡ report_text reports
 IsReportText format.JUnit reports text = ⊤
 IsReportText format.Json reports text = ⊤
 
--- the text and the success of a suite are those of the reports of its tests
-abbrev pub IsReport : ReportFormat → Suite → List ℕ → Bool → Type 0
-IsReport format s text good =
-    IsReportText format (reports_of s) text × (good ≡ list_all is_passed (reports_of s))
+-- these reports; or those by which a test that may not mean what it says fails
+abbrev pub judged : Bool → List CaseReport → List CaseReport
+judged strict reports = if strict then map strict_report reports else reports
 
--- what is told where a least percent is given: how much the tests cover stands last
-pub record IsCovered (least : ℕ) (passed good : Bool) (told : List ℕ) : Type 0 where
+-- the text and the success of a suite are those of the reports of its tests
+abbrev pub IsReport : ReportFormat → Bool → Suite → List ℕ → Bool → Type 0
+IsReport format strict s text good =
+    IsReportText format (judged strict (reports_of s)) text
+    × (good ≡ list_all is_passed (judged strict (reports_of s)))
+
+unfoldable pub percent_words : ℕ → List ℕ
+percent_words percent = codes "coverage " ++ (decimal percent ++ codes "%")
+
+unfoldable pub least_words : ℕ → List ℕ
+least_words least = codes " is below " ++ (decimal least ++ codes "%\n")
+
+-- as `coverage 94% is below 95%`
+abbrev pub below : ℕ → ℕ → List ℕ
+below percent least = percent_words percent ++ least_words least
+
+abbrev pub lacking : ℕ → ℕ → List ℕ
+lacking percent least = if nat_lt percent least then below percent least else []
+
+-- how much the tests cover, and that it is too little, where it is
+abbrev pub coverage_told : List Point → ℕ → List ℕ
+coverage_told points least = coverage_text points ++ lacking (percent_of points) least
+
+-- what is told where a least percent is given: how much the tests of the suite cover stands last, of
+-- the mock file that these bytes spell
+pub record IsCovered (mocks : List ℕ) (s : Suite) (least : ℕ) (passed good : Bool) (told : List ℕ)
+    : Type 0 where
   pub before : List ℕ
   pub points : List Point
-  pub last : told ≡ before ++ coverage_text points
+  pub are_points : ArePointsOf mocks s points
+  pub last : told ≡ before ++ coverage_told points least
   pub is_good : good ≡ (passed && not (nat_lt (percent_of points) least))
 
 -- whether all is good: all tests passed and, where a least percent is given, they cover no less
-abbrev pub IsGood : Option ℕ → Bool → Bool → List ℕ → Type 0
-IsGood None passed good told = good ≡ passed
-IsGood (Some least) passed good told = IsCovered least passed good told
+abbrev pub IsGood : List ℕ → Suite → Option ℕ → Bool → Bool → List ℕ → Type 0
+IsGood mocks s None passed good told = good ≡ passed
+IsGood mocks s (Some least) passed good told = IsCovered mocks s least passed good told
 
 -- those of the suite that the files may give, and what is told behind them
 pub record IsReported (gives : List ℕ → List ℕ → Type 0) (w : TestWords) (text told : List ℕ)
@@ -151,19 +184,34 @@ pub record IsReported (gives : List ℕ → List ℕ → Type 0) (w : TestWords)
   pub suite : Suite
   pub passed : Bool
   pub is_in : IsSuiteIn gives w suite
-  pub is_report : IsReport w.format suite text passed
-  pub is_good : IsGood w.coverage passed good told
+  pub is_report : IsReport w.format w.strict suite text passed
+  pub is_good : IsGood is_in.mocks suite w.coverage passed good told
 
--- the test of these words: the reports were printed and something may have been told behind them,
+-- a line for each test of a file that the words choose, which are listed in place of being run
+pub record IsListOf (expectations : List ℕ) (w : TestWords) (text : List ℕ) : Type 0 where
+  pub all : List Expectation
+  pub are_all : IsExpectationsFile expectations all
+  pub is_text : text ≡ list_text w.filter w.shard.first w.shard.apart all
+
+-- the list of the tests that the files may give
+pub record IsListing (gives : List ℕ → List ℕ → Type 0) (w : TestWords) (text : List ℕ) : Type 0 where
+  pub definition : List ℕ
+  pub mocks : List ℕ
+  pub expectations : List ℕ
+  pub given : AreSuiteTexts gives w definition mocks expectations
+  pub is_list : IsListOf expectations w text
+
+-- what is printed and told, and whether all is good: a list, or the reports
+abbrev pub IsShown : Bool → (List ℕ → List ℕ → Type 0) → TestWords → List ℕ → List ℕ → Bool → Type 0
+IsShown true gives w text told good = IsListing gives w text × (told ≡ []) × (good ≡ true)
+IsShown false gives w text told good = IsReported gives w text told good
+
+-- the test of these words: the reports were printed, or the list of the tests, and something may have been told behind them,
 -- and the status says whether all tests are `ok`, and cover what they are to; or a fault was told,
 -- and the status is 2
-abbrev pub IsTested : {O E : Type 0} → (O → List ℕ) → (O → ℕ) → (E → List ℕ) → (E → ℕ)
-    → (List ℕ → List ℕ → Type 0) → Lacks
-    → TestWords → O → O → E → E → ℕ → Type 0
-IsTested out_taken out_failures err_taken err_failures gives lacks w out out_after err err_after
-    status =
-    ((text : List ℕ) × (remarks : List ℕ) × (good : Bool) × IsReported gives w text remarks good
-    × IsPrinted out_taken out_failures out out_after text (status_of good) status
-    × IsTold err_taken err_failures err err_after remarks)
-    ⊎ ((r : CommandFault) × (t : List ℕ) × IsSuiteReason gives lacks w r × Tells r t
-    × (out_after ≡ out) × (status ≡ 2) × IsTold err_taken err_failures err err_after (fault_line t))
+abbrev pub IsTested : {O E : Type 0} → FileSystem → Io O E → TestWords → Type 0
+IsTested files io w =
+    ((text : List ℕ) × (remarks : List ℕ) × (good : Bool)
+    × IsShown w.list files.gives w text remarks good × Prints io text (status_of good)
+    × IsTold io.err remarks)
+    ⊎ IsRefusedFor io (IsSuiteReason files.gives files.lacks w)

@@ -1,16 +1,20 @@
 // The command `check`, and how a command gets the machine of a definition's file.
 ghost use Rattle.std.specs.Prelude.{IfOk, IfErr};
+ghost use Rattle.asl_host.specs.Outcomes.{sink_use};
+ghost use Rattle.asl_cli.specs.Streams.{file_system, io};
 ghost use Rattle.asl_cli.specs.Answers.{IsChecked};
 ghost use Rattle.asl_cli.specs.Faults.{IsAccepted, IsDefinitionReason};
 
 use crate::command::{REFUSED, print_good};
 use crate::fault::CommandFault;
+use crate::mending::of_definition;
 use crate::reading::read_file;
 use asl_check::{Fault, accept};
 use asl_def::Machine;
 use asl_history::Sink;
-use asl_host::{DefinitionWords, Files};
-use std::alloc::Global;
+use asl_host::Files;
+use asl_words::DefinitionWords;
+use std::alloc::{AllocError, Global};
 
 /// The command `check`: prints `ok` where a file is a definition without faults, else tells the first fault.
 pub fn check<F: Files, O: Sink, E: Sink>(
@@ -20,8 +24,9 @@ pub fn check<F: Files, O: Sink, E: Sink>(
     out: &mut O,
     err: &mut E,
 ) -> u8
-    ensures { IsChecked O.taken O.failures E.taken E.failures (F.gives files.old)
-        (F.lacks files.old) words.now out.old out.new err.old err.new result }
+    ensures { IsChecked (file_system (F.gives files.old) (F.lacks files.old))
+        (io (sink_use O.taken O.failures out.old out.new)
+        (sink_use E.taken E.failures err.old err.new) result) words.now }
 {
     match machine_in(alloc, words, files) {
         Ok(_) => print_good("ok\n", out),
@@ -46,6 +51,9 @@ pub(crate) fn machine_in<'a, F: Files>(
     match accept(alloc, text.as_slice()) {
         Ok(machine) => Ok(machine),
         Err(Fault::OutOfMemory) => Err(CommandFault::OutOfMemory),
-        Err(fault) => Err(CommandFault::Definition(fault)),
+        Err(fault) => match of_definition(alloc, words.definition, &text) {
+            Ok(lines) => Err(CommandFault::Definition(fault, lines)),
+            Err(AllocError) => Err(CommandFault::OutOfMemory),
+        },
     }
 }

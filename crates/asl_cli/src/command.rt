@@ -1,9 +1,11 @@
 // The program behind its words, files and streams.
-ghost use Rattle.std.specs.Prelude.{◌≡◌, ◌⊎◌, List, ℕ, string_bytes, IfOk, IfErr};
-ghost use Rattle.asl_host.specs.Outcomes.{status_of, IsPrinted, IsTold};
-ghost use Rattle.asl_run_setup.specs.Views.{texts_of};
+ghost use Rattle.std.specs.Prelude.{◌≡◌, ◌⊎◌, List, ℕ, map, string_bytes, IfOk, IfErr};
+ghost use Rattle.asl_host.specs.Outcomes.{status_of, sink_use, IsTold, IsPrinted};
+ghost use Rattle.asl_command_line.specs.Read.{IsRead, IsUnread};
+ghost use Rattle.asl_run_input.specs.Views.{texts_of};
 ghost use Rattle.asl_exec.specs.Lacking.{IsLackingIn};
-ghost use Rattle.asl_cli.specs.Answers.{IsRan, IsAnswered};
+ghost use Rattle.asl_cli.specs.Streams.{file_system, input_use, io};
+ghost use Rattle.asl_cli.specs.Answers.{IsRan, IsAnswered, text_told};
 ghost use Rattle.asl_cli.specs.Formats.{format_of, IsRunIn};
 ghost use Rattle.asl_cli.specs.Faults.{most_steps, steps_name, IsEmulated, IsTextsReason, IsRunReason};
 ghost use Rattle.asl_cli.specs.Noting.{IsNoted};
@@ -11,28 +13,27 @@ ghost use Rattle.asl_cli.specs.Obeyed.{IsObeyed};
 
 use crate::checking::check;
 use crate::debugging::debug;
+use crate::explaining::explain;
 use crate::exploring::explore;
 use crate::fault::CommandFault;
 use crate::formatting::emulate_in;
 use crate::graphing::graph;
 use crate::linting::lint;
+use crate::mending::of_run;
 use crate::mocking::mocks;
 use crate::noting::{Ran, tell_notes, with_note};
 use crate::printing::print;
 use crate::reading::{read_named, read_texts};
 use crate::testing::test;
 use crate::upgrading::upgrade;
+use asl_command_line::{Answer, malformed_word, read_words};
 use asl_exec::Emulated;
 use asl_explore::Watch;
 use asl_history::Sink;
-use asl_host::{
-    Files, GivenFault, Input, RunFormat, RunWords, Screen, Words, malformed_word, read_words,
-    tell_fault, write_piece,
-};
-use asl_run_setup::{EmulateFault, RunTexts};
-use asl_threads_gate::Gate;
-use clap::Error;
-use clap::error::ErrorKind;
+use asl_host::{Files, GivenFault, Input, tell_fault, write_piece};
+use asl_run_input::{EmulateFault, RunTexts};
+use asl_threads_base::Gate;
+use asl_words::{RunWords, Screen, Words};
 use std::alloc::{AllocError, Global};
 use std::convert::AsStr;
 use std::sync::Wait;
@@ -69,16 +70,19 @@ pub fn run_words<
     out: &mut O,
     err: &mut E,
 ) -> u8
-    // What some words ask for was done; or other words were answered, and no file was read.
-    ensures { ((w : Words) × IsObeyed I.given O.taken O.failures E.taken E.failures
-        (F.gives files.old) (F.lacks files.old) w input.old input.new out.old out.new err.old
-        err.new result)
-        ⊎ ((files.new ≡ files.old) × IsAnswered O.taken O.failures E.taken E.failures
-        out.old out.new err.old err.new result) }
+    // What the words ask for was done; or they ask for nothing, or memory ran out: they were answered, and no file was read.
+    ensures { ((w : Words) × IsRead (map S.text words.now) screen w
+        × IsObeyed (file_system (F.gives files.old) (F.lacks files.old))
+        (input_use I.given input.old input.new)
+        (io (sink_use O.taken O.failures out.old out.new)
+        (sink_use E.taken E.failures err.old err.new) result) w)
+        ⊎ ((a : Answer) × ((a ≡ Answer.OutOfMemory) ⊎ IsUnread (map S.text words.now) screen)
+        × (files.new ≡ files.old) × IsAnswered (io (sink_use O.taken O.failures out.old out.new)
+        (sink_use E.taken E.failures err.old err.new) result) a) }
 {
     match read_words(alloc, words, screen) {
         Ok(words) => obey(rt, gate, alloc, &words, files, input, out, err),
-        Err(error) => answer_words(alloc, &error, out, err),
+        Err(answer) => answer_words(&answer, out, err),
     }
 }
 
@@ -93,8 +97,10 @@ pub fn obey<R: Threads + Wait + Sync, G: Gate + Watch + Sync, F: Files, I: Input
     out: &mut O,
     err: &mut E,
 ) -> u8
-    ensures { IsObeyed I.given O.taken O.failures E.taken E.failures (F.gives files.old)
-        (F.lacks files.old) words.now input.old input.new out.old out.new err.old err.new result }
+    ensures { IsObeyed (file_system (F.gives files.old) (F.lacks files.old))
+        (input_use I.given input.old input.new)
+        (io (sink_use O.taken O.failures out.old out.new)
+        (sink_use E.taken E.failures err.old err.new) result) words.now }
 {
     match words {
         Words::Check(words) => check(alloc, words, files, out, err),
@@ -107,17 +113,18 @@ pub fn obey<R: Threads + Wait + Sync, G: Gate + Watch + Sync, F: Files, I: Input
         Words::Debug(words) => debug(alloc, words, files, input, out, err),
         Words::Test(words) => test(rt, gate, alloc, words, files, out, err),
         Words::Explore(words) => explore(gate, alloc, words, files, out, err),
+        Words::Explain(words) => explain(alloc, words, out, err),
     }
 }
 
 /// Tells that the program's words can't be had.
 pub fn refuse_words<E: Sink>(alloc: Global, fault: GivenFault, err: &mut E) -> u8
     ensures status { result ≡ 2 }
-    ensures told { (t : List ℕ) × IsTold E.taken E.failures err.old err.new t }
+    ensures told { (t : List ℕ) × IsTold (sink_use E.taken E.failures err.old err.new) t }
 {
-    match (fault, malformed_word(alloc)) {
-        (GivenFault::Malformed, Ok(error)) => tell_error(alloc, &error, err),
-        _ => tell_fault(err, "OutOfMemory"),
+    match fault {
+        GivenFault::Malformed => tell_answer(&malformed_word(alloc), err),
+        GivenFault::OutOfMemory => tell_fault(err, "OutOfMemory"),
     }
     REFUSED
 }
@@ -130,8 +137,9 @@ pub fn run<F: Files, O: Sink, E: Sink>(
     out: &mut O,
     err: &mut E,
 ) -> u8
-    ensures { IsRan O.taken O.failures E.taken E.failures (F.gives files.old) (F.lacks files.old)
-        words.now out.old out.new err.old err.new result }
+    ensures { IsRan (file_system (F.gives files.old) (F.lacks files.old))
+        (io (sink_use O.taken O.failures out.old out.new)
+        (sink_use E.taken E.failures err.old err.new) result) words.now }
 {
     match emulate_files(alloc, words, files) {
         Ok(ran) => show(&ran, out, err),
@@ -156,7 +164,7 @@ fn emulate_files<'a, F: Files>(
     let texts = read_texts(alloc, files, &words.setup)?;
     let steps = read_named(alloc, files, words.steps)?;
     let given = texts.of_run(steps.as_deref());
-    let emulated = emulate_given(alloc, words.format, words.coloured, &given)?;
+    let emulated = emulate_given(alloc, words, &given)?;
     match with_note(alloc, given.chosen, emulated) {
         Ok(ran) => Ok(ran),
         Err(AllocError) => Err(CommandFault::OutOfMemory),
@@ -166,27 +174,29 @@ fn emulate_files<'a, F: Files>(
 /// Emulates what was read.
 fn emulate_given<'a>(
     alloc: Global,
-    format: RunFormat,
-    is_coloured: bool,
+    words: &RunWords<'_>,
     texts: &RunTexts<'_>,
 ) -> Result<Emulated, CommandFault<'a>>
-    ensures run { IfOk result (λ e. IsRunIn (format_of format) is_coloured (texts_of texts.now)
-        most_steps (string_bytes e.text) e.good) }
+    ensures run { IfOk result (λ e. IsRunIn (format_of words.now.format) words.now.coloured
+        (texts_of texts.now) most_steps (string_bytes e.text) e.good) }
     ensures lacking { IfOk result (λ e. IsLackingIn (texts_of texts.now) most_steps e.lacking) }
     ensures refused { IfErr result (IsTextsReason (texts_of texts.now)) }
 {
-    match emulate_in(alloc, format, is_coloured, texts, MOST_STEPS) {
+    match emulate_in(alloc, words.format, words.coloured, texts, MOST_STEPS) {
         Ok(emulated) => Ok(emulated),
         Err(EmulateFault::OutOfMemory) => Err(CommandFault::OutOfMemory),
-        Err(fault) => Err(CommandFault::Emulation(fault)),
+        Err(fault) => match of_run(alloc, &words.setup, words.steps, texts, &fault) {
+            Ok(lines) => Err(CommandFault::Emulation(fault, lines)),
+            Err(AllocError) => Err(CommandFault::OutOfMemory),
+        },
     }
 }
 
 /// Prints what was emulated, tells what is to be told of it, and whether it ended in success.
 fn show<O: Sink, E: Sink>(ran: &Ran, out: &mut O, err: &mut E) -> u8
-    ensures printed { IsPrinted O.taken O.failures out.old out.new (string_bytes ran.now.emulated.text)
+    ensures printed { IsPrinted (sink_use O.taken O.failures out.old out.new) (string_bytes ran.now.emulated.text)
         (status_of ran.now.emulated.good) result }
-    ensures noted { IsNoted E.taken E.failures err.old err.new (string_bytes ran.now.note) }
+    ensures noted { IsNoted (sink_use E.taken E.failures err.old err.new) (string_bytes ran.now.note) }
 {
     let status = print_run(&ran.emulated, out);
     tell_notes(ran.note.as_str(), err);
@@ -195,7 +205,7 @@ fn show<O: Sink, E: Sink>(ran: &Ran, out: &mut O, err: &mut E) -> u8
 
 /// Prints what was emulated, and tells whether it ended in success.
 fn print_run<O: Sink>(emulated: &Emulated, out: &mut O) -> u8
-    ensures { IsPrinted O.taken O.failures out.old out.new (string_bytes emulated.now.text)
+    ensures { IsPrinted (sink_use O.taken O.failures out.old out.new) (string_bytes emulated.now.text)
         (status_of emulated.now.good) result }
 {
     match write_piece(out, emulated.text.as_str()) {
@@ -205,19 +215,15 @@ fn print_run<O: Sink>(emulated: &Emulated, out: &mut O) -> u8
     }
 }
 
-/// Prints what the command line's reader answers in place of words: help that was asked for, or what is wrong.
-fn answer_words<O: Sink, E: Sink>(alloc: Global, error: &Error, out: &mut O, err: &mut E) -> u8
-    ensures { IsAnswered O.taken O.failures E.taken E.failures out.old out.new err.old err.new
-        result }
+/// Prints what is answered in place of a command: help that was asked for, or what is wrong with the words.
+fn answer_words<O: Sink, E: Sink>(answer: &Answer, out: &mut O, err: &mut E) -> u8
+    ensures { IsAnswered (io (sink_use O.taken O.failures out.old out.new)
+        (sink_use E.taken E.failures err.old err.new) result) answer.now }
 {
-    if error.use_stderr() {
-        tell_error(alloc, error, err);
-        return REFUSED;
-    }
-    match error.to_string(alloc) {
-        Ok(text) => print_good(text.as_str(), out),
-        Err(_) => {
-            tell_fault(err, "OutOfMemory");
+    match answer {
+        Answer::Help(text) => print_good(text.as_str(), out),
+        _ => {
+            tell_answer(answer, err);
             REFUSED
         }
     }
@@ -225,7 +231,7 @@ fn answer_words<O: Sink, E: Sink>(alloc: Global, error: &Error, out: &mut O, err
 
 /// Prints what was asked for, where all is good.
 pub(crate) fn print_good<O: Sink>(text: &str, out: &mut O) -> u8
-    ensures { IsPrinted O.taken O.failures out.old out.new text.now 0 result }
+    ensures { IsPrinted (sink_use O.taken O.failures out.old out.new) text.now 0 result }
 {
     match write_piece(out, text) {
         Ok(()) => GOOD,
@@ -233,22 +239,20 @@ pub(crate) fn print_good<O: Sink>(text: &str, out: &mut O) -> u8
     }
 }
 
-/// Tells what is wrong with a command line.
-pub(crate) fn tell_error<E: Sink>(alloc: Global, error: &Error, err: &mut E)
-    ensures { (t : List ℕ) × IsTold E.taken E.failures err.old err.new t }
+/// Tells an answer on standard error: its text, or that memory ran out.
+pub(crate) fn tell_answer<E: Sink>(answer: &Answer, err: &mut E)
+    ensures { IsTold (sink_use E.taken E.failures err.old err.new) (text_told answer.now) }
 {
-    if error.kind() == ErrorKind::OutOfMemory {
-        return tell_fault(err, "OutOfMemory");
-    }
-    match error.to_string(alloc) {
-        Ok(text) => tell_text(err, text.as_str()),
-        Err(_) => tell_fault(err, "OutOfMemory"),
+    match answer {
+        Answer::Help(text) => tell_text(err, text.as_str()),
+        Answer::Wrong(text) => tell_text(err, text.as_str()),
+        Answer::OutOfMemory => tell_fault(err, "OutOfMemory"),
     }
 }
 
 /// Writes a text as far as the sink takes it.
 pub(crate) fn tell_text<E: Sink>(err: &mut E, text: &str)
-    ensures { IsTold E.taken E.failures err.old err.new text.now }
+    ensures { IsTold (sink_use E.taken E.failures err.old err.new) text.now }
 {
     let _ = write_piece(err, text);
 }

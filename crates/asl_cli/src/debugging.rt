@@ -1,21 +1,25 @@
 // The command `debug`.
 ghost use Rattle.std.specs.Prelude.{◌≡◌, None, IfOk, IfErr, string_bytes};
-ghost use Rattle.asl_run_setup.specs.Emulations.{Accepts};
-ghost use Rattle.asl_run_setup.specs.declared.setup.Setup.{Setup};
-ghost use Rattle.asl_session_console.specs.Answers.{first_console};
-ghost use Rattle.asl_cli.specs.Answers.{look_of, IsDone, IsTyped, IsDebugged};
+ghost use Rattle.asl_run_input.specs.Emulations.{Accepts};
+ghost use Rattle.asl_run_input.specs.declared.setup.Setup.{Setup};
+ghost use Rattle.asl_session_repl.specs.Answers.{first_console};
+ghost use Rattle.asl_host.specs.Outcomes.{sink_use};
+ghost use Rattle.asl_cli.specs.Streams.{file_system, input_use, io};
+ghost use Rattle.asl_cli.specs.Answers.{look_of, IsScripted, IsTyped, IsDebugged};
 ghost use Rattle.asl_session.specs.Scripts.{IsScriptRun};
 ghost use Rattle.asl_cli.specs.Faults.{read_texts, IsBegun, IsRunReason, IsTextsReason, IsScriptReason, IsDebugText, IsDebugReason};
 
 use crate::command::{REFUSED, print_good};
 use crate::fault::CommandFault;
+use crate::mending::{of_command, of_run};
 use crate::reading::{SetupTexts, read_file, read_texts};
 use crate::talking::converse;
 use asl_history::Sink;
-use asl_host::{DebugFormat, DebugWords, Files, Input, SetupWords};
-use asl_run_setup::{EmulateFault, Setup};
+use asl_host::{Files, Input};
+use asl_run_input::{EmulateFault, Setup};
 use asl_session::{ScriptFault, run_script};
-use asl_session_console::{Look, Teller};
+use asl_session_repl::{Look, Teller};
+use asl_words::{DebugFormat, DebugWords, SetupWords};
 use std::alloc::{AllocError, Global};
 
 /// The command `debug`: runs an execution by the commands of a script and prints what it replied and did. Without a script, it answers
@@ -28,8 +32,10 @@ pub fn debug<F: Files, I: Input, O: Sink, E: Sink>(
     out: &mut O,
     err: &mut E,
 ) -> u8
-    ensures { IsDebugged I.given O.taken O.failures E.taken E.failures (F.gives files.old)
-        (F.lacks files.old) words.now input.old input.new out.old out.new err.old err.new result }
+    ensures { IsDebugged (file_system (F.gives files.old) (F.lacks files.old))
+        (input_use I.given input.old input.new)
+        (io (sink_use O.taken O.failures out.old out.new)
+        (sink_use E.taken E.failures err.old err.new) result) words.now }
 {
     match words.script {
         Some(script) => debug_by(alloc, &words.setup, script, files, out, err),
@@ -60,10 +66,9 @@ fn debug_by<F: Files, O: Sink, E: Sink>(
     out: &mut O,
     err: &mut E,
 ) -> u8
-    ensures { IsDone O.taken O.failures E.taken E.failures
-        (λ text wanted. IsDebugText (F.gives files.old) words.now script.now text × (wanted ≡ 0))
-        (IsDebugReason (F.gives files.old) (F.lacks files.old) words.now script.now)
-        out.old out.new err.old err.new result }
+    ensures { IsScripted (file_system (F.gives files.old) (F.lacks files.old))
+        (io (sink_use O.taken O.failures out.old out.new)
+        (sink_use E.taken E.failures err.old err.new) result) words.now script.now }
 {
     match debug_files(alloc, words, script, files) {
         Ok(text) => print_good(text.as_str(), out),
@@ -87,23 +92,31 @@ fn debug_files<'a, F: Files>(
         (IsDebugReason (F.gives files.old) (F.lacks files.old) words.now script.now) }
 {
     let texts = read_texts(alloc, files, words)?;
-    let script = read_file(alloc, files, script)?;
-    let setup = setup_of(alloc, &texts)?;
-    match run_by(alloc, setup, script.as_slice()) {
+    let commands = read_file(alloc, files, script)?;
+    let setup = setup_of(alloc, words, &texts)?;
+    match run_by(alloc, setup, script, commands.as_slice()) {
         Ok(text) => Ok(text),
         Err(refusal) => Err(refusal),
     }
 }
 
-/// Runs the execution by a script.
-fn run_by<'a>(alloc: Global, setup: Setup, script: &[u8]) -> Result<String, CommandFault<'a>>
+/// Runs the execution by a script, which comes from a file of this name.
+fn run_by<'a>(
+    alloc: Global,
+    setup: Setup,
+    file: &str,
+    script: &[u8],
+) -> Result<String, CommandFault<'a>>
     ensures run { IfOk result (λ t. IsScriptRun setup script.now (string_bytes t)) }
     ensures refused { IfErr result (IsScriptReason script.now) }
 {
     match run_script(alloc, setup, script) {
         Ok(text) => Ok(text),
         Err(ScriptFault::OutOfMemory) => Err(CommandFault::OutOfMemory),
-        Err(fault) => Err(CommandFault::Script(fault)),
+        Err(ScriptFault::Line(number)) => match of_command(alloc, file, script, number) {
+            Ok(lines) => Err(CommandFault::Script(ScriptFault::Line(number), lines)),
+            Err(AllocError) => Err(CommandFault::OutOfMemory),
+        },
     }
 }
 
@@ -117,8 +130,10 @@ fn debug_typed<F: Files, I: Input, O: Sink, E: Sink>(
     out: &mut O,
     err: &mut E,
 ) -> u8
-    ensures { IsTyped I.given O.taken O.failures E.taken E.failures (F.gives files.old)
-        (F.lacks files.old) words.now look input.old input.new out.old out.new err.old err.new result }
+    ensures { IsTyped (file_system (F.gives files.old) (F.lacks files.old))
+        (input_use I.given input.old input.new)
+        (io (sink_use O.taken O.failures out.old out.new)
+        (sink_use E.taken E.failures err.old err.new) result) words.now look }
 {
     match open_session(alloc, words, files) {
         Ok(console) => converse(alloc, console, look, input, out, err),
@@ -141,15 +156,19 @@ fn open_session<'a, F: Files>(
         (IsRunReason (F.gives files.old) (F.lacks files.old) words.now None) }
 {
     let texts = read_texts(alloc, files, words)?;
-    let setup = setup_of(alloc, &texts)?;
+    let setup = setup_of(alloc, words, &texts)?;
     match Teller::open(alloc, setup) {
         Ok(console) => Ok(console),
         Err(AllocError) => Err(CommandFault::OutOfMemory),
     }
 }
 
-/// What an execution begins with, from its texts.
-pub(crate) fn setup_of<'a>(alloc: Global, texts: &SetupTexts) -> Result<Setup, CommandFault<'a>>
+/// What an execution begins with, from its texts, which come from the files that the words name.
+pub(crate) fn setup_of<'a>(
+    alloc: Global,
+    words: &SetupWords<'_>,
+    texts: &SetupTexts,
+) -> Result<Setup, CommandFault<'a>>
     ensures found { IfOk result (λ s. Accepts (read_texts texts.now None) s None) }
     ensures refused { IfErr result (IsTextsReason (read_texts texts.now None)) }
 {
@@ -163,6 +182,9 @@ pub(crate) fn setup_of<'a>(alloc: Global, texts: &SetupTexts) -> Result<Setup, C
     match answer {
         Ok(setup) => Ok(setup),
         Err(EmulateFault::OutOfMemory) => Err(CommandFault::OutOfMemory),
-        Err(fault) => Err(CommandFault::Emulation(fault)),
+        Err(fault) => match of_run(alloc, words, None, &texts.of_run(None), &fault) {
+            Ok(lines) => Err(CommandFault::Emulation(fault, lines)),
+            Err(AllocError) => Err(CommandFault::OutOfMemory),
+        },
     }
 }

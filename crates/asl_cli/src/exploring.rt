@@ -1,32 +1,26 @@
 // The command `explore`.
-ghost use Rattle.std.specs.Prelude.{◌≡◌, ◌≤◌, List, ℕ, None, true, false, is_none, is_some, IfOk, IfErr, IfSome, string_bytes};
-ghost use Rattle.std.specs.List.{All, Contains};
+ghost use Rattle.std.specs.Prelude.{◌≡◌, List, ℕ, None, IfOk, IfErr, string_bytes};
 ghost use Rattle.std.specs.Option.{option_copied};
-ghost use Rattle.asl_run_setup.specs.StepsFile.{steps_file};
+ghost use Rattle.asl_run_input.specs.StepsFile.{steps_file};
+ghost use Rattle.asl_explore.specs.Finding.{IsFound};
 ghost use Rattle.asl_explore.specs.Reports.{explored_text};
-ghost use Rattle.asl_host.specs.Outcomes.{status_of, IsPrinted, IsTold};
+ghost use Rattle.asl_host.specs.Outcomes.{status_of, sink_use, IsTold, IsPrinted};
+ghost use Rattle.asl_cli.specs.Streams.{file_system, io};
 ghost use Rattle.asl_cli.specs.Exploring.{IsExplored, IsFoundFor, IsShown, AreAllShown, IsOneShown, numbered, orders_for};
 ghost use Rattle.asl_cli.specs.Faults.{IsRunReason};
 ghost use Rattle.asl_cli.specs.Noting.{notes_for};
-ghost use Rattle.asl_explore.specs.Calls.{AreCounted, IsStated};
-ghost use Rattle.asl_explore.specs.declared.orders.Orders.TheVariants.{Every};
-ghost use Rattle.asl_explore.specs.Clock.{clock_place};
-ghost use Rattle.asl_explore.specs.Endless.{IsLasso, NoneIsEndless};
-ghost use Rattle.asl_explore.specs.Orders.{IsWhole, IsWholeAtAnyMoment, IsWholeTo};
-ghost use Rattle.asl_explore.specs.Searches.{AreAllLate, AreDistinct, AreLate, outcomes_of};
-ghost use Rattle.asl_explore.specs.TimeOver.{IsWitnessed};
-ghost use Rattle.asl_exec.specs.Steps.{deadline_of};
-ghost use Rattle.asl_run_world.specs.declared.outcome.Outcome.TheVariants.{TimedOut};
 
-use crate::command::{FAILED, GOOD, REFUSED, print_good, tell_error};
+use crate::command::{FAILED, GOOD, REFUSED, print_good, tell_answer};
 use crate::debugging::setup_of;
 use crate::fault::CommandFault;
 use crate::noting::{notes_of, tell_notes};
 use crate::reading::read_texts;
+use asl_command_line::missing_outcome;
 use asl_explore::{Explored, Found, Orders, Watch, explore as search, is_good, put_explored};
 use asl_history::Sink;
-use asl_host::{ExploreWords, Files, missing_outcome, tell_fault, write_piece};
-use asl_run_setup::{Setup, put_steps};
+use asl_host::{Files, tell_fault, write_piece};
+use asl_run_input::{Setup, put_steps};
+use asl_words::ExploreWords;
 use std::alloc::{AllocError, Global};
 
 /// The command `explore`: tries every order of an execution's branches, and prints each outcome with an order that ends in it, or the
@@ -39,8 +33,9 @@ pub fn explore<W: Watch, F: Files, O: Sink, E: Sink>(
     out: &mut O,
     err: &mut E,
 ) -> u8
-    ensures { IsExplored O.taken O.failures E.taken E.failures (F.gives files.old)
-        (F.lacks files.old) words.now out.old out.new err.old err.new result }
+    ensures { IsExplored (file_system (F.gives files.old) (F.lacks files.old))
+        (io (sink_use O.taken O.failures out.old out.new)
+        (sink_use E.taken E.failures err.old err.new) result) words.now }
 {
     match explore_files(watch, alloc, words, files) {
         Ok(searched) => show(alloc, &searched, words.witness, out, err),
@@ -82,7 +77,7 @@ fn explore_files<'a, W: Watch, F: Files>(
         (IsRunReason (F.gives files.old) (F.lacks files.old) words.now.setup None) }
 {
     let texts = read_texts(alloc, files, &words.setup)?;
-    let setup = setup_of(alloc, &texts)?;
+    let setup = setup_of(alloc, &words.setup, &texts)?;
     match search_from(watch, alloc, words, texts.chosen.as_str(), setup) {
         Ok(searched) => Ok(searched),
         Err(AllocError) => Err(CommandFault::OutOfMemory),
@@ -97,34 +92,8 @@ fn search_from<W: Watch>(
     chosen: &str,
     setup: Setup,
 ) -> Result<Searched, AllocError>
-    ensures shown { IfOk result (λ r. All (IsWitnessed r.explored.orders setup) r.explored.found.items) }
-    ensures once { IfOk result (λ r. AreDistinct (outcomes_of r.explored.found.items)) }
-    ensures orders { IfOk result (λ r. r.explored.orders ≡ orders_for words.now.prompt) }
-    ensures whole { IfOk result (λ r. r.explored.complete ≡ true
-        → IsWhole r.explored.orders setup (outcomes_of r.explored.found.items)) }
-    ensures any_moment { IfOk result (λ r. r.explored.complete ≡ true → r.explored.orders ≡ Every
-        → is_none r.explored.clock ≡ true
-        → IsWholeAtAnyMoment setup (outcomes_of r.explored.found.items)) }
-    ensures time_over { IfOk result (λ r. r.explored.complete ≡ true → r.explored.orders ≡ Every
-        → r.explored.limited ≡ true → Contains (outcomes_of r.explored.found.items) TimedOut) }
-    ensures limited { IfOk result (λ r. r.explored.limited ≡ is_some (deadline_of setup)) }
-    ensures clock { IfOk result (λ r. r.explored.clock ≡ clock_place setup.machine) }
-    ensures depth { IfOk result (λ r. IfSome r.explored.depth
-        (λ d. IsWholeTo d r.explored.orders setup (outcomes_of r.explored.found.items))) }
-    ensures cut { IfOk result (λ r. r.explored.complete ≡ false → r.explored.stuck ≡ false
-        → words.now.limit ≤ r.explored.worlds) }
-    ensures ends { IfOk result (λ r. r.explored.reduced ≡ false → r.explored.complete ≡ true
-        → is_none r.explored.endless ≡ true → NoneIsEndless r.explored.orders setup) }
-    ensures plain { IfOk result (λ r. words.now.calls ≡ true → r.explored.complete ≡ true
-        → r.explored.reduced ≡ false) }
-    ensures lasso { IfOk result (λ r. IfSome r.explored.endless (IsLasso r.explored.orders setup)) }
-    ensures late { IfOk result (λ r. AreLate setup r.explored.found.items r.explored.late.items) }
-    ensures all_late { IfOk result (λ r. r.explored.marked ≡ true
-        → AreAllLate setup r.explored.found.items r.explored.late.items) }
-    ensures calls { IfOk result (λ r. words.now.calls ≡ true → r.explored.complete ≡ true
-        → AreCounted r.explored.orders setup (outcomes_of r.explored.found.items)
-        r.explored.calls.items) }
-    ensures states { IfOk result (λ r. All (IsStated setup.machine) r.explored.states.items) }
+    ensures found { IfOk result (λ r. IsFound (orders_for words.now.prompt) words.now.calls
+        words.now.limit setup r.explored) }
     ensures notes { IfOk result (λ r. string_bytes r.notes
         ≡ notes_for words.now.witness chosen.now setup r.explored.found.items) }
 {
@@ -143,8 +112,9 @@ fn show<O: Sink, E: Sink>(
     out: &mut O,
     err: &mut E,
 ) -> u8
-    ensures { IsShown O.taken O.failures E.taken E.failures searched.now.explored
-        (string_bytes searched.now.notes) witness out.old out.new err.old err.new result }
+    ensures { IsShown (io (sink_use O.taken O.failures out.old out.new)
+        (sink_use E.taken E.failures err.old err.new) result) searched.now.explored
+        (string_bytes searched.now.notes) witness }
 {
     match witness {
         None => show_all(alloc, searched, out, err),
@@ -154,8 +124,9 @@ fn show<O: Sink, E: Sink>(
 
 /// Prints all outcomes and tells the notes on them, and whether nothing was left out, each is a success and no order is endless.
 fn show_all<O: Sink, E: Sink>(alloc: Global, searched: &Searched, out: &mut O, err: &mut E) -> u8
-    ensures { AreAllShown O.taken O.failures E.taken E.failures searched.now.explored
-        (string_bytes searched.now.notes) out.old out.new err.old err.new result }
+    ensures { AreAllShown (io (sink_use O.taken O.failures out.old out.new)
+        (sink_use E.taken E.failures err.old err.new) result) searched.now.explored
+        (string_bytes searched.now.notes) }
 {
     match report_of(alloc, &searched.explored) {
         Ok(text) => {
@@ -181,7 +152,7 @@ fn report_of(alloc: Global, explored: &Explored) -> Result<String, AllocError>
 
 /// Prints a text, and tells whether all is good.
 fn print_all<O: Sink>(text: &str, good: bool, out: &mut O) -> u8
-    ensures { IsPrinted O.taken O.failures out.old out.new text.now (status_of good) result }
+    ensures { IsPrinted (sink_use O.taken O.failures out.old out.new) text.now (status_of good) result }
 {
     match write_piece(out, text) {
         Ok(()) if good => GOOD,
@@ -198,8 +169,8 @@ fn show_one<O: Sink, E: Sink>(
     out: &mut O,
     err: &mut E,
 ) -> u8
-    ensures { IsOneShown O.taken O.failures E.taken E.failures explored.now number out.old out.new
-        err.old err.new result }
+    ensures { IsOneShown (io (sink_use O.taken O.failures out.old out.new)
+        (sink_use E.taken E.failures err.old err.new) result) explored.now number }
 {
     let Some(found) = outcome_of(&explored.found, number) else {
         return refuse_number(alloc, err);
@@ -235,11 +206,8 @@ fn steps_of(alloc: Global, found: &Found) -> Result<String, AllocError>
 /// Tells that the command line names an outcome that isn't there.
 fn refuse_number<E: Sink>(alloc: Global, err: &mut E) -> u8
     ensures status { result ≡ 2 }
-    ensures told { (t : List ℕ) × IsTold E.taken E.failures err.old err.new t }
+    ensures told { (t : List ℕ) × IsTold (sink_use E.taken E.failures err.old err.new) t }
 {
-    match missing_outcome(alloc) {
-        Ok(error) => tell_error(alloc, &error, err),
-        Err(error) => tell_error(alloc, &error, err),
-    }
+    tell_answer(&missing_outcome(alloc), err);
     REFUSED
 }

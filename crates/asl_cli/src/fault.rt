@@ -1,45 +1,79 @@
 // Why a command isn't done, and the line that tells it.
-ghost use Rattle.std.specs.Prelude.{◌≡◌, List, ℕ, IfOk, string_bytes};
-ghost use Rattle.asl_host.specs.Outcomes.{fault_line, IsTold};
-ghost use Rattle.asl_terminal.specs.Shown.{shown};
-ghost use Rattle.asl_cli.specs.Faults.{reason_text, Tells};
+ghost use Rattle.std.specs.Prelude.{◌≡◌, ◌++◌, List, ℕ, IfOk, OnErr, OnOk, string_bytes};
+ghost use Rattle.asl_host.specs.Outcomes.{sink_use, fault_line, IsTold, IsBroken, IsWhole};
+ghost use Rattle.asl_text.specs.Shown.{shown};
+ghost use Rattle.asl_cli.specs.Faults.{mending, reason_text, Tells};
 
 use asl_check::Fault;
-use asl_history::Sink;
-use asl_host::{Unreadable, tell_fault};
-use asl_run_setup::EmulateFault;
+use asl_history::{Sink, SinkFault};
+use asl_host::{Unreadable, tell_fault, write_fault, write_piece};
+use asl_run_input::EmulateFault;
 use asl_session::ScriptFault;
-use asl_suite_expect::ExpectFault;
-use asl_terminal::put_shown;
+use asl_suite_file::ExpectFault;
+use asl_text::put_shown;
 use std::alloc::{AllocError, Global};
 use std::error::Error;
 use std::fmt;
+
+/// Writes the line of a fault with this text, and lines behind it, as far as the sink takes them.
+fn tell<E: Sink>(err: &mut E, text: &str, lines: &str)
+    ensures { IsTold (sink_use E.taken E.failures err.old err.new) (fault_line text.now ++ lines.now) }
+{
+    // A sink that fails has no other way to tell it: the status is the same.
+    let _ = write_refusal(err, text, lines);
+}
+
+fn write_refusal<E: Sink>(err: &mut E, text: &str, lines: &str) -> Result<(), SinkFault>
+    ensures ok { OnOk result (IsWhole (sink_use E.taken E.failures err.old err.new)
+        (fault_line text.now ++ lines.now)) }
+    ensures err { OnErr result (IsBroken (sink_use E.taken E.failures err.old err.new)
+        (fault_line text.now ++ lines.now)) }
+{
+    write_fault(err, text)?;
+    write_piece(err, lines)
+}
 
 /// Why a command isn't done.
 #[derive(Debug, Drop)]
 pub enum CommandFault<'a> {
     /// The file of this name can't be read.
     File(&'a str, Unreadable),
-    /// What was read is no definition.
-    Definition(Fault),
+    /// What was read is no definition. Behind it, here and below, what stands behind the fault's line: lines for a person.
+    Definition(Fault, String),
     /// What an execution was to begin with, its file of steps, or the mock file of a suite, is refused.
-    Emulation(EmulateFault),
+    Emulation(EmulateFault, String),
     /// What was read is no script.
-    Script(ScriptFault),
+    Script(ScriptFault, String),
     /// What was read is no file of expectations.
-    Expectations(ExpectFault),
+    Expectations(ExpectFault, String),
+    /// Nothing is explained under this word.
+    Code(&'a str, String),
     OutOfMemory,
 }
 
 impl<'a> CommandFault<'a> {
-    /// Writes the refusal's line.
+    /// Writes the refusal's line, and what stands behind it.
     pub fn write<E: Sink>(&self, alloc: Global, err: &mut E)
         ensures { (t : List ℕ) × Tells self.now t
-            × IsTold E.taken E.failures err.old err.new (fault_line t) }
+            × IsTold (sink_use E.taken E.failures err.old err.new) t }
     {
         match self.text(alloc) {
-            Ok(text) => tell_fault(err, text.as_str()),
+            Ok(text) => tell(err, text.as_str(), self.mending()),
             Err(_) => tell_fault(err, "OutOfMemory"),
+        }
+    }
+
+    /// What stands behind its line.
+    fn mending(&self) -> &str
+        ensures { result.now ≡ mending self.now }
+    {
+        match self {
+            CommandFault::Definition(_, lines)
+            | CommandFault::Emulation(_, lines)
+            | CommandFault::Script(_, lines)
+            | CommandFault::Expectations(_, lines)
+            | CommandFault::Code(_, lines) => lines.as_str(),
+            CommandFault::File(_, _) | CommandFault::OutOfMemory => "",
         }
     }
 
@@ -62,10 +96,11 @@ impl fmt::Display for CommandFault<'_> {
     fn fmt<W: fmt::Write>(&self, f: &mut fmt::Formatter<W>) -> fmt::Result {
         match self {
             CommandFault::File(name, why) => write!(f, "file {name}{}", why.words()),
-            CommandFault::Definition(fault) => write!(f, "definition: {fault}"),
-            CommandFault::Emulation(fault) => write!(f, "{fault}"),
-            CommandFault::Script(fault) => write!(f, "{fault}"),
-            CommandFault::Expectations(fault) => write!(f, "expectations: {fault}"),
+            CommandFault::Definition(fault, _) => write!(f, "definition: {fault}"),
+            CommandFault::Emulation(fault, _) => write!(f, "{fault}"),
+            CommandFault::Script(fault, _) => write!(f, "{fault}"),
+            CommandFault::Expectations(fault, _) => write!(f, "expectations: {fault}"),
+            CommandFault::Code(word, _) => write!(f, "code {word}"),
             CommandFault::OutOfMemory => f.write_str("OutOfMemory"),
         }
     }

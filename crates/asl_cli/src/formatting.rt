@@ -1,16 +1,16 @@
 // Runs in the format that is asked for.
 ghost use Rattle.std.specs.Prelude.{◌≡◌, IfOk, IfErr, string_bytes};
-ghost use Rattle.asl_run_setup.specs.Emulations.{IsRefused};
-ghost use Rattle.asl_run_setup.specs.Texts.{Unless};
-ghost use Rattle.asl_run_setup.specs.Views.{texts_of};
+ghost use Rattle.asl_run_input.specs.Emulations.{IsRefused};
+ghost use Rattle.asl_run_input.specs.Texts.{Unless};
+ghost use Rattle.asl_run_input.specs.Views.{texts_of};
 ghost use Rattle.asl_exec.specs.Lacking.{IsLackingIn};
 ghost use Rattle.asl_cli.specs.Formats.{format_of, IsPlainRunIn, IsShown, IsRunIn};
 
 use asl_exec::{Emulated, emulate_texts};
-use asl_host::RunFormat;
-use asl_run_outputs::{Format, emulate_as};
-use asl_run_setup::{EmulateFault, RunTexts};
-use asl_view_colour::coloured;
+use asl_run_formats::{Format, emulate_as};
+use asl_run_input::{EmulateFault, RunTexts};
+use asl_text::coloured;
+use asl_words::RunFormat;
 use std::alloc::{AllocError, Global};
 
 /// The format that isn't the usual text, where one is asked for.

@@ -1,21 +1,25 @@
 // The command `graph`.
 ghost use Rattle.std.specs.Prelude.{◌≡◌, None, IfOk, IfErr, string_bytes};
 ghost use Rattle.asl_graph.specs.Graphs.{graph_text};
-ghost use Rattle.asl_run_setup.specs.Views.{texts_of};
-ghost use Rattle.asl_run_outputs.specs.Marked.{IsMarkedRunOf};
+ghost use Rattle.asl_run_input.specs.Views.{texts_of};
+ghost use Rattle.asl_run_formats.specs.Marked.{IsMarkedRunOf};
+ghost use Rattle.asl_host.specs.Outcomes.{sink_use};
+ghost use Rattle.asl_cli.specs.Streams.{file_system, io};
 ghost use Rattle.asl_cli.specs.Graphing.{language_of, IsDefinitionGraph, IsRunGraph, IsGraph, IsGraphReason, IsDrawn};
 ghost use Rattle.asl_cli.specs.Faults.{most_steps, IsTextsReason, IsRunReason, IsDefinitionReason};
 
 use crate::checking::machine_in;
 use crate::command::{MOST_STEPS, REFUSED, print_good};
 use crate::fault::CommandFault;
+use crate::mending::of_run;
 use crate::reading::read_texts;
 use asl_def::Machine;
 use asl_graph::Language;
 use asl_history::Sink;
-use asl_host::{Files, GraphFormat, GraphWords, SetupWords};
-use asl_run_outputs::emulate_marked;
-use asl_run_setup::{EmulateFault, RunTexts};
+use asl_host::Files;
+use asl_run_formats::emulate_marked;
+use asl_run_input::{EmulateFault, RunTexts};
+use asl_words::{GraphFormat, GraphWords, SetupWords};
 use std::alloc::{AllocError, Global};
 
 /// The command `graph`: prints the graph of a definition without faults, else tells the first fault. Where a run is asked for, the states
@@ -27,8 +31,9 @@ pub fn graph<F: Files, O: Sink, E: Sink>(
     out: &mut O,
     err: &mut E,
 ) -> u8
-    ensures { IsDrawn O.taken O.failures E.taken E.failures (F.gives files.old)
-        (F.lacks files.old) words.now out.old out.new err.old err.new result }
+    ensures { IsDrawn (file_system (F.gives files.old) (F.lacks files.old))
+        (io (sink_use O.taken O.failures out.old out.new)
+        (sink_use E.taken E.failures err.old err.new) result) words.now }
 {
     match graph_in(alloc, words, files) {
         Ok(text) => print_good(text.as_str(), out),
@@ -70,7 +75,7 @@ fn run_graph<'a, F: Files>(
 {
     let texts = read_texts(alloc, files, words)?;
     let given = texts.of_run(None);
-    match graph_given(alloc, language, &given) {
+    match graph_given(alloc, language, words, &given) {
         Ok(text) => Ok(text),
         Err(refusal) => Err(refusal),
     }
@@ -80,6 +85,7 @@ fn run_graph<'a, F: Files>(
 fn graph_given<'a>(
     alloc: Global,
     language: Language,
+    words: &SetupWords<'_>,
     texts: &RunTexts<'_>,
 ) -> Result<String, CommandFault<'a>>
     ensures run { IfOk result
@@ -89,7 +95,10 @@ fn graph_given<'a>(
     match emulate_marked(alloc, language, texts, MOST_STEPS) {
         Ok(text) => Ok(text),
         Err(EmulateFault::OutOfMemory) => Err(CommandFault::OutOfMemory),
-        Err(fault) => Err(CommandFault::Emulation(fault)),
+        Err(fault) => match of_run(alloc, words, None, texts, &fault) {
+            Ok(lines) => Err(CommandFault::Emulation(fault, lines)),
+            Err(AllocError) => Err(CommandFault::OutOfMemory),
+        },
     }
 }
 

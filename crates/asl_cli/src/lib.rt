@@ -1,23 +1,29 @@
 //! The commands of the emulator: one function over words, files and two sinks, which the program `asl` calls.
 //!
-//! Modules in reading order: `fault` is why a command isn't done, and its line; `reading` reads the files that words name; `checking` is
-//! the command `check`, `linting` the command `lint`, `printing` the command `print`, `upgrading` the command `upgrade`, `graphing` the command `graph`, `mocking` the command `mocks`,
-//! `debugging` the command `debug`, for which `talking` answers lines, `testing` the command `test`, for which `progress` tells how far it is and
-//! `covering` what is covered; `exploring` the command `explore`; `noting` tells of answers that were lacking; `formatting` runs in the format that is asked for; `command` has the command `run`, and all that a command line may
+//! Modules in reading order: `fault` is why a command isn't done, and its line; `mending` has the lines for people behind it, for which `pointing` finds places; `reading` reads the files that words name; `checking` is
+//! the command `check`, `linting` the command `lint`, `printing` the command `print`, `upgrading` the command `upgrade`, for which `layouts` lays JSON out, `graphing` the command `graph`, `mocking` the command `mocks`,
+//! `debugging` the command `debug`, for which `talking` answers lines, `testing` the command `test`, for which `choosing` has the tests that are run, `progress` how far it is and
+//! `covering` what is covered; `exploring` the command `explore`; `explaining` the command `explain`; `noting` tells of answers that were lacking; `formatting` runs in the format that is asked for; `command` has the command `run`, and all that a command line may
 //! ask for.
 #![tactic(auto)]
 
 mod checking;
+mod choosing;
 mod command;
 mod covering;
 mod debugging;
+mod explaining;
 mod exploring;
 mod fault;
 mod formatting;
 mod graphing;
+mod layouts;
 mod linting;
+mod mending;
+mod misnaming;
 mod mocking;
 mod noting;
+mod pointing;
 mod printing;
 mod progress;
 mod reading;
@@ -28,6 +34,7 @@ mod upgrading;
 pub use checking::check;
 pub use command::{obey, refuse_words, run, run_words};
 pub use debugging::debug;
+pub use explaining::explain;
 pub use exploring::explore;
 pub use fault::CommandFault;
 pub use graphing::graph;

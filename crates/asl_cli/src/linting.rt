@@ -1,15 +1,17 @@
 // The command `lint`.
-ghost use Rattle.std.specs.Prelude.{◌≡◌, ◌∷◌, option_map, IfOk, IfErr, string_bytes};
-ghost use Rattle.asl_host.specs.Outcomes.{status_of, IsPrinted};
-ghost use Rattle.asl_cli.specs.Linting.{mocks_name, IsJudged, IsLintOf, IsLinted};
+ghost use Rattle.std.specs.Prelude.{◌≡◌, ◌∷◌, [], option_map, unwrap_or, IfOk, IfErr, string_bytes};
+ghost use Rattle.asl_host.specs.Outcomes.{sink_use, status_of, IsPrinted};
+ghost use Rattle.asl_cli.specs.Streams.{file_system, io};
+ghost use Rattle.asl_cli.specs.Linting.{mocks_name, text_in, IsJudged, IsLintOf, IsLinted};
 ghost use Rattle.asl_cli.specs.Faults.{AreUnread, named};
 
 use crate::command::{FAILED, GOOD, REFUSED};
 use crate::fault::CommandFault;
 use crate::reading::{read_file, read_named};
 use asl_history::Sink;
-use asl_host::{Files, LintFormat, LintWords, write_piece};
+use asl_host::{Files, write_piece};
 use asl_lint::{Report, Source, json, sarif, text};
+use asl_words::{LintFormat, LintWords};
 use std::alloc::{AllocError, Global};
 
 /// What is printed, and whether nothing is wrong.
@@ -27,8 +29,9 @@ pub fn lint<F: Files, O: Sink, E: Sink>(
     out: &mut O,
     err: &mut E,
 ) -> u8
-    ensures { IsLinted O.taken O.failures E.taken E.failures (F.gives files.old)
-        (F.lacks files.old) words.now out.old out.new err.old err.new result }
+    ensures { IsLinted (file_system (F.gives files.old) (F.lacks files.old))
+        (io (sink_use O.taken O.failures out.old out.new)
+        (sink_use E.taken E.failures err.old err.new) result) words.now }
 {
     match lint_files(alloc, words, files) {
         Ok(linted) => print_linted(&linted, out),
@@ -83,8 +86,8 @@ fn lint_texts(
     words: &LintWords<'_>,
     source: &Source<'_>,
 ) -> Result<Linted, AllocError>
-    ensures { IfOk result (IsJudged (option_map (λ k. k.now) source.now.machine)
-        source.now.definition.now (option_map (λ b. b.now) source.now.mocks) words.now.strict) }
+    ensures { IfOk result (IsJudged words.now (option_map (λ k. k.now) source.now.machine)
+        source.now.definition.now (option_map (λ b. b.now) source.now.mocks)) }
 {
     let report = asl_lint::lint(alloc, source)?;
     let good = report.is_good(words.strict);
@@ -92,9 +95,22 @@ fn lint_texts(
     Ok(Linted { text, good })
 }
 
+/// The name of the mock file; empty where there is none.
+fn mocks_of<'a>(words: &LintWords<'a>) -> &'a str
+    ensures { result.now ≡ unwrap_or (mocks_name words.now) [] }
+{
+    match words.mocks {
+        Some(name) => name,
+        None => "",
+    }
+}
+
 /// The findings in the format that is asked for.
-fn text_of(alloc: Global, words: &LintWords<'_>, report: &Report) -> Result<String, AllocError> {
-    let mocks = words.mocks.unwrap_or("");
+fn text_of(alloc: Global, words: &LintWords<'_>, report: &Report) -> Result<String, AllocError>
+    ensures { IfOk result (λ t. string_bytes t ≡ text_in words.now.format
+        words.now.definition.now (unwrap_or (mocks_name words.now) []) report.now) }
+{
+    let mocks = mocks_of(words);
     match words.format {
         LintFormat::Text => text(alloc, words.definition, mocks, report),
         LintFormat::Json => json(alloc, words.definition, mocks, report),
@@ -104,7 +120,7 @@ fn text_of(alloc: Global, words: &LintWords<'_>, report: &Report) -> Result<Stri
 
 /// Prints what was found, and tells whether nothing is wrong.
 fn print_linted<O: Sink>(linted: &Linted, out: &mut O) -> u8
-    ensures { IsPrinted O.taken O.failures out.old out.new (string_bytes linted.now.text)
+    ensures { IsPrinted (sink_use O.taken O.failures out.old out.new) (string_bytes linted.now.text)
         (status_of linted.now.good) result }
 {
     match write_piece(out, linted.text.as_str()) {

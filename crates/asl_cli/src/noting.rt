@@ -1,14 +1,15 @@
 // What is told of answers that a run lacked, or the outcomes of a search.
 ghost use Rattle.std.specs.Prelude.{◌≡◌, IfOk, string_bytes};
 ghost use Rattle.asl_run_notes.specs.Notes.{note_text};
+ghost use Rattle.asl_host.specs.Outcomes.{sink_use};
 ghost use Rattle.asl_cli.specs.Noting.{notes_for, IsNoted};
 
 use crate::command::tell_text;
 use asl_exec::Emulated;
 use asl_explore::Found;
 use asl_history::Sink;
+use asl_run_input::Setup;
 use asl_run_notes::{note_of, notes_of_search};
-use asl_run_setup::Setup;
 use std::alloc::{AllocError, Global};
 
 /// What a run prints, and what is told of an answer that it lacked.
@@ -45,7 +46,7 @@ pub(crate) fn notes_of(
 
 /// Tells what is to be told; of nothing, nothing.
 pub(crate) fn tell_notes<E: Sink>(notes: &str, err: &mut E)
-    ensures { IsNoted E.taken E.failures err.old err.new notes.now }
+    ensures { IsNoted (sink_use E.taken E.failures err.old err.new) notes.now }
 {
     if notes.is_empty() {
         return;

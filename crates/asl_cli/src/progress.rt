@@ -1,6 +1,6 @@
 // What is told while a suite or a search runs.
 use asl_explore::Watch;
-use asl_threads_gate::Gate;
+use asl_threads_base::Gate;
 use std::sync::atomic::{AtomicU64, Ordering};
 use std::time::Clock;
 

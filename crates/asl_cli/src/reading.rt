@@ -1,15 +1,16 @@
 // What a command reads: the files that its words name.
 ghost use Rattle.std.specs.Prelude.{◌≡◌, List, ℕ, None, option_map, string_bytes, IfOk, IfErr};
-ghost use Rattle.asl_run_setup.specs.Views.{texts_of};
-ghost use Rattle.asl_mock_chosen.specs.Chosen.{IsChosen};
+ghost use Rattle.asl_run_input.specs.Views.{texts_of};
+ghost use Rattle.asl_mock.specs.Chosen.{IsChosen};
 ghost use Rattle.asl_host.specs.declared.files.Unreadable.{Unreadable};
 ghost use Rattle.asl_cli.specs.declared.fault.CommandFault.TheVariants.{OutOfMemory};
 ghost use Rattle.asl_cli.specs.Faults.{IsUnread, IsGiven, AreUnread, AreGiven, named, names_in, read_texts};
 
 use crate::fault::CommandFault;
-use asl_host::{Files, ReadFault, SetupWords};
-use asl_mock_chosen::chosen;
-use asl_run_setup::RunTexts;
+use asl_host::{Files, ReadFault};
+use asl_mock::chosen;
+use asl_run_input::RunTexts;
+use asl_words::SetupWords;
 use std::alloc::{AllocError, Global};
 
 /// Reads a file that a word names.

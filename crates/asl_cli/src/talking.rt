@@ -1,14 +1,15 @@
 // The command `debug` without a script: lines that are typed, each answered at once.
 ghost use Rattle.std.specs.Prelude.{◌≡◌, ◌⊎◌, List, ℕ, true, IfOk, IfErr, OnOk, OnErr, string_bytes};
-ghost use Rattle.asl_session_console.specs.Telling.{Answers};
-ghost use Rattle.asl_session_console.specs.Talks.{IsReplied};
-ghost use Rattle.asl_host.specs.Outcomes.{IsWhole, IsBroken};
+ghost use Rattle.asl_session_repl.specs.Telling.{Answers};
+ghost use Rattle.asl_session_repl.specs.Talks.{IsReplied};
+ghost use Rattle.asl_host.specs.Outcomes.{sink_use, IsBroken, IsWhole};
+ghost use Rattle.asl_cli.specs.Streams.{input_use, io};
 ghost use Rattle.asl_cli.specs.Talking.{IsTalked, IsTalkedUntil, IsEnd, IsConversed};
 
 use crate::command::{REFUSED, print_good};
 use asl_history::{Sink, SinkFault};
 use asl_host::{Input, ReadFault, tell_fault, write_piece};
-use asl_session_console::{Look, Teller};
+use asl_session_repl::{Look, Teller};
 use std::alloc::{AllocError, Global};
 
 /// Why a talk isn't gone on with.
@@ -38,14 +39,14 @@ fn reply<O: Sink>(
 ) -> Result<Answered, SinkFault>
     ensures more { IfOk result (λ r. r ≡ Answered.More
         → (t : List ℕ) × IsReplied look console.old line.now t console.new
-        × IsWhole O.taken O.failures out.old out.new t) }
+        × IsWhole (sink_use O.taken O.failures out.old out.new) t) }
     ensures last { IfOk result (λ r. r ≡ Answered.Last
         → (t : List ℕ) × Answers look console.old line.now t true console.new
-        × IsWhole O.taken O.failures out.old out.new t) }
+        × IsWhole (sink_use O.taken O.failures out.old out.new) t) }
     ensures err { OnErr result ((t : List ℕ)
         × (IsReplied look console.old line.now t console.new
         ⊎ Answers look console.old line.now t true console.new)
-        × IsBroken O.taken O.failures out.old out.new t) }
+        × IsBroken (sink_use O.taken O.failures out.old out.new) t) }
 {
     let Ok(answer) = console.answer(look, line) else {
         write_piece(out, "OutOfMemory\n")?;
@@ -66,10 +67,10 @@ fn talk<I: Input, O: Sink>(
     input: &mut I,
     out: &mut O,
 ) -> Result<(), TalkFault>
-    ensures whole { OnOk result (IsTalked I.given O.taken O.failures look console.old console.new
-        input.old input.new out.old out.new) }
-    ensures fault { IfErr result (IsTalkedUntil I.given O.taken O.failures look console.old
-        console.new input.old input.new out.old out.new) }
+    ensures whole { OnOk result (IsTalked (input_use I.given input.old input.new)
+        (sink_use O.taken O.failures out.old out.new) look console.old console.new) }
+    ensures fault { IfErr result (IsTalkedUntil (input_use I.given input.old input.new)
+        (sink_use O.taken O.failures out.old out.new) look console.old console.new) }
 {
     for _ in 0..u64::MAX {
         let line = match input.line(alloc) {
@@ -88,8 +89,8 @@ fn talk<I: Input, O: Sink>(
 
 /// Prints what stands behind all answers.
 fn print_end<O: Sink, E: Sink>(console: &Teller, look: Look, out: &mut O, err: &mut E) -> u8
-    ensures { IsEnd O.taken O.failures E.taken E.failures look console.now out.old out.new err.old
-        err.new result }
+    ensures { IsEnd (io (sink_use O.taken O.failures out.old out.new)
+        (sink_use E.taken E.failures err.old err.new) result) look console.now }
 {
     match console.end(look) {
         Ok(text) => print_good(text.as_str(), out),
@@ -100,7 +101,16 @@ fn print_end<O: Sink, E: Sink>(console: &Teller, look: Look, out: &mut O, err: &
     }
 }
 
-/// Answers lines until there is none, or one ends the talk, then prints what stands behind all answers.
+/// Shows whoever types where the execution stands, and which words lead on; nothing where memory runs out for it.
+fn greet<I: Input>(console: &Teller, input: &mut I)
+    ensures { I.given input.new ≡ I.given input.old }
+{
+    if let Ok(text) = console.greeting() {
+        input.greet(text.as_str());
+    }
+}
+
+/// Greets, answers lines until there is none, or one ends the talk, then prints what stands behind all answers.
 pub(crate) fn converse<I: Input, O: Sink, E: Sink>(
     alloc: Global,
     console: Teller,
@@ -109,8 +119,26 @@ pub(crate) fn converse<I: Input, O: Sink, E: Sink>(
     out: &mut O,
     err: &mut E,
 ) -> u8
-    ensures { IsConversed I.given O.taken O.failures E.taken E.failures look console input.old
-        input.new out.old out.new err.old err.new result }
+    ensures { IsConversed (input_use I.given input.old input.new)
+        (io (sink_use O.taken O.failures out.old out.new)
+        (sink_use E.taken E.failures err.old err.new) result) look console }
+{
+    greet(&console, input);
+    converse_on(alloc, console, look, input, out, err)
+}
+
+/// The same, without greeting.
+fn converse_on<I: Input, O: Sink, E: Sink>(
+    alloc: Global,
+    console: Teller,
+    look: Look,
+    input: &mut I,
+    out: &mut O,
+    err: &mut E,
+) -> u8
+    ensures { IsConversed (input_use I.given input.old input.new)
+        (io (sink_use O.taken O.failures out.old out.new)
+        (sink_use E.taken E.failures err.old err.new) result) look console }
 {
     let mut console = console;
     match talk(alloc, &mut console, look, input, out) {

@@ -1,29 +1,37 @@
 // The command `test`.
-ghost use Rattle.std.specs.Prelude.{◌≡◌, IfOk, IfErr, string_bytes};
+ghost use Rattle.std.specs.Prelude.{◌≡◌, [], true, IfOk, IfErr, OnOk, string_bytes};
 ghost use Rattle.std.specs.List.{list_all};
 ghost use Rattle.asl_check.specs.Judged.{IsMachineOf};
 ghost use Rattle.asl_mock.specs.Told.{IsMockFile};
-ghost use Rattle.asl_suite_expect.specs.Told.{IsExpectationsFile};
+ghost use Rattle.asl_suite_file.specs.Told.{IsExpectationsFile};
 ghost use Rattle.asl_suite.specs.Reports.{is_passed};
-ghost use Rattle.asl_host.specs.Outcomes.{status_of, IsPrinted, IsTold};
+ghost use Rattle.asl_host.specs.Outcomes.{status_of, sink_use, IsTold, IsPrinted};
+ghost use Rattle.asl_cli.specs.Streams.{file_system, io};
+ghost use Rattle.asl_cli.specs.Choosing.{list_text, meant};
 ghost use Rattle.asl_cli.specs.Faults.{AreUnread};
-ghost use Rattle.asl_cli.specs.Suites.{AreSuiteTexts, suite_names, AreTestsOf, IsSuiteOf, IsGood, IsCovered, IsDefinitionTextReason, IsMocksTextReason, IsTestsTextReason, IsSuiteTextReason, IsSuiteReason, IsReportText, IsReport, IsReported, IsTested};
+ghost use Rattle.asl_cli.specs.Suites.{AreSuiteTexts, suite_names, AreTestsOf, IsListOf, IsListing, IsShown, IsSuiteOf, IsGood, IsCovered, chosen, IsDefinitionTextReason, IsMocksTextReason, IsTestsTextReason, IsSuiteTextReason, IsSuiteReason, IsReportText, judged, IsReport, IsReported, IsTested};
 
+use crate::choosing::{keep_meant, list_of, numbers_of};
 use crate::command::{FAILED, GOOD, REFUSED};
-use crate::covering::coverage_of;
+use crate::covering::{coverage_of, coverage_told};
 use crate::fault::CommandFault;
+use crate::mending::{of_definition, of_expectations, of_mocks};
+use crate::misnaming::misnamed;
 use crate::reading::read_file;
 use asl_check::{Fault, accept};
 use asl_def::Machine;
 use asl_history::Sink;
-use asl_host::{Files, ReportFormat, Shard, TestWords, write_piece};
+use asl_host::{Files, write_piece};
 use asl_mock::{MockFault, Mocks};
-use asl_run_setup::EmulateFault;
-use asl_suite::{CaseReport, Suite, all_passed, report};
-use asl_suite_expect::{ExpectFault, Expectations};
-use asl_suite_reports::{Finding, Source, findings, json, junit, remarks};
+use asl_run_input::EmulateFault;
+use asl_suite::{
+    CaseReport, Finding, Source, Suite, all_passed, findings, json, junit, notes, remarks, report,
+    strictly,
+};
+use asl_suite_file::{ExpectFault, Expectations};
 use asl_suite_workers::{SuiteFault, run_suite};
-use asl_threads_gate::Gate;
+use asl_threads_base::Gate;
+use asl_words::{ReportFormat, TestWords};
 use std::alloc::{AllocError, Global};
 use std::sync::Wait;
 use std::thread::Threads;
@@ -50,8 +58,9 @@ pub fn test<R: Threads + Wait + Sync, G: Gate + Sync, F: Files, O: Sink, E: Sink
     out: &mut O,
     err: &mut E,
 ) -> u8
-    ensures { IsTested O.taken O.failures E.taken E.failures (F.gives files.old)
-        (F.lacks files.old) words.now out.old out.new err.old err.new result }
+    ensures { IsTested (file_system (F.gives files.old) (F.lacks files.old))
+        (io (sink_use O.taken O.failures out.old out.new)
+        (sink_use E.taken E.failures err.old err.new) result) words.now }
 {
     match report_files(rt, gate, alloc, words, files) {
         Ok(reported) => show_reports(&reported, out, err),
@@ -64,9 +73,9 @@ pub fn test<R: Threads + Wait + Sync, G: Gate + Sync, F: Files, O: Sink, E: Sink
 
 /// Prints the reports, and tells what is wrong; the status says whether all tests are `ok`.
 fn show_reports<O: Sink, E: Sink>(reported: &Reported, out: &mut O, err: &mut E) -> u8
-    ensures printed { IsPrinted O.taken O.failures out.old out.new (string_bytes reported.now.text)
+    ensures printed { IsPrinted (sink_use O.taken O.failures out.old out.new) (string_bytes reported.now.text)
         (status_of reported.now.good) result }
-    ensures told { IsTold E.taken E.failures err.old err.new (string_bytes reported.now.remarks) }
+    ensures told { IsTold (sink_use E.taken E.failures err.old err.new) (string_bytes reported.now.remarks) }
 {
     let printed = write_piece(out, reported.text.as_str());
     // A sink that fails has no other way to tell it: the status is the same.
@@ -78,8 +87,79 @@ fn show_reports<O: Sink, E: Sink>(reported: &Reported, out: &mut O, err: &mut E)
     }
 }
 
-/// Reads the files, in the order of the words, and runs the tests.
+/// Reads the files, in the order of the words, and runs the tests, or lists them.
 fn report_files<'a, R: Threads + Wait + Sync, G: Gate + Sync, F: Files>(
+    rt: &R,
+    gate: &G,
+    alloc: Global,
+    words: &TestWords<'a>,
+    files: &mut F,
+) -> Result<Reported, CommandFault<'a>>
+    ensures reported { IfOk result (λ r. IsShown words.now.list (F.gives files.old) words.now
+        (string_bytes r.text) (string_bytes r.remarks) r.good) }
+    ensures refused { IfErr result
+        (IsSuiteReason (F.gives files.old) (F.lacks files.old) words.now) }
+{
+    if words.list {
+        list_files(alloc, words, files)
+    } else {
+        run_files(rt, gate, alloc, words, files)
+    }
+}
+
+/// Lists the tests.
+fn list_files<'a, F: Files>(
+    alloc: Global,
+    words: &TestWords<'a>,
+    files: &mut F,
+) -> Result<Reported, CommandFault<'a>>
+    ensures listed { IfOk result (λ r. IsListing (F.gives files.old) words.now (string_bytes r.text)
+        × (string_bytes r.remarks ≡ []) × (r.good ≡ true)) }
+    ensures refused { IfErr result
+        (IsSuiteReason (F.gives files.old) (F.lacks files.old) words.now) }
+{
+    let texts = read_suite_texts(alloc, files, words)?;
+    let text = list_in(alloc, words, &texts)?;
+    Ok(Reported {
+        text,
+        remarks: String::new(alloc),
+        good: true,
+    })
+}
+
+/// The list of the tests that texts spell. They are refused where those of a run are.
+fn list_in<'a>(
+    alloc: Global,
+    words: &TestWords<'_>,
+    texts: &SuiteTexts,
+) -> Result<String, CommandFault<'a>>
+    ensures list { IfOk result (λ t. IsListOf texts.now.expectations.items words.now (string_bytes t)) }
+    ensures refused { IfErr result (IsSuiteTextReason texts.now.definition.items
+        texts.now.mocks.items texts.now.expectations.items) }
+{
+    let _machine = machine_of(alloc, words, texts.definition.as_slice())?;
+    let _mocks = mocks_of(alloc, words, texts)?;
+    list_text_of(alloc, words, texts.expectations.as_slice())
+}
+
+fn list_text_of<'a>(
+    alloc: Global,
+    words: &TestWords<'_>,
+    text: &[u8],
+) -> Result<String, CommandFault<'a>>
+    ensures list { IfOk result (λ t. IsListOf text.now words.now (string_bytes t)) }
+    ensures refused { IfErr result (IsTestsTextReason text.now) }
+{
+    let tests = all_tests_of(alloc, words.expectations, text)?;
+    let (first, apart) = (words.shard.first, words.shard.apart);
+    match list_of(alloc, words.filter, first, apart, tests.list.as_slice()) {
+        Ok(list) => Ok(list),
+        Err(_) => Err(CommandFault::OutOfMemory),
+    }
+}
+
+/// Runs the tests.
+fn run_files<'a, R: Threads + Wait + Sync, G: Gate + Sync, F: Files>(
     rt: &R,
     gate: &G,
     alloc: Global,
@@ -92,37 +172,34 @@ fn report_files<'a, R: Threads + Wait + Sync, G: Gate + Sync, F: Files>(
         (IsSuiteReason (F.gives files.old) (F.lacks files.old) words.now) }
 {
     let texts = read_suite_texts(alloc, files, words)?;
-    let suite = suite_of(alloc, words.shard, &texts)?;
-    let Ok(reported) = reported_of(rt, gate, alloc, words, &suite) else {
+    let suite = suite_of(alloc, words, &texts)?;
+    let Ok(reported) = reported_of(rt, gate, alloc, words, &texts, &suite) else {
         return Err(CommandFault::OutOfMemory);
     };
-    match covered(
-        alloc,
-        words.coverage,
-        reported,
-        &suite,
-        texts.mocks.as_slice(),
-    ) {
+    match covered(alloc, words.coverage, reported, &suite, &texts) {
         Ok(reported) => Ok(reported),
         Err(_) => Err(CommandFault::OutOfMemory),
     }
 }
 
 /// The same; where a least percent is given, what the tests cover is told behind the rest, and all is good only if it is no less. The
-/// bytes spell the suite's mock file. The error is that memory ran out.
+/// texts spell the suite. The error is that memory ran out.
 fn covered(
     alloc: Global,
     least: Option<u32>,
     reported: Reported,
     suite: &Suite,
-    mocks: &[u8],
+    texts: &SuiteTexts,
 ) -> Result<Reported, AllocError>
     ensures text { IfOk result (λ r. string_bytes r.text ≡ string_bytes reported.text) }
-    ensures good { IfOk result (λ r. IsGood least reported.good r.good
-        (string_bytes r.remarks)) }
+    ensures good { IfOk result (λ r. IsGood texts.now.mocks.items suite.now least reported.good
+        r.good (string_bytes r.remarks)) }
 {
     match least {
-        Some(least) => with_coverage(alloc, least, reported, suite, mocks),
+        Some(least) => {
+            let mocks = texts.mocks.as_slice();
+            with_coverage(alloc, least, reported, suite, mocks)
+        }
         None => Ok(reported),
     }
 }
@@ -136,7 +213,7 @@ fn with_coverage(
     mocks: &[u8],
 ) -> Result<Reported, AllocError>
     ensures text { IfOk result (λ r. string_bytes r.text ≡ string_bytes reported.text) }
-    ensures good { IfOk result (λ r. IsCovered least reported.good r.good
+    ensures good { IfOk result (λ r. IsCovered mocks.now suite.now least reported.good r.good
         (string_bytes r.remarks)) }
 {
     let coverage = coverage_of(alloc, suite, mocks)?;
@@ -147,7 +224,7 @@ fn with_coverage(
         good,
     } = reported;
     let mut remarks = remarks;
-    remarks.push_str(coverage.text(alloc)?.as_str())?;
+    remarks.push_str(coverage_told(alloc, &coverage, least)?.as_str())?;
     Ok(Reported {
         text,
         remarks,
@@ -155,40 +232,84 @@ fn with_coverage(
     })
 }
 
-/// Runs the tests of a suite. The fault is that memory ran out.
+/// Runs the tests of a suite that these texts spell. The fault is that memory ran out.
 fn reported_of<R: Threads + Wait + Sync, G: Gate + Sync>(
     rt: &R,
     gate: &G,
     alloc: Global,
     words: &TestWords<'_>,
+    texts: &SuiteTexts,
     suite: &Suite,
 ) -> Result<Reported, SuiteFault>
-    ensures { IfOk result (λ r. IsReport words.now.format suite.now (string_bytes r.text) r.good) }
+    ensures { IfOk result (λ r. IsReport words.now.format words.now.strict suite.now (string_bytes r.text) r.good) }
 {
     // The command line's reader takes no other number.
     let workers = words.workers.clamp(1, MOST_WORKERS);
     let reports = run_suite(rt, alloc, suite, workers, gate)?;
-    Ok(told_of(alloc, words, suite, &reports)?)
+    let reports = judged(alloc, words.strict, reports)?;
+    Ok(told_of(alloc, words, texts, suite, &reports)?)
 }
 
-/// What is printed and told of the tests of a suite, of which these are the reports. The error is that memory ran out.
+/// These reports; where that is asked, a test that may not mean what it says fails. The error is that memory ran out.
+fn judged(
+    alloc: Global,
+    strict: bool,
+    reports: Vec<CaseReport>,
+) -> Result<Vec<CaseReport>, AllocError>
+    ensures { IfOk result (λ v. v.items ≡ judged strict reports.items) }
+{
+    if strict {
+        return strictly(alloc, reports);
+    }
+    Ok(reports)
+}
+
+/// What is printed and told of the tests of a suite that these texts spell, and of which these are the reports. The error is that memory ran out.
 fn told_of(
     alloc: Global,
     words: &TestWords<'_>,
+    texts: &SuiteTexts,
     suite: &Suite,
     reports: &[CaseReport],
 ) -> Result<Reported, AllocError>
     ensures { IfOk result (λ r. IsReportText words.now.format reports.now (string_bytes r.text)
         × (r.good ≡ list_all is_passed reports.now)) }
 {
-    let findings = findings(alloc, &source_of(words), suite, reports)?;
-    let remarks = remarks(alloc, &findings)?;
+    let mut findings = findings(alloc, &source_of(words), suite, reports)?;
+    renumber(alloc, words, texts, &mut findings)?;
+    let mut remarks = remarks(alloc, &findings)?;
+    remarks.push_str(notes(alloc, &findings)?.as_str())?;
+    remarks.push_str(misnamed(alloc, suite, texts.definition.as_slice(), &findings)?.as_str())?;
     let text = text_of(alloc, words, reports, &findings)?;
     Ok(Reported {
         text,
         remarks,
         good: all_passed(reports),
     })
+}
+
+/// Gives each test its number in the file, where a word chose the tests. The error is that memory ran out.
+fn renumber(
+    alloc: Global,
+    words: &TestWords<'_>,
+    texts: &SuiteTexts,
+    findings: &mut [Finding<'_>],
+) -> Result<(), AllocError> {
+    if words.filter.is_none() {
+        return Ok(());
+    }
+    let tests = match Expectations::read(alloc, texts.expectations.as_slice()) {
+        Ok(tests) => tests,
+        Err(ExpectFault::OutOfMemory) => return Err(AllocError),
+        // It isn't so: the suite's tests were read from these bytes.
+        Err(_) => return Ok(()),
+    };
+    let (first, apart) = (words.shard.first, words.shard.apart);
+    let numbers = numbers_of(alloc, words.filter, first, apart, tests.list.as_slice())?;
+    for (finding, number) in findings.iter_mut().zip(numbers.iter()) {
+        finding.number = *number;
+    }
+    Ok(())
 }
 
 /// Where the tests come from.
@@ -247,15 +368,19 @@ fn read_suite_texts<'a, F: Files>(
 }
 
 /// The suite that texts spell.
-fn suite_of<'a>(alloc: Global, shard: Shard, texts: &SuiteTexts) -> Result<Suite, CommandFault<'a>>
+fn suite_of<'a>(
+    alloc: Global,
+    words: &TestWords<'_>,
+    texts: &SuiteTexts,
+) -> Result<Suite, CommandFault<'a>>
     ensures suite { IfOk result (IsSuiteOf texts.now.definition.items texts.now.mocks.items
-        texts.now.expectations.items shard) }
+        texts.now.expectations.items words.now) }
     ensures refused { IfErr result (IsSuiteTextReason texts.now.definition.items
         texts.now.mocks.items texts.now.expectations.items) }
 {
-    let machine = machine_of(alloc, texts.definition.as_slice())?;
-    let mocks = mocks_of(alloc, texts.mocks.as_slice())?;
-    let tests = tests_of(alloc, shard, texts.expectations.as_slice())?;
+    let machine = machine_of(alloc, words, texts.definition.as_slice())?;
+    let mocks = mocks_of(alloc, words, texts)?;
+    let tests = tests_of(alloc, words, texts.expectations.as_slice())?;
     Ok(Suite {
         machine,
         mocks,
@@ -263,47 +388,85 @@ fn suite_of<'a>(alloc: Global, shard: Shard, texts: &SuiteTexts) -> Result<Suite
     })
 }
 
-fn machine_of<'a>(alloc: Global, text: &[u8]) -> Result<Machine, CommandFault<'a>>
+fn machine_of<'a>(
+    alloc: Global,
+    words: &TestWords<'_>,
+    text: &[u8],
+) -> Result<Machine, CommandFault<'a>>
     ensures machine { IfOk result (IsMachineOf text.now) }
     ensures refused { IfErr result (IsDefinitionTextReason text.now) }
 {
     match accept(alloc, text) {
         Ok(machine) => Ok(machine),
         Err(Fault::OutOfMemory) => Err(CommandFault::OutOfMemory),
-        Err(fault) => Err(CommandFault::Definition(fault)),
+        Err(fault) => match of_definition(alloc, words.definition, text) {
+            Ok(lines) => Err(CommandFault::Definition(fault, lines)),
+            Err(AllocError) => Err(CommandFault::OutOfMemory),
+        },
     }
 }
 
-fn mocks_of<'a>(alloc: Global, text: &[u8]) -> Result<Mocks, CommandFault<'a>>
-    ensures mocks { IfOk result (IsMockFile text.now) }
-    ensures refused { IfErr result (IsMocksTextReason text.now) }
+fn mocks_of<'a>(
+    alloc: Global,
+    words: &TestWords<'_>,
+    texts: &SuiteTexts,
+) -> Result<Mocks, CommandFault<'a>>
+    ensures mocks { IfOk result (IsMockFile texts.now.mocks.items) }
+    ensures refused { IfErr result (IsMocksTextReason texts.now.mocks.items) }
 {
+    let text = texts.mocks.as_slice();
     match Mocks::read(alloc, text) {
         Ok(mocks) => Ok(mocks),
         Err(MockFault::OutOfMemory) => Err(CommandFault::OutOfMemory),
-        Err(fault) => Err(CommandFault::Emulation(EmulateFault::Mocks(fault))),
+        Err(fault) => match of_mocks(alloc, words.mocks, text, &texts.definition) {
+            Ok(lines) => Err(CommandFault::Emulation(EmulateFault::Mocks(fault), lines)),
+            Err(AllocError) => Err(CommandFault::OutOfMemory),
+        },
     }
 }
 
-fn all_tests_of<'a>(alloc: Global, text: &[u8]) -> Result<Expectations, CommandFault<'a>>
+fn all_tests_of<'a>(
+    alloc: Global,
+    file: &str,
+    text: &[u8],
+) -> Result<Expectations, CommandFault<'a>>
     ensures tests { IfOk result (λ t. IsExpectationsFile text.now t.list.items) }
     ensures refused { IfErr result (IsTestsTextReason text.now) }
 {
     match Expectations::read(alloc, text) {
         Ok(tests) => Ok(tests),
         Err(ExpectFault::OutOfMemory) => Err(CommandFault::OutOfMemory),
-        Err(fault) => Err(CommandFault::Expectations(fault)),
+        Err(fault) => match of_expectations(alloc, file, text, &fault) {
+            Ok(lines) => Err(CommandFault::Expectations(fault, lines)),
+            Err(AllocError) => Err(CommandFault::OutOfMemory),
+        },
     }
 }
 
-/// The tests that a file has, or those of them that a shard has.
-fn tests_of<'a>(alloc: Global, shard: Shard, text: &[u8]) -> Result<Expectations, CommandFault<'a>>
-    ensures tests { IfOk result (λ t. AreTestsOf text.now shard t.list.items) }
+/// The tests of a file that the words choose.
+fn tests_of<'a>(
+    alloc: Global,
+    words: &TestWords<'_>,
+    text: &[u8],
+) -> Result<Expectations, CommandFault<'a>>
+    ensures tests { IfOk result (λ t. AreTestsOf text.now words.now t.list.items) }
     ensures refused { IfErr result (IsTestsTextReason text.now) }
 {
-    let mut tests = all_tests_of(alloc, text)?;
-    match tests.keep_every(alloc, shard.first, shard.apart) {
+    let mut tests = all_tests_of(alloc, words.expectations, text)?;
+    match keep_chosen(alloc, words, &mut tests) {
         Ok(()) => Ok(tests),
         Err(_) => Err(CommandFault::OutOfMemory),
     }
+}
+
+/// Keeps the tests that the words choose. The error is that memory ran out.
+fn keep_chosen(
+    alloc: Global,
+    words: &TestWords<'_>,
+    tests: &mut Expectations,
+) -> Result<(), AllocError>
+    ensures { OnOk result (tests.new.list.items ≡ chosen words.now tests.old.list.items) }
+{
+    tests.keep_every(alloc, words.shard.first, words.shard.apart)?;
+    keep_meant(alloc, words.filter, tests)
 }

@@ -3,16 +3,16 @@ use Rattle.std.proofs.Common.{◌≡◌, ◌≢◌, ◌∙◌, ◌≤◌, ◌<�
 use Rattle.std.specs.Prelude.{◌&&◌, ◌↔◌, IsTrue, Option, Some, None, slice_get}
 use Rattle.asl_def.specs.private.EqualLaws.{equal_decides}
 use Rattle.std.specs.Option.{option_eq}
-use Rattle.asl_json.specs.Data.{Data, pairs}
+use Rattle.asl_json_data.specs.Data.{Data, pairs}
 use Rattle.asl_json.specs.Same.{equal, equal_members, bytes_eq}
 use Rattle.asl_json.proofs.Equality.{unequal_members}
-use Rattle.asl_def_table.specs.Canon.{Named}
-use Rattle.asl_def_members.specs.declared.processor.ProcessorConfig.{ProcessorConfig}
-use Rattle.asl_def_members.specs.declared.processor.Mode.{Mode}
-use Rattle.asl_def_members.specs.declared.processor.Mode.TheVariants.{Inline}
-use Rattle.asl_def_members.specs.Shown.{config_shown}
-use Rattle.asl_def_members.specs.contracts.processor.ProcessorConfigPartialEq.TheImpl as configs
-use Rattle.asl_def_members.proofs.Alike.{alike, shows, last}
+use Rattle.asl_def_schema.specs.Canon.{Named}
+use Rattle.asl_def_fields.specs.declared.processor.ProcessorConfig.{ProcessorConfig}
+use Rattle.asl_def_fields.specs.declared.processor.Mode.{Mode}
+use Rattle.asl_def_fields.specs.declared.processor.Mode.TheVariants.{Inline}
+use Rattle.asl_def_fields.specs.Shown.{config_shown}
+use Rattle.asl_def_fields.specs.contracts.processor.ProcessorConfigPartialEq.TheImpl as configs
+use Rattle.asl_def_fields.proofs.Alike.{alike, shows, last}
 use Rattle.asl_def_states.specs.declared.parallel.Parallel.{Parallel as ParallelState}
 use Rattle.asl_def_states.specs.declared.map.Map.{Map as MapState}
 use Rattle.asl_def_states.specs.declared.state.State.{State}
@@ -20,10 +20,10 @@ use Rattle.asl_def_states.specs.declared.state.State.TheVariants.{Task, Pass, Ch
 use Rattle.asl_def_states.specs.Show.{state_of}
 use Rattle.asl_def_states.specs.Equal.{state_same, machines_equal, branches_equal, machine_equal}
 use Rattle.asl_def_states.proofs.Alike.{state_alike}
-use Rattle.asl_def_parts.specs.declared.body.Body.{Body}
-use Rattle.asl_def_parts.specs.declared.heading.Heading.{Heading}
-use Rattle.asl_def_parts.specs.Bodies.{processor_members, processor_of, machine_members, machine_of}
-use Rattle.asl_def_parts.proofs.Alike.{texts, numbers}
+use Rattle.asl_def_shared.specs.declared.body.Body.{Body}
+use Rattle.asl_def_shared.specs.declared.heading.Heading.{Heading}
+use Rattle.asl_def_shared.specs.Bodies.{processor_members, processor_of, machine_members, machine_of}
+use Rattle.asl_def_shared.proofs.Alike.{texts, numbers}
 
 -- the states from one number on, so many
 abbrev pub rows : ℕ → ℕ → List Named → List Named

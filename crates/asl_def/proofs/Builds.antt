@@ -3,48 +3,48 @@ use Rattle.std.proofs.Common.{◌≡◌, ℕ, ◌+◌, ◌<◌, ◌≤◌, List,
 use Rattle.std.specs.Prelude.{Option, Some, None, is_some, Result, Ok, Err, IfOk, OnOk, option_map, codes, string_bytes, max, nat_le}
 use Rattle.std.proofs.lemmas.Bool.Decides.{nat_tests}
 use Rattle.std.proofs.lemmas.List.{take_more, take_all, drop_at, append-nil, map-append, length-map}
-use Rattle.asl_json.specs.Data.{Data, Pairs, no_members, member, Chain, depth, members_depth, text, list, dict, chain, pairs}
+use Rattle.asl_json_data.specs.Data.{Data, Pairs, no_members, member, Chain, depth, members_depth, text, list, dict, chain, pairs}
 use Rattle.asl_json.specs.Same.{bytes_eq}
 use Rattle.asl_json.specs.Meaning.{value_at}
 use Rattle.asl_json.specs.View.{data_of, items_of, member_of, members_of}
 use Rattle.asl_json.specs.declared.value.Json.{Json}
 use Rattle.asl_json.specs.declared.value.Member.{Member}
-use Rattle.asl_json.specs.Distinct.{has_key}
-use Rattle.asl_def_table.specs.declared.sort.Sort.{Sort}
-use Rattle.asl_def_table.specs.declared.sort.Sort.TheVariants as sort
-use Rattle.asl_def_table.specs.declared.sort.Kind.{Kind}
-use Rattle.asl_def_table.specs.declared.sort.Kind.TheVariants as kind
-use Rattle.asl_def_table.specs.Members.{Shape, shape_in, state_shape, sort_at, kind_named, machine_rows, item_processor_rows, parallel_rows, map_rows}
-use Rattle.asl_def_table.specs.Claims.{item_count, is_nonempty}
-use Rattle.asl_def_table.specs.States.{states_in, member_states}
-use Rattle.asl_def_table.specs.Canon.{Named, canon, kept_at, opt}
-use Rattle.asl_def_table.specs.Clean.{IsClean, Fits, IsThere}
-use Rattle.asl_def_table.proofs.Inside.{fits_at, object_inside}
-use Rattle.asl_def_table.proofs.Canons.{plain_kept}
-use Rattle.asl_def_table.proofs.Required.{machine_start, machine_states as states_there, item_processor_start, item_processor_states as processor_states_there}
-use Rattle.asl_def_table.proofs.Ways.{processor_one}
-use Rattle.asl_def_members.proofs.Items.{canon_each}
-use Rattle.asl_def_parts.specs.declared.body.Body.{Body}
+use Rattle.asl_json_data.specs.Distinct.{has_key}
+use Rattle.asl_def_schema.specs.declared.sort.Sort.{Sort}
+use Rattle.asl_def_schema.specs.declared.sort.Sort.TheVariants as sort
+use Rattle.asl_def_schema.specs.declared.sort.Kind.{Kind}
+use Rattle.asl_def_schema.specs.declared.sort.Kind.TheVariants as kind
+use Rattle.asl_def_schema.specs.Members.{Shape, shape_in, state_shape, sort_at, kind_named, machine_rows, item_processor_rows, parallel_rows, map_rows}
+use Rattle.asl_def_schema.specs.Claims.{item_count, is_nonempty}
+use Rattle.asl_def_schema.specs.States.{states_in, member_states}
+use Rattle.asl_def_schema.specs.Canon.{Named, canon, kept_at, opt}
+use Rattle.asl_def_schema.specs.Clean.{IsClean, Fits, IsThere}
+use Rattle.asl_def_schema.proofs.Inside.{fits_at, object_inside}
+use Rattle.asl_def_schema.proofs.Canons.{plain_kept}
+use Rattle.asl_def_schema.proofs.Required.{machine_start, machine_states as states_there, item_processor_start, item_processor_states as processor_states_there}
+use Rattle.asl_def_schema.proofs.Ways.{processor_one}
+use Rattle.asl_def_fields.proofs.Items.{canon_each}
+use Rattle.asl_def_shared.specs.declared.body.Body.{Body}
 use Rattle.asl_def.specs.declared.build.Own.{Own}
 use Rattle.asl_def.specs.declared.build.Span.{Span}
 use Rattle.asl_def_states.specs.declared.state.State.{State}
 use Rattle.asl_def_states.specs.declared.state.State.TheVariants.{Task, Pass, Choice, Wait, Parallel, Map, Succeed, Fail}
 use Rattle.asl_def_states.specs.declared.parallel.Parallel.{Parallel as ParallelState}
 use Rattle.asl_def_states.specs.declared.map.Map.{Map as MapState}
-use Rattle.asl_def_members.specs.declared.processor.ProcessorConfig.{ProcessorConfig}
-use Rattle.asl_def_members.specs.Shown.{config_shown}
+use Rattle.asl_def_fields.specs.declared.processor.ProcessorConfig.{ProcessorConfig}
+use Rattle.asl_def_fields.specs.Shown.{config_shown}
 use Rattle.asl_def_states.specs.declared.processor.Processor.{Processor}
 use Rattle.asl_def_states.specs.declared.processor.Processor.TheVariants.{Iterator, ItemProcessor}
-use Rattle.asl_def_parts.specs.Bodies.{body_of, bodies_of, processor_of, IsWithin, AreWithin}
+use Rattle.asl_def_shared.specs.Bodies.{body_of, bodies_of, processor_of, IsWithin, AreWithin}
 use Rattle.asl_def_states.specs.Show.{state_of, parallel_object, map_object, body_in, machine_shown, as_iterator, as_item_processor, StateIsWithin}
 use Rattle.asl_def.specs.Machines.{all_states}
-use Rattle.asl_def_parts.specs.Built.{IsOfKind}
+use Rattle.asl_def_shared.specs.Built.{IsOfKind}
 use Rattle.asl_def.specs.private.Built.{HasRoom, HasRoomInside, HasRoomFor, Grows, GrowsInside, IsMachine, IsCompiled, IsBody, AreBodies, IsState, IsSpan, AreOwn, OwnAreWithin, row_in, rows_in, canon_row, canon_rows, tally}
 use Rattle.asl_def.proofs.Tables.{state_of-append, bodies_of-append}
 use Rattle.asl_def.proofs.Tally.{tally-append, own_once, tally-rows, tally_member, inner, tally_states, inner_at, within_items, tally_items, items_at}
 use Rattle.asl_def.proofs.Gathers.{has_machines, no_states, parallel_states, iterator_states, processor_states, machine_states, item_processor_states, kept_there, kept_none, items_all, machines_states, items_all-push, inner_all, inner_all-push, own_states_are, canon_states}
 use Rattle.asl_def_states.proofs.Canonical.{machine_is, item_processor_is, kept_so}
-use Rattle.asl_def_parts.proofs.Fits.{is_there, clean_in}
+use Rattle.asl_def_shared.proofs.Fits.{is_there, clean_in}
 
 -- ---- longer tables
 

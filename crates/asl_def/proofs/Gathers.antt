@@ -2,16 +2,16 @@
 use Rattle.std.proofs.Common.{◌≡◌, ℕ, List, [], ◌∷◌, ◌++◌, Bool, true, false, refl, sym, ◌∙◌, ap, subst, append_assoc}
 use Rattle.std.specs.Prelude.{Option, Some, None, codes, option_map, if◌then◌else◌}
 use Rattle.std.proofs.lemmas.List.{append-nil}
-use Rattle.asl_json.specs.Data.{Data, Pairs, member, Chain, null, boolean, number, text, list, dict, chain, pairs}
+use Rattle.asl_json_data.specs.Data.{Data, Pairs, member, Chain, null, boolean, number, text, list, dict, chain, pairs}
 use Rattle.asl_json.specs.Same.{bytes_eq}
 use Rattle.asl_json.specs.Meaning.{value_at}
 use Rattle.asl_json.specs.View.{unpaired-pairs}
-use Rattle.asl_def_table.specs.declared.sort.Sort.{Sort}
-use Rattle.asl_def_table.specs.declared.sort.Sort.TheVariants as sort
-use Rattle.asl_def_table.specs.declared.sort.Kind.{Kind}
-use Rattle.asl_def_table.specs.declared.sort.Kind.TheVariants as kind
-use Rattle.asl_def_table.specs.Members.{Row, Shape, kind_rows, state_shape, shape_of, shape_in, sort_at, kind_named, definition_rows, machine_rows, item_processor_rows, task_rows, pass_rows, choice_rows, wait_rows, parallel_rows, map_rows, succeed_rows, fail_rows}
-use Rattle.asl_def_table.specs.Canon.{Named, opt, kept, kept_at, canon, canon_members, picked_at, kind_text}
+use Rattle.asl_def_schema.specs.declared.sort.Sort.{Sort}
+use Rattle.asl_def_schema.specs.declared.sort.Sort.TheVariants as sort
+use Rattle.asl_def_schema.specs.declared.sort.Kind.{Kind}
+use Rattle.asl_def_schema.specs.declared.sort.Kind.TheVariants as kind
+use Rattle.asl_def_schema.specs.Members.{Row, Shape, kind_rows, state_shape, shape_of, shape_in, sort_at, kind_named, definition_rows, machine_rows, item_processor_rows, task_rows, pass_rows, choice_rows, wait_rows, parallel_rows, map_rows, succeed_rows, fail_rows}
+use Rattle.asl_def_schema.specs.Canon.{Named, opt, kept, kept_at, canon, canon_members, picked_at, kind_text}
 use Rattle.asl_def.specs.Machines.{holds_states, all_states, states_of_members}
 use Rattle.asl_def.specs.private.Built.{canon_rows}
 use Rattle.asl_def_states.proofs.Canonical.{kind_is, typed, kept_so, machine_is, item_processor_is, definition_is}

@@ -6,9 +6,9 @@ use Rattle.std.specs.List.{AllByRecursion, IsDistinct}
 use Rattle.std.specs.String.{string_eq}
 use Rattle.std.specs.Map.{keys_of}
 use Rattle.std.proofs.lemmas.Cmp.{nat_list_eq_equiv}
-use Rattle.asl_json.specs.Distinct.{has_key}
+use Rattle.asl_json_data.specs.Distinct.{has_key}
 use Rattle.asl_def_states.specs.declared.state.State.{State}
-use Rattle.asl_def_table.specs.Canon.{Named}
+use Rattle.asl_def_schema.specs.Canon.{Named}
 use Rattle.asl_def_states.specs.Show.{state_of}
 use Rattle.asl_def.proofs.Tables.{has_key-append}
 

@@ -2,16 +2,16 @@
 use Rattle.std.proofs.Common.{◌≡◌, ℕ, List, [], ◌∷◌, Bool, true, false, ◌&&◌, not, ◌⊎◌, inl, inr, refl, sym, ap, ◌∙◌, subst}
 use Rattle.std.specs.Prelude.{Option, Some, None, option_map, codes, if◌then◌else◌}
 use Rattle.std.specs.Cmp.Lexicographic.{same_text}
-use Rattle.asl_json.specs.Data.{Data, null, boolean, number, text, list, dict, Chain, no_items, item, Pairs, no_members, member}
+use Rattle.asl_json_data.specs.Data.{Data, null, boolean, number, text, list, dict, Chain, no_items, item, Pairs, no_members, member}
 use Rattle.asl_json.specs.Same.{bytes_eq}
 use Rattle.asl_json.specs.Meaning.{value_at}
-use Rattle.asl_def_table.specs.declared.sort.Sort.{Sort}
-use Rattle.asl_def_table.specs.declared.sort.Sort.TheVariants as sort
-use Rattle.asl_def_table.specs.declared.sort.Kind.{Kind}
-use Rattle.asl_def_table.specs.declared.sort.Kind.TheVariants as kind
-use Rattle.asl_def_table.specs.Members.{Row, Shape, known_shape, sort_in, sort_at, shape_in, other_sort, item_sort, state_shape, kind_named, is_among, unsupported_names, machine_rows, item_processor_rows, untyped_rows, task_rows, pass_rows, choice_rows, wait_rows, map_rows, succeed_rows, fail_rows}
-use Rattle.asl_def_table.proofs.Deciding.{neither_is}
-use Rattle.asl_def_canonical.proofs.Amounts.{both_are}
+use Rattle.asl_def_schema.specs.declared.sort.Sort.{Sort}
+use Rattle.asl_def_schema.specs.declared.sort.Sort.TheVariants as sort
+use Rattle.asl_def_schema.specs.declared.sort.Kind.{Kind}
+use Rattle.asl_def_schema.specs.declared.sort.Kind.TheVariants as kind
+use Rattle.asl_def_schema.specs.Members.{Row, Shape, known_shape, sort_in, sort_at, shape_in, other_sort, item_sort, state_shape, kind_named, is_among, unsupported_names, machine_rows, item_processor_rows, untyped_rows, task_rows, pass_rows, choice_rows, wait_rows, map_rows, succeed_rows, fail_rows}
+use Rattle.asl_def_schema.proofs.Deciding.{neither_is}
+use Rattle.asl_def_canonical_laws.proofs.Amounts.{both_are}
 use Rattle.asl_def.specs.Machines.{holds_states}
 use Rattle.asl_def.specs.Upgraded.{newer, renamed, names_map, map_in, newer_value, newer_items, newer_members}
 

@@ -4,26 +4,26 @@ use Rattle.std.specs.Prelude.{Option, Some, None, is_some, option_map, map, code
 use Rattle.std.specs.Fmt.{decimal}
 use Rattle.std.specs.Cmp.Lexicographic.{same_text}
 use Rattle.std.proofs.lemmas.List.{append-nil}
-use Rattle.asl_json.specs.Data.{Data, null, boolean, number, text, list, dict, Chain, no_items, item, Pairs, no_members, member, pairs}
+use Rattle.asl_json_data.specs.Data.{Data, null, boolean, number, text, list, dict, Chain, no_items, item, Pairs, no_members, member, pairs}
 use Rattle.asl_json.specs.Same.{bytes_eq}
 use Rattle.asl_json.specs.Meaning.{value_at, count}
-use Rattle.asl_json.specs.Distinct.{Members}
-use Rattle.asl_def_table.specs.declared.sort.Sort.{Sort}
-use Rattle.asl_def_table.specs.declared.sort.Sort.TheVariants as sort
-use Rattle.asl_def_table.specs.declared.sort.Kind.{Kind}
-use Rattle.asl_def_table.specs.declared.sort.Kind.TheVariants as kind
-use Rattle.asl_def_table.specs.Members.{Row, Shape, shape_of, shape_in, state_shape, sort_at, item_sort, optional, kind_named, is_among, common_rows, machine_rows, item_processor_rows, map_rows}
-use Rattle.asl_def_table.specs.Claims.{Spot, under, heres, step, demands, claims, at_member, at_item, inside as inside_spot, member_claims, item_claims, row_claims, group_demands, is_object, is_nonempty}
-use Rattle.asl_def_table.specs.First.{Each, Hold}
-use Rattle.asl_def_table.specs.Clean.{IsCleanAmong, IsCleanInside}
-use Rattle.asl_def_table.specs.Canon.{Named, opt, kept, kept_at, canon, canon_items, canon_members, picked, picked_at}
-use Rattle.asl_def_table.proofs.Canons.{picked-canon, plain_kept, not_end}
-use Rattle.asl_def_table.proofs.Inside.{each_left, each_right, each_under, each_at, object_hold, object_inside}
-use Rattle.asl_def_table.proofs.Deciding.{not_true, neither_is}
-use Rattle.asl_def_table.proofs.Typed.{state_inside}
-use Rattle.asl_def_table.proofs.Ways.{processor_one, selector_one}
-use Rattle.asl_def_canonical.proofs.Amounts.{both_are}
-use Rattle.asl_def_canonical.proofs.Twice.{type_kept}
+use Rattle.asl_json_data.specs.Distinct.{Members}
+use Rattle.asl_def_schema.specs.declared.sort.Sort.{Sort}
+use Rattle.asl_def_schema.specs.declared.sort.Sort.TheVariants as sort
+use Rattle.asl_def_schema.specs.declared.sort.Kind.{Kind}
+use Rattle.asl_def_schema.specs.declared.sort.Kind.TheVariants as kind
+use Rattle.asl_def_schema.specs.Members.{Row, Shape, shape_of, shape_in, state_shape, sort_at, item_sort, optional, kind_named, is_among, common_rows, machine_rows, item_processor_rows, map_rows}
+use Rattle.asl_def_schema.specs.Claims.{Spot, under, heres, step, demands, claims, at_member, at_item, inside as inside_spot, member_claims, item_claims, row_claims, group_demands, is_object, is_nonempty}
+use Rattle.asl_def_schema.specs.First.{Each, Hold}
+use Rattle.asl_def_schema.specs.Clean.{IsCleanAmong, IsCleanInside}
+use Rattle.asl_def_schema.specs.Canon.{Named, opt, kept, kept_at, canon, canon_items, canon_members, picked, picked_at}
+use Rattle.asl_def_schema.proofs.Canons.{picked-canon, plain_kept, not_end}
+use Rattle.asl_def_schema.proofs.Inside.{each_left, each_right, each_under, each_at, object_hold, object_inside}
+use Rattle.asl_def_schema.proofs.Deciding.{not_true, neither_is}
+use Rattle.asl_def_schema.proofs.Typed.{state_inside}
+use Rattle.asl_def_schema.proofs.Ways.{processor_one, selector_one}
+use Rattle.asl_def_canonical_laws.proofs.Amounts.{both_are}
+use Rattle.asl_def_canonical_laws.proofs.Twice.{type_kept}
 use Rattle.asl_def.specs.Machines.{holds_states}
 use Rattle.asl_def.specs.Upgraded.{renamed, names_map, newer_value, newer_items, newer_members}
 use Rattle.asl_def.proofs.Newer.{spellings, IsOther, newer_option, members_leaf, value_at-newer, inside, kind_newer, machine_shape, processor_shape, map_shape, state_newer}

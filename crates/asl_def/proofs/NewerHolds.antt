@@ -4,23 +4,23 @@ use Rattle.std.proofs.Common.{◌≡◌, ℕ, suc, List, [], ◌∷◌, ◌++◌
 use Rattle.std.specs.Prelude.{Option, Some, None, is_some, option_map, map, codes, nat_le, if◌then◌else◌}
 use Rattle.std.specs.Fmt.{decimal}
 use Rattle.std.specs.Cmp.Lexicographic.{same_text}
-use Rattle.asl_json.specs.Data.{Data, null, boolean, number, text, list, dict, Chain, no_items, item, Pairs, no_members, member}
+use Rattle.asl_json_data.specs.Data.{Data, null, boolean, number, text, list, dict, Chain, no_items, item, Pairs, no_members, member}
 use Rattle.asl_json.specs.Same.{bytes_eq}
 use Rattle.asl_json.specs.Meaning.{value_at, count}
-use Rattle.asl_json.specs.Distinct.{Members}
-use Rattle.asl_def_table.specs.declared.sort.Sort.{Sort}
-use Rattle.asl_def_table.specs.declared.sort.Sort.TheVariants as sort
-use Rattle.asl_def_table.specs.declared.sort.Kind.{Kind}
-use Rattle.asl_def_table.specs.declared.sort.Kind.TheVariants as kind
-use Rattle.asl_def_table.specs.Members.{Row, Group, Shape, shape_of, shape_in, state_shape, sort_at, item_sort, kind_named, is_among, unsupported_names, processor_group, selector_group, transition, untyped_rows, definition_rows, machine_rows, item_processor_rows, task_rows, pass_rows, choice_rows, wait_rows, parallel_rows, map_rows, succeed_rows, fail_rows}
-use Rattle.asl_def_table.specs.Demands.{there, decided}
-use Rattle.asl_def_table.specs.Claims.{Claim, Spot, under, heres, step, demands, claims, at_member, at_item, inside as inside_spot, one_deeper, names_in, members_in, member_claims, item_claims, row_claims, group_demands, object_claims, is_template, is_nonempty, item_count, is_needed, has_any, is_true, counts, any_counts, any_in, is_doubled, is_twice}
-use Rattle.asl_def_table.specs.First.{Each, Hold}
-use Rattle.asl_def_table.proofs.Inside.{each_left, each_right, each_under, own_hold, object_hold}
-use Rattle.asl_def_table.proofs.Deciding.{IsGroup, not_true, neither_is}
+use Rattle.asl_json_data.specs.Distinct.{Members}
+use Rattle.asl_def_schema.specs.declared.sort.Sort.{Sort}
+use Rattle.asl_def_schema.specs.declared.sort.Sort.TheVariants as sort
+use Rattle.asl_def_schema.specs.declared.sort.Kind.{Kind}
+use Rattle.asl_def_schema.specs.declared.sort.Kind.TheVariants as kind
+use Rattle.asl_def_schema.specs.Members.{Row, Group, Shape, shape_of, shape_in, state_shape, sort_at, item_sort, kind_named, is_among, unsupported_names, processor_group, selector_group, transition, untyped_rows, definition_rows, machine_rows, item_processor_rows, task_rows, pass_rows, choice_rows, wait_rows, parallel_rows, map_rows, succeed_rows, fail_rows}
+use Rattle.asl_def_schema.specs.Demands.{there, decided}
+use Rattle.asl_def_schema.specs.Claims.{Claim, Spot, under, heres, step, demands, claims, at_member, at_item, inside as inside_spot, one_deeper, names_in, members_in, member_claims, item_claims, row_claims, group_demands, object_claims, is_template, is_nonempty, item_count, is_needed, has_any, is_true, counts, any_counts, any_in, is_doubled, is_twice}
+use Rattle.asl_def_schema.specs.First.{Each, Hold}
+use Rattle.asl_def_schema.proofs.Inside.{each_left, each_right, each_under, own_hold, object_hold}
+use Rattle.asl_def_schema.proofs.Deciding.{IsGroup, not_true, neither_is}
 use Rattle.asl_def_judge.proofs.Answering.{each-append}
-use Rattle.asl_def_canonical.proofs.Amounts.{both_are}
-use Rattle.asl_def_canonical.proofs.Members.{member_spot, under_holds}
+use Rattle.asl_def_canonical_laws.proofs.Amounts.{both_are}
+use Rattle.asl_def_canonical_laws.proofs.Members.{member_spot, under_holds}
 use Rattle.asl_def.specs.Machines.{holds_states}
 use Rattle.asl_def.specs.Upgraded.{renamed, newer, names_map, map_in, newer_value, newer_items, newer_members}
 use Rattle.asl_def.proofs.Newer.{by_name, spellings, IsOther, value_at-newer, items_leaf, members_leaf, inside, kind_newer, machine_shape, processor_shape, sorts_inside, map_shape}

@@ -3,18 +3,18 @@ use Rattle.std.proofs.Common.{◌≡◌, ℕ, suc, List, [], ◌∷◌, ◌++◌
 use Rattle.std.specs.Prelude.{Option, Some, None, map, codes, if◌then◌else◌}
 use Rattle.std.specs.Fmt.{decimal}
 use Rattle.std.specs.Cmp.Lexicographic.{same_text}
-use Rattle.asl_json.specs.Data.{Data, null, boolean, number, text, list, dict, Chain, no_items, item, Pairs, no_members, member}
+use Rattle.asl_json_data.specs.Data.{Data, null, boolean, number, text, list, dict, Chain, no_items, item, Pairs, no_members, member}
 use Rattle.asl_json.specs.Same.{bytes_eq}
 use Rattle.asl_json.specs.Meaning.{value_at}
-use Rattle.asl_def_table.specs.declared.fault.Step.{Step}
-use Rattle.asl_def_table.specs.declared.sort.Sort.{Sort}
-use Rattle.asl_def_table.specs.declared.sort.Sort.TheVariants as sort
-use Rattle.asl_def_table.specs.declared.sort.Kind.{Kind}
-use Rattle.asl_def_table.specs.declared.sort.Kind.TheVariants as kind
-use Rattle.asl_def_table.specs.Members.{Shape, shape_in, state_shape, sort_at, item_sort, kind_named, is_among, unsupported_names, machine_rows, item_processor_rows, processor_config_rows, map_rows}
-use Rattle.asl_def_table.specs.Claims.{step, is_list, is_object}
-use Rattle.asl_def_table.specs.First.{Each, Hold}
-use Rattle.asl_def_table.specs.States.{Named, further, own_name, states_in, item_states, member_states, unique_claims, names_of}
+use Rattle.asl_def_schema.specs.declared.fault.Step.{Step}
+use Rattle.asl_def_schema.specs.declared.sort.Sort.{Sort}
+use Rattle.asl_def_schema.specs.declared.sort.Sort.TheVariants as sort
+use Rattle.asl_def_schema.specs.declared.sort.Kind.{Kind}
+use Rattle.asl_def_schema.specs.declared.sort.Kind.TheVariants as kind
+use Rattle.asl_def_schema.specs.Members.{Shape, shape_in, state_shape, sort_at, item_sort, kind_named, is_among, unsupported_names, machine_rows, item_processor_rows, processor_config_rows, map_rows}
+use Rattle.asl_def_schema.specs.Claims.{step, is_list, is_object}
+use Rattle.asl_def_schema.specs.First.{Each, Hold}
+use Rattle.asl_def_schema.specs.States.{Named, further, own_name, states_in, item_states, member_states, unique_claims, names_of}
 use Rattle.asl_def.specs.Machines.{holds_states}
 use Rattle.asl_def.specs.Upgraded.{renamed, names_map, map_in, newer_value, newer_items, newer_members, upgraded}
 use Rattle.asl_def.proofs.Newer.{by_name, newer_leaf, inside, open_list, open_dict, machine_shape, processor_shape, sorts_inside, map_shape, again_inside}

@@ -4,21 +4,21 @@ use Rattle.std.specs.Prelude.{Option, Some, None, option_map, map, codes, String
 use Rattle.std.specs.Cmp.Lexicographic.{same_text}
 use Rattle.indexmap.specs.IndexMap.{set_value_at}
 use Rattle.std.proofs.lemmas.List.{map-append}
-use Rattle.asl_json.specs.Data.{Data, text, number, list, dict, item, Pairs, member, chain, pairs}
+use Rattle.asl_json_data.specs.Data.{Data, text, number, list, dict, item, Pairs, member, chain, pairs}
 use Rattle.asl_json.specs.Same.{bytes_eq}
 use Rattle.asl_json.specs.Meaning.{value_at}
-use Rattle.asl_def_table.specs.declared.sort.Sort.TheVariants as sort
-use Rattle.asl_def_table.specs.declared.sort.Kind.{Kind}
-use Rattle.asl_def_table.specs.declared.sort.Kind.TheVariants as kind
-use Rattle.asl_def_table.specs.Members.{Shape, shape_of, state_shape, sort_at, kind_named, definition_rows, machine_rows, item_processor_rows, parallel_rows, map_rows}
-use Rattle.asl_def_table.specs.Canon.{Named, opt, present}
-use Rattle.asl_def_canonical.proofs.Amounts.{both_are}
-use Rattle.asl_def_members.specs.declared.processor.ProcessorConfig.{ProcessorConfig}
-use Rattle.asl_def_members.specs.Shown.{path_shown, config_shown}
-use Rattle.asl_def_parts.specs.declared.body.Body.{Body}
-use Rattle.asl_def_parts.specs.declared.heading.Heading.{Heading}
-use Rattle.asl_def_parts.specs.Parts.{Slots, object, common_members, completion_members}
-use Rattle.asl_def_parts.specs.Bodies.{body_members, body_of, bodies_of, processor_members, processor_of, machine_members, machine_of, IsWithin}
+use Rattle.asl_def_schema.specs.declared.sort.Sort.TheVariants as sort
+use Rattle.asl_def_schema.specs.declared.sort.Kind.{Kind}
+use Rattle.asl_def_schema.specs.declared.sort.Kind.TheVariants as kind
+use Rattle.asl_def_schema.specs.Members.{Shape, shape_of, state_shape, sort_at, kind_named, definition_rows, machine_rows, item_processor_rows, parallel_rows, map_rows}
+use Rattle.asl_def_schema.specs.Canon.{Named, opt, present}
+use Rattle.asl_def_canonical_laws.proofs.Amounts.{both_are}
+use Rattle.asl_def_fields.specs.declared.processor.ProcessorConfig.{ProcessorConfig}
+use Rattle.asl_def_fields.specs.Shown.{path_shown, config_shown}
+use Rattle.asl_def_shared.specs.declared.body.Body.{Body}
+use Rattle.asl_def_shared.specs.declared.heading.Heading.{Heading}
+use Rattle.asl_def_shared.specs.Parts.{Slots, object, common_members, completion_members}
+use Rattle.asl_def_shared.specs.Bodies.{body_members, body_of, bodies_of, processor_members, processor_of, machine_members, machine_of, IsWithin}
 use Rattle.asl_def_states.specs.declared.parallel.Parallel.{Parallel as ParallelState}
 use Rattle.asl_def_states.specs.declared.map.Map.{Map as MapState}
 use Rattle.asl_def_states.specs.declared.processor.Selector.{Selector}

@@ -2,11 +2,11 @@
 use Rattle.std.proofs.Common.{◌≡◌, ℕ, List, Bool, true, false, ◌||◌, refl, sym, ap, ◌∙◌}
 use Rattle.std.specs.Prelude.{Option, Some, None, is_some, option_map, codes, if◌then◌else◌}
 use Rattle.std.specs.Cmp.Lexicographic.{same_text}
-use Rattle.asl_json.specs.Data.{Data, Pairs, no_members, member}
+use Rattle.asl_json_data.specs.Data.{Data, Pairs, no_members, member}
 use Rattle.asl_json.specs.Same.{bytes_eq}
 use Rattle.asl_json.specs.Meaning.{value_at}
 use Rattle.asl_json.proofs.Knowing.{bytes_eq-flip}
-use Rattle.asl_def_table.specs.Members.{Shape, sort_at}
+use Rattle.asl_def_schema.specs.Members.{Shape, sort_at}
 use Rattle.asl_def.specs.Upgraded.{newer, newer_value, newer_members}
 use Rattle.asl_def.proofs.Newer.{by_name}
 

@@ -2,16 +2,16 @@
 use Rattle.std.proofs.Common.{◌≡◌, ℕ, suc, List, [], ◌∷◌, ◌++◌, length, Bool, true, false, refl, sym, ap, ◌∙◌}
 use Rattle.std.specs.Prelude.{Option, Some, None, option_map, codes, if◌then◌else◌}
 use Rattle.std.proofs.lemmas.List.{map-append}
-use Rattle.asl_json.specs.Data.{Data, null, boolean, number, text, list, dict, Chain, no_items, item, Pairs, no_members, member, pairs}
+use Rattle.asl_json_data.specs.Data.{Data, null, boolean, number, text, list, dict, Chain, no_items, item, Pairs, no_members, member, pairs}
 use Rattle.asl_json.specs.Same.{bytes_eq}
 use Rattle.asl_json.specs.Meaning.{value_at, value_in}
 use Rattle.asl_json.specs.View.{unpaired}
-use Rattle.asl_def_table.specs.declared.sort.Sort.{Sort}
-use Rattle.asl_def_table.specs.declared.sort.Sort.TheVariants as sort
-use Rattle.asl_def_table.specs.declared.sort.Kind.{Kind}
-use Rattle.asl_def_table.specs.declared.sort.Kind.TheVariants as kind
-use Rattle.asl_def_table.specs.Members.{Shape, shape_of, shape_in, sort_at, item_sort, state_shape, kind_named, definition_rows, map_rows}
-use Rattle.asl_def_table.specs.Canon.{Named}
+use Rattle.asl_def_schema.specs.declared.sort.Sort.{Sort}
+use Rattle.asl_def_schema.specs.declared.sort.Sort.TheVariants as sort
+use Rattle.asl_def_schema.specs.declared.sort.Kind.{Kind}
+use Rattle.asl_def_schema.specs.declared.sort.Kind.TheVariants as kind
+use Rattle.asl_def_schema.specs.Members.{Shape, shape_of, shape_in, sort_at, item_sort, state_shape, kind_named, definition_rows, map_rows}
+use Rattle.asl_def_schema.specs.Canon.{Named}
 use Rattle.asl_def.specs.Machines.{holds_states, own_states, all_states, states_of_items, states_of_members, states_of, state_count, state_object, number_at, state_number}
 use Rattle.asl_def.specs.Upgraded.{renamed, names_map, map_in, newer_value, newer_items, newer_members, upgraded, newer_row, newer_rows}
 use Rattle.asl_def.proofs.Newer.{by_name, member_same, inside, open_list, open_dict, machine_shape, processor_shape, alike_inside, map_shape, again_inside}

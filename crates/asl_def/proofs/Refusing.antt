@@ -1,10 +1,10 @@
 -- What is refused has a fault, and what has none is accepted.
 use Rattle.std.proofs.Common.{◌≡◌, ◌∷◌, subst}
 use Rattle.std.specs.Prelude.{Option, Some, None}
-use Rattle.asl_json.specs.Data.{Data}
-use Rattle.asl_def_table.specs.First.{Each, Hold, Found, IsFirst, Answers}
-use Rattle.asl_def_table.specs.Faults.{Accepted, claims_of}
-use Rattle.asl_def_table.proofs.Inside.{each_right}
+use Rattle.asl_json_data.specs.Data.{Data}
+use Rattle.asl_def_schema.specs.First.{Each, Hold, Found, IsFirst, Answers}
+use Rattle.asl_def_schema.specs.Faults.{Accepted, claims_of}
+use Rattle.asl_def_schema.proofs.Inside.{each_right}
 use Rattle.asl_def.specs.declared.fault.DefFault.{DefFault}
 use Rattle.asl_def.specs.declared.fault.DefFault.TheVariants.{Refused, OutOfMemory}
 use Rattle.asl_def.specs.Answer.{Tells, IsAnswer}

@@ -1,10 +1,10 @@
 -- The parts of a machine in the newer spelling.
 use Rattle.std.proofs.Common.{◌≡◌, ℕ, List, sym, ap, ◌∙◌, subst}
-use Rattle.asl_def_table.specs.Canon.{Named, canonical}
-use Rattle.asl_def_table.specs.Faults.{Accepted}
-use Rattle.asl_def_parts.specs.declared.body.Body.{Body}
-use Rattle.asl_def_parts.specs.declared.heading.Heading.{Heading}
-use Rattle.asl_def_parts.specs.Bodies.{machine_of, IsWithin}
+use Rattle.asl_def_schema.specs.Canon.{Named, canonical}
+use Rattle.asl_def_schema.specs.Faults.{Accepted}
+use Rattle.asl_def_shared.specs.declared.body.Body.{Body}
+use Rattle.asl_def_shared.specs.declared.heading.Heading.{Heading}
+use Rattle.asl_def_shared.specs.Bodies.{machine_of, IsWithin}
 use Rattle.asl_def.specs.Machines.{states_of}
 use Rattle.asl_def.specs.Whole.{IsWhole}
 use Rattle.asl_def.specs.Upgraded.{upgraded, newer_rows}

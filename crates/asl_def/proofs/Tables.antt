@@ -5,15 +5,15 @@ use Rattle.std.specs.List.{position_or_len}
 use Rattle.std.specs.Cmp.Lexicographic.{pointwise}
 use Rattle.std.specs.Map.{lookup, keys_of}
 use Rattle.std.proofs.lemmas.List.{append-nil, map-append, take-append-le, drop-append-le, length-drop}
-use Rattle.asl_json.specs.Data.{Data, pairs}
+use Rattle.asl_json_data.specs.Data.{Data, pairs}
 use Rattle.asl_json.specs.Meaning.{value_at}
-use Rattle.asl_json.specs.Distinct.{has_key}
+use Rattle.asl_json_data.specs.Distinct.{has_key}
 use Rattle.asl_def_states.specs.declared.state.State.{State}
 use Rattle.asl_def_states.specs.declared.state.State.TheVariants.{Task, Pass, Choice, Wait, Parallel, Map, Succeed, Fail}
-use Rattle.asl_def_parts.specs.declared.body.Body.{Body}
+use Rattle.asl_def_shared.specs.declared.body.Body.{Body}
 use Rattle.asl_def.specs.Machines.{number_at}
-use Rattle.asl_def_table.specs.Canon.{Named}
-use Rattle.asl_def_parts.specs.Bodies.{body_of, bodies_of, IsWithin, AreWithin}
+use Rattle.asl_def_schema.specs.Canon.{Named}
+use Rattle.asl_def_shared.specs.Bodies.{body_of, bodies_of, IsWithin, AreWithin}
 use Rattle.asl_def_states.specs.Show.{state_of, shown, body_in, StateIsWithin, AreInOrder}
 
 -- what goes on behind does not change what is shown

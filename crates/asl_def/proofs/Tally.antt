@@ -3,21 +3,21 @@ use Rattle.std.proofs.Common.{◌≡◌, ℕ, zero, suc, ◌+◌, ◌≤◌, ◌
 use Rattle.std.specs.Prelude.{Option, Some, map, if◌then◌else◌}
 use Rattle.std.specs.Cmp.Lexicographic.{same_text}
 use Rattle.std.specs.Fmt.{decimal}
-use Rattle.asl_json.specs.Data.{Data, Pairs, no_members, member, chain, pairs}
+use Rattle.asl_json_data.specs.Data.{Data, Pairs, no_members, member, chain, pairs}
 use Rattle.asl_json.specs.Same.{bytes_eq}
 use Rattle.asl_json.specs.private.SameLaws.{bytes_refl}
 use Rattle.asl_json.specs.Meaning.{value_at}
-use Rattle.asl_json.specs.Distinct.{has_key}
+use Rattle.asl_json_data.specs.Distinct.{has_key}
 use Rattle.asl_json.specs.View.{data_of, items_of, members_of}
 use Rattle.asl_json.specs.declared.value.Json.{Json}
 use Rattle.asl_json.specs.declared.value.Member.{Member}
-use Rattle.asl_def_table.specs.declared.fault.Step.{Step}
-use Rattle.asl_def_table.specs.declared.sort.Sort.TheVariants as sort
-use Rattle.asl_def_table.specs.declared.sort.Kind.{Kind}
-use Rattle.asl_def_table.specs.Members.{Shape, shape_of, sort_at, is_among}
-use Rattle.asl_def_table.specs.First.{Each, Hold}
-use Rattle.asl_def_table.specs.States.{Named as StateNamed, further, own_name, states_in, item_states, member_states, unique_claims}
-use Rattle.asl_def_table.specs.Canon.{Named}
+use Rattle.asl_def_schema.specs.declared.fault.Step.{Step}
+use Rattle.asl_def_schema.specs.declared.sort.Sort.TheVariants as sort
+use Rattle.asl_def_schema.specs.declared.sort.Kind.{Kind}
+use Rattle.asl_def_schema.specs.Members.{Shape, shape_of, sort_at, is_among}
+use Rattle.asl_def_schema.specs.First.{Each, Hold}
+use Rattle.asl_def_schema.specs.States.{Named as StateNamed, further, own_name, states_in, item_states, member_states, unique_claims}
+use Rattle.asl_def_schema.specs.Canon.{Named}
 use Rattle.asl_def.specs.private.Built.{tally, canon_rows}
 
 pub tally-append : {A : Type 0} (k : List ℕ) (xs ys : List (List ℕ × A)) → tally k (xs ++ ys) ≡ tally k xs + tally k ys

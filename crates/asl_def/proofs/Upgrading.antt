@@ -1,14 +1,14 @@
 -- The laws of the newer spelling.
 use Rattle.std.proofs.Common.{◌≡◌, []}
-use Rattle.asl_json.specs.Data.{Data}
-use Rattle.asl_def_table.specs.declared.sort.Sort.TheVariants.{Definition}
-use Rattle.asl_def_table.specs.Claims.{claims, outside}
-use Rattle.asl_def_table.specs.First.{Hold}
-use Rattle.asl_def_table.specs.States.{states_in, unique_claims}
-use Rattle.asl_def_table.specs.Canon.{canonical}
-use Rattle.asl_def_table.specs.Faults.{Accepted}
-use Rattle.asl_def_table.proofs.Inside.{each_left}
-use Rattle.asl_def_table.proofs.Accepting.{accepted_unique}
+use Rattle.asl_json_data.specs.Data.{Data}
+use Rattle.asl_def_schema.specs.declared.sort.Sort.TheVariants.{Definition}
+use Rattle.asl_def_schema.specs.Claims.{claims, outside}
+use Rattle.asl_def_schema.specs.First.{Hold}
+use Rattle.asl_def_schema.specs.States.{states_in, unique_claims}
+use Rattle.asl_def_schema.specs.Canon.{canonical}
+use Rattle.asl_def_schema.specs.Faults.{Accepted}
+use Rattle.asl_def_schema.proofs.Inside.{each_left}
+use Rattle.asl_def_schema.proofs.Accepting.{accepted_unique}
 use Rattle.asl_def_judge.proofs.Answering.{each-append}
 use Rattle.asl_def.specs.Upgraded.{upgraded}
 use Rattle.asl_def.proofs.Newer.{newer_twice}

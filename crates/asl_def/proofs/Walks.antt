@@ -5,13 +5,13 @@ use Rattle.std.specs.List.{IsDistinct}
 use Rattle.std.specs.String.{string_eq}
 use Rattle.std.specs.Map.{keys_of}
 use Rattle.std.proofs.lemmas.List.{append-nil}
-use Rattle.asl_json.specs.Data.{Data}
-use Rattle.asl_json.specs.Distinct.{has_key, AreDistinct, distinct_push}
-use Rattle.asl_def_table.specs.Canon.{Named}
-use Rattle.asl_def_parts.specs.declared.body.Body.{Body}
+use Rattle.asl_json_data.specs.Data.{Data}
+use Rattle.asl_json_data.specs.Distinct.{has_key, AreDistinct, distinct_push}
+use Rattle.asl_def_schema.specs.Canon.{Named}
+use Rattle.asl_def_shared.specs.declared.body.Body.{Body}
 use Rattle.asl_def_states.specs.declared.state.State.{State}
 use Rattle.asl_def_states.specs.Show.{state_of, shown, StateIsWithin, AreInOrder}
-use Rattle.asl_def_parts.specs.Bodies.{IsWithin, AreWithin}
+use Rattle.asl_def_shared.specs.Bodies.{IsWithin, AreWithin}
 use Rattle.asl_def.proofs.Tables.{state_of-append, has_key-append, length-shown, shown_front}
 use Rattle.asl_def.proofs.NewNames.{AreNew, each_is_new}
 

@@ -1,27 +1,27 @@
 -- The machine of a definition without faults.
 use Rattle.std.proofs.Common.{◌≡◌, ℕ, suc, ◌<◌, List, [], ◌∷◌, ◌++◌, Bool, true, false, length, take, drop, refl, sym, subst, ◌∙◌, ap, arith}
 use Rattle.std.specs.Prelude.{Option, Some, None, codes, option_map, IfSome}
-use Rattle.asl_json.specs.Data.{Data, Pairs, text, number, dict, pairs}
+use Rattle.asl_json_data.specs.Data.{Data, Pairs, text, number, dict, pairs}
 use Rattle.asl_json.specs.Same.{bytes_eq}
 use Rattle.asl_json.specs.Meaning.{value_at}
-use Rattle.asl_def_table.specs.declared.sort.Sort.TheVariants as sort
-use Rattle.asl_def_table.specs.Members.{kind_named, definition_rows}
-use Rattle.asl_def_table.specs.States.{states_in}
-use Rattle.asl_def_table.specs.Canon.{Named, opt, kept_at, canon, canonical}
-use Rattle.asl_def_table.specs.Clean.{IsClean, IsThere}
-use Rattle.asl_def_table.specs.Faults.{Accepted}
+use Rattle.asl_def_schema.specs.declared.sort.Sort.TheVariants as sort
+use Rattle.asl_def_schema.specs.Members.{kind_named, definition_rows}
+use Rattle.asl_def_schema.specs.States.{states_in}
+use Rattle.asl_def_schema.specs.Canon.{Named, opt, kept_at, canon, canonical}
+use Rattle.asl_def_schema.specs.Clean.{IsClean, IsThere}
+use Rattle.asl_def_schema.specs.Faults.{Accepted}
 use Rattle.asl_json.specs.Sound.{KeysDiffer}
-use Rattle.asl_def_canonical.proofs.Accepted.{accepted_canonical}
-use Rattle.asl_def_canonical.proofs.Twice.{canonical_twice}
-use Rattle.asl_def_table.proofs.Canons.{plain_kept}
-use Rattle.asl_def_table.proofs.Inside.{clean, object_inside}
-use Rattle.asl_def_table.proofs.Required.{definition_start, definition_states as states_there}
-use Rattle.asl_def_table.proofs.Accepting.{accepted_clean, accepted_unique}
-use Rattle.asl_def_parts.specs.declared.body.Body.{Body}
+use Rattle.asl_def_canonical_laws.proofs.Accepted.{accepted_canonical}
+use Rattle.asl_def_canonical_laws.proofs.Twice.{canonical_twice}
+use Rattle.asl_def_schema.proofs.Canons.{plain_kept}
+use Rattle.asl_def_schema.proofs.Inside.{clean, object_inside}
+use Rattle.asl_def_schema.proofs.Required.{definition_start, definition_states as states_there}
+use Rattle.asl_def_schema.proofs.Accepting.{accepted_clean, accepted_unique}
+use Rattle.asl_def_shared.specs.declared.body.Body.{Body}
 use Rattle.asl_def.specs.declared.build.Span.{Span}
-use Rattle.asl_def_parts.specs.declared.heading.Heading.{Heading}
+use Rattle.asl_def_shared.specs.declared.heading.Heading.{Heading}
 use Rattle.asl_def_states.specs.declared.state.State.{State}
-use Rattle.asl_def_parts.specs.Bodies.{machine_of, IsWithin}
+use Rattle.asl_def_shared.specs.Bodies.{machine_of, IsWithin}
 use Rattle.asl_def_states.specs.Show.{state_of}
 use Rattle.asl_def.specs.Machines.{all_states, states_of, state_object, state_number, state_count, number_at}
 use Rattle.asl_def.specs.Whole.{IsWhole}
@@ -30,7 +30,7 @@ use Rattle.asl_def.proofs.Tally.{unique_once}
 use Rattle.asl_def.proofs.Gathers.{definition_states, canon_states}
 use Rattle.asl_def_states.proofs.Canonical.{definition_is, kept_so}
 use Rattle.asl_def.proofs.Builds.{member_room}
-use Rattle.asl_def_parts.proofs.Fits.{is_there}
+use Rattle.asl_def_shared.proofs.Fits.{is_there}
 
 pub definition_clean : (d : Data) → Accepted d → IsClean sort.Definition d
 definition_clean d a = clean (accepted_clean d a)

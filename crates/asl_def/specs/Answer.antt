@@ -1,11 +1,11 @@
 -- What a definition is refused for.
 use Rattle.std.specs.Prelude.{◌≡◌, ℕ, List, codes}
-use Rattle.asl_json.specs.Data.{Data}
-use Rattle.asl_json.specs.Pointers.{with_pointer}
-use Rattle.asl_def_table.specs.Demands.{words_of}
-use Rattle.asl_def_table.specs.First.{Found, IsFirst}
-use Rattle.asl_def_table.specs.Faults.{claims_of}
-use Rattle.asl_def_table.specs.Pointers.{pointer_text}
+use Rattle.asl_json_data.specs.Data.{Data}
+use Rattle.asl_json_write.specs.Pointers.{with_pointer}
+use Rattle.asl_def_schema.specs.Demands.{words_of}
+use Rattle.asl_def_schema.specs.First.{Found, IsFirst}
+use Rattle.asl_def_schema.specs.Faults.{claims_of}
+use Rattle.asl_def_schema.specs.Pointers.{pointer_text}
 use Rattle.asl_def.specs.declared.fault.DefFault.{DefFault}
 use Rattle.asl_def.specs.declared.fault.DefFault.TheVariants.{Refused, OutOfMemory}
 

@@ -1,13 +1,13 @@
 -- What a definition has by names.
 use Rattle.std.specs.Prelude.{ℕ, suc, List, [], ◌++◌, length, Bool, true, false, Option, Some, None, if◌then◌else◌, option_map}
-use Rattle.asl_json.specs.Data.{Data, null, boolean, number, text, list, dict, Chain, no_items, item, Pairs, no_members, member, pairs}
+use Rattle.asl_json_data.specs.Data.{Data, null, boolean, number, text, list, dict, Chain, no_items, item, Pairs, no_members, member, pairs}
 use Rattle.asl_json.specs.Same.{bytes_eq}
 use Rattle.asl_json.specs.Meaning.{value_at}
 use Rattle.asl_json.specs.View.{unpaired}
-use Rattle.asl_def_table.specs.declared.sort.Sort.{Sort}
-use Rattle.asl_def_table.specs.declared.sort.Sort.TheVariants as sort
-use Rattle.asl_def_table.specs.Members.{Shape, shape_in, sort_at, item_sort}
-use Rattle.asl_def_table.specs.Canon.{Named}
+use Rattle.asl_def_schema.specs.declared.sort.Sort.{Sort}
+use Rattle.asl_def_schema.specs.declared.sort.Sort.TheVariants as sort
+use Rattle.asl_def_schema.specs.Members.{Shape, shape_in, sort_at, item_sort}
+use Rattle.asl_def_schema.specs.Canon.{Named}
 
 -- what states stand in
 abbrev pub holds_states : Sort → Bool

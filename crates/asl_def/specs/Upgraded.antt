@@ -1,14 +1,14 @@
 -- A definition in the newer spelling of Map states. (Amazon States Language, "Map State".)
 use Rattle.std.specs.Prelude.{ℕ, List, Bool, true, false, Option, Some, if◌then◌else◌, codes, map}
-use Rattle.asl_json.specs.Data.{Data, null, boolean, number, text, list, dict, Chain, no_items, item, Pairs, no_members, member}
+use Rattle.asl_json_data.specs.Data.{Data, null, boolean, number, text, list, dict, Chain, no_items, item, Pairs, no_members, member}
 use Rattle.asl_json.specs.Same.{bytes_eq}
 use Rattle.asl_json.specs.Meaning.{value_at}
-use Rattle.asl_def_table.specs.declared.sort.Sort.{Sort}
-use Rattle.asl_def_table.specs.declared.sort.Sort.TheVariants as sort
-use Rattle.asl_def_table.specs.declared.sort.Kind.{Kind}
-use Rattle.asl_def_table.specs.declared.sort.Kind.TheVariants as kind
-use Rattle.asl_def_table.specs.Members.{Shape, shape_in, sort_at, item_sort, kind_named}
-use Rattle.asl_def_table.specs.Canon.{Named}
+use Rattle.asl_def_schema.specs.declared.sort.Sort.{Sort}
+use Rattle.asl_def_schema.specs.declared.sort.Sort.TheVariants as sort
+use Rattle.asl_def_schema.specs.declared.sort.Kind.{Kind}
+use Rattle.asl_def_schema.specs.declared.sort.Kind.TheVariants as kind
+use Rattle.asl_def_schema.specs.Members.{Shape, shape_in, sort_at, item_sort, kind_named}
+use Rattle.asl_def_schema.specs.Canon.{Named}
 use Rattle.asl_def.specs.Machines.{holds_states}
 
 -- the newer name of a member of a Map

@@ -1,11 +1,11 @@
 -- A machine with all its states.
 use Rattle.std.specs.Prelude.{◌≡◌, List, length}
-use Rattle.asl_json.specs.Data.{Data}
-use Rattle.asl_def_table.specs.Canon.{Named, canonical}
-use Rattle.asl_def_table.specs.Faults.{Accepted}
-use Rattle.asl_def_parts.specs.declared.heading.Heading.{Heading}
-use Rattle.asl_def_parts.specs.declared.body.Body.{Body}
-use Rattle.asl_def_parts.specs.Bodies.{machine_of, IsWithin}
+use Rattle.asl_json_data.specs.Data.{Data}
+use Rattle.asl_def_schema.specs.Canon.{Named, canonical}
+use Rattle.asl_def_schema.specs.Faults.{Accepted}
+use Rattle.asl_def_shared.specs.declared.heading.Heading.{Heading}
+use Rattle.asl_def_shared.specs.declared.body.Body.{Body}
+use Rattle.asl_def_shared.specs.Bodies.{machine_of, IsWithin}
 use Rattle.asl_def.specs.declared.machine.Parts.{Parts}
 use Rattle.asl_def.specs.Machines.{states_of}
 

@@ -2,23 +2,23 @@
 ghost use Rattle.std.specs.Prelude.{◌≡◌, ℕ, true, List, [], ◌∷◌, ◌++◌, Some, IfOk, OnOk, codes, option_map, length};
 ghost use Rattle.asl_json.specs.View.{data_of};
 ghost use Rattle.asl_json.specs.Meaning.{value_at};
-ghost use Rattle.asl_json.specs.Data.{text, list, dict, chain, pairs};
-ghost use Rattle.asl_json.specs.Distinct.{AreDistinct};
-ghost use Rattle.asl_def_table.specs.declared.sort.Sort.TheVariants.{Machines as machines_sort, State as state_sort, States as states_sort};
-ghost use Rattle.asl_def_table.specs.declared.sort.Form.TheVariants.{Object, List as ListForm};
-ghost use Rattle.asl_def_table.specs.Demands.{is_of};
-ghost use Rattle.asl_def_table.specs.declared.sort.Kind.TheVariants.{Parallel as parallel_kind, Map as map_kind};
-ghost use Rattle.asl_def_table.specs.Members.{kind_named};
-ghost use Rattle.asl_def_table.specs.Canon.{Named, canon};
-ghost use Rattle.asl_def_table.specs.Clean.{IsClean};
-ghost use Rattle.asl_def_parts.specs.Built.{IsOfKind};
+ghost use Rattle.asl_json_data.specs.Data.{text, list, dict, chain, pairs};
+ghost use Rattle.asl_json_data.specs.Distinct.{AreDistinct};
+ghost use Rattle.asl_def_schema.specs.declared.sort.Sort.TheVariants.{Machines as machines_sort, State as state_sort, States as states_sort};
+ghost use Rattle.asl_def_schema.specs.declared.sort.Form.TheVariants.{Object, List as ListForm};
+ghost use Rattle.asl_def_schema.specs.Demands.{is_of};
+ghost use Rattle.asl_def_schema.specs.declared.sort.Kind.TheVariants.{Parallel as parallel_kind, Map as map_kind};
+ghost use Rattle.asl_def_schema.specs.Members.{kind_named};
+ghost use Rattle.asl_def_schema.specs.Canon.{Named, canon};
+ghost use Rattle.asl_def_schema.specs.Clean.{IsClean};
+ghost use Rattle.asl_def_shared.specs.Built.{IsOfKind};
 ghost use Rattle.asl_def.specs.private.Built.{Grows, GrowsInside, HasRoom, HasRoomInside, HasRoomFor, IsMachine, IsCompiled, AreBodies, IsState, IsSpan, AreOwn, rows_in};
 
 use crate::table::Table;
-use asl_def_members::read_optional;
-use asl_def_parts::{Bodies, Body, Target};
+use asl_def_fields::read_optional;
+use asl_def_schema::{Kind, kind_named};
+use asl_def_shared::{Bodies, Body, Target};
 use asl_def_states::{Choice, Fail, Map, Parallel, Pass, Processor, State, Succeed, Task, Wait};
-use asl_def_table::{Kind, kind_named};
 use asl_json::{Items, Json, Members};
 use std::alloc::{AllocError, Global};
 

@@ -1,13 +1,13 @@
 // Whether two machines show the same: a walk through both tables at once, that takes no memory.
 ghost use Rattle.std.specs.Prelude.{◌≡◌, ◌≤◌, ◌+◌, length, take, drop, string_bytes};
-ghost use Rattle.asl_json.specs.Data.{list, chain, pairs};
+ghost use Rattle.asl_json_data.specs.Data.{list, chain, pairs};
 ghost use Rattle.asl_json.specs.Same.{bytes_eq, equal, equal_members};
-ghost use Rattle.asl_def_parts.specs.Bodies.{IsWithin, AreWithin, bodies_of, processor_of};
+ghost use Rattle.asl_def_shared.specs.Bodies.{IsWithin, AreWithin, bodies_of, processor_of};
 ghost use Rattle.asl_def_states.specs.Show.{StateIsWithin, state_of};
 
 use crate::table::Table;
-use asl_def_members::ProcessorConfig;
-use asl_def_parts::Body;
+use asl_def_fields::ProcessorConfig;
+use asl_def_shared::Body;
 use asl_def_states::State;
 
 fn are_one_name(a: &String, b: &String) -> bool

@@ -1,8 +1,8 @@
 // Why a definition is refused.
 ghost use Rattle.asl_def.specs.Answer.{Tells, def_line};
 
-use asl_def_table::{Fault, FaultKind};
-use asl_json::Pointer;
+use asl_def_schema::{Fault, FaultKind};
+use asl_json_write::Pointer;
 use std::alloc::{AllocError, Global};
 use std::error::Error;
 use std::fmt;

@@ -1,12 +1,12 @@
 // Machines as JSON.
 ghost use Rattle.std.specs.Prelude.{◌≡◌, ◌≤◌, ◌+◌, IfOk, length, take, drop};
 ghost use Rattle.asl_json.specs.View.{data_of};
-ghost use Rattle.asl_def_parts.specs.Bodies.{IsWithin, AreWithin, bodies_of, processor_of};
+ghost use Rattle.asl_def_shared.specs.Bodies.{IsWithin, AreWithin, bodies_of, processor_of};
 ghost use Rattle.asl_def_states.specs.Show.{StateIsWithin, state_of};
 
 use crate::table::Table;
-use asl_def_members::{ProcessorConfig, object};
-use asl_def_parts::{Body, and, with_optional};
+use asl_def_fields::{ProcessorConfig, object};
+use asl_def_shared::{Body, and, with_optional};
 use asl_def_states::State;
 use asl_json::{Items, Json, Members, Txt};
 use std::alloc::{AllocError, Global};

@@ -2,13 +2,13 @@
 ghost use Rattle.std.specs.Prelude.{◌≡◌, ◌↔◌, ◌<◌, Some, codes, length, option_map, slice_get, string_bytes, IfOk, IfErr, IfSome, IsTrue, IsFalse};
 ghost use Rattle.std.specs.Arc.{arc_value};
 ghost use Rattle.asl_json.specs.View.{data_of};
-ghost use Rattle.asl_json.specs.Data.{text};
-ghost use Rattle.asl_json.specs.Compact.{compact};
+ghost use Rattle.asl_json_data.specs.Data.{text};
+ghost use Rattle.asl_json_data.specs.Compact.{compact};
 ghost use Rattle.asl_json.specs.Same.{equal};
 ghost use Rattle.asl_json.specs.Meaning.{value_in};
-ghost use Rattle.asl_def_table.specs.Canon.{canonical};
-ghost use Rattle.asl_def_table.specs.Faults.{Accepted};
-ghost use Rattle.asl_def_members.specs.Retries.{whole_in};
+ghost use Rattle.asl_def_schema.specs.Canon.{canonical};
+ghost use Rattle.asl_def_schema.specs.Faults.{Accepted};
+ghost use Rattle.asl_def_fields.specs.Retries.{whole_in};
 ghost use Rattle.asl_def_states.specs.Show.{state_of};
 ghost use Rattle.asl_def.specs.Machines.{states_of, state_object, state_number, state_count};
 ghost use Rattle.asl_def.specs.Own.{own_states_in};
@@ -21,11 +21,12 @@ use crate::equal::equals_states;
 use crate::fault::{DefFault, answer};
 use crate::json::states_json;
 use crate::table::Table;
+use asl_def_fields::{object, read_optional};
 use asl_def_judge::first_fault;
-use asl_def_members::{object, read_optional};
-use asl_def_parts::{Body, Heading, Target, and, with_optional};
+use asl_def_shared::{Body, Heading, Target, and, with_optional};
 use asl_def_states::State;
-use asl_json::{Json, every_value_is_sound, write};
+use asl_json::{Json, Txt, every_value_is_sound};
+use asl_json_write::write;
 use std::alloc::{AllocError, Global};
 use std::marker::Model;
 use std::sync::Arc;
@@ -90,7 +91,7 @@ impl Drop for Machine {
 }
 
 impl Model for Machine {
-    ghost use Rattle.asl_json.specs.Data.{Data};
+    ghost use Rattle.asl_json_data.specs.Data.{Data};
     ghost use Rattle.asl_json.specs.private.Code.{coded_data};
 
     ghost Value = { Data };
@@ -193,6 +194,30 @@ impl Machine {
             Some(seconds) => Some(seconds.value()),
             None => None,
         }
+    }
+
+    /// `Comment`.
+    pub fn comment(&self) -> Option<&Txt>
+        ensures { option_map (λ t. text t.now) result
+            ≡ value_in (codes "Comment") self.now }
+    {
+        self.parts().root.comment.as_ref()
+    }
+
+    /// `Version`.
+    pub fn version(&self) -> Option<&Txt>
+        ensures { option_map (λ t. text t.now) result
+            ≡ value_in (codes "Version") self.now }
+    {
+        self.parts().heading.version.as_ref()
+    }
+
+    /// `QueryLanguage`.
+    pub fn query_language(&self) -> Option<&Txt>
+        ensures { option_map (λ t. text t.now) result
+            ≡ value_in (codes "QueryLanguage") self.now }
+    {
+        self.parts().heading.query_language.as_ref()
     }
 
     /// The state of this name, in whatever machine it stands, by a hash. Contracts see its object over the states of the

@@ -1,7 +1,7 @@
 // The states of a whole definition in one table.
 ghost use Rattle.std.specs.Prelude.{◌≡◌, ◌∷◌, ◌++◌, [], Some, false, length, slice_get, string_bytes, IfSome, IfNone, OnOk, OnErr, ◌≤◌, option_map};
-ghost use Rattle.asl_json.specs.Data.{pairs};
-ghost use Rattle.asl_json.specs.Distinct.{AreDistinct, has_key};
+ghost use Rattle.asl_json_data.specs.Data.{pairs};
+ghost use Rattle.asl_json_data.specs.Distinct.{AreDistinct, has_key};
 ghost use Rattle.asl_json.specs.Meaning.{value_at};
 ghost use Rattle.asl_def.specs.Machines.{number_at};
 ghost use Rattle.asl_def_states.specs.Show.{state_of, StateIsWithin};
@@ -28,7 +28,7 @@ impl Drop for Table {
 
 impl Model for Table {
     ghost use Rattle.std.specs.Prelude.{List, ℕ};
-    ghost use Rattle.asl_json.specs.Data.{Data};
+    ghost use Rattle.asl_json_data.specs.Data.{Data};
     ghost use Rattle.asl_json.specs.private.Code.{coded_members};
 
     ghost Value = { List (List ℕ × Data) };

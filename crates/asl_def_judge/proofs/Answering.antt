@@ -3,12 +3,12 @@ use Rattle.std.proofs.Common.{◌≡◌, ◌<◌, ◌≤◌, List, [], ◌∷◌
 use Rattle.std.specs.Prelude.{Option, Some, None, map, option_map, nat_lt, if◌then◌else◌}
 use Rattle.std.proofs.lemmas.List.{map-append}
 use Rattle.std.proofs.lemmas.Bool.Decides.{nat_tests}
-use Rattle.asl_def_table.specs.declared.fault.FaultKind.{FaultKind}
-use Rattle.asl_def_table.specs.declared.fault.Step.{Step}
-use Rattle.asl_def_table.specs.declared.fault.FaultKind.TheVariants as kind
-use Rattle.asl_def_table.specs.Demands.{Demand, supported, in_range, alone, decided, named, unique, last, within, Holds, fault_of, number_of}
-use Rattle.asl_def_table.specs.Claims.{Claim, under, here, heres}
-use Rattle.asl_def_table.specs.First.{Hold, IsBroken, Each, Found, number, IsFirst, Answers, better}
+use Rattle.asl_def_schema.specs.declared.fault.FaultKind.{FaultKind}
+use Rattle.asl_def_schema.specs.declared.fault.Step.{Step}
+use Rattle.asl_def_schema.specs.declared.fault.FaultKind.TheVariants as kind
+use Rattle.asl_def_schema.specs.Demands.{Demand, supported, in_range, alone, decided, named, unique, last, within, Holds, fault_of, number_of}
+use Rattle.asl_def_schema.specs.Claims.{Claim, under, here, heres}
+use Rattle.asl_def_schema.specs.First.{Hold, IsBroken, Each, Found, number, IsFirst, Answers, better}
 use Rattle.asl_def_judge.specs.private.Firsts.{under_step, at_root, Judges, sooner, unless}
 
 pub each-append : (P : Claim → Type 0) (xs ys : List Claim) → Each P xs → Each P ys → Each P (xs ++ ys)

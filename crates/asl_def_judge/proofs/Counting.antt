@@ -2,10 +2,10 @@
 use Rattle.std.proofs.Common.{◌≡◌, suc, List, [], ◌∷◌, false, not, length, refl, ap, arith}
 use Rattle.std.specs.Prelude.{nat_eq}
 use Rattle.std.proofs.lemmas.Bool.Decides.{nat_tests}
-use Rattle.asl_json.specs.Data.{chain}
+use Rattle.asl_json_data.specs.Data.{chain}
 use Rattle.asl_json.specs.View.{items_of}
 use Rattle.asl_json.specs.declared.value.Json.{Json}
-use Rattle.asl_def_table.specs.Claims.{is_nonempty, item_count}
+use Rattle.asl_def_schema.specs.Claims.{is_nonempty, item_count}
 
 pub items_counted : (vs : List Json) → length vs ≡ item_count (chain (items_of vs))
 items_counted [] = refl

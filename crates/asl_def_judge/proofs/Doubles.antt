@@ -8,20 +8,20 @@ use Rattle.std.specs.String.{string_eq, string_bytes}
 use Rattle.std.proofs.lemmas.Map.Text.{hash_set_updates_text}
 use Rattle.asl_json.proofs.Knowing.{bytes_eq-flip}
 use Rattle.std.proofs.lemmas.List.{drop_more, drop_all, append-nil, map-append}
-use Rattle.asl_json.specs.Data.{Data, chain, pairs}
+use Rattle.asl_json_data.specs.Data.{Data, chain, pairs}
 use Rattle.asl_json.specs.Same.{bytes_eq}
 use Rattle.asl_json.specs.View.{data_of, items_of, members_of}
 use Rattle.asl_json.specs.declared.value.Json.{Json}
 use Rattle.asl_json.specs.declared.value.Member.{Member}
-use Rattle.asl_def_table.specs.declared.fault.FaultKind.TheVariants.{DuplicateState}
-use Rattle.asl_def_table.specs.declared.fault.Step.{Step}
-use Rattle.asl_def_table.specs.declared.sort.Sort.{Sort}
-use Rattle.asl_def_table.specs.Members.{Shape, sort_at, is_among}
-use Rattle.asl_def_table.specs.Demands.{number_of, unique}
-use Rattle.asl_def_table.specs.Claims.{Claim, step, under}
-use Rattle.asl_def_table.specs.First.{Hold, Each, Found, number, IsFirst}
+use Rattle.asl_def_schema.specs.declared.fault.FaultKind.TheVariants.{DuplicateState}
+use Rattle.asl_def_schema.specs.declared.fault.Step.{Step}
+use Rattle.asl_def_schema.specs.declared.sort.Sort.{Sort}
+use Rattle.asl_def_schema.specs.Members.{Shape, sort_at, is_among}
+use Rattle.asl_def_schema.specs.Demands.{number_of, unique}
+use Rattle.asl_def_schema.specs.Claims.{Claim, step, under}
+use Rattle.asl_def_schema.specs.First.{Hold, Each, Found, number, IsFirst}
 use Rattle.asl_def_judge.specs.private.Firsts.{under_step}
-use Rattle.asl_def_table.specs.States.{Named, further, own_name, states_in, item_states, member_states, unique_claims, names_of, Has, Finds}
+use Rattle.asl_def_schema.specs.States.{Named, further, own_name, states_in, item_states, member_states, unique_claims, names_of, Has, Finds}
 use Rattle.asl_def_judge.proofs.Answering.{each-append, each-weaken, first_before, first_behind, vacuous, answers-under, one_broken}
 
 unique_append : (ks : List (List ℕ)) (xs ys : List Named) → unique_claims ks (xs ++ ys) ≡ unique_claims ks xs ++ unique_claims (ks ++ names_of xs) ys

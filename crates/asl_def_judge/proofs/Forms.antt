@@ -1,10 +1,10 @@
 -- What sorts ask for.
 use Rattle.std.proofs.Common.{◌≡◌, refl}
-use Rattle.asl_json.specs.Data.{Data}
-use Rattle.asl_def_table.specs.declared.sort.Sort.{Sort}
-use Rattle.asl_def_table.specs.declared.sort.Sort.TheVariants as sort
-use Rattle.asl_def_table.specs.Demands.{form_of, typed}
-use Rattle.asl_def_table.specs.Claims.{form_demand}
+use Rattle.asl_json_data.specs.Data.{Data}
+use Rattle.asl_def_schema.specs.declared.sort.Sort.{Sort}
+use Rattle.asl_def_schema.specs.declared.sort.Sort.TheVariants as sort
+use Rattle.asl_def_schema.specs.Demands.{form_of, typed}
+use Rattle.asl_def_schema.specs.Claims.{form_demand}
 
 pub typed_form : (s : Sort) (d : Data) → (s ≡ sort.Definition → ⊥) → form_demand s d ≡ typed (form_of s) d
 typed_form sort.Definition d n = absurd (n refl)

@@ -1,13 +1,13 @@
 -- Machines are judged alike, whatever they are called.
 use Rattle.std.proofs.Common.{◌≡◌, ℕ, List, [], ◌∷◌, Bool, ◌⊎◌, inl, inr, refl, sym, ap, ◌∙◌, subst}
 use Rattle.std.specs.Prelude.{Option, Result, IfOk, nat_lt}
-use Rattle.asl_json.specs.Data.{Pairs}
-use Rattle.asl_def_table.specs.declared.sort.Sort.{Sort}
-use Rattle.asl_def_table.specs.declared.sort.Sort.TheVariants as sort
-use Rattle.asl_def_table.specs.Members.{Shape}
-use Rattle.asl_def_table.specs.Demands.{Demand, within}
-use Rattle.asl_def_table.specs.Claims.{Spot, spot_demands, max_machines, inside, one_deeper, names_in, member_claims}
-use Rattle.asl_def_table.specs.First.{Found, Answers}
+use Rattle.asl_json_data.specs.Data.{Pairs}
+use Rattle.asl_def_schema.specs.declared.sort.Sort.{Sort}
+use Rattle.asl_def_schema.specs.declared.sort.Sort.TheVariants as sort
+use Rattle.asl_def_schema.specs.Members.{Shape}
+use Rattle.asl_def_schema.specs.Demands.{Demand, within}
+use Rattle.asl_def_schema.specs.Claims.{Spot, spot_demands, max_machines, inside, one_deeper, names_in, member_claims}
+use Rattle.asl_def_schema.specs.First.{Found, Answers}
 
 -- of how many machines one stands in
 pub machine_spot : (p : Spot) (s : Sort) → (s ≡ sort.Machine) ⊎ (s ≡ sort.ItemProcessor) → spot_demands p s ≡ within (nat_lt p.level max_machines) ∷ []

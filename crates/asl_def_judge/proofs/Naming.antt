@@ -1,12 +1,12 @@
 -- The names of a machine's states, by its members.
 use Rattle.std.proofs.Common.{◌≡◌, ℕ, Bool, true, false, ◌||◌, List, [], ◌∷◌, refl, sym, ap, ◌∙◌}
 use Rattle.std.specs.Prelude.{Some, Option, is_some}
-use Rattle.asl_json.specs.Data.{Data, Pairs, dict, pairs}
+use Rattle.asl_json_data.specs.Data.{Data, Pairs, dict, pairs}
 use Rattle.asl_json.specs.Same.{bytes_eq}
-use Rattle.asl_json.specs.Distinct.{has_key}
+use Rattle.asl_json_data.specs.Distinct.{has_key}
 use Rattle.asl_json.specs.Meaning.{value_at}
 use Rattle.std.specs.Prelude.{codes}
-use Rattle.asl_def_table.specs.Claims.{names_in, members_in}
+use Rattle.asl_def_schema.specs.Claims.{names_in, members_in}
 
 pub key_is_there : (k : List ℕ) (xs : List (List ℕ × Data)) → has_key k xs ≡ is_some (value_at k (pairs xs))
 key_is_there k [] = refl

@@ -1,13 +1,13 @@
 -- What is demanded of a list or an object that is searched, and of one that isn't.
 use Rattle.std.proofs.Common.{◌≡◌, Bool, true, false, List, [], sym, subst, ◌∙◌}
 use Rattle.std.specs.Prelude.{Option, option_map}
-use Rattle.asl_def_table.specs.declared.fault.FaultKind.{FaultKind}
-use Rattle.asl_json.specs.Data.{Data, Chain, Pairs, list, dict}
+use Rattle.asl_def_schema.specs.declared.fault.FaultKind.{FaultKind}
+use Rattle.asl_json_data.specs.Data.{Data, Chain, Pairs, list, dict}
 use Rattle.asl_json.specs.Meaning.{count}
-use Rattle.asl_def_table.specs.declared.sort.Sort.{Sort}
-use Rattle.asl_def_table.specs.Members.{Shape, shape_in, item_sort}
-use Rattle.asl_def_table.specs.Claims.{Claim, Spot, heres, demands, claims, item_claims, member_claims, row_claims, group_demands, inside, object_claims, is_list, is_object}
-use Rattle.asl_def_table.specs.First.{Found, Answers, better}
+use Rattle.asl_def_schema.specs.declared.sort.Sort.{Sort}
+use Rattle.asl_def_schema.specs.Members.{Shape, shape_in, item_sort}
+use Rattle.asl_def_schema.specs.Claims.{Claim, Spot, heres, demands, claims, item_claims, member_claims, row_claims, group_demands, inside, object_claims, is_list, is_object}
+use Rattle.asl_def_schema.specs.First.{Found, Answers, better}
 use Rattle.asl_def_judge.specs.private.Firsts.{Judges, at_root}
 use Rattle.asl_def_judge.proofs.Answering.{answers-append}
 use Rattle.std.proofs.lemmas.List.{append-nil}

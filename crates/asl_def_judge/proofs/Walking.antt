@@ -4,23 +4,23 @@ use Rattle.std.specs.Prelude.{Option, Some, None, is_some, option_map, map, nat_
 use Rattle.std.specs.Fmt.{decimal}
 use Rattle.std.proofs.lemmas.List.{drop_more, drop_all, take_more, map-append}
 use Rattle.std.proofs.lemmas.Bool.Decides.{nat_tests}
-use Rattle.asl_json.specs.Data.{Data, chain, Pairs, pairs}
+use Rattle.asl_json_data.specs.Data.{Data, chain, Pairs, pairs}
 use Rattle.asl_json.specs.Same.{bytes_eq}
-use Rattle.asl_json.specs.Distinct.{Members}
+use Rattle.asl_json_data.specs.Distinct.{Members}
 use Rattle.asl_json.specs.Meaning.{value_at, count}
 use Rattle.asl_json.specs.View.{data_of, items_of, members_of, member_of}
 use Rattle.asl_json.specs.declared.value.Json.{Json}
 use Rattle.asl_json.specs.declared.value.Member.{Member}
-use Rattle.asl_def_table.specs.declared.fault.FaultKind.{FaultKind}
-use Rattle.asl_def_table.specs.declared.fault.FaultKind.TheVariants as kind
-use Rattle.asl_def_table.specs.declared.sort.Sort.{Sort}
-use Rattle.asl_def_table.specs.declared.rows.Row.{Row as CodeRow}
-use Rattle.asl_def_table.specs.declared.rows.Group.{Group as CodeGroup}
-use Rattle.asl_def_table.specs.Members.{Row, Group, Shape, sort_at, is_among}
-use Rattle.asl_def_table.specs.Demands.{Demand, there, decided}
-use Rattle.asl_def_table.specs.private.Code.{row_of, rows_of, group_of, groups_of}
-use Rattle.asl_def_table.specs.Claims.{Claim, Spot, under, step, is_nonempty, at_item, at_member, claims, item_claims, member_claims, row_claims, is_needed, group_demands, any_in, any_counts, counts}
-use Rattle.asl_def_table.specs.First.{Found, Answers, better}
+use Rattle.asl_def_schema.specs.declared.fault.FaultKind.{FaultKind}
+use Rattle.asl_def_schema.specs.declared.fault.FaultKind.TheVariants as kind
+use Rattle.asl_def_schema.specs.declared.sort.Sort.{Sort}
+use Rattle.asl_def_schema.specs.declared.rows.Row.{Row as CodeRow}
+use Rattle.asl_def_schema.specs.declared.rows.Group.{Group as CodeGroup}
+use Rattle.asl_def_schema.specs.Members.{Row, Group, Shape, sort_at, is_among}
+use Rattle.asl_def_schema.specs.Demands.{Demand, there, decided}
+use Rattle.asl_def_schema.specs.private.Code.{row_of, rows_of, group_of, groups_of}
+use Rattle.asl_def_schema.specs.Claims.{Claim, Spot, under, step, is_nonempty, at_item, at_member, claims, item_claims, member_claims, row_claims, is_needed, group_demands, any_in, any_counts, counts}
+use Rattle.asl_def_schema.specs.First.{Found, Answers, better}
 use Rattle.asl_def_judge.specs.private.Firsts.{under_step, Judges, sooner, unless}
 use Rattle.asl_def_judge.proofs.Answering.{answers-append, answers-under, judges-append, decided_judged, one_broken}
 

@@ -1,15 +1,15 @@
 // The first fault of a definition.
 ghost use Rattle.std.specs.Prelude.{IfOk, []};
 ghost use Rattle.asl_json.specs.View.{data_of};
-ghost use Rattle.asl_def_table.specs.First.{Answers};
-ghost use Rattle.asl_def_table.specs.Faults.{claims_of};
-ghost use Rattle.asl_def_table.specs.States.{Has, states_in, unique_claims};
-ghost use Rattle.asl_def_table.specs.declared.sort.Sort.TheVariants.{Definition};
+ghost use Rattle.asl_def_schema.specs.First.{Answers};
+ghost use Rattle.asl_def_schema.specs.Faults.{claims_of};
+ghost use Rattle.asl_def_schema.specs.States.{Has, states_in, unique_claims};
+ghost use Rattle.asl_def_schema.specs.declared.sort.Sort.TheVariants.{Definition};
 
 use crate::spot::Spot;
 use crate::states::with_states;
 use crate::walk::{better, check};
-use asl_def_table::{Fault, Sort};
+use asl_def_schema::{Fault, Sort};
 use asl_json::Json;
 use std::alloc::{AllocError, Global};
 use std::collections::HashSet;

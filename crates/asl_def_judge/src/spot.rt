@@ -1,7 +1,7 @@
 // Where a value stands.
 ghost use Rattle.std.specs.Prelude.{◌≡◌};
 ghost use Rattle.asl_def_judge.specs.private.Spots.{spot_of};
-ghost use Rattle.asl_def_table.specs.Claims.{one_deeper, at_item, max_machines};
+ghost use Rattle.asl_def_schema.specs.Claims.{one_deeper, at_item, max_machines};
 
 use std::collections::HashSet;
 

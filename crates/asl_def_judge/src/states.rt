@@ -1,13 +1,13 @@
 // The names of the states of a whole definition, which are to differ.
 ghost use Rattle.std.specs.Prelude.{◌++◌, ℕ, List, IfOk};
 ghost use Rattle.asl_json.specs.View.{data_of};
-ghost use Rattle.asl_json.specs.Data.{pairs, chain};
-ghost use Rattle.asl_def_table.specs.private.Code.{shape_seen};
-ghost use Rattle.asl_def_table.specs.Members.{sort_at};
-ghost use Rattle.asl_def_table.specs.States.{Has, Finds, own_name, states_in, item_states, member_states};
+ghost use Rattle.asl_json_data.specs.Data.{pairs, chain};
+ghost use Rattle.asl_def_schema.specs.private.Code.{shape_seen};
+ghost use Rattle.asl_def_schema.specs.Members.{sort_at};
+ghost use Rattle.asl_def_schema.specs.States.{Has, Finds, own_name, states_in, item_states, member_states};
 
 use crate::value::{is_list, is_object};
-use asl_def_table::{Fault, FaultKind, Shape, Sort, item_sort, shape_in, sort_at};
+use asl_def_schema::{Fault, FaultKind, Shape, Sort, item_sort, shape_in, sort_at};
 use asl_json::{Items, Json, Member, Members};
 use std::alloc::{AllocError, Global};
 use std::collections::HashSet;

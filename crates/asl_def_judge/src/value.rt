@@ -1,18 +1,18 @@
 // What is demanded of a value by itself.
 ghost use Rattle.std.specs.Prelude.{◌≡◌, ◌↔◌, ◌∷◌, [], IfOk, IsTrue, if◌then◌else◌, pos, nat_le, ◌==◌, ◌&&◌};
 ghost use Rattle.asl_json.specs.Whole.{whole_of};
-ghost use Rattle.asl_json.specs.Number.{units_of};
+ghost use Rattle.asl_json_data.specs.Number.{units_of};
 ghost use Rattle.asl_json.specs.View.{data_of};
-ghost use Rattle.asl_json.specs.Data.{chain};
+ghost use Rattle.asl_json_data.specs.Data.{chain};
 ghost use Rattle.asl_path.specs.Grammar.{IsPath, StartsFrom};
 ghost use Rattle.asl_path.specs.declared.step.Root.TheVariants.{Input};
 ghost use Rattle.asl_def_judge.specs.private.Spots.{spot_of};
-ghost use Rattle.asl_def_table.specs.Demands.{form_of, is_of, path, place, call, timestamp};
-ghost use Rattle.asl_def_table.specs.Claims.{is_name, is_jitter, path_or_call, is_template, is_nonempty, item_count, has_all, is_last, spot_demands, form_demand, text_demands, number_demands, list_demands, value_demands, demands, is_between_whole, is_between, is_list, is_object};
+ghost use Rattle.asl_def_schema.specs.Demands.{form_of, is_of, path, place, call, timestamp};
+ghost use Rattle.asl_def_schema.specs.Claims.{is_name, is_jitter, path_or_call, is_template, is_nonempty, item_count, has_all, is_last, spot_demands, form_demand, text_demands, number_demands, list_demands, value_demands, demands, is_between_whole, is_between, is_list, is_object};
 ghost use Rattle.asl_def_judge.specs.private.Firsts.{Judges, sooner, unless};
 
 use crate::spot::{MAX_MACHINES, Spot};
-use asl_def_table::{FaultKind, Form, MOST_WHOLE, Sort, kind_of};
+use asl_def_schema::{FaultKind, Form, MOST_WHOLE, Sort, kind_of};
 use asl_intrinsic::{CallFault, Expr};
 use asl_json::{Dec, Items, Json};
 use asl_path::{PathFault, RefPath, Root};

@@ -4,20 +4,20 @@ ghost use Rattle.asl_json.specs.Same.{bytes_eq};
 ghost use Rattle.std.specs.Fmt.{decimal};
 ghost use Rattle.std.specs.HashSet.{contains_text};
 ghost use Rattle.asl_json.specs.View.{data_of, members_of, member_of};
-ghost use Rattle.asl_json.specs.Data.{Data, pairs, chain};
-ghost use Rattle.asl_json.specs.Distinct.{has_key};
+ghost use Rattle.asl_json_data.specs.Data.{Data, pairs, chain};
+ghost use Rattle.asl_json_data.specs.Distinct.{has_key};
 ghost use Rattle.asl_json.specs.Keys.{Knows};
 ghost use Rattle.asl_json.specs.Meaning.{count, value_at};
-ghost use Rattle.asl_def_table.specs.private.Code.{shape_seen, rows_of, row_of, group_of, groups_of};
+ghost use Rattle.asl_def_schema.specs.private.Code.{shape_seen, rows_of, row_of, group_of, groups_of};
 ghost use Rattle.asl_def_judge.specs.private.Spots.{spot_of};
-ghost use Rattle.asl_def_table.specs.Members.{shape_in, sort_at, is_among};
-ghost use Rattle.asl_def_table.specs.Claims.{Spot, step, is_true, counts, any_counts, is_doubled, any_in, group_demands, has_any, is_needed, row_claims, names_in, inside, at_member, is_twice, claims, item_claims, member_claims, object_claims, under};
-ghost use Rattle.asl_def_table.specs.First.{Found, Answers, better};
+ghost use Rattle.asl_def_schema.specs.Members.{shape_in, sort_at, is_among};
+ghost use Rattle.asl_def_schema.specs.Claims.{Spot, step, is_true, counts, any_counts, is_doubled, any_in, group_demands, has_any, is_needed, row_claims, names_in, inside, at_member, is_twice, claims, item_claims, member_claims, object_claims, under};
+ghost use Rattle.asl_def_schema.specs.First.{Found, Answers, better};
 ghost use Rattle.asl_def_judge.specs.private.Firsts.{Judges, unless, at_root, under_step};
 
 use crate::spot::{Spot, at_item, one_deeper};
 use crate::value::{is_list, is_object, is_template, own_fault, sooner, unless};
-use asl_def_table::{
+use asl_def_schema::{
     Fault, FaultKind, Group, Row, Shape, Sort, find, is_among, item_sort, shape_in, sort_at,
 };
 use asl_json::{Items, Json, Keys, Member, Members};

@@ -3,21 +3,21 @@ use Rattle.std.proofs.Common.{◌≡◌, ◌∙◌, ℕ, Bool, true, false, List
 use Rattle.std.specs.Prelude.{◌&&◌, Option, Some, None, map, option_map, codes}
 use Rattle.std.specs.Option.{option_eq}
 use Rattle.std.specs.Cmp.Lexicographic.{pointwise}
-use Rattle.asl_json.specs.Data.{Data, no_members, text, pairs}
+use Rattle.asl_json_data.specs.Data.{Data, no_members, text, pairs}
 use Rattle.asl_json.specs.View.{data_of}
 use Rattle.asl_json.specs.Same.{equal, equal_members, items_equal, bytes_eq, json_equal}
 use Rattle.asl_json.specs.private.SameLaws.{bytes_refl}
 use Rattle.asl_json.specs.declared.value.Json.{Json}
-use Rattle.asl_def_table.specs.Canon.{Named}
-use Rattle.asl_def_members.specs.Shown.{path_shown}
-use Rattle.asl_def_members.proofs.Alike.{slots_eq, alike, shows, listed, path_alike, last, chains, and_true, and_and}
-use Rattle.asl_def_parts.specs.declared.target.Target.{Target}
-use Rattle.asl_def_parts.specs.Parts.{next_members}
-use Rattle.asl_def_parts.specs.contracts.common.CommonPartialEq.TheImpl as commons
-use Rattle.asl_def_parts.specs.contracts.completion.CompletionPartialEq.TheImpl as completions
-use Rattle.asl_def_members.specs.contracts.path.PathFieldPartialEq.TheImpl as paths
-use Rattle.asl_def_parts.specs.contracts.target.TargetPartialEq.TheImpl as targets
-use Rattle.asl_def_parts.proofs.Alike.{numbers, common_alike, limits_alike, next_alike, completion_alike}
+use Rattle.asl_def_schema.specs.Canon.{Named}
+use Rattle.asl_def_fields.specs.Shown.{path_shown}
+use Rattle.asl_def_fields.proofs.Alike.{slots_eq, alike, shows, listed, path_alike, last, chains, and_true, and_and}
+use Rattle.asl_def_shared.specs.declared.target.Target.{Target}
+use Rattle.asl_def_shared.specs.Parts.{next_members}
+use Rattle.asl_def_shared.specs.contracts.common.CommonPartialEq.TheImpl as commons
+use Rattle.asl_def_shared.specs.contracts.completion.CompletionPartialEq.TheImpl as completions
+use Rattle.asl_def_fields.specs.contracts.path.PathFieldPartialEq.TheImpl as paths
+use Rattle.asl_def_shared.specs.contracts.target.TargetPartialEq.TheImpl as targets
+use Rattle.asl_def_shared.proofs.Alike.{numbers, common_alike, limits_alike, next_alike, completion_alike}
 use Rattle.asl_def_states.specs.declared.task.Task.{Task as TaskState}
 use Rattle.asl_def_states.specs.declared.pass.Pass.{Pass as PassState}
 use Rattle.asl_def_states.specs.declared.choice.Choice.{Choice as ChoiceState}

@@ -1,21 +1,21 @@
 -- What is compiled of a state shows its canonical object.
 use Rattle.std.proofs.Common.{◌≡◌, ℕ, List, [], ◌∷◌, ◌++◌, true, false, refl, sym, ◌∙◌, ap}
 use Rattle.std.specs.Prelude.{Option, Some, None, codes, option_map}
-use Rattle.asl_json.specs.Data.{Data, Pairs, null, boolean, number, text, list, dict, chain, pairs}
+use Rattle.asl_json_data.specs.Data.{Data, Pairs, null, boolean, number, text, list, dict, chain, pairs}
 use Rattle.asl_json.specs.Same.{bytes_eq}
 use Rattle.asl_json.specs.Meaning.{value_at}
 use Rattle.asl_json.specs.View.{data_of}
-use Rattle.asl_def_table.specs.declared.sort.Sort.{Sort}
-use Rattle.asl_def_table.specs.declared.sort.Sort.TheVariants as sort
-use Rattle.asl_def_table.specs.declared.sort.Kind.{Kind}
-use Rattle.asl_def_table.specs.declared.sort.Kind.TheVariants as kind
-use Rattle.asl_def_table.specs.Members.{Row, Shape, shape_of, machine_rows, item_processor_rows, definition_rows, kind_rows, state_shape, shape_in, kind_named, task_rows, pass_rows, choice_rows, wait_rows, parallel_rows, map_rows, succeed_rows, fail_rows}
-use Rattle.asl_def_table.specs.Canon.{Named, opt, present, kept, kept_at, canon, canon_members, picked, picked_at, kind_text, is_plain}
-use Rattle.asl_def_table.proofs.Canons.{picked-canon, plain_kept}
-use Rattle.asl_def_table.proofs.Typed.{type_is}
-use Rattle.asl_def_members.specs.Shown.{path_shown}
-use Rattle.asl_def_parts.specs.declared.common.Common.{Common}
-use Rattle.asl_def_parts.specs.declared.completion.Completion.{Completion}
+use Rattle.asl_def_schema.specs.declared.sort.Sort.{Sort}
+use Rattle.asl_def_schema.specs.declared.sort.Sort.TheVariants as sort
+use Rattle.asl_def_schema.specs.declared.sort.Kind.{Kind}
+use Rattle.asl_def_schema.specs.declared.sort.Kind.TheVariants as kind
+use Rattle.asl_def_schema.specs.Members.{Row, Shape, shape_of, machine_rows, item_processor_rows, definition_rows, kind_rows, state_shape, shape_in, kind_named, task_rows, pass_rows, choice_rows, wait_rows, parallel_rows, map_rows, succeed_rows, fail_rows}
+use Rattle.asl_def_schema.specs.Canon.{Named, opt, present, kept, kept_at, canon, canon_members, picked, picked_at, kind_text, is_plain}
+use Rattle.asl_def_schema.proofs.Canons.{picked-canon, plain_kept}
+use Rattle.asl_def_schema.proofs.Typed.{type_is}
+use Rattle.asl_def_fields.specs.Shown.{path_shown}
+use Rattle.asl_def_shared.specs.declared.common.Common.{Common}
+use Rattle.asl_def_shared.specs.declared.completion.Completion.{Completion}
 use Rattle.asl_def_states.specs.declared.task.Task.{Task as TaskState}
 use Rattle.asl_def_states.specs.declared.pass.Pass.{Pass as PassState}
 use Rattle.asl_def_states.specs.declared.choice.Choice.{Choice as ChoiceState}
@@ -24,12 +24,12 @@ use Rattle.asl_def_states.specs.declared.parallel.Parallel.{Parallel as Parallel
 use Rattle.asl_def_states.specs.declared.map.Map.{Map as MapState}
 use Rattle.asl_def_states.specs.declared.succeed.Succeed.{Succeed as SucceedState}
 use Rattle.asl_def_states.specs.declared.fail.Fail.{Fail as FailState}
-use Rattle.asl_def_parts.specs.Parts.{Slots, object, next_shown, end_shown}
-use Rattle.asl_def_parts.specs.Parts.{listed}
+use Rattle.asl_def_shared.specs.Parts.{Slots, object, next_shown, end_shown}
+use Rattle.asl_def_shared.specs.Parts.{listed}
 use Rattle.asl_def_states.specs.Show.{told, told_at, seconds_shown, seconds_path_shown, timestamp_shown, timestamp_path_shown, parameters_shown, item_selector_shown, machine_shown, as_iterator, as_item_processor, task_members, pass_members, choice_members, wait_members, parallel_members, map_members, succeed_members, fail_members, task_object, pass_object, choice_object, wait_object, parallel_object, map_object, succeed_object, fail_object}
-use Rattle.asl_def_parts.specs.Bodies.{bodies_of}
-use Rattle.asl_def_parts.specs.Built.{IsOfKind, IsCompletion, Shows}
-use Rattle.asl_def_parts.proofs.Fits.{map_same}
+use Rattle.asl_def_shared.specs.Bodies.{bodies_of}
+use Rattle.asl_def_shared.specs.Built.{IsOfKind, IsCompletion, Shows}
+use Rattle.asl_def_shared.proofs.Fits.{map_same}
 
 -- ---- members row by row
 

@@ -2,14 +2,14 @@
 use Rattle.std.proofs.Common.{◌≡◌, ℕ, List, true, refl, sym, ap, ◌∙◌}
 use Rattle.std.specs.Prelude.{Option, Some, None, codes}
 use Rattle.std.specs.Option.{option_or}
-use Rattle.asl_json.specs.Data.{Data}
+use Rattle.asl_json_data.specs.Data.{Data}
 use Rattle.asl_json.specs.Meaning.{value_in}
-use Rattle.asl_def_table.specs.Canon.{Named}
-use Rattle.asl_def_table.specs.Members.{is_among}
-use Rattle.asl_def_parts.specs.declared.body.Body.{Body}
-use Rattle.asl_def_parts.specs.Bodies.{body_members, body_of, processor_members}
-use Rattle.asl_def_parts.proofs.Names.{named}
-use Rattle.asl_def_parts.proofs.Owning.{tied}
+use Rattle.asl_def_schema.specs.Canon.{Named}
+use Rattle.asl_def_schema.specs.Members.{is_among}
+use Rattle.asl_def_shared.specs.declared.body.Body.{Body}
+use Rattle.asl_def_shared.specs.Bodies.{body_members, body_of, processor_members}
+use Rattle.asl_def_shared.proofs.Names.{named}
+use Rattle.asl_def_shared.proofs.Owning.{tied}
 use Rattle.asl_def_states.specs.declared.map.Map.{Map as MapState}
 use Rattle.asl_def_states.specs.declared.processor.Processor.{Processor}
 use Rattle.asl_def_states.specs.declared.processor.Processor.TheVariants.{Iterator, ItemProcessor}

@@ -1,9 +1,9 @@
 -- `Next` decides no rule, and stands behind what does.
 use Rattle.std.proofs.Common.{◌≡◌, ℕ, List, [], ◌∷◌, ◌++◌, Bool, true, false, refl, ap, ◌∙◌}
 use Rattle.std.specs.Prelude.{Option, Some, codes}
-use Rattle.asl_json.specs.Data.{Data, dict, pairs}
+use Rattle.asl_json_data.specs.Data.{Data, dict, pairs}
 use Rattle.asl_json.specs.Same.{bytes_eq}
-use Rattle.asl_json.specs.Distinct.{Members, has_key}
+use Rattle.asl_json_data.specs.Distinct.{Members, has_key}
 use Rattle.asl_json.specs.Meaning.{value_at}
 use Rattle.asl_choice.specs.Truth.{variable, holds, decided}
 

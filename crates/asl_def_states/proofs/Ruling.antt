@@ -1,23 +1,23 @@
 -- A rule with what comes next.
 use Rattle.std.proofs.Common.{◌≡◌, ℕ, List, [], ◌∷◌, ◌++◌, Bool, true, false, refl, sym, ◌∙◌, ap, subst, append_assoc}
 use Rattle.std.specs.Prelude.{Option, Some, None, codes, if◌then◌else◌}
-use Rattle.asl_json.specs.Data.{Data, Pairs, text, dict, pairs}
+use Rattle.asl_json_data.specs.Data.{Data, Pairs, text, dict, pairs}
 use Rattle.asl_json.specs.Same.{bytes_eq}
 use Rattle.asl_json.specs.private.SameLaws.{bytes_refl}
 use Rattle.asl_json.specs.Meaning.{value_at}
-use Rattle.asl_def_table.specs.declared.sort.Sort.{Sort}
-use Rattle.asl_def_table.specs.declared.sort.Sort.TheVariants as sort
-use Rattle.asl_def_table.specs.Members.{Row, Shape, shape_of, sort_at, sort_in, kind_named, required, rule_rows, inner_rule_rows, test_rows}
-use Rattle.asl_def_table.specs.Canon.{Named, opt, kept_at, canon, picked_at}
-use Rattle.asl_def_table.specs.Clean.{IsClean, IsThere}
-use Rattle.asl_def_table.proofs.Canons.{picked-canon, plain_kept}
-use Rattle.asl_def_table.proofs.Inside.{object_inside}
-use Rattle.asl_def_table.proofs.Required.{rule_next}
+use Rattle.asl_def_schema.specs.declared.sort.Sort.{Sort}
+use Rattle.asl_def_schema.specs.declared.sort.Sort.TheVariants as sort
+use Rattle.asl_def_schema.specs.Members.{Row, Shape, shape_of, sort_at, sort_in, kind_named, required, rule_rows, inner_rule_rows, test_rows}
+use Rattle.asl_def_schema.specs.Canon.{Named, opt, kept_at, canon, picked_at}
+use Rattle.asl_def_schema.specs.Clean.{IsClean, IsThere}
+use Rattle.asl_def_schema.proofs.Canons.{picked-canon, plain_kept}
+use Rattle.asl_def_schema.proofs.Inside.{object_inside}
+use Rattle.asl_def_schema.proofs.Required.{rule_next}
 use Rattle.asl_choice.specs.Rules.{IsRule, canonical_rule}
 use Rattle.asl_choice.specs.Rules.IsRule.{outer}
 use Rattle.asl_def_states.specs.declared.choice.ChoiceRule.{ChoiceRule}
 use Rattle.asl_def_states.specs.Show.{choice_rule_object}
-use Rattle.asl_def_parts.proofs.Fits.{is_there}
+use Rattle.asl_def_shared.proofs.Fits.{is_there}
 
 -- ---- more rows behind don't change what the first are
 

@@ -2,10 +2,10 @@
 -- own table.
 use Rattle.std.specs.Prelude.{List, Bool, true, false, ◌&&◌, Option, Some, None}
 use Rattle.std.specs.Option.{option_eq}
-use Rattle.asl_json.specs.Data.{list, chain}
+use Rattle.asl_json_data.specs.Data.{list, chain}
 use Rattle.asl_json.specs.Same.{equal, bytes_eq}
-use Rattle.asl_def_table.specs.Canon.{Named}
-use Rattle.asl_def_parts.specs.Bodies.{bodies_of}
+use Rattle.asl_def_schema.specs.Canon.{Named}
+use Rattle.asl_def_shared.specs.Bodies.{bodies_of}
 use Rattle.asl_def_states.specs.declared.parallel.Parallel.{Parallel as ParallelState}
 use Rattle.asl_def_states.specs.declared.map.Map.{Map as MapState}
 use Rattle.asl_def_states.specs.declared.processor.Processor.{Processor}
@@ -16,10 +16,10 @@ use Rattle.asl_def_states.specs.declared.fail.FailText.TheVariants.{Told, At}
 use Rattle.asl_def_states.specs.declared.state.State.{State}
 use Rattle.asl_def_states.specs.declared.state.State.TheVariants.{Task, Pass, Choice, Wait, Parallel, Map, Succeed, Fail}
 use Rattle.asl_def_states.specs.Show.{machine_shown}
-use Rattle.asl_def_members.specs.Equal.{written_alike}
-use Rattle.asl_def_members.specs.contracts.path.PathFieldPartialEq.TheImpl as paths
-use Rattle.asl_def_parts.specs.contracts.common.CommonPartialEq.TheImpl as commons
-use Rattle.asl_def_parts.specs.contracts.completion.CompletionPartialEq.TheImpl as completions
+use Rattle.asl_def_fields.specs.Equal.{written_alike}
+use Rattle.asl_def_fields.specs.contracts.path.PathFieldPartialEq.TheImpl as paths
+use Rattle.asl_def_shared.specs.contracts.common.CommonPartialEq.TheImpl as commons
+use Rattle.asl_def_shared.specs.contracts.completion.CompletionPartialEq.TheImpl as completions
 use Rattle.asl_def_states.specs.contracts.processor.SelectorPartialEq.TheImpl as selectors
 use Rattle.asl_def_states.specs.contracts.task.TaskPartialEq.TheImpl as tasks
 use Rattle.asl_def_states.specs.contracts.pass.PassPartialEq.TheImpl as passes

@@ -2,7 +2,7 @@
 -- Language, "Map State".)
 use Rattle.std.specs.Prelude.{ℕ, List, [], ◌∷◌, Option, Some, None, codes}
 use Rattle.std.specs.Option.{option_or}
-use Rattle.asl_json.specs.Data.{Data}
+use Rattle.asl_json_data.specs.Data.{Data}
 use Rattle.asl_json.specs.Meaning.{value_in}
 
 -- its machine: the value of `Iterator` or of `ItemProcessor`, of which exactly one is there

@@ -1,6 +1,6 @@
 -- What `==` of each type answers, as a function of the two values that contracts see.
 use Rattle.std.specs.Prelude.{List, Bool, false}
-use Rattle.asl_json.specs.Data.{Data}
+use Rattle.asl_json_data.specs.Data.{Data}
 use Rattle.asl_def_states.specs.declared.task.Task.{Task as TaskState}
 use Rattle.asl_def_states.specs.declared.pass.Pass.{Pass as PassState}
 use Rattle.asl_def_states.specs.declared.choice.ChoiceRule.{ChoiceRule}

@@ -17,14 +17,9 @@ newer_selector (Parameters x) = ItemSelector x
 newer_selector (ItemSelector x) = ItemSelector x
 
 abbrev pub newer_map : MapState → MapState
-newer_map m = record {
-  common = m.common;
-  input_path = m.input_path;
-  items_path = m.items_path;
-  max_concurrency = m.max_concurrency;
+newer_map m = record m {
   selector = option_map newer_selector m.selector;
   processor = newer_processor m.processor;
-  completion = m.completion;
 }
 
 abbrev pub newer_state : State → State

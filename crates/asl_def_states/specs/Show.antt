@@ -1,10 +1,10 @@
 -- What states show: their canonical objects, over the states that stand before them in the table.
 use Rattle.std.specs.Prelude.{ℕ, suc, List, [], ◌∷◌, ◌++◌, Option, Some, None, codes, map, string_bytes, String, option_map}
-use Rattle.asl_json.specs.Data.{Data, number, text, list, dict, chain, pairs}
+use Rattle.asl_json_data.specs.Data.{Data, number, text, list, dict, chain, pairs}
 use Rattle.asl_json.specs.View.{data_of}
-use Rattle.asl_def_table.specs.Canon.{Named}
-use Rattle.asl_def_members.specs.declared.processor.ProcessorConfig.{ProcessorConfig}
-use Rattle.asl_def_members.specs.Shown.{path_shown, path_or_call_shown}
+use Rattle.asl_def_schema.specs.Canon.{Named}
+use Rattle.asl_def_fields.specs.declared.processor.ProcessorConfig.{ProcessorConfig}
+use Rattle.asl_def_fields.specs.Shown.{path_shown, path_or_call_shown}
 use Rattle.asl_def_states.specs.declared.task.Task.{Task as TaskState}
 use Rattle.asl_def_states.specs.declared.pass.Pass.{Pass as PassState}
 use Rattle.asl_def_states.specs.declared.choice.Choice.{Choice as ChoiceState}
@@ -24,9 +24,9 @@ use Rattle.asl_def_states.specs.declared.fail.FailText.TheVariants.{Told, At}
 use Rattle.asl_def_states.specs.declared.state.State.{State}
 use Rattle.asl_def_states.specs.declared.state.State.TheVariants.{Task, Pass, Choice, Wait, Parallel, Map, Succeed, Fail}
 use Rattle.asl_def_states.specs.declared.choice.ChoiceRule.{ChoiceRule}
-use Rattle.asl_def_parts.specs.Parts.{Slots, object, next_shown, end_shown, limits_members, common_members, completion_members}
-use Rattle.asl_def_parts.specs.declared.body.Body.{Body}
-use Rattle.asl_def_parts.specs.Bodies.{bodies_of, processor_of, IsWithin, AreWithin}
+use Rattle.asl_def_shared.specs.Parts.{Slots, object, next_shown, end_shown, limits_members, common_members, completion_members}
+use Rattle.asl_def_shared.specs.declared.body.Body.{Body}
+use Rattle.asl_def_shared.specs.Bodies.{bodies_of, processor_of, IsWithin, AreWithin}
 
 -- ---- states without machines
 
@@ -70,27 +70,19 @@ choice_members c =
 -- exactly one of the four is there
 abbrev pub seconds_shown : Delay → Option Data
 seconds_shown (delay.Seconds n) = Some (number n)
-seconds_shown (delay.SecondsPath p) = None
-seconds_shown (delay.Timestamp t) = None
-seconds_shown (delay.TimestampPath p) = None
+seconds_shown _ = None
 
 abbrev pub seconds_path_shown : Delay → Option Data
-seconds_path_shown (delay.Seconds n) = None
 seconds_path_shown (delay.SecondsPath p) = Some (text p)
-seconds_path_shown (delay.Timestamp t) = None
-seconds_path_shown (delay.TimestampPath p) = None
+seconds_path_shown _ = None
 
 abbrev pub timestamp_shown : Delay → Option Data
-timestamp_shown (delay.Seconds n) = None
-timestamp_shown (delay.SecondsPath p) = None
 timestamp_shown (delay.Timestamp t) = Some (text t)
-timestamp_shown (delay.TimestampPath p) = None
+timestamp_shown _ = None
 
 abbrev pub timestamp_path_shown : Delay → Option Data
-timestamp_path_shown (delay.Seconds n) = None
-timestamp_path_shown (delay.SecondsPath p) = None
-timestamp_path_shown (delay.Timestamp t) = None
 timestamp_path_shown (delay.TimestampPath p) = Some (text p)
+timestamp_path_shown _ = None
 
 abbrev pub wait_members : WaitState → Slots
 wait_members w =

@@ -1,23 +1,23 @@
 // Choice states.
 ghost use Rattle.std.specs.Prelude.{◌≡◌, IfOk, Some, codes, option_map};
-ghost use Rattle.asl_json.specs.Data.{list, dict, chain, pairs, text};
+ghost use Rattle.asl_json_data.specs.Data.{list, dict, chain, pairs, text};
 ghost use Rattle.asl_json.specs.View.{data_of};
-ghost use Rattle.asl_def_table.specs.declared.sort.Sort.TheVariants.{State as state_sort, Rule as rule_sort, Rules as rules_sort};
-ghost use Rattle.asl_def_table.specs.declared.sort.Kind.TheVariants.{Choice as choice_kind};
-ghost use Rattle.asl_def_table.specs.Canon.{canon};
-ghost use Rattle.asl_def_table.specs.Clean.{IsClean};
-ghost use Rattle.asl_def_parts.specs.Built.{IsOfKind};
+ghost use Rattle.asl_def_schema.specs.declared.sort.Sort.TheVariants.{State as state_sort, Rule as rule_sort, Rules as rules_sort};
+ghost use Rattle.asl_def_schema.specs.declared.sort.Kind.TheVariants.{Choice as choice_kind};
+ghost use Rattle.asl_def_schema.specs.Canon.{canon};
+ghost use Rattle.asl_def_schema.specs.Clean.{IsClean};
+ghost use Rattle.asl_def_shared.specs.Built.{IsOfKind};
 ghost use Rattle.asl_def_states.specs.Show.{choice_rule_object, choice_rule_objects};
 ghost use Rattle.asl_def_states.specs.Show.{choice_object};
 ghost use Rattle.asl_json.specs.Meaning.{value_in};
-ghost use Rattle.asl_def_members.specs.Shown.{path_shown};
+ghost use Rattle.asl_def_fields.specs.Shown.{path_shown};
 ghost use Rattle.asl_choice.specs.Truth.{holds as rule_holds};
 ghost use Rattle.asl_choice.specs.Seen.{seen};
 ghost use Rattle.asl_def_states.specs.Choosing.{chosen_next};
 
 use asl_choice::{Rule, RuleFault};
-use asl_def_members::{Compiled, PathField, TryClone, clone_all, json_all};
-use asl_def_parts::{Common, Target, and, with, with_path};
+use asl_def_fields::{Compiled, PathField, TryClone, clone_all, json_all};
+use asl_def_shared::{Common, Target, and, with, with_path};
 use asl_json::{Json, Members, Txt};
 use std::alloc::{AllocError, Global};
 use std::marker::Model;
@@ -55,7 +55,7 @@ impl Drop for ChoiceRules {
 
 impl Model for ChoiceRules {
     ghost use Rattle.std.specs.Prelude.{List};
-    ghost use Rattle.asl_json.specs.Data.{Data};
+    ghost use Rattle.asl_json_data.specs.Data.{Data};
     ghost use Rattle.asl_json.specs.private.Code.{coded_items};
 
     ghost Value = { List Data };
@@ -187,7 +187,7 @@ impl ChoiceRules {
 }
 
 impl Compiled for ChoiceRules {
-    ghost use Rattle.asl_json.specs.Data.{list, chain};
+    ghost use Rattle.asl_json_data.specs.Data.{list, chain};
 
     ghost shown = { λ rs. list (chain rs) };
 
@@ -197,6 +197,22 @@ impl Compiled for ChoiceRules {
 }
 
 impl Choice {
+    /// `Comment`.
+    pub fn comment(&self) -> Option<&Txt>
+        ensures { option_map (λ t. text t.now) result
+            ≡ value_in (codes "Comment") (choice_object self.now) }
+    {
+        self.common.comment.as_ref()
+    }
+
+    /// `QueryLanguage`.
+    pub fn query_language(&self) -> Option<&Txt>
+        ensures { option_map (λ t. text t.now) result
+            ≡ value_in (codes "QueryLanguage") (choice_object self.now) }
+    {
+        self.common.query_language.as_ref()
+    }
+
     /// `InputPath`.
     pub fn input_path(&self) -> &PathField
         ensures { path_shown result.now ≡ value_in (codes "InputPath") (choice_object self.now) }

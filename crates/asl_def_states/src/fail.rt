@@ -1,19 +1,19 @@
 // Fail states.
 ghost use Rattle.std.specs.Prelude.{◌≡◌, true, false, IfOk, is_some, option_map, codes};
-ghost use Rattle.asl_json.specs.Data.{dict, pairs};
-ghost use Rattle.asl_def_table.specs.declared.sort.Sort.TheVariants.{State as state_sort};
-ghost use Rattle.asl_def_table.specs.declared.sort.Kind.TheVariants.{Fail as fail_kind};
-ghost use Rattle.asl_def_table.specs.Canon.{canon};
-ghost use Rattle.asl_def_parts.specs.Built.{IsOfKind};
+ghost use Rattle.asl_json_data.specs.Data.{dict, pairs, text};
+ghost use Rattle.asl_def_schema.specs.declared.sort.Sort.TheVariants.{State as state_sort};
+ghost use Rattle.asl_def_schema.specs.declared.sort.Kind.TheVariants.{Fail as fail_kind};
+ghost use Rattle.asl_def_schema.specs.Canon.{canon};
+ghost use Rattle.asl_def_shared.specs.Built.{IsOfKind};
 ghost use Rattle.asl_json.specs.View.{data_of};
-ghost use Rattle.asl_def_table.specs.declared.sort.Sort.TheVariants.{Text, PathOrCall as path_or_call};
-ghost use Rattle.asl_def_table.specs.Clean.{Fits};
+ghost use Rattle.asl_def_schema.specs.declared.sort.Sort.TheVariants.{Text, PathOrCall as path_or_call};
+ghost use Rattle.asl_def_schema.specs.Clean.{Fits};
 ghost use Rattle.asl_def_states.specs.Show.{fail_object, told_at};
 ghost use Rattle.asl_def_states.specs.Show as Show;
 ghost use Rattle.asl_json.specs.Meaning.{value_in};
 
-use asl_def_members::{Compile, Compiled, PathOrCall, TryClone};
-use asl_def_parts::{Common, and};
+use asl_def_fields::{Compile, Compiled, PathOrCall, TryClone};
+use asl_def_shared::{Common, and};
 use asl_json::{Json, Members, Txt};
 use std::alloc::{AllocError, Global};
 
@@ -98,6 +98,22 @@ fn path_json(alloc: Global, reason: &Option<FailText>) -> Result<Option<Json>, A
 }
 
 impl Fail {
+    /// `Comment`.
+    pub fn comment(&self) -> Option<&Txt>
+        ensures { option_map (λ t. text t.now) result
+            ≡ value_in (codes "Comment") (fail_object self.now) }
+    {
+        self.common.comment.as_ref()
+    }
+
+    /// `QueryLanguage`.
+    pub fn query_language(&self) -> Option<&Txt>
+        ensures { option_map (λ t. text t.now) result
+            ≡ value_in (codes "QueryLanguage") (fail_object self.now) }
+    {
+        self.common.query_language.as_ref()
+    }
+
     /// `Error` or `ErrorPath`.
     pub fn error(&self) -> Option<&FailText>
         ensures told { Show.told (option_map (λ r. r.now) result)

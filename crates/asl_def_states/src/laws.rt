@@ -1,10 +1,10 @@
 // A law: a contract over all values.
-ghost use Rattle.asl_def_members.specs.Equal.{IsExact};
+ghost use Rattle.asl_def_fields.specs.Equal.{IsExact};
 ghost use Rattle.asl_def_states.specs.Laws.{task_eq, pass_eq, choice_rule_eq, choice_rules_eq, choice_eq, delay_eq, wait_eq, parallel_eq, processor_eq, selector_eq, map_eq, succeed_eq, fail_text_eq, fail_eq, state_eq};
 
 /// `==` of states, and of what they hold, is true exactly where the two are equal as contracts see them. The law has no code.
-/// Of the parts of states other laws say it: `asl_def_parts::equal_parts_are_one`, `asl_choice::equal_rules_are_one` and
-/// `asl_def_members::equal_members_are_one`.
+/// Of the parts of states other laws say it: `asl_def_shared::equal_parts_are_one`, `asl_choice::equal_rules_are_one` and
+/// `asl_def_fields::equal_members_are_one`.
 pub fn equal_states_are_one()
     ensures task { IsExact task_eq }
     ensures pass { IsExact pass_eq }

@@ -2,7 +2,7 @@
 //!
 //! Modules in reading order: each of the eight types has a module, and `processor` is what a Map runs; `state` is a state of any
 //! type, `equal` compares states of two tables, `laws` says what `==` is, and `member` is what a state's own members name. What
-//! several types have is in `asl_def_parts`.
+//! several types have is in `asl_def_shared`.
 #![tactic(auto)]
 
 mod choice;

@@ -1,24 +1,24 @@
 // Map states.
 ghost use Rattle.std.specs.Prelude.{◌≡◌, List, IfOk, codes, option_map, true, ℕ};
 ghost use Rattle.asl_json.specs.View.{data_of};
-ghost use Rattle.asl_json.specs.Data.{dict, pairs, text, number};
-ghost use Rattle.asl_def_table.specs.declared.sort.Sort.TheVariants.{State as state_sort, Machine as machine_sort, ItemProcessor as processor_sort};
-ghost use Rattle.asl_def_table.specs.declared.sort.Kind.TheVariants.{Map as map_kind};
-ghost use Rattle.asl_def_table.specs.Canon.{Named, canon, kept_at};
-ghost use Rattle.asl_def_parts.specs.Built.{IsOfKind};
+ghost use Rattle.asl_json_data.specs.Data.{dict, pairs, text, number};
+ghost use Rattle.asl_def_schema.specs.declared.sort.Sort.TheVariants.{State as state_sort, Machine as machine_sort, ItemProcessor as processor_sort};
+ghost use Rattle.asl_def_schema.specs.declared.sort.Kind.TheVariants.{Map as map_kind};
+ghost use Rattle.asl_def_schema.specs.Canon.{Named, canon, kept_at};
+ghost use Rattle.asl_def_shared.specs.Built.{IsOfKind};
 ghost use Rattle.asl_def_states.specs.Items.{processor_in, selector_in, machine_names, member_in};
 ghost use Rattle.asl_def_states.specs.Show.{map_object, selector_shown, machine_shown, as_iterator, as_item_processor};
 ghost use Rattle.asl_def_states.specs.Newer.{newer_selector, newer_map};
-ghost use Rattle.asl_def_parts.specs.Bodies.{body_of};
+ghost use Rattle.asl_def_shared.specs.Bodies.{body_of};
 ghost use Rattle.asl_json.specs.Meaning.{value_in};
-ghost use Rattle.asl_def_members.specs.Shown.{path_shown};
-ghost use Rattle.asl_def_table.specs.Members.{is_among};
-ghost use Rattle.asl_def_parts.specs.Member.{completion_names, completion_object};
+ghost use Rattle.asl_def_fields.specs.Shown.{path_shown};
+ghost use Rattle.asl_def_schema.specs.Members.{is_among};
+ghost use Rattle.asl_def_shared.specs.Member.{completion_names, completion_object};
 
 use crate::processor::{Processor, Selector, as_item_selector, as_parameters, template_json};
-use asl_def_members::{Count, PathField, TryClone, read_optional};
-use asl_def_parts::{Body, Common, Completion, and, with_optional, with_path};
-use asl_json::{Json, Members};
+use asl_def_fields::{Count, PathField, TryClone, read_optional};
+use asl_def_shared::{Body, Common, Completion, and, with_optional, with_path};
+use asl_json::{Json, Members, Txt};
 use asl_path::RefPath;
 use asl_template::Template;
 use std::alloc::{AllocError, Global};
@@ -96,6 +96,24 @@ impl Map {
             processor: processor.newer(),
             completion,
         }
+    }
+
+    /// `Comment`.
+    pub fn comment(&self) -> Option<&Txt>
+        ensures { (t : List Named)
+            → option_map (λ x. text x.now) result
+            ≡ value_in (codes "Comment") (map_object t self.now) }
+    {
+        self.common.comment.as_ref()
+    }
+
+    /// `QueryLanguage`.
+    pub fn query_language(&self) -> Option<&Txt>
+        ensures { (t : List Named)
+            → option_map (λ x. text x.now) result
+            ≡ value_in (codes "QueryLanguage") (map_object t self.now) }
+    {
+        self.common.query_language.as_ref()
     }
 
     /// `InputPath`.

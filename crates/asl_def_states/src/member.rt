@@ -1,10 +1,10 @@
 // What a state's own members name.
 ghost use Rattle.std.specs.Prelude.{◌≡◌, List, Some, codes, option_map};
-ghost use Rattle.asl_json.specs.Data.{text};
-ghost use Rattle.asl_def_table.specs.Canon.{Named};
-ghost use Rattle.asl_def_members.specs.Shown.{path_shown, path_or_call_shown};
+ghost use Rattle.asl_json_data.specs.Data.{text};
+ghost use Rattle.asl_def_schema.specs.Canon.{Named};
+ghost use Rattle.asl_def_fields.specs.Shown.{path_shown, path_or_call_shown};
 ghost use Rattle.asl_def_states.specs.Show.{state_of, seconds_path_shown, timestamp_path_shown, told_at, task_object, pass_object, choice_object, wait_object, parallel_object, map_object, succeed_object, fail_object};
-ghost use Rattle.asl_def_parts.specs.Member.{path_of, path_member, template_member};
+ghost use Rattle.asl_def_shared.specs.Member.{path_of, path_member, template_member};
 
 use crate::choice::Choice;
 use crate::fail::{Fail, FailText};
@@ -16,7 +16,7 @@ use crate::state::State;
 use crate::succeed::Succeed;
 use crate::task::Task;
 use crate::wait::{Delay, Wait};
-use asl_def_members::{PathField, PathOrCall};
+use asl_def_fields::{PathField, PathOrCall};
 use asl_path::RefPath;
 use asl_template::Template;
 

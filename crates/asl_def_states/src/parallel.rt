@@ -1,21 +1,21 @@
 // Parallel states.
 ghost use Rattle.std.specs.Prelude.{◌≡◌, Some, List, IfOk, codes, option_map, true, ℕ};
 ghost use Rattle.asl_json.specs.View.{data_of};
-ghost use Rattle.asl_json.specs.Data.{dict, list, chain, pairs};
-ghost use Rattle.asl_def_table.specs.declared.sort.Sort.TheVariants.{State as state_sort, Machines as part_sort};
-ghost use Rattle.asl_def_table.specs.declared.sort.Kind.TheVariants.{Parallel as parallel_kind};
-ghost use Rattle.asl_def_table.specs.Canon.{Named, canon, kept_at};
-ghost use Rattle.asl_def_parts.specs.Built.{IsOfKind};
+ghost use Rattle.asl_json_data.specs.Data.{dict, list, chain, pairs, text};
+ghost use Rattle.asl_def_schema.specs.declared.sort.Sort.TheVariants.{State as state_sort, Machines as part_sort};
+ghost use Rattle.asl_def_schema.specs.declared.sort.Kind.TheVariants.{Parallel as parallel_kind};
+ghost use Rattle.asl_def_schema.specs.Canon.{Named, canon, kept_at};
+ghost use Rattle.asl_def_shared.specs.Built.{IsOfKind};
 ghost use Rattle.asl_def_states.specs.Show.{parallel_object};
-ghost use Rattle.asl_def_parts.specs.Bodies.{bodies_of};
+ghost use Rattle.asl_def_shared.specs.Bodies.{bodies_of};
 ghost use Rattle.asl_json.specs.Meaning.{value_in};
-ghost use Rattle.asl_def_members.specs.Shown.{path_shown};
-ghost use Rattle.asl_def_table.specs.Members.{is_among};
-ghost use Rattle.asl_def_parts.specs.Member.{completion_names, completion_object};
+ghost use Rattle.asl_def_fields.specs.Shown.{path_shown};
+ghost use Rattle.asl_def_schema.specs.Members.{is_among};
+ghost use Rattle.asl_def_shared.specs.Member.{completion_names, completion_object};
 
-use asl_def_members::{PathField, TryClone, read_optional};
-use asl_def_parts::{Bodies, Common, Completion, and, with_optional, with_path};
-use asl_json::{Items, Json, Members};
+use asl_def_fields::{PathField, TryClone, read_optional};
+use asl_def_shared::{Bodies, Common, Completion, and, with_optional, with_path};
+use asl_json::{Items, Json, Members, Txt};
 use asl_template::Template;
 use std::alloc::{AllocError, Global};
 
@@ -45,6 +45,24 @@ impl Drop for Parallel {
 }
 
 impl Parallel {
+    /// `Comment`.
+    pub fn comment(&self) -> Option<&Txt>
+        ensures { (t : List Named)
+            → option_map (λ x. text x.now) result
+            ≡ value_in (codes "Comment") (parallel_object t self.now) }
+    {
+        self.common.comment.as_ref()
+    }
+
+    /// `QueryLanguage`.
+    pub fn query_language(&self) -> Option<&Txt>
+        ensures { (t : List Named)
+            → option_map (λ x. text x.now) result
+            ≡ value_in (codes "QueryLanguage") (parallel_object t self.now) }
+    {
+        self.common.query_language.as_ref()
+    }
+
     /// `InputPath`.
     pub fn input_path(&self) -> &PathField
         ensures { (t : List Named)

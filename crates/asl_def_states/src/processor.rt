@@ -1,13 +1,13 @@
 // What a Map state runs for each item, and on what input, in either spelling.
 ghost use Rattle.std.specs.Prelude.{◌≡◌, true, false, IfOk, is_some, option_map};
 ghost use Rattle.asl_json.specs.View.{data_of};
-ghost use Rattle.asl_def_table.specs.declared.sort.Sort.TheVariants.{Template as template_sort};
-ghost use Rattle.asl_def_table.specs.Clean.{Fits};
+ghost use Rattle.asl_def_schema.specs.declared.sort.Sort.TheVariants.{Template as template_sort};
+ghost use Rattle.asl_def_schema.specs.Clean.{Fits};
 ghost use Rattle.asl_def_states.specs.Show.{body_in, config_in, parameters_shown, item_selector_shown, as_iterator, as_item_processor};
 ghost use Rattle.asl_def_states.specs.Newer.{newer_processor, newer_selector};
 
-use asl_def_members::{Compile, Compiled, ProcessorConfig, TryClone};
-use asl_def_parts::Body;
+use asl_def_fields::{Compile, Compiled, ProcessorConfig, TryClone};
+use asl_def_shared::Body;
 use asl_json::Json;
 use asl_template::Template;
 use std::alloc::{AllocError, Global};

@@ -11,7 +11,7 @@ use crate::pass::Pass;
 use crate::succeed::Succeed;
 use crate::task::Task;
 use crate::wait::Wait;
-use asl_def_members::TryClone;
+use asl_def_fields::TryClone;
 use std::alloc::{AllocError, Global};
 use std::mem;
 

@@ -1,17 +1,17 @@
 // Succeed states.
 ghost use Rattle.std.specs.Prelude.{◌≡◌, IfOk, codes, option_map};
-ghost use Rattle.asl_json.specs.Data.{text, dict, pairs};
+ghost use Rattle.asl_json_data.specs.Data.{text, dict, pairs};
 ghost use Rattle.asl_json.specs.View.{data_of};
-ghost use Rattle.asl_def_table.specs.declared.sort.Sort.TheVariants.{State as state_sort};
-ghost use Rattle.asl_def_table.specs.declared.sort.Kind.TheVariants.{Succeed as succeed_kind};
-ghost use Rattle.asl_def_table.specs.Canon.{canon};
-ghost use Rattle.asl_def_parts.specs.Built.{IsOfKind};
+ghost use Rattle.asl_def_schema.specs.declared.sort.Sort.TheVariants.{State as state_sort};
+ghost use Rattle.asl_def_schema.specs.declared.sort.Kind.TheVariants.{Succeed as succeed_kind};
+ghost use Rattle.asl_def_schema.specs.Canon.{canon};
+ghost use Rattle.asl_def_shared.specs.Built.{IsOfKind};
 ghost use Rattle.asl_def_states.specs.Show.{succeed_object};
 ghost use Rattle.asl_json.specs.Meaning.{value_in};
-ghost use Rattle.asl_def_members.specs.Shown.{path_shown};
+ghost use Rattle.asl_def_fields.specs.Shown.{path_shown};
 
-use asl_def_members::{PathField, TryClone};
-use asl_def_parts::{Common, with_path};
+use asl_def_fields::{PathField, TryClone};
+use asl_def_shared::{Common, with_path};
 use asl_json::{Json, Members, Txt};
 use std::alloc::{AllocError, Global};
 
@@ -53,6 +53,14 @@ impl Succeed {
             ≡ value_in (codes "Comment") (succeed_object self.now) }
     {
         self.common.comment.as_ref()
+    }
+
+    /// `QueryLanguage`.
+    pub fn query_language(&self) -> Option<&Txt>
+        ensures { option_map (λ t. text t.now) result
+            ≡ value_in (codes "QueryLanguage") (succeed_object self.now) }
+    {
+        self.common.query_language.as_ref()
     }
 
     /// `InputPath`.

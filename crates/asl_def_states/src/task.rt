@@ -1,19 +1,19 @@
 // Task states.
 ghost use Rattle.std.specs.Prelude.{◌≡◌, IfOk, Some, codes, option_map, true, List, ℕ};
 ghost use Rattle.asl_json.specs.View.{data_of};
-ghost use Rattle.asl_json.specs.Data.{dict, pairs, text, number};
-ghost use Rattle.asl_def_table.specs.declared.sort.Sort.TheVariants.{State as state_sort};
-ghost use Rattle.asl_def_table.specs.declared.sort.Kind.TheVariants.{Task as task_kind};
-ghost use Rattle.asl_def_table.specs.Canon.{canon};
-ghost use Rattle.asl_def_parts.specs.Built.{IsOfKind};
+ghost use Rattle.asl_json_data.specs.Data.{dict, pairs, text, number};
+ghost use Rattle.asl_def_schema.specs.declared.sort.Sort.TheVariants.{State as state_sort};
+ghost use Rattle.asl_def_schema.specs.declared.sort.Kind.TheVariants.{Task as task_kind};
+ghost use Rattle.asl_def_schema.specs.Canon.{canon};
+ghost use Rattle.asl_def_shared.specs.Built.{IsOfKind};
 ghost use Rattle.asl_def_states.specs.Show.{task_object};
 ghost use Rattle.asl_json.specs.Meaning.{value_in};
-ghost use Rattle.asl_def_members.specs.Shown.{path_shown};
-ghost use Rattle.asl_def_table.specs.Members.{is_among};
-ghost use Rattle.asl_def_parts.specs.Member.{completion_names, completion_object};
+ghost use Rattle.asl_def_fields.specs.Shown.{path_shown};
+ghost use Rattle.asl_def_schema.specs.Members.{is_among};
+ghost use Rattle.asl_def_shared.specs.Member.{completion_names, completion_object};
 
-use asl_def_members::{Compile, Compiled, Count, PathField, TryClone, read_optional};
-use asl_def_parts::{Common, Completion, TimeLimits, with, with_optional, with_path};
+use asl_def_fields::{Compile, Compiled, Count, PathField, TryClone, read_optional};
+use asl_def_shared::{Common, Completion, TimeLimits, with, with_optional, with_path};
 use asl_json::{Json, Members, Txt};
 use asl_path::RefPath;
 use asl_template::Template;
@@ -47,6 +47,22 @@ impl Drop for Task {
 }
 
 impl Task {
+    /// `Comment`.
+    pub fn comment(&self) -> Option<&Txt>
+        ensures { option_map (λ t. text t.now) result
+            ≡ value_in (codes "Comment") (task_object self.now) }
+    {
+        self.common.comment.as_ref()
+    }
+
+    /// `QueryLanguage`.
+    pub fn query_language(&self) -> Option<&Txt>
+        ensures { option_map (λ t. text t.now) result
+            ≡ value_in (codes "QueryLanguage") (task_object self.now) }
+    {
+        self.common.query_language.as_ref()
+    }
+
     /// `Resource`.
     pub fn resource(&self) -> &Txt
         ensures { Some (text result.now) ≡ value_in (codes "Resource") (task_object self.now) }
@@ -67,6 +83,14 @@ impl Task {
             ≡ value_in (codes "Parameters") (task_object self.now) }
     {
         self.parameters.as_ref()
+    }
+
+    /// `Credentials`.
+    pub fn credentials(&self) -> Option<&Json>
+        ensures { option_map (λ v. data_of v.now) result
+            ≡ value_in (codes "Credentials") (task_object self.now) }
+    {
+        self.credentials.as_ref()
     }
 
     /// `TimeoutSeconds`.

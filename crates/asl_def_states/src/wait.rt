@@ -1,19 +1,19 @@
 // Wait states.
 ghost use Rattle.std.specs.Prelude.{◌≡◌, IfOk, codes, option_map};
 ghost use Rattle.asl_json.specs.View.{data_of};
-ghost use Rattle.asl_json.specs.Data.{dict, pairs};
-ghost use Rattle.asl_def_table.specs.declared.sort.Sort.TheVariants.{State as state_sort};
-ghost use Rattle.asl_def_table.specs.declared.sort.Kind.TheVariants.{Wait as wait_kind};
-ghost use Rattle.asl_def_table.specs.Canon.{canon};
-ghost use Rattle.asl_def_parts.specs.Built.{IsOfKind};
+ghost use Rattle.asl_json_data.specs.Data.{dict, pairs, text};
+ghost use Rattle.asl_def_schema.specs.declared.sort.Sort.TheVariants.{State as state_sort};
+ghost use Rattle.asl_def_schema.specs.declared.sort.Kind.TheVariants.{Wait as wait_kind};
+ghost use Rattle.asl_def_schema.specs.Canon.{canon};
+ghost use Rattle.asl_def_shared.specs.Built.{IsOfKind};
 ghost use Rattle.asl_json.specs.Meaning.{value_at, value_in};
 ghost use Rattle.asl_def_states.specs.Show.{wait_object, seconds_shown, seconds_path_shown, timestamp_shown, timestamp_path_shown};
-ghost use Rattle.asl_def_members.specs.Shown.{path_shown};
-ghost use Rattle.asl_def_parts.specs.Parts.{next_shown, end_shown};
+ghost use Rattle.asl_def_fields.specs.Shown.{path_shown};
+ghost use Rattle.asl_def_shared.specs.Parts.{next_shown, end_shown};
 
-use asl_def_members::{Compile, Compiled, Count, PathField, Stamp, TryClone};
-use asl_def_parts::{Common, Transition, and, with_path};
-use asl_json::{Json, Members};
+use asl_def_fields::{Compile, Compiled, Count, PathField, Stamp, TryClone};
+use asl_def_shared::{Common, Transition, and, with_path};
+use asl_json::{Json, Members, Txt};
 use asl_path::RefPath;
 use std::alloc::{AllocError, Global};
 
@@ -133,6 +133,22 @@ impl Delay {
 }
 
 impl Wait {
+    /// `Comment`.
+    pub fn comment(&self) -> Option<&Txt>
+        ensures { option_map (λ t. text t.now) result
+            ≡ value_in (codes "Comment") (wait_object self.now) }
+    {
+        self.common.comment.as_ref()
+    }
+
+    /// `QueryLanguage`.
+    pub fn query_language(&self) -> Option<&Txt>
+        ensures { option_map (λ t. text t.now) result
+            ≡ value_in (codes "QueryLanguage") (wait_object self.now) }
+    {
+        self.common.query_language.as_ref()
+    }
+
     /// `InputPath`.
     pub fn input_path(&self) -> &PathField
         ensures { path_shown result.now ≡ value_in (codes "InputPath") (wait_object self.now) }

@@ -1,6 +1,6 @@
 // Retriers and catchers of a definition, asked what becomes of an error.
 use asl_check::accept;
-use asl_def_parts::{Catcher, Completion};
+use asl_def_shared::{Catcher, Completion};
 use asl_def_states::State;
 use asl_handle::{Decision, Policy};
 use asl_time::Moment;

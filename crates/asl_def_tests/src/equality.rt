@@ -1,9 +1,10 @@
 // Which machines and states are equal: each to its copy and to one read anew, and no two of the definitions here.
 use asl_check::accept;
 use asl_def::Machine;
-use asl_def_members::TryClone;
+use asl_def_fields::TryClone;
 use asl_def_states::State;
-use asl_json::{Items, Json, write};
+use asl_json::{Items, Json};
+use asl_json_write::write;
 use std::alloc::Global;
 use std::test::Fail;
 

@@ -1,6 +1,6 @@
 // The faults that are told of definitions, in document order.
-use asl_def_table::Fault;
-use asl_json::read;
+use asl_def_schema::Fault;
+use asl_json_read::read;
 use asl_lint_faults::every_fault;
 use std::alloc::Global;
 use std::test::Fail;

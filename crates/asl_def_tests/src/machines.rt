@@ -1,10 +1,10 @@
 // What a machine lends, and that its copies lend the same.
 use asl_check::accept;
 use asl_def::Machine;
-use asl_def_members::{Compiled, PathField};
-use asl_def_parts::Transition;
+use asl_def_fields::{Compiled, PathField};
+use asl_def_shared::Transition;
 use asl_def_states::State;
-use asl_json::write;
+use asl_json_write::write;
 use std::test::Fail;
 
 /// The machine of a definition, where that is accepted.

@@ -1,6 +1,6 @@
 // What is told of mock files, in document order: a line for each place, the numbers of the members on the way.
 use crate::mocks::is;
-use asl_json::read;
+use asl_json_read::read;
 use asl_lint_mocks::{faults_of, has_gap, unused_responses};
 use asl_mock::members_at;
 use std::alloc::Global;

@@ -1,5 +1,5 @@
 // Mock files: what they hold, and which fault is answered.
-use asl_json::write;
+use asl_json_write::write;
 use asl_mock::{Answer, Case, CaseFault, MockFault, Mocks, answer};
 use std::alloc::Global;
 use std::test::Fail;

@@ -1,6 +1,6 @@
 // What definitions are warned of: each warning once, beside a definition that comes close and has none.
-use asl_def_table::Step;
-use asl_json::read;
+use asl_def_schema::Step;
+use asl_json_read::read;
 use asl_lint_warnings::every_warning;
 use std::alloc::{AllocError, Global};
 use std::test::Fail;

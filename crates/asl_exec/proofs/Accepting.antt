@@ -1,18 +1,18 @@
 -- What holds of a step, by its reply.
 use Rattle.std.proofs.Common.{ℕ, ◌≡◌, ◌∙◌, ap, sym, true, false, List, refl, max, Option, Some, None}
 use Rattle.std.specs.Prelude.{is_none}
-use Rattle.asl_json.specs.Data.{Data}
-use Rattle.asl_step_rows.specs.declared.facts.Facts.{Facts}
-use Rattle.asl_step_rows.specs.declared.record.Record.{Record}
-use Rattle.asl_step_rows.specs.Bounds.{IsBounded}
-use Rattle.asl_step_rows.specs.private.Laws.{idle-bounded}
-use Rattle.asl_step_rows.specs.Seen.{Seen}
+use Rattle.asl_json_data.specs.Data.{Data}
+use Rattle.asl_step.specs.declared.facts.Facts.{Facts}
+use Rattle.asl_step.specs.declared.record.Record.{Record}
+use Rattle.asl_step.specs.Bounds.{IsBounded}
+use Rattle.asl_step.specs.private.Laws.{idle-bounded}
+use Rattle.asl_step.specs.Seen.{Seen}
 use Rattle.asl_kinds.specs.private.Laws.{state-bounded}
 use Rattle.asl_mock.specs.Answers.{Case}
-use Rattle.asl_step_rows.specs.declared.effect.Effect.{Effect}
-use Rattle.asl_run_frames.specs.Branches.{record_at, children_at, forker_at, iteration_at}
-use Rattle.asl_run_world.specs.World.{World, is_late, count_of, world_with, timed_out}
-use Rattle.asl_run_setup.specs.declared.setup.Setup.{Setup}
+use Rattle.asl_step.specs.declared.effect.Effect.{Effect}
+use Rattle.asl_run_branches.specs.Branches.{record_at, children_at, forker_at, iteration_at}
+use Rattle.asl_run_state.specs.World.{World, is_late, count_of, world_with, timed_out}
+use Rattle.asl_run_input.specs.declared.setup.Setup.{Setup}
 use Rattle.asl_exec.specs.Steps.{facts_of, object_in, invokes_by, effect_by, effect_in, number_in, seen_at, refusal_in, moved_on, step}
 
 -- ---- the world after a step, by its reply

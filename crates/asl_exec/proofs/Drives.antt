@@ -1,9 +1,9 @@
 -- A driven run, step by step.
 use Rattle.std.proofs.Common.{ℕ, zero, suc, ◌≡◌, ◌+◌, ◌-◌, ◌≤◌, Bool, true, false, refl, sym, ◌∙◌, ap, arith, Some, None}
 use Rattle.std.specs.Prelude.{is_some, Option}
-use Rattle.asl_run_frames.specs.Trees.{one_if}
-use Rattle.asl_run_world.specs.World.{World}
-use Rattle.asl_run_setup.specs.declared.setup.Setup.{Setup}
+use Rattle.asl_run_branches.specs.Trees.{one_if}
+use Rattle.asl_run_state.specs.World.{World}
+use Rattle.asl_run_input.specs.declared.setup.Setup.{Setup}
 use Rattle.asl_exec.specs.Driving.{Chosen, chosen, after, driven, driven_steps}
 
 -- one step more

@@ -2,25 +2,25 @@
 use Rattle.std.proofs.Common.{ℕ, ◌≡◌, ◌&&◌, Bool, true, false, not, List, [], ◌∷◌, ◌++◌, refl, sym, ◌∙◌, ap, subst, cond, max, Some, None, Option}
 use Rattle.std.specs.Prelude.{is_none, is_some}
 use Rattle.std.proofs.lemmas.Bool.{and_parts, not-true}
-use Rattle.asl_json.specs.Data.{Data}
+use Rattle.asl_json_data.specs.Data.{Data}
 use Rattle.asl_json.specs.private.SameLaws.{bytes_refl}
 use Rattle.asl_history.specs.Places.{is_prefix}
-use Rattle.asl_step_rows.specs.Bounds.{are_kept}
-use Rattle.asl_step_rows.specs.declared.effect.Children.{Children}
-use Rattle.asl_step_rows.specs.declared.effect.Effect.{Effect}
-use Rattle.asl_step_rows.specs.declared.effect.Ended.{Ended}
-use Rattle.asl_step_rows.specs.declared.effect.Ended.TheVariants.{Succeeded as EndedWell, Failed as EndedBadly}
-use Rattle.asl_step_rows.specs.declared.record.Record.{Record}
-use Rattle.asl_step_rows.specs.Records.{state_in, is_failed}
-use Rattle.asl_run_frames.specs.Branches.{Branch, same_place, record_at, forker_at, is_stopped, family, branches_after}
-use Rattle.asl_run_frames.specs.Turns.{limit_of}
-use Rattle.asl_run_world.specs.declared.outcome.Outcome.{Outcome}
-use Rattle.asl_run_world.specs.declared.refusal.Refusal.{Refusal}
-use Rattle.asl_run_world.specs.declared.refusal.Refusal.TheVariants.{Over, NoSuchPlace, Stopped}
-use Rattle.asl_run_world.specs.World.{World, is_over, is_late, outcome_after, world_with}
-use Rattle.asl_run_world.specs.Refusals.{refusal_by, refusal_of}
-use Rattle.asl_run_setup.specs.declared.setup.Setup.{Setup}
-use Rattle.asl_run_setup.specs.declared.step_at.StepAt.{StepAt}
+use Rattle.asl_step.specs.Bounds.{are_kept}
+use Rattle.asl_step.specs.declared.effect.Children.{Children}
+use Rattle.asl_step.specs.declared.effect.Effect.{Effect}
+use Rattle.asl_step.specs.declared.effect.Ended.{Ended}
+use Rattle.asl_step.specs.declared.effect.Ended.TheVariants.{Succeeded as EndedWell, Failed as EndedBadly}
+use Rattle.asl_step.specs.declared.record.Record.{Record}
+use Rattle.asl_step.specs.Records.{state_in, is_failed}
+use Rattle.asl_run_branches.specs.Branches.{Branch, same_place, record_at, forker_at, is_stopped, family, branches_after}
+use Rattle.asl_run_branches.specs.Turns.{limit_of}
+use Rattle.asl_run_state.specs.declared.outcome.Outcome.{Outcome}
+use Rattle.asl_run_state.specs.declared.refusal.Refusal.{Refusal}
+use Rattle.asl_run_state.specs.declared.refusal.Refusal.TheVariants.{Over, NoSuchPlace, Stopped}
+use Rattle.asl_run_state.specs.World.{World, is_over, is_late, outcome_after, world_with}
+use Rattle.asl_run_state.specs.Refusals.{refusal_by, refusal_of}
+use Rattle.asl_run_input.specs.declared.setup.Setup.{Setup}
+use Rattle.asl_run_input.specs.declared.step_at.StepAt.{StepAt}
 use Rattle.asl_exec.specs.Steps.{facts_of, number_in, object_in, invokes_by, limits_in, seen_at, effect_in, refusal_in, step}
 use Rattle.asl_exec.specs.declared.obstacle.Obstacle.TheVariants.{Ends}
 use Rattle.asl_exec.specs.Exchanges.{has_failed, goes_on, invoked_by, halt_by, halted}

@@ -4,15 +4,15 @@ use Rattle.std.proofs.Math.Seq.{take-append_seam}
 use Rattle.std.specs.Prelude.{is_none}
 use Rattle.asl_history.specs.declared.event.Event.{Event}
 use Rattle.asl_history.specs.Events.{event_after}
-use Rattle.asl_step_rows.specs.declared.effect.Draft.{Draft}
-use Rattle.asl_step_rows.specs.declared.record.Record.{Record}
-use Rattle.asl_run_frames.specs.Branches.{record_at}
-use Rattle.asl_run_world.specs.declared.refusal.Refusal.{Refusal}
-use Rattle.asl_run_world.specs.World.{World, events_after, is_late}
-use Rattle.asl_run_world.specs.Checkpoints.{world_at, IsCheckpointOf}
-use Rattle.asl_run_world.specs.declared.checkpoint.Checkpoint.{Checkpoint}
-use Rattle.asl_run_setup.specs.declared.setup.Setup.{Setup}
-use Rattle.asl_run_setup.specs.declared.step_at.StepAt.{StepAt}
+use Rattle.asl_step.specs.declared.effect.Draft.{Draft}
+use Rattle.asl_step.specs.declared.record.Record.{Record}
+use Rattle.asl_run_branches.specs.Branches.{record_at}
+use Rattle.asl_run_state.specs.declared.refusal.Refusal.{Refusal}
+use Rattle.asl_run_state.specs.World.{World, events_after, is_late}
+use Rattle.asl_run_state.specs.Checkpoints.{world_at, IsCheckpointOf}
+use Rattle.asl_run_state.specs.declared.checkpoint.Checkpoint.{Checkpoint}
+use Rattle.asl_run_input.specs.declared.setup.Setup.{Setup}
+use Rattle.asl_run_input.specs.declared.step_at.StepAt.{StepAt}
 use Rattle.asl_exec.specs.Steps.{facts_of, effect_in, seen_at, refusal_in, moved_on, step, world_after}
 use Rattle.asl_exec.proofs.Accepting.{step_refused, step_taken, step_late}
 

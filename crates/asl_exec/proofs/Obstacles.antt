@@ -3,11 +3,11 @@ use Rattle.std.proofs.Common.{◌≡◌, ◌∙◌, ◌&&◌, ◌==◌, Bool, tr
 use Rattle.std.specs.Prelude.{ℕ, is_none, is_some, option_map, nat_le, length}
 use Rattle.asl_json.specs.Same.{bytes_eq}
 use Rattle.asl_history.specs.Places.{is_prefix}
-use Rattle.asl_run_frames.specs.Branches.{record_at}
-use Rattle.asl_run_world.specs.declared.refusal.Refusal.{Refusal}
-use Rattle.asl_run_world.specs.World.{World, is_over}
-use Rattle.asl_run_setup.specs.declared.setup.Setup.{Setup}
-use Rattle.asl_run_setup.specs.declared.step_at.StepAt.{StepAt}
+use Rattle.asl_run_branches.specs.Branches.{record_at}
+use Rattle.asl_run_state.specs.declared.refusal.Refusal.{Refusal}
+use Rattle.asl_run_state.specs.World.{World, is_over}
+use Rattle.asl_run_input.specs.declared.setup.Setup.{Setup}
+use Rattle.asl_run_input.specs.declared.step_at.StepAt.{StepAt}
 use Rattle.asl_exec.specs.declared.obstacle.Obstacle.{Obstacle}
 use Rattle.asl_exec.specs.declared.obstacle.Obstacle.TheVariants.{OnePlace, Above, TwoMoments, OneTask, NoRoom}
 use Rattle.asl_exec.specs.Steps.{refusal_in, step}

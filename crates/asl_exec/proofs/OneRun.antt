@@ -1,9 +1,9 @@
 -- Texts have at most one run, and those that have one aren't refused.
 use Rattle.std.proofs.Common.{ℕ, ◌≡◌, List, Bool, sym, ◌∙◌}
-use Rattle.asl_run_setup.specs.declared.fault.EmulateFault.{EmulateFault}
-use Rattle.asl_run_setup.specs.Emulations.{Texts, IsRefused}
-use Rattle.asl_run_setup.proofs.OneRun.{one_emulation, accepted_not_refused}
-use Rattle.asl_run_world.specs.Lines.{is_success}
+use Rattle.asl_run_input.specs.declared.fault.EmulateFault.{EmulateFault}
+use Rattle.asl_run_input.specs.Emulations.{Texts, IsRefused}
+use Rattle.asl_run_input.proofs.OneRun.{one_emulation, accepted_not_refused}
+use Rattle.asl_run_state.specs.Lines.{is_success}
 use Rattle.asl_exec.specs.RunText.{world_by, text_by}
 use Rattle.asl_exec.specs.Steps.{opening}
 use Rattle.asl_exec.specs.Emulations.{IsRunOf}

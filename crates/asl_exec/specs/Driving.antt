@@ -1,11 +1,11 @@
 -- Runs without a list of steps: what comes next is stepped.
 use Rattle.std.specs.Prelude.{ℕ, zero, suc, ◌+◌, if◌then◌else◌, List, Option, Some, None, is_some}
-use Rattle.asl_run_frames.specs.Turns.{Limits}
-use Rattle.asl_run_frames.specs.Trees.{one_if}
-use Rattle.asl_run_world.specs.World.{World, is_over}
-use Rattle.asl_run_world.specs.Refusals.{is_full}
-use Rattle.asl_run_world.specs.Picking.{Pick, Ended, Filled, Place, Moment, pick, first_at}
-use Rattle.asl_run_setup.specs.declared.setup.Setup.{Setup}
+use Rattle.asl_run_branches.specs.Turns.{Limits}
+use Rattle.asl_run_branches.specs.Trees.{one_if}
+use Rattle.asl_run_state.specs.World.{World, is_over}
+use Rattle.asl_run_state.specs.Refusals.{is_full}
+use Rattle.asl_run_state.specs.Picking.{Pick, Ended, Filled, Place, Moment, pick, first_at}
+use Rattle.asl_run_input.specs.declared.setup.Setup.{Setup}
 use Rattle.asl_exec.specs.declared.driving.Ended.{Ended as End}
 use Rattle.asl_exec.specs.declared.driving.Ended.TheVariants.{Over, Full, Limit}
 use Rattle.asl_exec.specs.Steps.{limits_in, step}

@@ -1,9 +1,9 @@
 -- What an emulation answers, by its texts alone.
 use Rattle.std.specs.Prelude.{◌≡◌, List, ℕ, Bool, Option}
-use Rattle.asl_run_setup.specs.declared.setup.Setup.{Setup}
-use Rattle.asl_run_setup.specs.declared.step_at.StepAt.{StepAt}
-use Rattle.asl_run_setup.specs.Emulations.{Texts, Accepts}
-use Rattle.asl_run_world.specs.Lines.{is_success}
+use Rattle.asl_run_input.specs.declared.setup.Setup.{Setup}
+use Rattle.asl_run_input.specs.declared.step_at.StepAt.{StepAt}
+use Rattle.asl_run_input.specs.Emulations.{Texts, Accepts}
+use Rattle.asl_run_state.specs.Lines.{is_success}
 use Rattle.asl_exec.specs.RunText.{world_by, text_by}
 use Rattle.asl_exec.specs.Steps.{opening}
 

@@ -1,18 +1,18 @@
 -- Steps that may change places.
 use Rattle.std.specs.Prelude.{ℕ, ◌≡◌, ◌≤◌, ◌==◌, ◌&&◌, Bool, false, not, List, [], ◌∷◌, length, map, nat_le, is_none, if◌then◌else◌, Option, Some, None, option_map}
 use Rattle.std.specs.List.{filter}
-use Rattle.asl_json.specs.Data.{Data}
+use Rattle.asl_json_data.specs.Data.{Data}
 use Rattle.asl_json.specs.Same.{bytes_eq}
 use Rattle.asl_history.specs.Places.{is_prefix}
 use Rattle.asl_history.specs.declared.event.Event.{Event}
-use Rattle.asl_step_rows.specs.declared.effect.Draft.{Draft}
-use Rattle.asl_step_rows.specs.declared.record.Record.{Record}
-use Rattle.asl_step_rows.specs.Records.{state_in, is_failed}
-use Rattle.asl_step_rows.specs.Rows.{draft}
-use Rattle.asl_run_frames.specs.Branches.{Branch, same_place, record_at}
-use Rattle.asl_run_world.specs.World.{World, is_over}
-use Rattle.asl_run_setup.specs.declared.setup.Setup.{Setup}
-use Rattle.asl_run_setup.specs.declared.step_at.StepAt.{StepAt}
+use Rattle.asl_step.specs.declared.effect.Draft.{Draft}
+use Rattle.asl_step.specs.declared.record.Record.{Record}
+use Rattle.asl_step.specs.Records.{state_in, is_failed}
+use Rattle.asl_step.specs.Rows.{draft}
+use Rattle.asl_run_branches.specs.Branches.{Branch, same_place, record_at}
+use Rattle.asl_run_state.specs.World.{World, is_over}
+use Rattle.asl_run_input.specs.declared.setup.Setup.{Setup}
+use Rattle.asl_run_input.specs.declared.step_at.StepAt.{StepAt}
 use Rattle.asl_exec.specs.Steps.{object_in, invokes_by, refusal_in, step}
 use Rattle.asl_exec.specs.declared.obstacle.Obstacle.{Obstacle}
 use Rattle.asl_exec.specs.declared.obstacle.Obstacle.TheVariants.{OnePlace, Above, TwoMoments, Refused, OneTask, Ends, Fails, NoRoom}

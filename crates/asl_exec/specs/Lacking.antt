@@ -3,19 +3,19 @@
 use Rattle.std.specs.Prelude.{ℕ, zero, suc, ◌-◌, ◌^◌, ◌≡◌, Bool, true, false, not, ◌&&◌, nat_lt, if◌then◌else◌, List, length, take, Option, Some, None, is_some, option_map, count_by, slice_get}
 use Rattle.std.specs.Option.{option_and_then}
 use Rattle.asl_json.specs.Same.{bytes_eq}
-use Rattle.asl_json.specs.Data.{Data}
+use Rattle.asl_json_data.specs.Data.{Data}
 use Rattle.asl_json.specs.Meaning.{same}
 use Rattle.asl_json.specs.View.{data_of}
 use Rattle.asl_history.specs.declared.event.Event.{Event}
 use Rattle.asl_history.specs.declared.kind.EventKind.{EventKind}
 use Rattle.asl_history.specs.declared.kind.EventKind.TheVariants.{ExecutionFailed, TaskScheduled, TaskFailed, ParallelStateFailed, MapStateFailed, MapIterationFailed}
 use Rattle.asl_mock.specs.Answers.{Case, answer_to}
-use Rattle.asl_run_setup.specs.declared.setup.Setup.{Setup}
-use Rattle.asl_run_setup.specs.declared.step_at.StepAt.{StepAt}
-use Rattle.asl_run_setup.specs.Emulations.{Texts, Accepts}
-use Rattle.asl_run_world.specs.World.{World}
-use Rattle.asl_run_world.specs.declared.outcome.Outcome.{Outcome}
-use Rattle.asl_run_world.specs.declared.outcome.Outcome.TheVariants.{Failed}
+use Rattle.asl_run_input.specs.declared.setup.Setup.{Setup}
+use Rattle.asl_run_input.specs.declared.step_at.StepAt.{StepAt}
+use Rattle.asl_run_input.specs.Emulations.{Texts, Accepts}
+use Rattle.asl_run_state.specs.World.{World}
+use Rattle.asl_run_state.specs.declared.outcome.Outcome.{Outcome}
+use Rattle.asl_run_state.specs.declared.outcome.Outcome.TheVariants.{Failed}
 use Rattle.asl_exec.specs.RunText.{world_by}
 use Rattle.asl_exec.specs.Steps.{opening}
 use Rattle.asl_exec.specs.declared.lacking.Invocation.{Invocation}

@@ -1,13 +1,13 @@
 -- Laws of runs: over all texts, and over all lists of steps.
 use Rattle.std.specs.Prelude.{◌≡◌, ◌++◌, List, ℕ, Bool}
-use Rattle.asl_run_setup.specs.declared.fault.EmulateFault.{EmulateFault}
-use Rattle.asl_run_setup.specs.declared.setup.Setup.{Setup}
-use Rattle.asl_run_setup.specs.declared.step_at.StepAt.{StepAt}
-use Rattle.asl_run_setup.specs.Emulations.{Texts, IsRefused}
+use Rattle.asl_run_input.specs.declared.fault.EmulateFault.{EmulateFault}
+use Rattle.asl_run_input.specs.declared.setup.Setup.{Setup}
+use Rattle.asl_run_input.specs.declared.step_at.StepAt.{StepAt}
+use Rattle.asl_run_input.specs.Emulations.{Texts, IsRefused}
 use Rattle.asl_history.specs.declared.event.Event.{Event}
-use Rattle.asl_run_world.specs.World.{World}
-use Rattle.asl_run_world.specs.Checkpoints.{world_at, IsCheckpointOf}
-use Rattle.asl_run_world.specs.declared.checkpoint.Checkpoint.{Checkpoint}
+use Rattle.asl_run_state.specs.World.{World}
+use Rattle.asl_run_state.specs.Checkpoints.{world_at, IsCheckpointOf}
+use Rattle.asl_run_state.specs.declared.checkpoint.Checkpoint.{Checkpoint}
 use Rattle.asl_exec.specs.Emulations.{IsRunOf}
 use Rattle.asl_exec.specs.Steps.{world_after}
 

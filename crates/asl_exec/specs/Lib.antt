@@ -1,5 +1,6 @@
 pub mod Steps
 pub mod Views
+pub mod Probes
 pub mod Driving
 pub mod RunText
 pub mod Emulations

@@ -1,9 +1,9 @@
 -- The texts of the reasons why two steps may not change places.
 use Rattle.std.specs.Prelude.{ℕ, List, ◌∷◌, ◌++◌, Some, codes}
-use Rattle.asl_json.specs.Data.{text}
-use Rattle.asl_json.specs.Compact.{compact}
+use Rattle.asl_json_data.specs.Data.{text}
+use Rattle.asl_json_data.specs.Compact.{compact}
 use Rattle.asl_history.specs.Places.{place_text}
-use Rattle.asl_run_world.specs.Lines.{reply_text}
+use Rattle.asl_run_state.specs.Lines.{reply_text}
 use Rattle.asl_exec.specs.declared.obstacle.Obstacle.{Obstacle}
 use Rattle.asl_exec.specs.declared.obstacle.Obstacle.TheVariants.{OnePlace, Above, TwoMoments, Refused, OneTask, Ends, Fails, NoRoom}
 

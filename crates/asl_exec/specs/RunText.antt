@@ -1,9 +1,9 @@
 -- The text of a run: a line for each listed step, the history, and a line for the outcome.
 use Rattle.std.specs.Prelude.{ℕ, List, [], ◌∷◌, ◌++◌, Option, Some, None}
-use Rattle.asl_run_world.specs.World.{World}
-use Rattle.asl_run_world.specs.Lines.{step_line, end_text}
-use Rattle.asl_run_setup.specs.declared.setup.Setup.{Setup}
-use Rattle.asl_run_setup.specs.declared.step_at.StepAt.{StepAt}
+use Rattle.asl_run_state.specs.World.{World}
+use Rattle.asl_run_state.specs.Lines.{step_line, end_text}
+use Rattle.asl_run_input.specs.declared.setup.Setup.{Setup}
+use Rattle.asl_run_input.specs.declared.step_at.StepAt.{StepAt}
 use Rattle.asl_exec.specs.Steps.{refusal_in, step, opening, world_after}
 use Rattle.asl_exec.specs.Driving.{driven}
 

@@ -1,28 +1,28 @@
 -- The steps of an execution: the world that each leaves.
-use Rattle.std.specs.Prelude.{ℕ, Bool, false, List, [], ◌∷◌, max, if◌then◌else◌, is_none, Option, Some, None, option_map, codes}
+use Rattle.std.specs.Prelude.{ℕ, Bool, false, List, [], ◌∷◌, max, if◌then◌else◌, is_none, Option, Some, None, option_map, codes, unwrap_or}
 use Rattle.std.specs.Option.{option_and_then}
-use Rattle.asl_json.specs.Data.{Data}
+use Rattle.asl_json_data.specs.Data.{Data}
 use Rattle.asl_json.specs.Meaning.{value_in}
 use Rattle.asl_def.specs.Machines.{state_object, state_number, state_count}
-use Rattle.asl_step_rows.specs.declared.effect.Effect.{Effect}
-use Rattle.asl_step_rows.specs.declared.record.Record.{Record}
-use Rattle.asl_step_rows.specs.declared.facts.Facts.{Facts}
-use Rattle.asl_step_rows.specs.Rows.{idle}
-use Rattle.asl_step_rows.specs.Seen.{Seen}
-use Rattle.asl_kinds.specs.Table.{state_effect, invokes, slots, whole_or_zero}
+use Rattle.asl_step.specs.declared.effect.Effect.{Effect}
+use Rattle.asl_step.specs.declared.record.Record.{Record}
+use Rattle.asl_step.specs.declared.facts.Facts.{Facts}
+use Rattle.asl_step.specs.Rows.{idle}
+use Rattle.asl_step.specs.Seen.{Seen}
+use Rattle.asl_kinds.specs.Table.{state_effect, invokes, slots}
 use Rattle.asl_kinds.specs.Forks.{start_in}
 use Rattle.asl_kinds.specs.Members.{later}
-use Rattle.asl_def_members.specs.Retries.{whole_in}
+use Rattle.asl_def_fields.specs.Retries.{whole_in}
 use Rattle.asl_mock.specs.Answers.{Case}
-use Rattle.asl_step_rows.specs.Records.{state_in}
-use Rattle.asl_run_frames.specs.Branches.{record_at, children_at, forker_at, iteration_at}
-use Rattle.asl_run_frames.specs.Turns.{Limits}
-use Rattle.asl_run_world.specs.World.{World, count_of, is_late, world_with, timed_out}
-use Rattle.asl_run_world.specs.declared.refusal.Refusal.{Refusal}
-use Rattle.asl_run_world.specs.Refusals.{opening_at}
-use Rattle.asl_run_world.specs.Picking.{refusal_with}
-use Rattle.asl_run_setup.specs.declared.setup.Setup.{Setup}
-use Rattle.asl_run_setup.specs.declared.step_at.StepAt.{StepAt}
+use Rattle.asl_step.specs.Records.{state_in}
+use Rattle.asl_run_branches.specs.Branches.{record_at, children_at, forker_at, iteration_at}
+use Rattle.asl_run_branches.specs.Turns.{Limits}
+use Rattle.asl_run_state.specs.World.{World, count_of, is_late, world_with, timed_out}
+use Rattle.asl_run_state.specs.declared.refusal.Refusal.{Refusal}
+use Rattle.asl_run_state.specs.Refusals.{opening_at}
+use Rattle.asl_run_state.specs.Picking.{refusal_with}
+use Rattle.asl_run_input.specs.declared.setup.Setup.{Setup}
+use Rattle.asl_run_input.specs.declared.step_at.StepAt.{StepAt}
 
 -- what stays the same as an execution goes on
 abbrev pub facts_of : Setup → Facts
@@ -45,7 +45,7 @@ invokes_by (Some o) = invokes o
 
 -- how many iterations the Map of a name runs at once; 0 where there is no limit, or no Map
 abbrev pub limits_in : Data → Limits
-limits_in d name = whole_or_zero (option_map slots (state_object name d))
+limits_in d name = unwrap_or (option_map slots (state_object name d)) 0
 
 -- what a step may read
 abbrev pub seen_at : Data → Case → World → List ℕ → ℕ → Record → Seen

@@ -1,7 +1,7 @@
 -- What callers see of an execution.
 use Rattle.asl_exec.specs.declared.execution.Execution.{Execution}
-use Rattle.asl_run_setup.specs.declared.setup.Setup.{Setup}
-use Rattle.asl_run_world.specs.World.{World}
+use Rattle.asl_run_input.specs.declared.setup.Setup.{Setup}
+use Rattle.asl_run_state.specs.World.{World}
 
 -- what it began with
 abbrev pub setup_of : Execution → Setup

@@ -1,6 +1,6 @@
 // Runs without a list of steps: what comes next is stepped.
 ghost use Rattle.std.specs.Prelude.{◌≡◌, ◌≤◌, IfOk, IfErr, OnOk, OnErr, Some, option_map, is_some};
-ghost use Rattle.asl_run_world.specs.Picking.{first_at, pick, picked, CanBeDone};
+ghost use Rattle.asl_run_state.specs.Picking.{first_at, pick, picked, CanBeDone};
 ghost use Rattle.asl_exec.specs.Steps.{limits_in};
 ghost use Rattle.asl_exec.specs.Driving.{chosen, after, driven, driven_steps, end_of};
 ghost use Rattle.asl_exec.specs.Views.{setup_of, world_of};
@@ -8,10 +8,10 @@ ghost use Rattle.asl_exec.specs.Views.{setup_of, world_of};
 use crate::execution::Execution;
 use crate::stepping::limit_in;
 use asl_history::Place;
-use asl_json::Name;
-use asl_run_frames::Limits;
-use asl_run_setup::StepAt;
-use asl_run_world::Next;
+use asl_json_shared::Name;
+use asl_run_branches::Limits;
+use asl_run_input::StepAt;
+use asl_run_state::Next;
 use asl_time::Moment;
 use std::alloc::AllocError;
 

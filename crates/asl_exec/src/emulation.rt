@@ -1,14 +1,14 @@
 // A whole run, from texts to text.
 ghost use Rattle.std.specs.Prelude.{Some, None, IfOk, IfErr, string_bytes};
-ghost use Rattle.asl_run_setup.specs.Emulations.{IsRefused, run_texts};
-ghost use Rattle.asl_run_setup.specs.Texts.{Unless};
-ghost use Rattle.asl_run_setup.specs.Views.{texts_of};
+ghost use Rattle.asl_run_input.specs.Emulations.{IsRefused, run_texts};
+ghost use Rattle.asl_run_input.specs.Texts.{Unless};
+ghost use Rattle.asl_run_input.specs.Views.{texts_of};
 ghost use Rattle.asl_exec.specs.Emulations.{IsRunOf};
 ghost use Rattle.asl_exec.specs.Lacking.{IsLackingIn};
 
 use crate::lacking::Invocation;
 use crate::printing::run;
-use asl_run_setup::{EmulateFault, Emulation, RunTexts};
+use asl_run_input::{EmulateFault, Emulation, RunTexts};
 use std::alloc::Global;
 
 /// What becomes of a run.

@@ -1,12 +1,12 @@
 // What an execution is.
 ghost use Rattle.std.specs.Prelude.{◌≡◌};
 ghost use Rattle.std.specs.Coded.{Coded-set};
-ghost use Rattle.asl_step_rows.specs.contracts.facts.Facts as facts_row;
+ghost use Rattle.asl_step.specs.contracts.facts.Facts as facts_row;
 ghost use Rattle.asl_exec.specs.Steps.{facts_of};
 
-use asl_run_setup::Setup;
-use asl_run_world::World;
-use asl_step_rows::Context;
+use asl_run_input::Setup;
+use asl_run_state::World;
+use asl_step::Context;
 use std::alloc::Global;
 
 /// A setup, and the world of the steps so far. It keeps the allocator that it was opened with.

@@ -6,9 +6,10 @@ ghost use Rattle.asl_exec.specs.Views.{setup_of, world_of};
 
 use crate::execution::Execution;
 use asl_history::{Event, EventKind};
-use asl_json::{Json, Txt, same};
+use asl_json::{Json, Txt};
+use asl_json_same::same;
 use asl_mock::{Case, answer};
-use asl_run_world::Outcome;
+use asl_run_state::Outcome;
 use std::alloc::{AllocError, Global};
 
 /// An invocation of a service by a Task state.

@@ -1,11 +1,12 @@
 // Why two steps may not change places.
 ghost use Rattle.std.specs.Prelude.{◌≡◌, ◌++◌, IfOk, OnOk, OnErr, string_bytes};
-ghost use Rattle.asl_json.specs.Buffers.{Keeps};
+ghost use Rattle.asl_json_write.specs.Buffers.{Keeps};
 ghost use Rattle.asl_exec.specs.ObstacleText.{obstacle_text, reason_text};
 
 use asl_history::Place;
-use asl_json::{Name, put_quoted, whole_or_none};
-use asl_run_world::{Refusal, put_reply};
+use asl_json_shared::Name;
+use asl_json_write::{put_quoted, whole_or_none};
+use asl_run_state::{Refusal, put_reply};
 use std::alloc::AllocError;
 
 /// Why two steps may not change places. Of several reasons the first in this order is answered; where it holds of both steps, it

@@ -1,6 +1,6 @@
 // The text of a run.
 ghost use Rattle.std.specs.Prelude.{◌≡◌, ◌++◌, OnOk, OnErr, IfOk, option_map, string_bytes};
-ghost use Rattle.asl_run_world.specs.Lines.{end_text, is_success};
+ghost use Rattle.asl_run_state.specs.Lines.{end_text, is_success};
 ghost use Rattle.asl_exec.specs.Lacking.{unanswered_in};
 ghost use Rattle.asl_exec.specs.RunText.{step_lines, lines_by, world_by, text_by};
 ghost use Rattle.asl_exec.specs.Steps.{opening, refusal_in, step, world_after};
@@ -8,8 +8,8 @@ ghost use Rattle.asl_exec.specs.Views.{setup_of, world_of};
 
 use crate::emulation::Emulated;
 use crate::execution::Execution;
-use asl_run_setup::{Setup, StepAt};
-use asl_run_world::{Refusal, is_success, put_end, put_step};
+use asl_run_input::{Setup, StepAt};
+use asl_run_state::{Refusal, is_success, put_end, put_step};
 use std::alloc::{AllocError, Global};
 
 impl Execution {

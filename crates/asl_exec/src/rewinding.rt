@@ -1,13 +1,14 @@
 // Keeping the world of an execution, and coming back to it.
 ghost use Rattle.std.specs.Prelude.{◌≡◌, IfOk, OnOk, OnErr, max};
-ghost use Rattle.asl_run_world.specs.World.{is_late};
-ghost use Rattle.asl_run_world.specs.Checkpoints.{world_at, IsCheckpointOf};
-ghost use Rattle.asl_exec.specs.Steps.{world_after};
+ghost use Rattle.asl_run_state.specs.World.{is_late};
+ghost use Rattle.asl_run_state.specs.Checkpoints.{world_at, IsCheckpointOf};
+ghost use Rattle.asl_exec.specs.Steps.{opening, world_after};
 ghost use Rattle.asl_exec.specs.Views.{setup_of, world_of};
 
 use crate::execution::Execution;
-use asl_run_setup::StepAt;
-use asl_run_world::Checkpoint;
+use crate::stepping::opening_world;
+use asl_run_input::StepAt;
+use asl_run_state::Checkpoint;
 use asl_time::Moment;
 use std::alloc::AllocError;
 use std::mem;
@@ -38,6 +39,16 @@ impl Execution {
         for at in steps {
             let _refused = self.reply(at)?;
         }
+        Ok(())
+    }
+
+    /// Comes back to the world before the first step. The error is that memory ran out, and nothing changed.
+    pub fn restart(&mut self) -> Result<(), AllocError>
+        ensures ok { OnOk result (world_of self.new ≡ opening (setup_of self.old)) }
+        ensures err { OnErr result (world_of self.new ≡ world_of self.old) }
+        ensures setup { setup_of self.new ≡ setup_of self.old }
+    {
+        self.world = opening_world(self.alloc, &self.setup)?;
         Ok(())
     }
 

@@ -1,6 +1,6 @@
 // Steps that may change places.
 ghost use Rattle.std.specs.Prelude.{◌≡◌, is_some, IfOk, None, option_map};
-ghost use Rattle.asl_step_rows.specs.Records.{is_failed};
+ghost use Rattle.asl_step.specs.Records.{is_failed};
 ghost use Rattle.asl_exec.specs.Steps.{facts_of, refusal_in};
 ghost use Rattle.asl_exec.specs.Exchanges.{are_exchangeable, obstacle_to, in_line, refused, invoked_at, one_task, halt_by, halted};
 ghost use Rattle.asl_exec.specs.Views.{setup_of, world_of};
@@ -9,9 +9,9 @@ use crate::execution::Execution;
 use crate::obstacle::Obstacle;
 use crate::stepping::{facts_of, invokes_in, planned, state_of};
 use asl_history::Place;
-use asl_json::Name;
-use asl_run_setup::StepAt;
-use asl_step_rows::{Context, Effect};
+use asl_json_shared::Name;
+use asl_run_input::StepAt;
+use asl_step::{Context, Effect};
 use std::alloc::AllocError;
 
 /// Two steps tell of at most sixteen events: so many leave room for them.
@@ -68,7 +68,7 @@ impl Execution {
     /// Whether two steps may change places: they are at places of which neither is the other or is above it, and at one
     /// moment; each is accepted now, and neither ends the execution nor fails its branch; they invoke no state in common; and
     /// there is room for the events of both. Then they may be taken in either order, and both orders leave the same, as
-    /// `steps_may_change_places` of asl_run_exchange says. Nothing changes. The error is that memory ran out.
+    /// `steps_may_change_places` of asl_exec_swap_laws says. Nothing changes. The error is that memory ran out.
     pub fn may_swap(&self, one: &StepAt, other: &StepAt) -> Result<bool, AllocError>
         ensures { IfOk result (λ b. b
             ≡ are_exchangeable (setup_of self.now) (world_of self.now) one.now other.now) }

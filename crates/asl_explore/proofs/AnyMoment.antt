@@ -2,16 +2,16 @@
 use Rattle.std.proofs.Common.{ℕ, ◌≡◌, ◌⊎◌, inl, inr, ◌∙◌, ap, subst, sym, refl, Bool, true, false, List, [], ◌∷◌, None}
 use Rattle.std.specs.Prelude.{IsSome}
 use Rattle.std.specs.List.{Contains}
-use Rattle.asl_step_unread.specs.Reading.{reads}
-use Rattle.asl_step_unread.specs.Steps.{clock_keys}
-use Rattle.asl_run_world.specs.World.{World, is_over}
-use Rattle.asl_run_world.specs.declared.outcome.Outcome.{Outcome}
-use Rattle.asl_run_world.specs.declared.outcome.Outcome.TheVariants.{TimedOut}
-use Rattle.asl_run_setup.specs.declared.setup.Setup.{Setup}
+use Rattle.asl_step_reads.specs.Reading.{reads}
+use Rattle.asl_step_reads.specs.Steps.{clock_keys}
+use Rattle.asl_run_state.specs.World.{World, is_over}
+use Rattle.asl_run_state.specs.declared.outcome.Outcome.{Outcome}
+use Rattle.asl_run_state.specs.declared.outcome.Outcome.TheVariants.{TimedOut}
+use Rattle.asl_run_input.specs.declared.setup.Setup.{Setup}
 use Rattle.asl_exec.specs.Steps.{deadline_of, step, opening, world_after}
-use Rattle.asl_run_world.specs.Bare.{bare}
-use Rattle.asl_run_moments.specs.Moments.{DifferInMoments}
-use Rattle.asl_run_moments.proofs.Runs.{any-moments, step-aside, bare-aside}
+use Rattle.asl_run_state.specs.Bare.{bare}
+use Rattle.asl_exec_moment_laws.specs.Moments.{DifferInMoments}
+use Rattle.asl_exec_moment_laws.proofs.Runs.{any-moments, step-aside, bare-aside}
 use Rattle.asl_explore.specs.declared.orders.Orders.TheVariants.{Every}
 use Rattle.asl_explore.specs.Orders.{due, after_order, AreTried, IsWhole, IsWholeAtAnyMoment}
 use Rattle.asl_explore.specs.Searches.{IsMetAside, IsExpandedAside}

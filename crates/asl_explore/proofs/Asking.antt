@@ -1,15 +1,15 @@
 -- How often the steps of an order invoke a service; no more often than a history has room for.
 use Rattle.std.proofs.Common.{ℕ, suc, zero, ◌≡◌, ◌≤◌, ◌+◌, ◌*◌, Bool, true, false, List, refl, sym, ◌∙◌, ap, subst, arith, cond, length, length-append, max, Some, None, Option}
 use Rattle.asl_history.specs.declared.event.Event.{Event}
-use Rattle.asl_step_rows.specs.declared.effect.Effect.{Effect}
-use Rattle.asl_step_rows.specs.declared.record.Record.{Record}
-use Rattle.asl_run_frames.specs.Branches.{record_at, forker_at}
-use Rattle.asl_run_frames.specs.Turns.{limit_of}
-use Rattle.asl_run_world.specs.Bare.{bare}
-use Rattle.asl_run_world.specs.World.{World, is_late, world_with}
-use Rattle.asl_run_world.proofs.Accepting.{accepted-room}
-use Rattle.asl_run_world.proofs.Telling.{events-length}
-use Rattle.asl_run_setup.specs.declared.setup.Setup.{Setup}
+use Rattle.asl_step.specs.declared.effect.Effect.{Effect}
+use Rattle.asl_step.specs.declared.record.Record.{Record}
+use Rattle.asl_run_branches.specs.Branches.{record_at, forker_at}
+use Rattle.asl_run_branches.specs.Turns.{limit_of}
+use Rattle.asl_run_state.specs.Bare.{bare}
+use Rattle.asl_run_state.specs.World.{World, is_late, world_with}
+use Rattle.asl_run_state.proofs.Accepting.{accepted-room}
+use Rattle.asl_run_state.proofs.Telling.{events-length}
+use Rattle.asl_run_input.specs.declared.setup.Setup.{Setup}
 use Rattle.asl_exec.specs.Steps.{facts_of, number_in, object_in, limits_in, seen_at, refusal_in, moved_on, step}
 use Rattle.asl_exec.proofs.Accepting.{step_taken, step_late}
 use Rattle.asl_exec.proofs.Going.{does}

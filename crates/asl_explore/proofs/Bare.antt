@@ -1,19 +1,19 @@
 -- A step reads nothing of the history.
 use Rattle.std.proofs.Common.{ℕ, ◌≡◌, ◌⊎◌, inl, inr, ◌∙◌, ap, sym, refl, Bool, true, false, List, max, Option, Some, None, if◌then◌else◌}
 use Rattle.std.specs.Prelude.{is_none}
-use Rattle.asl_step_rows.specs.declared.record.Record.{Record}
-use Rattle.asl_step_rows.specs.declared.record.Record.TheVariants.{New, Ready, Pausing, Again, Forked, Done, Failed}
-use Rattle.asl_run_frames.specs.Branches.{record_at, children_at, forker_at, is_stopped, is_busy}
-use Rattle.asl_run_frames.specs.Turns.{is_crowded, limit_of}
-use Rattle.asl_run_world.specs.World.{World, is_over, is_late}
-use Rattle.asl_run_world.specs.declared.refusal.Refusal.{Refusal}
-use Rattle.asl_run_world.specs.declared.refusal.Refusal.TheVariants.{Over}
-use Rattle.asl_run_world.specs.Refusals.{refusal_if_full, refusal_by, refusal_at, refusal_of}
-use Rattle.asl_run_world.proofs.Accepting.{has_place}
-use Rattle.asl_run_setup.specs.declared.setup.Setup.{Setup}
+use Rattle.asl_step.specs.declared.record.Record.{Record}
+use Rattle.asl_step.specs.declared.record.Record.TheVariants.{New, Ready, Pausing, Again, Forked, Done, Failed}
+use Rattle.asl_run_branches.specs.Branches.{record_at, children_at, forker_at, is_stopped, is_busy}
+use Rattle.asl_run_branches.specs.Turns.{is_crowded, limit_of}
+use Rattle.asl_run_state.specs.World.{World, is_over, is_late}
+use Rattle.asl_run_state.specs.declared.refusal.Refusal.{Refusal}
+use Rattle.asl_run_state.specs.declared.refusal.Refusal.TheVariants.{Over}
+use Rattle.asl_run_state.specs.Refusals.{refusal_if_full, refusal_by, refusal_at, refusal_of}
+use Rattle.asl_run_state.proofs.Accepting.{has_place}
+use Rattle.asl_run_input.specs.declared.setup.Setup.{Setup}
 use Rattle.asl_exec.specs.Steps.{limits_in, refusal_in, moved_on, step}
 use Rattle.asl_exec.proofs.Accepting.{step_refused, step_taken, step_late}
-use Rattle.asl_run_world.specs.Bare.{bare}
+use Rattle.asl_run_state.specs.Bare.{bare}
 
 -- ---- what isn't refused isn't refused without the history
 

@@ -2,35 +2,38 @@
 use Rattle.std.proofs.Common.{ℕ, ◌≡◌, ◌⊎◌, inl, inr, ◌≤◌, ◌+◌, ◌==◌, Bool, true, false, not, List, [], refl, sym, ◌∙◌, ap, subst, arith, Some, None, Option}
 use Rattle.std.specs.Prelude.{is_some}
 use Rattle.std.proofs.lemmas.Bool.{both_ways, eqb-true, eqb-false}
-use Rattle.asl_json.specs.Data.{Data}
+use Rattle.asl_json_data.specs.Data.{Data}
 use Rattle.asl_json.specs.declared.value.Json.{Json}
 use Rattle.asl_history.specs.Places.{is_prefix}
-use Rattle.asl_step_rows.specs.Bounds.{are_kept}
-use Rattle.asl_step_rows.specs.Records.{is_failed}
-use Rattle.asl_step_rows.specs.Rows.{idle}
-use Rattle.asl_step_rows.specs.declared.effect.Children.TheVariants.{Removed}
-use Rattle.asl_step_rows.specs.declared.effect.Effect.{Effect}
-use Rattle.asl_step_rows.specs.declared.effect.Ended.{Ended}
-use Rattle.asl_step_rows.specs.declared.record.Record.{Record}
-use Rattle.asl_step_rows.specs.declared.record.Record.TheVariants.{New, Ready, Pausing, Again, Forked, Done, Failed}
+use Rattle.asl_step.specs.Bounds.{are_kept}
+use Rattle.asl_step.specs.Records.{is_failed}
+use Rattle.asl_step.specs.Rows.{idle}
+use Rattle.asl_step.specs.declared.effect.Children.TheVariants.{Removed}
+use Rattle.asl_step.specs.declared.effect.Effect.{Effect}
+use Rattle.asl_step.specs.declared.effect.Ended.{Ended}
+use Rattle.asl_step.specs.declared.record.Record.{Record}
+use Rattle.asl_step.specs.declared.record.Record.TheVariants.{New, Ready, Pausing, Again, Forked, Done, Failed}
 use Rattle.asl_kinds.specs.Forks.{first_error}
-use Rattle.asl_run_frames.specs.Branches.{children_at, branches_after}
-use Rattle.asl_run_world.specs.World.{World, outcome_after, counts_after, count_of}
-use Rattle.asl_run_world.specs.declared.outcome.Outcome.{Outcome}
-use Rattle.asl_run_setup.specs.declared.setup.Setup.{Setup}
+use Rattle.asl_run_branches.specs.Branches.{record_at, children_at, branches_after}
+use Rattle.asl_run_state.specs.World.{World, outcome_after, counts_after, count_of}
+use Rattle.asl_run_state.specs.declared.outcome.Outcome.{Outcome}
+use Rattle.asl_run_input.specs.declared.setup.Setup.{Setup}
+use Rattle.asl_exec.specs.Exchanges.{IsOneEach}
 use Rattle.asl_exec.specs.Steps.{facts_of, number_in, object_in, invokes_by, seen_at, effect_in, effect_by}
 use Rattle.asl_exec.proofs.Going.{does, slots_at, IsReady}
 use Rattle.asl_exec.proofs.Accepting.{effect-bounded, seen-is}
-use Rattle.asl_run_exchange.proofs.Apart.{IsApart, apart-sym}
-use Rattle.asl_run_exchange.proofs.Leaving.{record-stays, children-stay, forker-stays, iteration-stays, branches-commute}
-use Rattle.asl_run_exchange.proofs.Fewer.{all-at, not-stopped, not-crowded, is_undone}
-use Rattle.asl_run_exchange.proofs.Changing.{ready-later, undone-by}
-use Rattle.asl_run_exchange.proofs.Telling.{counts-commute}
-use Rattle.asl_run_exchange.proofs.Effects.{effect-takes, effect-same, waiting}
-use Rattle.asl_run_exchange.proofs.Rooted.{is_joining}
-use Rattle.asl_run_exchange.proofs.Joining.{error-stays, absorbs, nothing-changes, all-are}
-use Rattle.asl_run_exchange.proofs.Pending.{IsPending, ahead, after, none-over, unfinished-by, rooted-next, each-next}
-use Rattle.asl_explore.proofs.Failing.{joining-ready, error-any, not-busy, HasFailed, failed-under}
+use Rattle.asl_exec_swap_laws.proofs.Apart.{IsApart, apart-sym}
+use Rattle.asl_exec_swap_laws.proofs.Leaving.{record-stays, children-stay, forker-stays, iteration-stays, branches-commute}
+use Rattle.asl_exec_swap_laws.proofs.Fewer.{all-at, not-stopped, not-crowded, is_undone}
+use Rattle.asl_exec_swap_laws.proofs.Changing.{ready-later, undone-by}
+use Rattle.asl_exec_swap_laws.proofs.Telling.{counts-commute}
+use Rattle.asl_exec_swap_laws.proofs.Effects.{effect-takes, effect-same, waiting}
+use Rattle.asl_exec_swap_laws.proofs.Rooted.{is_joining}
+use Rattle.asl_exec_swap_laws.proofs.Joining.{error-stays, absorbs, nothing-changes, all-are}
+use Rattle.asl_exec_swap_laws.proofs.OneEach.{one-after}
+use Rattle.asl_exec_swap_laws.proofs.Inline.{joining-ready, not-busy}
+use Rattle.asl_exec_swap_laws.proofs.Pending.{IsPending, ahead, after, none-over, unfinished-by, rooted-next, each-next}
+use Rattle.asl_explore.proofs.Failing.{error-any, HasFailed, failed-under}
 use Rattle.asl_explore.proofs.Steady.{counted, IsHeld, held-does, held-less, AreLike, like-less, like-does, like-after, like-ahead, asked, count-after}
 use Rattle.asl_explore.proofs.Carrying.{with_counts}
 
@@ -75,6 +78,17 @@ goes-on s u p q now m a = by (does s u q now m).outcome refl
     by : (o : Option Ended) → (does s u q now m).outcome ≡ o → (does s u q now m).outcome ≡ None
     by None e = e
     by (Some x) e = absurd (root ((effect-bounded s.machine (facts_of s) (seen_at s.machine s.case u q now m)).at_root (ap is_some e)))
+
+-- where a step does nothing, the world stays
+still-idle : (s : Setup) (u : World) (q : List ℕ) (m : Record) → u.events ≡ [] → IsOneEach u.branches → record_at q u.branches ≡ Some m → does s u q u.last m ≡ idle m → after s u q m ≡ u
+still-idle s u q m untold each there idles =
+    let f = does s u q u.last m in
+    let branches : branches_after q f.after f.children u.branches ≡ u.branches =
+    ap (λ (z : Effect). branches_after q z.after z.children u.branches) idles
+    ∙ nothing-changes q m u.branches (all-are q m u.branches each there) in
+    let counts : counts_after (number_in s.machine m) f.raises u.counts ≡ u.counts = ap (λ (z : Effect). counts_after (number_in s.machine m) z.raises u.counts) idles in
+    let outcome : outcome_after f.outcome u.outcome ≡ u.outcome = ap (λ (z : Effect). outcome_after z.outcome u.outcome) idles in
+    λ i. record { branches = branches i; counts = counts i; events = sym untold i; last = u.last; deadline = u.deadline; outcome = outcome i }
 
 module _ (s : Setup) (u : World) (p q : List ℕ) (r m : Record) (e : Effect) (calm : KeepsOn e) (w : IsPending s u p r e) (h : IsReady s u q u.last m) (b : ℕ) (held : IsHeldFor s u r b) where
   -- the counts where it was taken
@@ -253,13 +267,13 @@ module _ (s : Setup) (u : World) (p q : List ℕ) (r m : Record) (e : Effect) (c
     above-asked = ap (λ (z : Effect). asked z.raises) same-above.same
 
     -- so it leaves the same but for counts, or nothing happens
-    pub above-same : (after s (ahead s u p r e) q m ≡ with_counts (counts_after (number_in s.machine m) (does s u q u.last m).raises ds) (after s u q m)) ⊎ (after s u q m ≡ u)
+    pub above-same : (after s (ahead s u p r e) q m ≡ with_counts (counts_after (number_in s.machine m) (does s u q u.last m).raises ds) (after s u q m)) ⊎ ((after s u q m ≡ u) × (after s (ahead s u p r e) q m ≡ ahead s u p r e))
     above-same = by same-above.takes
       where
         f : Effect
         f = does s u q u.last m
 
-        by : (f.children ≡ Removed) ⊎ (f ≡ idle m) → (after s (ahead s u p r e) q m ≡ with_counts (counts_after (number_in s.machine m) f.raises ds) (after s u q m)) ⊎ (after s u q m ≡ u)
+        by : (f.children ≡ Removed) ⊎ (f ≡ idle m) → (after s (ahead s u p r e) q m ≡ with_counts (counts_after (number_in s.machine m) f.raises ds) (after s u q m)) ⊎ ((after s u q m ≡ u) × (after s (ahead s u p r e) q m ≡ ahead s u p r e))
         by (inl taken) =
             let same = same-above.same in
             let gone : are_kept f.children ≡ false = rw taken refl in
@@ -273,12 +287,10 @@ module _ (s : Setup) (u : World) (p q : List ℕ) (r m : Record) (e : Effect) (c
             ∙ ap (λ (z : Outcome). outcome_after f.outcome z) (none-over e.outcome calm.silent u.outcome) in
             inl (λ i. record { branches = branches i; counts = counts i; events = []; last = u.last; deadline = u.deadline; outcome = outcome i })
         by (inr idles) =
-            let branches : branches_after q f.after f.children u.branches ≡ u.branches =
-            ap (λ (z : Effect). branches_after q z.after z.children u.branches) idles
-            ∙ nothing-changes q m u.branches (all-are q m u.branches w.each h.there) in
-            let counts : counts_after (number_in s.machine m) f.raises u.counts ≡ u.counts = ap (λ (z : Effect). counts_after (number_in s.machine m) z.raises u.counts) idles in
-            let outcome : outcome_after f.outcome u.outcome ≡ u.outcome = ap (λ (z : Effect). outcome_after z.outcome u.outcome) idles in
-            inr (λ i. record { branches = branches i; counts = counts i; events = sym w.untold i; last = u.last; deadline = u.deadline; outcome = outcome i })
+            inr (
+              still-idle s u q m w.untold w.each h.there idles,
+              still-idle s (ahead s u p r e) q m refl (one-after p e.after e.children u.branches w.each) (record-stays p e.after e.children q u.branches d ∙ h.there) (same-above.same ∙ idles),
+            )
 
 -- ---- what is left of it after another step
 

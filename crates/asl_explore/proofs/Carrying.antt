@@ -1,19 +1,21 @@
 -- Worlds that are alike but for counts that don't matter: the same orders end in worlds that are alike so.
 use Rattle.std.proofs.Common.{ℕ, ◌≡◌, ◌+◌, Bool, true, false, List, [], ◌∷◌, refl, sym, ◌∙◌, ap, subst, arith, cond, max, Some, None, Option}
-use Rattle.std.specs.Prelude.{is_none, ⊤}
-use Rattle.asl_step_rows.specs.declared.effect.Effect.{Effect}
-use Rattle.asl_step_rows.specs.declared.record.Record.{Record}
-use Rattle.asl_step_rows.specs.declared.record.Record.TheVariants.{New, Ready, Pausing, Again, Forked, Done, Failed}
-use Rattle.asl_run_frames.specs.Branches.{record_at}
-use Rattle.asl_run_world.specs.Bare.{bare}
-use Rattle.asl_run_world.specs.World.{World, is_late, timed_out, world_with, counts_after}
-use Rattle.asl_run_world.specs.Refusals.{refusal_by, refusal_at, refusal_of}
-use Rattle.asl_run_world.specs.declared.refusal.Refusal.{Refusal}
-use Rattle.asl_run_setup.specs.declared.setup.Setup.{Setup}
+use Rattle.std.specs.Prelude.{is_none}
+use Rattle.asl_step.specs.declared.effect.Effect.{Effect}
+use Rattle.asl_step.specs.declared.record.Record.{Record}
+use Rattle.asl_step.specs.declared.record.Record.TheVariants.{New, Ready, Pausing, Again, Forked, Done, Failed}
+use Rattle.asl_run_branches.specs.Branches.{record_at}
+use Rattle.asl_run_state.specs.Bare.{bare}
+use Rattle.asl_run_state.specs.World.{World, is_late, timed_out, world_with, counts_after}
+use Rattle.asl_run_state.specs.Refusals.{refusal_by, refusal_at, refusal_of}
+use Rattle.asl_run_state.specs.declared.refusal.Refusal.{Refusal}
+use Rattle.asl_run_input.specs.declared.setup.Setup.{Setup}
 use Rattle.asl_exec.specs.Steps.{number_in, refusal_in, moved_on, step}
 use Rattle.asl_exec.proofs.Accepting.{step_refused, step_taken, step_late}
 use Rattle.asl_exec.proofs.Going.{does}
+use Rattle.asl_explore.specs.declared.orders.Orders.TheVariants.{Prompt}
 use Rattle.asl_explore.specs.Orders.{due, MayStep, IsPrompt}
+pub use Rattle.asl_explore.specs.Orders.{go, after_bare, AreTriedOn}
 use Rattle.asl_explore.proofs.Steady.{AreLike, asked, like-less, like-does, like-after}
 use Rattle.asl_explore.proofs.Asking.{asks_of, asks_at, asks-taken}
 
@@ -23,17 +25,8 @@ with_counts ds w = record { branches = w.branches; counts = ds; events = w.event
 
 -- ---- such orders
 
--- the world that a step leaves
-abbrev pub go : Setup → World → List ℕ → World
-go s w p = bare (step s w p (due w p))
-
-abbrev pub after_bare : Setup → World → List (List ℕ) → World
-after_bare s w [] = w
-after_bare s w (p ∷ ps) = after_bare s (go s w p) ps
-
 abbrev pub ArePrompt : Setup → World → List (List ℕ) → Type 0
-ArePrompt s w [] = ⊤
-ArePrompt s w (p ∷ ps) = IsPrompt s w p × ArePrompt s (go s w p) ps
+ArePrompt s w ps = AreTriedOn Prompt s w ps
 
 -- so often they invoke a service
 abbrev pub asks : Setup → World → List (List ℕ) → ℕ
@@ -131,22 +124,26 @@ prompt-same s u ds p h = (may-same s (bare u) ds p h.0, λ q may. h.1 q (may-bac
 
 -- ---- the same orders
 
-pub record Carried (s : Setup) (u : World) (ds : List ℕ) (ps : List (List ℕ)) : Type 0 where
+-- with counts that don't matter in so many further invocations either
+pub record Carried (s : Setup) (u : World) (ds : List ℕ) (ps : List (List ℕ)) (spare : ℕ) : Type 0 where
   pub prompt : ArePrompt s (with_counts ds u) ps
   pub asking : asks s (with_counts ds u) ps ≡ asks s u ps
   pub counts : List ℕ
   pub ends : after_bare s (with_counts ds u) ps ≡ with_counts counts (after_bare s u ps)
+  pub like : AreLike s spare (after_bare s u ps).counts counts
 
-pub carried : (s : Setup) (u : World) (ds : List ℕ) (ps : List (List ℕ)) → AreLike s (asks s u ps) u.counts ds → ArePrompt s u ps → Carried s u ds ps
-carried s u ds [] like prompt = record { prompt = tt; asking = refl; counts = ds; ends = refl }
-carried s u ds (p ∷ ps) like prompt =
-    let b = asks s (go s u p) ps in
-    let x = stepped s u ds p b like in
+pub carried : (s : Setup) (u : World) (ds : List ℕ) (ps : List (List ℕ)) (spare : ℕ) → AreLike s (asks s u ps + spare) u.counts ds → ArePrompt s u ps → Carried s u ds ps spare
+carried s u ds [] spare like prompt = record { prompt = tt; asking = refl; counts = ds; ends = refl; like = like-less s spare (0 + spare) u.counts ds (omega arith) like }
+carried s u ds (p ∷ ps) spare like prompt =
+    let b = asks s (go s u p) ps + spare in
+    let all : AreLike s (asks_at s u p + b) u.counts ds = like-less s (asks_at s u p + b) (asks_at s u p + asks s (go s u p) ps + spare) u.counts ds (omega arith) like in
+    let x = stepped s u ds p b all in
     let is : go s (with_counts ds u) p ≡ with_counts x.counts (go s u p) = ap bare x.same in
-    let y = carried s (go s u p) x.counts ps x.like prompt.1 in
+    let y = carried s (go s u p) x.counts ps spare x.like prompt.1 in
     record {
       prompt = (prompt-same s u ds p prompt.0, subst (λ z. ArePrompt s z ps) (sym is) y.prompt);
-      asking = (λ i. asks-same s u ds p b like i + asks s (is i) ps) ∙ ap (λ n. asks_at s u p + n) y.asking;
+      asking = (λ i. asks-same s u ds p b all i + asks s (is i) ps) ∙ ap (λ n. asks_at s u p + n) y.asking;
       counts = y.counts;
       ends = ap (λ z. after_bare s z ps) is ∙ y.ends;
+      like = y.like;
     }

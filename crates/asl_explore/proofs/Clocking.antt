@@ -3,11 +3,11 @@ use Rattle.std.proofs.Common.{ℕ, ◌≡◌, ◌+◌, refl, Bool, true, false, 
 use Rattle.std.specs.Prelude.{is_none, option_map}
 use Rattle.std.specs.Fmt.{decimal}
 use Rattle.std.proofs.lemmas.Bool.{or_from}
-use Rattle.asl_json.specs.Data.{Data, null, boolean, number, text, list, dict, Chain, no_items, item, Pairs, no_members, member}
-use Rattle.asl_step_unread.specs.Mentions.{text_may_read}
-use Rattle.asl_step_unread.specs.Reading.{reads, some_text, some_text_in, some_text_among}
-use Rattle.asl_step_unread.specs.Steps.{clock_keys}
-use Rattle.asl_step_unread.proofs.Mentioning.{unmentioned}
+use Rattle.asl_json_data.specs.Data.{Data, null, boolean, number, text, list, dict, Chain, no_items, item, Pairs, no_members, member}
+use Rattle.asl_step_reads.specs.Mentions.{text_may_read}
+use Rattle.asl_step_reads.specs.Reading.{reads, some_text, some_text_in, some_text_among}
+use Rattle.asl_step_reads.specs.Steps.{clock_keys}
+use Rattle.asl_step_reads.proofs.Mentioning.{unmentioned}
 use Rattle.asl_explore.specs.Clock.{Way, further, first_way, way_to, way_among, way_in, pointer_text, clock_place}
 
 neither : (a b : Option Way) → first_way a b ≡ None → (a ≡ None) × (b ≡ None)

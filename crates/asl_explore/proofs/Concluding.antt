@@ -1,15 +1,15 @@
 -- What is told of a search, with the outcome of a late step behind those that it found.
-use Rattle.std.proofs.Common.{ℕ, ◌≡◌, ◌<◌, ◌⊎◌, inl, inr, ◌++◌, ◌∙◌, ap, sym, subst, arith, true, false, List, [], ◌∷◌, length, get_or, Option, Some, None}
+use Rattle.std.proofs.Common.{ℕ, ◌≡◌, ◌<◌, ◌⊎◌, inl, inr, ◌∙◌, ap, sym, subst, arith, true, false, List, [], ◌∷◌, length, get_or, Option, Some, None}
 use Rattle.std.specs.Prelude.{IfSome}
 use Rattle.std.specs.List.{All, Contains}
 use Rattle.std.proofs.lemmas.List.{get_or_append_left, length-append}
-use Rattle.std.proofs.lemmas.List.Elements.{All-push, Contains-append_left}
+use Rattle.std.proofs.lemmas.List.Elements.{Contains-append_left}
 use Rattle.asl_def.specs.Machines.{state_count}
-use Rattle.asl_run_world.specs.World.{World, is_over}
-use Rattle.asl_run_world.specs.Bare.{bare}
-use Rattle.asl_run_world.specs.declared.outcome.Outcome.{Outcome}
-use Rattle.asl_run_setup.specs.declared.setup.Setup.{Setup}
-use Rattle.asl_run_setup.specs.declared.step_at.StepAt.{StepAt}
+use Rattle.asl_run_state.specs.World.{World, is_over}
+use Rattle.asl_run_state.specs.Bare.{bare}
+use Rattle.asl_run_state.specs.declared.outcome.Outcome.{Outcome}
+use Rattle.asl_run_input.specs.declared.setup.Setup.{Setup}
+use Rattle.asl_run_input.specs.declared.step_at.StepAt.{StepAt}
 use Rattle.asl_exec.specs.Steps.{opening}
 use Rattle.asl_explore.specs.declared.calls.Calls.{Calls}
 use Rattle.asl_explore.specs.declared.endless.Lasso.{Lasso}
@@ -17,10 +17,10 @@ use Rattle.asl_explore.specs.declared.found.Found.{Found}
 use Rattle.asl_explore.specs.declared.orders.Orders.{Orders}
 use Rattle.asl_explore.specs.declared.orders.Orders.TheVariants.{Every, Prompt}
 use Rattle.asl_explore.specs.Calls.{AreCounted, IsCounted}
-use Rattle.asl_explore.specs.Endless.{after_bare, go, turning, AreTaken, IsLasso}
-use Rattle.asl_explore.specs.Orders.{after_order, places_of, IsWhole, IsWholeTo}
+use Rattle.asl_explore.specs.Endless.{turning, AreTaken, IsLasso}
+use Rattle.asl_explore.specs.Orders.{after_order, places_of, IsWhole, IsWholeTo, after_bare, go}
 use Rattle.asl_explore.specs.Searches.{IsLater, Shows, AreOver}
-use Rattle.asl_explore.specs.TimeOver.{RunsOut, IsWitnessed}
+use Rattle.asl_explore.specs.TimeOver.{IsWitnessed}
 use Rattle.asl_explore.proofs.AnyMoment.{all-tried}
 
 -- ---- one outcome more
@@ -40,6 +40,7 @@ one-counted n ws vs os us cs o counts l h = record {
   number = h.number;
   there = let lt = h.there in omega (arith, lt, ap (length {A = Outcome}) l.outcomes, length-append os l.more_outcomes);
   outcome = λ d. ap (λ (xs : List Outcome). get_or xs h.number d) l.outcomes ∙ get_or_append_left os l.more_outcomes d h.number h.there ∙ h.outcome d;
+  counted = h.counted;
   within = h.within;
 }
 
@@ -56,9 +57,6 @@ shown-over o s f (inr h) = ap is_over h.1.outcome_is
 pub all-over : (o : Orders) (s : Setup) (fs : List Found) → All (IsWitnessed o s) fs → AreOver fs
 all-over o s fs h i d l = shown-over o s (get_or fs i d) (h i d l)
 
-pub all-shown : (o : Orders) (s : Setup) (fs : List Found) → All (Shows o s) fs → All (IsWitnessed o s) fs
-all-shown o s fs h i d l = inl (h i d l)
-
 -- what comes in an order in which no branch is late, comes in one of all
 pub shown-every : (s : Setup) (fs : List Found) → All (Shows Prompt s) fs → All (Shows Every s) fs
 shown-every s fs h i d l =
@@ -69,11 +67,6 @@ shown-every s fs h i d l =
 pub no-depth : (x : Option ℕ) (P Q : ℕ → Type 0) → IfSome x (λ d. (Prompt ≡ Every) × P d) → IfSome x Q
 no-depth None P Q h = tt
 no-depth (Some d) P Q h = let e : Prompt ≡ Every = h.0 in absurd (cc)
-
--- that of a late step behind them
-pub late-shown : (o : Orders) (s z : Setup) (fs gs : List Found) (f : Found) → z ≡ s → gs ≡ fs ++ f ∷ [] → o ≡ Every → RunsOut z f → All (Shows o s) fs → All (IsWitnessed o s) gs
-late-shown o s z fs gs f ez e every late shown =
-    subst (All (IsWitnessed o s)) (sym e) (All-push (IsWitnessed o s) fs f (all-shown o s fs shown) (inr (every, subst (λ (x : Setup). RunsOut x f) ez late)))
 
 -- ---- orders that never end
 

@@ -4,33 +4,34 @@ use Rattle.std.specs.Prelude.{is_some, is_none, nat_lt, IsSome}
 use Rattle.std.specs.List.{Contains}
 use Rattle.std.proofs.lemmas.Bool.{cond_both}
 use Rattle.std.proofs.lemmas.Bool.Decides.{nat_tests}
-use Rattle.asl_step_rows.specs.declared.record.Record.{Record}
-use Rattle.asl_step_rows.specs.declared.record.Record.TheVariants.{New, Ready, Pausing, Again, Forked, Done, Failed}
-use Rattle.asl_run_frames.specs.Branches.{Branch, record_at, same_place, forker_at, is_busy, children_at}
-use Rattle.asl_run_frames.specs.Earliest.{due_from}
-use Rattle.asl_run_frames.specs.Turns.{Limits, limit_of, is_crowded}
-use Rattle.asl_run_frames.proofs.Linking.{same-eq}
-use Rattle.asl_run_world.specs.Bare.{bare}
-use Rattle.asl_run_world.specs.Picking.{refusal_with, first_of, first_at, awaited_by, lesser, least_of, Moment}
-use Rattle.asl_run_world.specs.Refusals.{is_full, refusal_if_full, refusal_by, refusal_of}
-use Rattle.asl_run_world.specs.World.{World, is_over, is_late, timed_out}
-use Rattle.asl_run_world.specs.declared.outcome.Outcome.TheVariants.{TimedOut}
-use Rattle.asl_run_world.specs.declared.refusal.Refusal.{Refusal}
-use Rattle.asl_run_world.specs.declared.refusal.Refusal.TheVariants.{NotYet}
-use Rattle.asl_run_world.proofs.Picks.{full-is}
-use Rattle.asl_run_setup.specs.declared.setup.Setup.{Setup}
+use Rattle.asl_step.specs.declared.record.Record.{Record}
+use Rattle.asl_step.specs.declared.record.Record.TheVariants.{New, Ready, Pausing, Again, Forked, Done, Failed}
+use Rattle.asl_run_branches.specs.Branches.{Branch, record_at, same_place, forker_at, is_busy, children_at}
+use Rattle.asl_run_branches.specs.Earliest.{due_from}
+use Rattle.asl_run_branches.specs.Turns.{Limits, limit_of, is_crowded}
+use Rattle.asl_run_branches.proofs.Linking.{same-eq}
+use Rattle.asl_run_state.specs.Bare.{bare}
+use Rattle.asl_run_state.specs.Picking.{refusal_with, first_of, first_at, awaited_by, lesser, least_of, Moment}
+use Rattle.asl_run_state.specs.Refusals.{is_full, refusal_if_full, refusal_by, refusal_of}
+use Rattle.asl_run_state.specs.World.{World, is_over, is_late, timed_out}
+use Rattle.asl_run_state.specs.declared.outcome.Outcome.TheVariants.{TimedOut}
+use Rattle.asl_run_state.specs.declared.refusal.Refusal.{Refusal}
+use Rattle.asl_run_state.specs.declared.refusal.Refusal.TheVariants.{NotYet}
+use Rattle.asl_run_state.proofs.Picks.{full-is}
+use Rattle.asl_run_input.specs.declared.setup.Setup.{Setup}
 use Rattle.asl_exec.specs.Driving.{Chosen, chosen_by, chosen, after, driven}
 use Rattle.asl_exec.specs.Steps.{limits_in, refusal_in, moved_on, stepped, step, opening, deadline_of}
 use Rattle.asl_exec.proofs.Accepting.{step_late}
 use Rattle.asl_exec.proofs.Going.{slots_at, IsReady}
-use Rattle.asl_run_exchange.proofs.Inline.{ready-due}
+use Rattle.asl_exec_swap_laws.proofs.Inline.{ready-due}
+use Rattle.asl_exec_moment_laws.proofs.Stepping.{ready-if}
 use Rattle.asl_explore.specs.declared.orders.Orders.{Orders}
 use Rattle.asl_explore.specs.declared.orders.Orders.TheVariants.{Every, Prompt}
 use Rattle.asl_explore.specs.Laws.{DrivenIsListed}
 use Rattle.asl_explore.specs.Orders.{due_of, due, after_order, MayStep, IsPrompt, AreTried}
 use Rattle.asl_explore.proofs.AnyMoment.{all-tried}
 use Rattle.asl_explore.proofs.Bare.{bare-accepts}
-use Rattle.asl_explore.proofs.Orderly.{so-ready, due-least}
+use Rattle.asl_explore.proofs.Orderly.{due-least}
 
 -- ---- places that are refused, and the moments that they wait for
 
@@ -174,7 +175,7 @@ at-once s w p h = by (is_late (max w.last w.last) w.deadline) refl
     by : (c : Bool) → is_late (max w.last w.last) w.deadline ≡ c → IsNext s w p w.last
     by true e = inl e
     by false e =
-        let x = so-ready s w p w.last accepted e in
+        let x = ready-if s w p w.last accepted e in
         let now : max w.last w.last ≡ w.last = omega arith in
         let ready : refusal_by w p w.last (slots_at s w p) x.0 ≡ None = subst (λ (t : ℕ). refusal_by w p t (slots_at s w p) x.0 ≡ None) now x.1.ready in
         let d : due w p ≡ w.last = ap (due_of w.last) x.1.there ∙ ready-due w p (slots_at s w p) x.0 ready in
@@ -222,7 +223,7 @@ module _ (s : Setup) (w : World) (room : refusal_if_full w ≡ None) (none : fir
           let g = due-least w.last (record_at q w.branches) in
           omega (arith, same, l, g)
       by false e =
-          let x = so-ready s (bare w) q (due w q) may.1 e in
+          let x = ready-if s (bare w) q (due w q) may.1 e in
           let v = waits q (due w q) x.0 x.1 in
           let d : due w q ≡ due_from w.last x.0 = ap (due_of w.last) x.1.there in
           let l = no-sooner (due_from w.last x.0) (least-is (limits_in s.machine) w w.branches q x.0 (due_from w.last x.0) x.1.there v.awaits) in
@@ -239,7 +240,7 @@ module _ (s : Setup) (w : World) (room : refusal_if_full w ≡ None) (none : fir
       by true e = inl e
       by false e =
           let b = bare-so s w p t accepted in
-          let x = so-ready s (bare w) p t b e in
+          let x = ready-if s (bare w) p t b e in
           let v = waits p t x.0 x.1 in
           let l = no-sooner (due_from w.last x.0) (least-is (limits_in s.machine) w w.branches p x.0 (due_from w.last x.0) x.1.there v.awaits) in
           let later = v.later in

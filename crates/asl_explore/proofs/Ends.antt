@@ -1,16 +1,16 @@
 -- The worlds that end an execution: what holds of those that the tried steps of branches lead to, holds of each.
 use Rattle.std.proofs.Common.{ℕ, ◌≡◌, ◌∙◌, ap, sym, refl, subst, Bool, true, false, List, [], ◌∷◌, max, Option, Some, None}
 use Rattle.std.specs.List.{All}
-use Rattle.asl_step_rows.specs.declared.record.Record.{Record}
-use Rattle.asl_run_frames.specs.Branches.{record_at}
-use Rattle.asl_run_frames.specs.Earliest.{due_from}
-use Rattle.asl_run_frames.specs.declared.earliest.Earliest.{Earliest}
-use Rattle.asl_run_world.specs.World.{World, is_over, is_late, timed_out}
-use Rattle.asl_run_world.specs.Bare.{bare, earliest}
-use Rattle.asl_run_world.specs.declared.outcome.Outcome.{Outcome}
-use Rattle.asl_run_world.specs.declared.outcome.Outcome.TheVariants.{TimedOut}
-use Rattle.asl_run_world.proofs.Picks.{late-accepts}
-use Rattle.asl_run_setup.specs.declared.setup.Setup.{Setup}
+use Rattle.asl_step.specs.declared.record.Record.{Record}
+use Rattle.asl_run_branches.specs.Branches.{record_at}
+use Rattle.asl_run_branches.specs.Earliest.{due_from}
+use Rattle.asl_run_branches.specs.declared.earliest.Earliest.{Earliest}
+use Rattle.asl_run_state.specs.World.{World, is_over, is_late, timed_out}
+use Rattle.asl_run_state.specs.Bare.{bare, earliest}
+use Rattle.asl_run_state.specs.declared.outcome.Outcome.{Outcome}
+use Rattle.asl_run_state.specs.declared.outcome.Outcome.TheVariants.{TimedOut}
+use Rattle.asl_run_state.proofs.Picks.{late-accepts}
+use Rattle.asl_run_input.specs.declared.setup.Setup.{Setup}
 use Rattle.asl_exec.specs.Steps.{limits_in, step}
 use Rattle.asl_exec.proofs.Accepting.{step_late}
 use Rattle.asl_explore.specs.declared.orders.Orders.{Orders}

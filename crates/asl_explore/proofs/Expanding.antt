@@ -1,18 +1,18 @@
 -- Worlds that a search puts into its lists.
-use Rattle.std.proofs.Common.{ℕ, suc, zero, ◌≡◌, ◌<◌, ◌≤◌, ◌+◌, ◌++◌, ◌∙◌, ap, sym, refl, subst, arith, Bool, true, false, List, [], ◌∷◌, length, get_or, Option, Some, None}
+use Rattle.std.proofs.Common.{ℕ, suc, zero, ◌≡◌, ◌<◌, ◌≤◌, ◌+◌, ◌∙◌, ap, sym, refl, subst, arith, Bool, true, false, List, [], ◌∷◌, length, get_or, Option, Some, None}
 use Rattle.std.specs.Prelude.{is_some, is_none}
 use Rattle.std.specs.List.{All, AllWithin, Contains, HoldsAt}
-use Rattle.std.proofs.lemmas.List.{get_or_read, get_or_push, length-append, length-map}
+use Rattle.std.proofs.lemmas.List.{get_or_read, length-map}
 use Rattle.std.proofs.lemmas.List.Elements.{AllWithin-more}
 use Rattle.asl_explore.specs.declared.found.Found.{Found}
-use Rattle.asl_step_rows.specs.declared.record.Record.{Record}
-use Rattle.asl_run_frames.specs.declared.earliest.Earliest.{Earliest}
-use Rattle.asl_run_frames.specs.Branches.{record_at}
-use Rattle.asl_run_world.specs.World.{World, is_over}
-use Rattle.asl_run_world.specs.Bare.{bare, earliest}
-use Rattle.asl_run_world.specs.declared.outcome.Outcome.{Outcome}
-use Rattle.asl_run_world.specs.declared.refusal.Refusal.{Refusal}
-use Rattle.asl_run_setup.specs.declared.setup.Setup.{Setup}
+use Rattle.asl_step.specs.declared.record.Record.{Record}
+use Rattle.asl_run_branches.specs.declared.earliest.Earliest.{Earliest}
+use Rattle.asl_run_branches.specs.Branches.{record_at}
+use Rattle.asl_run_state.specs.World.{World, is_over}
+use Rattle.asl_run_state.specs.Bare.{bare, earliest}
+use Rattle.asl_run_state.specs.declared.outcome.Outcome.{Outcome}
+use Rattle.asl_run_state.specs.declared.refusal.Refusal.{Refusal}
+use Rattle.asl_run_input.specs.declared.setup.Setup.{Setup}
 use Rattle.asl_exec.specs.Steps.{step, opening, refusal_in}
 use Rattle.asl_exec.proofs.Accepting.{step_refused}
 use Rattle.asl_explore.specs.declared.met.Node.{Node}
@@ -29,14 +29,6 @@ node-at (x ∷ ns) (suc i) n d l h = node-at ns i n d (omega arith) h
 -- a world that is alike is there
 pub stands-alike : (ns : List Node) (i : ℕ) (n : Node) (w : World) → i < length ns → n ≡ get_or ns i n → bare n.world ≡ bare w → StandsAt (worlds_of ns) i (bare w)
 stands-alike ns i n w l h e = (omega (arith, l, length-map ns (λ (m : Node). bare m.world)), λ d. node-at ns i n d l h ∙ e)
-
--- so is one that is put behind the others
-pub stands-behind : (ns ms : List Node) (n : Node) (i : ℕ) → ms ≡ ns ++ n ∷ [] → i ≡ length ns → StandsAt (worlds_of ms) i (bare n.world)
-stands-behind ns ms n i is at =
-    let long : length ms ≡ length ns + 1 = ap (length {A = Node}) is ∙ length-append ns (n ∷ []) in
-    let l : i < length ms = omega (arith, long, at) in
-    let e : get_or ms i n ≡ n = ap (λ (z : List Node). get_or z i n) is ∙ get_or_push ns n n i (sym at) in
-    (omega (arith, l, length-map ms (λ (m : Node). bare m.world)), λ d. node-at ms i n d l (sym e))
 
 pub stands-there : (ws : List World) (i : ℕ) (w : World) → StandsAt ws i w → Contains ws w
 stands-there ws i w h = (i, h.0, h.1 w)
@@ -110,6 +102,16 @@ pub met-unmoved : (s z : Setup) (ws : List World) (os : List Outcome) (number : 
 met-unmoved s z ws os number w v d p t o b ez ev eo eb tb lt at runs =
     let e : o ≡ refusal_in s (bare w) p t = eo ∙ (λ i. refusal_in (ez i) (ev i) p t) in
     met-refused s ws os number w d p t lt at runs (not-none (refusal_in s (bare w) p t) (ap is_some (sym e) ∙ sym eb ∙ tb))
+
+none-so : (r : Option Refusal) → is_some r ≡ false → r ≡ None
+none-so None h = refl
+none-so (Some r) h = (cc)
+
+-- the step was accepted
+pub accepted-is : (s z : Setup) (ws : List World) (number : ℕ) (w v d : World) (p : List ℕ) (t : ℕ) (o : Option Refusal) (b : Bool) → z ≡ s → v ≡ bare w → o ≡ refusal_in z v p t → b ≡ is_some o → b ≡ false → get_or ws number d ≡ bare w → refusal_in s (get_or ws number d) p t ≡ None
+accepted-is s z ws number w v d p t o b ez ev eo eb fb at =
+    let e : o ≡ refusal_in s (get_or ws number d) p t = eo ∙ (λ i. refusal_in (ez i) (ev i) p t) ∙ ap (λ (x : World). refusal_in s x p t) (sym at) in
+    sym e ∙ none-so o (sym eb ∙ fb)
 
 -- the step was taken
 pub next-is : (s z : Setup) (ws : List World) (number : ℕ) (w v u next d : World) (p : List ℕ) (t : ℕ) → z ≡ s → v ≡ bare w → u ≡ step z v p t → next ≡ bare u → get_or ws number d ≡ bare w → next ≡ bare (step s (get_or ws number d) p t)

@@ -1,86 +1,22 @@
 -- A branch that goes on under one that may step shows that a branch directly under this one has failed.
-use Rattle.std.proofs.Common.{ℕ, ◌≡◌, ◌≤◌, ◌++◌, Bool, true, false, not, List, [], ◌∷◌, refl, sym, ap, subst, append_assoc, cond, length, Some, None, Option}
+use Rattle.std.proofs.Common.{ℕ, ◌≡◌, ◌++◌, true, false, List, [], ◌∷◌, refl, ap, Some}
 use Rattle.std.specs.Prelude.{is_some}
-use Rattle.std.specs.List.{list_any, list_all}
-use Rattle.std.proofs.lemmas.Bool.{both_ways}
+use Rattle.std.specs.List.{list_any}
 use Rattle.asl_history.specs.Places.{is_prefix}
-use Rattle.asl_step_rows.specs.Records.{is_done, is_failed}
-use Rattle.asl_step_rows.specs.declared.effect.Effect.{Effect}
-use Rattle.asl_step_rows.specs.declared.record.ErrorOut.{ErrorOut}
-use Rattle.asl_step_rows.specs.declared.record.Record.{Record}
-use Rattle.asl_step_rows.specs.declared.record.Record.TheVariants.{New, Ready, Pausing, Again, Forked, Done, Failed}
+use Rattle.asl_step.specs.Records.{is_failed}
+use Rattle.asl_step.specs.declared.effect.Effect.{Effect}
+use Rattle.asl_step.specs.declared.record.ErrorOut.{ErrorOut}
+use Rattle.asl_step.specs.declared.record.Record.{Record}
+use Rattle.asl_step.specs.declared.record.Record.TheVariants.{New, Ready, Pausing, Again, Forked, Done, Failed}
 use Rattle.asl_kinds.specs.Forks.{first_error}
-use Rattle.asl_run_frames.specs.Branches.{Branch, record_at, children_at, is_busy}
-use Rattle.asl_run_world.specs.World.{World}
-use Rattle.asl_run_world.specs.declared.refusal.Refusal.{Refusal}
-use Rattle.asl_run_world.specs.Refusals.{refusal_if_full, refusal_by}
-use Rattle.asl_run_setup.specs.declared.setup.Setup.{Setup}
+use Rattle.asl_run_branches.specs.Branches.{children_at}
+use Rattle.asl_run_state.specs.World.{World}
+use Rattle.asl_run_input.specs.declared.setup.Setup.{Setup}
 use Rattle.asl_exec.proofs.Going.{slots_at, IsReady}
-use Rattle.asl_run_exchange.proofs.Changing.{undone-by, with-room}
-use Rattle.asl_run_exchange.proofs.Rooted.{is_joining, joins_in, IsRooted, rooted-above, below}
-use Rattle.asl_run_exchange.proofs.Families.{child-done}
-use Rattle.asl_run_exchange.proofs.Pending.{IsPending, unfinished-by}
-use Rattle.asl_run_exchange.proofs.Inline.{IsGoing}
-
-unless : (b : Bool) (x : Refusal) (o : Option Refusal) → cond b (Some x) o ≡ None → b ≡ false
-unless true x o h = (cc)
-unless false x o h = refl
-
-joining-free : (w : World) (p : List ℕ) (now slots : ℕ) (r : Record) → is_joining r ≡ true → refusal_by w p now slots r ≡ None → is_busy (children_at p w.branches) ≡ false
-joining-free w p now slots (New n x) j h = (cc)
-joining-free w p now slots (Ready n x) j h = (cc)
-joining-free w p now slots (Pausing n x since until) j h = (cc)
-joining-free w p now slots (Again n x since uses until) j h = (cc)
-joining-free w p now slots (Forked n x since uses items) j h = unless (is_busy (children_at p w.branches)) _ (refusal_if_full w) h
-joining-free w p now slots (Done x) j h = (cc)
-joining-free w p now slots (Failed e) j h = (cc)
-
-pub joining-ready : (w : World) (p : List ℕ) (now slots : ℕ) (r : Record) → is_joining r ≡ true → is_busy (children_at p w.branches) ≡ false → length w.events ≤ 24992 → refusal_by w p now slots r ≡ None
-joining-ready w p now slots (New n x) j h room = (cc)
-joining-ready w p now slots (Ready n x) j h room = (cc)
-joining-ready w p now slots (Pausing n x since until) j h room = (cc)
-joining-ready w p now slots (Again n x since uses until) j h room = (cc)
-joining-ready w p now slots (Forked n x since uses items) j h room = rw h (with-room w room)
-joining-ready w p now slots (Done x) j h room = (cc)
-joining-ready w p now slots (Failed e) j h room = (cc)
-
-joining-goes : (r : Record) → is_joining r ≡ true → (is_done r ≡ false) × (is_failed r ≡ false)
-joining-goes (New n x) j = (cc)
-joining-goes (Ready n x) j = (cc)
-joining-goes (Pausing n x since until) j = (cc)
-joining-goes (Again n x since uses until) j = (cc)
-joining-goes (Forked n x since uses items) j = (refl, refl)
-joining-goes (Done x) j = (cc)
-joining-goes (Failed e) j = (cc)
-
-the-record : (o : Option Record) → joins_in o ≡ true → (c : Record) × ((o ≡ Some c) × (is_joining c ≡ true))
-the-record None h = (cc)
-the-record (Some c) h = (c, (refl, h))
-
--- on the way to a branch that goes on is a child that goes on
-child-going : (bs : List Branch) → IsRooted bs → (a : List ℕ) (i : ℕ) (rest : List ℕ) (m : Record) → IsGoing (a ++ i ∷ rest) bs m → (c : Record) × IsGoing (a ++ i ∷ []) bs c
-child-going bs w a i [] m g = (m, g)
-child-going bs w a i (j ∷ rest) m g =
-    let same : (a ++ i ∷ []) ++ j ∷ rest ≡ a ++ i ∷ j ∷ rest = append_assoc a (i ∷ []) (j ∷ rest) in
-    let some : is_some (record_at ((a ++ i ∷ []) ++ j ∷ rest) bs) ≡ true = subst (λ (z : List ℕ). is_some (record_at z bs) ≡ true) (sym same) (ap is_some g.there) in
-    let x = the-record (record_at (a ++ i ∷ []) bs) (rooted-above bs w rest (a ++ i ∷ []) j some) in
-    let y = joining-goes x.0 x.1.1 in
-    (x.0, record { there = x.1.0; undone = y.0; whole = y.1 })
-
--- where the parent isn't busy though, some child has failed
-some-failed : (rs : List Record) → is_busy rs ≡ false → (list_all is_done rs ≡ true → ⊥) → list_any is_failed rs ≡ true
-some-failed rs h never = by (list_any is_failed rs) (list_all is_done rs) refl refl
-  where
-    by : (f d : Bool) → list_any is_failed rs ≡ f → list_all is_done rs ≡ d → list_any is_failed rs ≡ true
-    by true d e g = e
-    by false true e g = absurd (never g)
-    by false false e g = let x : true ≡ false = rw (e, g) at h in absurd (cc)
-
-going-fails : (bs : List Branch) (a : List ℕ) (i : ℕ) (c : Record) → IsGoing (a ++ i ∷ []) bs c → is_busy (children_at a bs) ≡ false → list_any is_failed (children_at a bs) ≡ true
-going-fails bs a i c g h = some-failed (children_at a bs) h (λ all. both_ways (is_done c) g.undone (child-done a i c bs all g.there))
-
-going-at : (bs : List Branch) (x y : List ℕ) (c : Record) → x ≡ y → IsGoing x bs c → IsGoing y bs c
-going-at bs x y c e g = subst (λ (z : List ℕ). IsGoing z bs c) e g
+use Rattle.asl_exec_swap_laws.proofs.Changing.{undone-by}
+use Rattle.asl_exec_swap_laws.proofs.Rooted.{is_joining, rooted-above, below}
+use Rattle.asl_exec_swap_laws.proofs.Pending.{IsPending, unfinished-by}
+use Rattle.asl_exec_swap_laws.proofs.Inline.{IsGoing, joining-free, child-going, going-fails, going-at, not-done}
 
 any-error : (rs : List Record) → list_any is_failed rs ≡ true → (e : ErrorOut) × (first_error rs ≡ Some e)
 any-error [] h = (cc)
@@ -101,16 +37,6 @@ error-any (Again n x since uses until ∷ rs) e h = error-any rs e h
 error-any (Forked n x since uses items ∷ rs) e h = error-any rs e h
 error-any (Done x ∷ rs) e h = error-any rs e h
 error-any (Failed f ∷ rs) e h = refl
-
-pub not-busy : (rs : List Record) → list_any is_failed rs ≡ true → is_busy rs ≡ false
-not-busy rs h = rw h refl
-
-not-done : (m : Record) → not (is_done m) ≡ true → is_done m ≡ false
-not-done m h = by (is_done m) refl h
-  where
-    by : (c : Bool) → is_done m ≡ c → not c ≡ true → is_done m ≡ false
-    by true e h = (cc)
-    by false e h = e
 
 -- it waits for those under it, one of which has failed
 pub record HasFailed (u : World) (q : List ℕ) (m : Record) : Type 0 where

@@ -3,13 +3,13 @@ use Rattle.std.proofs.Common.{ℕ, suc, zero, ◌≡◌, ◌<◌, ◌≤◌, ◌
 use Rattle.std.specs.List.{All, AllWithin, Contains}
 use Rattle.std.proofs.lemmas.List.{length-map, map-append, append-nil}
 use Rattle.std.proofs.lemmas.List.Elements.{All-push}
-use Rattle.asl_run_world.specs.World.{World, is_over}
-use Rattle.asl_run_setup.specs.declared.setup.Setup.{Setup}
+use Rattle.asl_run_state.specs.World.{World, is_over}
+use Rattle.asl_run_input.specs.declared.setup.Setup.{Setup}
 use Rattle.asl_exec.specs.Steps.{opening, world_after}
 use Rattle.asl_explore.proofs.Growing.{distinct-more}
 use Rattle.asl_explore.specs.Orders.{timed, places_of, AreTried}
-use Rattle.asl_run_world.proofs.Bareness.{outcome_eq, outcome-one, outcome-refl}
-use Rattle.asl_run_world.specs.declared.outcome.Outcome.{Outcome}
+use Rattle.asl_run_state.proofs.Bareness.{outcome_eq, outcome-one, outcome-refl}
+use Rattle.asl_run_state.specs.declared.outcome.Outcome.{Outcome}
 use Rattle.asl_explore.specs.declared.found.Found.{Found}
 use Rattle.asl_explore.specs.declared.orders.Orders.{Orders}
 use Rattle.asl_explore.specs.Searches.{outcomes_of, Shows, AreDistinct, IsLater}

@@ -5,9 +5,9 @@ use Rattle.std.specs.List.{All, Contains}
 use Rattle.std.proofs.lemmas.Bool.Decides.{nat_tests}
 use Rattle.std.proofs.lemmas.List.{append-nil, append_assoc, length-append, get_or_append_left, get_or_push}
 use Rattle.std.proofs.lemmas.List.Elements.{Contains-append_left}
-use Rattle.asl_run_world.specs.World.{World}
-use Rattle.asl_run_world.specs.Bare.{bare}
-use Rattle.asl_run_world.specs.declared.outcome.Outcome.{Outcome}
+use Rattle.asl_run_state.specs.World.{World}
+use Rattle.asl_run_state.specs.Bare.{bare}
+use Rattle.asl_run_state.specs.declared.outcome.Outcome.{Outcome}
 use Rattle.asl_explore.specs.Searches.{IsMet, IsLater, AreDistinct}
 
 pub met-later : (ws vs : List World) (os us : List Outcome) (w : World) → IsLater ws os vs us → IsMet ws os w → IsMet vs us w

@@ -2,32 +2,32 @@
 use Rattle.std.proofs.Common.{ℕ, ◌≡◌, ◌≤◌, ◌++◌, Bool, true, false, List, [], ◌∷◌, refl, sym, subst, arith, cond, length, length-append, Some, None, Option}
 use Rattle.std.specs.Prelude.{Ok, Err, codes}
 use Rattle.std.proofs.lemmas.Bool.{both_ways}
-use Rattle.asl_json.specs.Data.{Data}
+use Rattle.asl_json_data.specs.Data.{Data}
 use Rattle.asl_json.specs.Meaning.{value_in}
 use Rattle.asl_json.specs.declared.value.Json.{Json}
 use Rattle.asl_json.specs.declared.value.Json.TheVariants.{Dict}
 use Rattle.asl_history.specs.declared.kind.EventKind.{EventKind}
 use Rattle.asl_history.specs.declared.kind.EventKind.TheVariants.{TaskStateEntered, TaskStateExited, TaskScheduled, TaskStarted, TaskSucceeded, TaskFailed}
-use Rattle.asl_def_parts.specs.Texts.{text_in}
+use Rattle.asl_def_shared.specs.Texts.{text_in}
 use Rattle.asl_handle.specs.Decisions.{Handling, again, caught, unhandled, decision}
 use Rattle.asl_mock.specs.Answers.{answer_to}
 use Rattle.asl_mock.specs.declared.response.Answer.{Answer}
 use Rattle.asl_mock.specs.declared.response.Answer.TheVariants.{Returns, Throws}
-use Rattle.asl_step_rows.specs.declared.effect.Effect.{Effect}
-use Rattle.asl_step_rows.specs.declared.effect.Draft.{Draft}
-use Rattle.asl_step_rows.specs.declared.effect.Progress.{Progress}
-use Rattle.asl_step_rows.specs.declared.facts.Facts.{Facts}
-use Rattle.asl_step_rows.specs.declared.record.ErrorOut.{ErrorOut}
-use Rattle.asl_step_rows.specs.declared.record.Record.{Record}
-use Rattle.asl_step_rows.specs.declared.record.Record.TheVariants.{New, Ready, Pausing, Again, Forked, Done, Failed}
-use Rattle.asl_step_rows.specs.Records.{name_in, uses_in, beginning_with}
-use Rattle.asl_step_rows.specs.Seen.{Seen}
-use Rattle.asl_step_rows.specs.Context.{context_of}
-use Rattle.asl_step_rows.specs.Rows.{draft, beginning, beginning_by, telling, left, leaving, failing, told_success, told_failure, error_output, is_within_limit, over_limit}
-use Rattle.asl_step_data.specs.Paths.{Given, put_into}
+use Rattle.asl_step.specs.declared.effect.Effect.{Effect}
+use Rattle.asl_step.specs.declared.effect.Draft.{Draft}
+use Rattle.asl_step.specs.declared.effect.Progress.{Progress}
+use Rattle.asl_step.specs.declared.facts.Facts.{Facts}
+use Rattle.asl_step.specs.declared.record.ErrorOut.{ErrorOut}
+use Rattle.asl_step.specs.declared.record.Record.{Record}
+use Rattle.asl_step.specs.declared.record.Record.TheVariants.{New, Ready, Pausing, Again, Forked, Done, Failed}
+use Rattle.asl_step.specs.Records.{name_in, uses_in, beginning_with, error_name}
+use Rattle.asl_step.specs.Seen.{Seen}
+use Rattle.asl_step.specs.Context.{context_of}
+use Rattle.asl_step.specs.Rows.{draft, beginning, beginning_by, telling, left, leaving, failing, told_success, told_failure, error_output, is_within_limit, over_limit}
+use Rattle.asl_step_io.specs.Paths.{Given, put_into}
 use Rattle.asl_kinds.specs.Members.{next_in, effective, selected, no_answer}
-use Rattle.asl_kinds.specs.Table.{passed, begun, error_name, handled, invoked, task_settled, task_fails, task_returns, task_answered, task_with, task_effect, effect_by_type, state_effect, is_invoking_type}
-use Rattle.asl_run_frames.proofs.Linking.{same-eq}
+use Rattle.asl_kinds.specs.Table.{passed, begun, handled, invoked, task_settled, task_fails, task_returns, task_answered, task_with, task_effect, effect_by_type, state_effect, is_invoking_type}
+use Rattle.asl_run_branches.proofs.Linking.{same-eq}
 use Rattle.asl_kinds.specs.private.Laws.{state-bounded}
 use Rattle.asl_exec.specs.Steps.{effect_by}
 

@@ -5,11 +5,11 @@ use Rattle.std.specs.List.{All, Contains}
 use Rattle.std.proofs.lemmas.Bool.Decides.{nat_tests}
 use Rattle.std.proofs.lemmas.List.{get_or_read, get_or_push, length-append}
 use Rattle.std.proofs.lemmas.List.Elements.{All-push, All-tail, Contains-append_left}
-use Rattle.asl_run_world.specs.World.{World, is_over}
-use Rattle.asl_run_world.proofs.Bareness.{outcome_eq, outcome-one, outcome-refl}
-use Rattle.asl_run_world.specs.declared.outcome.Outcome.{Outcome}
-use Rattle.asl_run_setup.specs.declared.setup.Setup.{Setup}
-use Rattle.asl_run_setup.specs.declared.step_at.StepAt.{StepAt}
+use Rattle.asl_run_state.specs.World.{World, is_over}
+use Rattle.asl_run_state.proofs.Bareness.{outcome_eq, outcome-one, outcome-refl}
+use Rattle.asl_run_state.specs.declared.outcome.Outcome.{Outcome}
+use Rattle.asl_run_input.specs.declared.setup.Setup.{Setup}
+use Rattle.asl_run_input.specs.declared.step_at.StepAt.{StepAt}
 use Rattle.asl_exec.specs.Steps.{opening, step, world_after}
 use Rattle.asl_explore.specs.declared.found.Found.{Found}
 use Rattle.asl_explore.specs.declared.orders.Orders.TheVariants.{Prompt}

@@ -3,10 +3,10 @@ use Rattle.std.proofs.Common.{ℕ, ◌≡◌, ◌<◌, ◌≤◌, ◌+◌, ◌�
 use Rattle.std.specs.Prelude.{nat_eq, IfSome}
 use Rattle.std.proofs.lemmas.List.{length-append, get_or_default}
 use Rattle.std.proofs.lemmas.Bool.Decides.{nat_tests}
-use Rattle.asl_run_world.specs.World.{World, is_over}
-use Rattle.asl_run_world.specs.Bare.{bare}
-use Rattle.asl_run_world.specs.declared.outcome.Outcome.{Outcome}
-use Rattle.asl_run_setup.specs.declared.setup.Setup.{Setup}
+use Rattle.asl_run_state.specs.World.{World, is_over}
+use Rattle.asl_run_state.specs.Bare.{bare}
+use Rattle.asl_run_state.specs.declared.outcome.Outcome.{Outcome}
+use Rattle.asl_run_input.specs.declared.setup.Setup.{Setup}
 use Rattle.asl_exec.specs.Steps.{opening, step}
 use Rattle.asl_explore.specs.declared.orders.Orders.{Orders}
 use Rattle.asl_explore.specs.declared.orders.Orders.TheVariants.{Every}

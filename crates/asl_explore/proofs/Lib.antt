@@ -4,7 +4,6 @@ pub mod Whole
 pub mod Growing
 pub mod Finding
 pub mod Expanding
-pub mod Timing
 pub mod Lateness
 pub mod Ends
 pub mod Tallies
@@ -24,8 +23,19 @@ pub mod Calm
 pub mod SettledTasks
 pub mod Reaching
 pub mod Ending
+pub mod Sums
+pub mod Stopped
+pub mod Filling
+pub mod Reached
+pub mod Bounding
 pub mod Driven
 pub mod Clocking
 pub mod Prompting
 pub mod Levels
 pub mod Concluding
+pub mod Listing
+pub mod Running
+pub mod Told
+pub mod Sighting
+pub mod Noted
+pub mod Inside

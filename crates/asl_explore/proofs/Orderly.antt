@@ -2,21 +2,20 @@
 use Rattle.std.proofs.Common.{ℕ, ◌≡◌, ◌⊎◌, inl, inr, ◌≤◌, Bool, true, false, List, [], ◌∷◌, refl, sym, ◌∙◌, ap, subst, arith, length, max, ◌+◌, Some, None, Option}
 use Rattle.std.specs.Prelude.{is_some}
 use Rattle.asl_history.specs.Places.{is_prefix}
-use Rattle.asl_step_rows.specs.declared.effect.Effect.{Effect}
-use Rattle.asl_step_rows.specs.declared.record.Record.{Record}
-use Rattle.asl_step_rows.specs.declared.record.Record.TheVariants.{New, Ready, Pausing, Again, Forked, Done, Failed}
-use Rattle.asl_run_frames.specs.Branches.{record_at, is_stopped}
-use Rattle.asl_run_world.specs.Bare.{bare}
-use Rattle.asl_run_world.specs.World.{World, is_over, is_late, world_with, counts_after, count_of}
-use Rattle.asl_run_world.specs.Refusals.{refusal_of}
-use Rattle.asl_run_world.specs.declared.refusal.Refusal.TheVariants.{Over, NoSuchPlace, Stopped}
-use Rattle.asl_run_setup.specs.declared.setup.Setup.{Setup}
+use Rattle.asl_step.specs.declared.effect.Effect.{Effect}
+use Rattle.asl_step.specs.declared.record.Record.{Record}
+use Rattle.asl_step.specs.declared.record.Record.TheVariants.{New, Ready, Pausing, Again, Forked, Done, Failed}
+use Rattle.asl_run_branches.specs.Branches.{record_at}
+use Rattle.asl_run_state.specs.Bare.{bare}
+use Rattle.asl_run_state.specs.World.{World, is_late, world_with, counts_after, count_of}
+use Rattle.asl_run_input.specs.declared.setup.Setup.{Setup}
 use Rattle.asl_exec.specs.Steps.{number_in, refusal_in, step}
 use Rattle.asl_exec.proofs.Going.{does, IsReady, next, step-is}
-use Rattle.asl_run_exchange.proofs.Apart.{IsApart}
-use Rattle.asl_run_exchange.proofs.Rooting.{one-place}
-use Rattle.asl_run_exchange.proofs.Pending.{IsPending, ahead, after}
-use Rattle.asl_run_exchange.proofs.Inline.{Someone, someone, ready-due, ready-going, none-under}
+use Rattle.asl_exec_swap_laws.proofs.Apart.{IsApart}
+use Rattle.asl_exec_swap_laws.proofs.Rooting.{one-place}
+use Rattle.asl_exec_swap_laws.proofs.Pending.{IsPending, ahead, after}
+use Rattle.asl_exec_swap_laws.proofs.Inline.{Someone, someone, ready-due, ready-going, none-under}
+use Rattle.asl_exec_moment_laws.proofs.Stepping.{ready-if}
 use Rattle.asl_explore.specs.Orders.{due_of, due, MayStep, IsPrompt}
 use Rattle.asl_explore.proofs.Steady.{AreLike, asked, held-less}
 use Rattle.asl_explore.proofs.Asking.{asks_at, asks-taken}
@@ -24,16 +23,6 @@ use Rattle.asl_explore.proofs.Carrying.{with_counts, go, after_bare, ArePrompt, 
 use Rattle.asl_explore.proofs.Calm.{KeepsOn, IsHeldFor, ready-ahead, same-ahead, commutes, still-pending, above-ready, above-asked, above-same, like-next, held-next}
 
 -- ---- a branch that may step at once
-
-pub so-ready : (s : Setup) (w : World) (p : List ℕ) (t : ℕ) → refusal_in s w p t ≡ None → is_late (max w.last t) w.deadline ≡ false → (r : Record) × IsReady s w p (max w.last t) r
-unfolding refusal_of
-so-ready s w p t h early = by (is_over w.outcome) (record_at p w.branches) (is_stopped p w.branches) refl refl refl
-  where
-    by : (o : Bool) (m : Option Record) (f : Bool) → is_over w.outcome ≡ o → record_at p w.branches ≡ m → is_stopped p w.branches ≡ f → (r : Record) × IsReady s w p (max w.last t) r
-    by true m f eo em ef = absurd (let x : Some Over ≡ None = rw eo at h in cc)
-    by false None f eo em ef = absurd (let x : Some NoSuchPlace ≡ None = rw (eo, early, em) at h in cc)
-    by false (Some r) true eo em ef = absurd (let x : Some Stopped ≡ None = rw (eo, early, em, ef) at h in cc)
-    by false (Some r) false eo em ef = (r, record { running = eo; early = early; there = em; free = ef; ready = rw (eo, early, em, ef) at h })
 
 untold-is : (u : World) → u.events ≡ [] → bare u ≡ u
 untold-is u h = λ i. record { branches = u.branches; counts = u.counts; events = sym h i; last = u.last; deadline = u.deadline; outcome = u.outcome }
@@ -49,7 +38,7 @@ due-least last (Some (Done x)) = omega arith
 due-least last (Some (Failed e)) = omega arith
 
 module _ (s : Setup) (u : World) (q : List ℕ) (m : Record) (h : IsReady s u q u.last m) where
-  at-once : due u q ≡ u.last
+  pub at-once : due u q ≡ u.last
   at-once = ap (due_of u.last) h.there ∙ ready-due u q _ m h.ready
 
   taken : (refusal_in s u q (due u q) ≡ None) × (step s u q (due u q) ≡ next s u q u.last m)
@@ -80,7 +69,7 @@ prompt-ready s u q z early untold prompt =
     let e : due u q ≡ u.last = omega (arith, d, le, l) in
     let now : max u.last (due u q) ≡ u.last = omega (arith, e) in
     let accepted : refusal_in s u q (due u q) ≡ None = subst (λ (w : World). refusal_in s w q (due u q) ≡ None) (untold-is u untold) prompt.0.1 in
-    let x = so-ready s u q (due u q) accepted (rw now early) in
+    let x = ready-if s u q (due u q) accepted (rw now early) in
     (x.0, subst (λ (t : ℕ). IsReady s u q t x.0) now x.1)
 
 -- ---- a quiet step is taken first
@@ -99,10 +88,10 @@ longer s E n m k l v le less o =
     let few = o.few in
     record { places = o.places; prompt = o.prompt; ends = o.ends; short = omega (arith, le, short); few = omega (arith, less, few) }
 
-module _ (s : Setup) (p : List ℕ) (r : Record) (e : Effect) (calm : KeepsOn e) (E : World → Type 0) (blind : (u : World) (ds : List ℕ) → E u → E (with_counts ds u)) (closed : (u : World) → IsPending s u p r e → E u → E (ahead s u p r e)) where
+module _ (s : Setup) (p : List ℕ) (r : Record) (e : Effect) (calm : KeepsOn e) (E : World → Type 0) (spare : ℕ) (blind : (u : World) (ds : List ℕ) → AreLike s spare u.counts ds → E u → E (with_counts ds u)) (closed : (u : World) → IsPending s u p r e → IsHeldFor s u r spare → E u → E (ahead s u p r e)) where
   -- of any order from where the branch may do it
   abbrev Before : List (List ℕ) → Type 0
-  Before ps = (u : World) → IsPending s u p r e → IsHeldFor s u r (asks s u ps) → ArePrompt s u ps → E (after_bare s u ps) → Order s E (length ps) (asks s u ps) (ahead s u p r e)
+  Before ps = (u : World) → IsPending s u p r e → IsHeldFor s u r (asks s u ps + spare) → ArePrompt s u ps → E (after_bare s u ps) → Order s E (length ps) (asks s u ps) (ahead s u p r e)
 
   module _ (q : List ℕ) (ps : List (List ℕ)) (more : Before ps) (u : World) (w : IsPending s u p r e) (m : Record) (h : IsReady s u q u.last m) (prompt : ArePrompt s (after s u q m) ps) (ends : E (after_bare s (after s u q m) ps)) where
     -- so often the others invoke a service, and all
@@ -112,7 +101,11 @@ module _ (s : Setup) (p : List ℕ) (r : Record) (e : Effect) (calm : KeepsOn e)
     abbrev all : ℕ
     all = asked (does s u q u.last m).raises + asks s (after s u q m) ps
 
-    module _ (held : IsHeldFor s u r (asked (does s u q u.last m).raises + asks s (after s u q m) ps)) where
+    -- and all for which the branch is held
+    abbrev whole : ℕ
+    whole = asked (does s u q u.last m).raises + asks s (after s u q m) ps + spare
+
+    module _ (held : IsHeldFor s u r (asked (does s u q u.last m).raises + asks s (after s u q m) ps + spare)) where
       -- the order goes on from the same world
       resumed : after s u q m ≡ ahead s u p r e → Order s E (length (q ∷ ps)) all (ahead s u p r e)
       resumed is =
@@ -150,38 +143,38 @@ module _ (s : Setup) (p : List ℕ) (r : Record) (e : Effect) (calm : KeepsOn e)
           (λ i. after s u (sym is i) (same i)) ∙ ap (λ (f : Effect). bare (world_with p (number_in s.machine r) u.last f u)) w.so
 
       -- the same order from the same world but for counts
-      carried-on : (ds : List ℕ) → AreLike s rest (after s u q m).counts ds → Order s E (length ps) rest (with_counts ds (after s u q m))
+      carried-on : (ds : List ℕ) → AreLike s (asks s (after s u q m) ps + spare) (after s u q m).counts ds → Order s E (length ps) rest (with_counts ds (after s u q m))
       carried-on ds like =
-          let y = carried s (after s u q m) ds ps like prompt in
+          let y = carried s (after s u q m) ds ps spare like prompt in
           let same = y.asking in
           record {
             places = ps;
             prompt = y.prompt;
-            ends = subst E (sym y.ends) (blind (after_bare s (after s u q m) ps) y.counts ends);
+            ends = subst E (sym y.ends) (blind (after_bare s (after s u q m) ps) y.counts y.like ends);
             short = omega arith;
             few = omega (arith, same);
           }
 
       above : is_prefix q p ≡ true → is_prefix p q ≡ false → Order s E (length (q ∷ ps)) all (ahead s u p r e)
-      above a b = by (above-same s u p q r m e calm w h all held a b)
+      above a b = by (above-same s u p q r m e calm w h whole held a b)
         where
           ds : List ℕ
           ds = counts_after (number_in s.machine m) (does s u q u.last m).raises (counts_after (number_in s.machine r) e.raises u.counts)
 
-          by : (after s (ahead s u p r e) q m ≡ with_counts ds (after s u q m)) ⊎ (after s u q m ≡ u) → Order s E (length (q ∷ ps)) all (ahead s u p r e)
+          by : (after s (ahead s u p r e) q m ≡ with_counts ds (after s u q m)) ⊎ ((after s u q m ≡ u) × (after s (ahead s u p r e) q m ≡ ahead s u p r e)) → Order s E (length (q ∷ ps)) all (ahead s u p r e)
           by (inl is) =
-              behind (above-ready s u p q r m e calm w h all held a b) (above-asked s u p q r m e calm w h all held a b) (with_counts ds (after s u q m)) is
-              (carried-on ds (like-next s u p q r m e all rest w.so held (omega arith)))
-          by (inr is) =
+              behind (above-ready s u p q r m e calm w h whole held a b) (above-asked s u p q r m e calm w h whole held a b) (with_counts ds (after s u q m)) is
+              (carried-on ds (like-next s u p q r m e whole (rest + spare) w.so held (omega arith)))
+          by (inr (is, stays)) =
               let same : asks s u ps ≡ rest = ap (λ z. asks s z ps) (sym is) in
               let c = count_of u.counts (number_in s.machine r) in
               longer s E (length ps) (length (q ∷ ps)) (asks s u ps) all (ahead s u p r e) (omega arith) (omega (arith, same))
-              (more u w (held-less s r c (c + (all + 1)) c (c + (asks s u ps + 1)) (omega arith) (omega (arith, same)) held) (subst (λ (z : World). ArePrompt s z ps) is prompt) (subst (λ (z : World). E (after_bare s z ps)) is ends))
+              (more u w (held-less s r c (c + (whole + 1)) c (c + (asks s u ps + spare + 1)) (omega arith) (omega (arith, same)) held) (subst (λ (z : World). ArePrompt s z ps) is prompt) (subst (λ (z : World). E (after_bare s z ps)) is ends))
 
       beside : IsApart p q → Order s E (length (q ∷ ps)) all (ahead s u p r e)
       beside a =
-          behind (ready-ahead s u p q r m e calm w h all held a) (ap (λ (z : Effect). asked z.raises) (same-ahead s u p q r m e calm w h all held a)) (ahead s (after s u q m) p r e) (commutes s u p q r m e calm w h all held a)
-          (more (after s u q m) (still-pending s u p q r m e calm w h all held a) (held-next s u q r m all rest (omega arith) held) prompt ends)
+          behind (ready-ahead s u p q r m e calm w h whole held a) (ap (λ (z : Effect). asked z.raises) (same-ahead s u p q r m e calm w h whole held a)) (ahead s (after s u q m) p r e) (commutes s u p q r m e calm w h whole held a)
+          (more (after s u q m) (still-pending s u p q r m e calm w h whole held a) (held-next s u q r m whole (rest + spare) (omega arith) held) prompt ends)
 
       one-first : Order s E (length (q ∷ ps)) all (ahead s u p r e)
       one-first = by (is_prefix p q) (is_prefix q p) refl refl
@@ -193,11 +186,11 @@ module _ (s : Setup) (p : List ℕ) (r : Record) (e : Effect) (calm : KeepsOn e)
           by false false x y = beside (record { left = x; right = y })
 
   pub quiet-first : (ps : List (List ℕ)) → Before ps
-  quiet-first [] u w held prompt ends = record { places = []; prompt = tt; ends = closed u w ends; short = omega arith; few = omega arith }
+  quiet-first [] u w held prompt ends = let c = count_of u.counts (number_in s.machine r) in record { places = []; prompt = tt; ends = closed u w (held-less s r c (c + (0 + spare + 1)) c (c + (spare + 1)) (omega arith) (omega arith) held) ends; short = omega arith; few = omega arith }
   quiet-first (q ∷ ps) u w held prompt ends =
       let x = prompt-ready s u q (someone s u p r e w) w.early w.untold prompt.0 in
       let is = go-is s u q x.0 x.1 in
       let all : asks s u (q ∷ ps) ≡ asked (does s u q u.last x.0).raises + asks s (after s u q x.0) ps = λ i. asks-is s u q x.0 x.1 i + asks s (is i) ps in
       subst (λ n. Order s E (length (q ∷ ps)) n (ahead s u p r e)) (sym all)
       (one-first q ps (quiet-first ps) u w x.0 x.1 (subst (λ (z : World). ArePrompt s z ps) is prompt.1) (subst (λ (z : World). E (after_bare s z ps)) is ends)
-      (subst (λ n. IsHeldFor s u r n) all held))
+      (subst (λ n. IsHeldFor s u r (n + spare)) all held))

@@ -1,16 +1,16 @@
 -- Where a history has room, the same branches may step as without it.
 use Rattle.std.proofs.Common.{ℕ, ◌≡◌, ◌≤◌, ◌∙◌, ap, refl, arith, Bool, false, List, max, Option, Some, None, if◌then◌else◌}
-use Rattle.asl_step_rows.specs.declared.record.Record.{Record}
-use Rattle.asl_step_rows.specs.declared.record.Record.TheVariants.{New, Ready, Pausing, Again, Forked, Done, Failed}
-use Rattle.asl_run_frames.specs.Branches.{record_at, children_at, forker_at, is_stopped, is_busy}
+use Rattle.asl_step.specs.declared.record.Record.{Record}
+use Rattle.asl_step.specs.declared.record.Record.TheVariants.{New, Ready, Pausing, Again, Forked, Done, Failed}
+use Rattle.asl_run_branches.specs.Branches.{record_at, children_at, forker_at, is_stopped, is_busy}
 use Rattle.std.specs.Prelude.{nat_lt}
-use Rattle.asl_run_frames.specs.Turns.{is_crowded, limit_of}
-use Rattle.asl_run_world.specs.World.{World, is_over, is_late}
-use Rattle.asl_run_world.specs.Bare.{bare}
-use Rattle.asl_run_world.specs.declared.refusal.Refusal.{Refusal}
-use Rattle.asl_run_world.specs.declared.refusal.Refusal.TheVariants.{Over, Stopped, Busy, Slots, NotYet, HistoryFull}
-use Rattle.asl_run_world.specs.Refusals.{is_full, refusal_if_full, refusal_by, refusal_at, refusal_of}
-use Rattle.asl_run_setup.specs.declared.setup.Setup.{Setup}
+use Rattle.asl_run_branches.specs.Turns.{is_crowded, limit_of}
+use Rattle.asl_run_state.specs.World.{World, is_over, is_late}
+use Rattle.asl_run_state.specs.Bare.{bare}
+use Rattle.asl_run_state.specs.declared.refusal.Refusal.{Refusal}
+use Rattle.asl_run_state.specs.declared.refusal.Refusal.TheVariants.{Over, Stopped, Busy, Slots, NotYet, HistoryFull}
+use Rattle.asl_run_state.specs.Refusals.{is_full, refusal_if_full, refusal_by, refusal_at, refusal_of}
+use Rattle.asl_run_input.specs.declared.setup.Setup.{Setup}
 use Rattle.asl_exec.specs.Steps.{limits_in}
 use Rattle.asl_explore.specs.Orders.{due, MayStep, IsPrompt}
 use Rattle.asl_explore.specs.private.Reaching.{IsLeast}

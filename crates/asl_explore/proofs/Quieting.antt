@@ -1,9 +1,9 @@
 -- What is known of a quiet step.
 use Rattle.std.proofs.Common.{ℕ, ◌≡◌, ◌<◌, ◌∙◌, ap, sym, subst, List, length, get_or}
-use Rattle.asl_run_world.specs.World.{World}
-use Rattle.asl_run_world.specs.Bare.{bare}
-use Rattle.asl_run_world.specs.declared.outcome.Outcome.{Outcome}
-use Rattle.asl_run_setup.specs.declared.setup.Setup.{Setup}
+use Rattle.asl_run_state.specs.World.{World}
+use Rattle.asl_run_state.specs.Bare.{bare}
+use Rattle.asl_run_state.specs.declared.outcome.Outcome.{Outcome}
+use Rattle.asl_run_input.specs.declared.setup.Setup.{Setup}
 use Rattle.asl_exec.specs.Steps.{step}
 use Rattle.asl_explore.specs.Searches.{IsQuietAt, IsReduced, IsLater, StandsAt}
 use Rattle.asl_explore.proofs.Growing.{later-at}

@@ -1,17 +1,16 @@
 -- Worlds that are known to reach an end, and steps that show it.
-use Rattle.std.proofs.Common.{ℕ, zero, suc, ◌≡◌, ◌<◌, ◌≤◌, ◌+◌, ◌++◌, ◌==◌, ◌∙◌, ap, sym, refl, subst, arith, Bool, true, false, List, [], ◌∷◌, length, get_or, set, replicate, Option, Some, None, IfSome}
-use Rattle.std.specs.Prelude.{is_some, nat_lt}
+use Rattle.std.proofs.Common.{ℕ, zero, suc, ◌≡◌, ◌<◌, ◌≤◌, ◌+◌, ◌⊎◌, inl, inr, ◌∙◌, ap, sym, refl, subst, arith, Bool, true, false, List, [], ◌∷◌, length, get_or, Option, Some, None, IfSome}
+use Rattle.std.specs.Prelude.{is_none, is_some, nat_lt}
 use Rattle.std.specs.List.{All, AllWithin}
-use Rattle.std.proofs.lemmas.Bool.{both_ways, eqb-true, eqb-false}
 use Rattle.std.proofs.lemmas.Bool.Decides.{nat_tests}
-use Rattle.std.proofs.lemmas.List.{get_or-set_other, get_or_read, length-map}
-use Rattle.std.proofs.lemmas.List.Elements.{All-push, AllWithin-more}
-use Rattle.asl_step_rows.specs.declared.record.Record.{Record}
-use Rattle.asl_run_frames.specs.Branches.{record_at}
-use Rattle.asl_run_frames.specs.declared.earliest.Earliest.{Earliest}
-use Rattle.asl_run_world.specs.World.{World, is_over}
-use Rattle.asl_run_world.specs.Bare.{bare, earliest}
-use Rattle.asl_run_setup.specs.declared.setup.Setup.{Setup}
+use Rattle.std.proofs.lemmas.List.{get_or_read}
+use Rattle.std.proofs.lemmas.List.Elements.{AllWithin-more}
+use Rattle.asl_step.specs.declared.record.Record.{Record}
+use Rattle.asl_run_branches.specs.Branches.{record_at}
+use Rattle.asl_run_branches.specs.declared.earliest.Earliest.{Earliest}
+use Rattle.asl_run_state.specs.World.{World, is_over}
+use Rattle.asl_run_state.specs.Bare.{bare, earliest}
+use Rattle.asl_run_input.specs.declared.setup.Setup.{Setup}
 use Rattle.asl_exec.specs.Steps.{step}
 use Rattle.asl_explore.specs.declared.orders.Orders.{Orders}
 use Rattle.asl_explore.specs.declared.orders.Orders.TheVariants.{Every, Prompt}
@@ -19,10 +18,10 @@ use Rattle.asl_explore.specs.declared.endless.Lead.{Lead}
 use Rattle.asl_explore.specs.declared.endless.Lead.TheVariants.{End, World as At}
 use Rattle.asl_explore.specs.declared.endless.Link.{Link}
 use Rattle.asl_explore.specs.declared.met.Node.{Node}
-use Rattle.asl_explore.specs.Orders.{due, MayStep, IsTried}
-use Rattle.asl_explore.specs.Searches.{StandsAt, worlds_of}
-use Rattle.asl_explore.specs.Endless.{go, CanEnd}
-use Rattle.asl_explore.specs.private.Reaching.{Reaches, LeadsOn, IsLead, IsLink, IsLeast, IsSoon, AllBefore, AreReaching, is_known}
+use Rattle.asl_explore.specs.Orders.{due, MayStep, IsTried, go}
+use Rattle.asl_explore.specs.Searches.{IsOpenAt, StandsAt, worlds_of}
+use Rattle.asl_explore.specs.Endless.{CanEnd}
+use Rattle.asl_explore.specs.private.Reaching.{Reaches, LeadsOn, IsLead, IsLink, IsLeast, IsSoon, NoneMayStep, AllBefore, AreReaching, is_known}
 use Rattle.asl_explore.proofs.Expanding.{node-at}
 use Rattle.asl_explore.proofs.Whole.{there}
 
@@ -81,6 +80,25 @@ least-of s w turns (Some m) i is le h = λ q may. so q may (record_at q w.branch
         let l = x.1.1 in
         omega (arith, n, l)
 
+-- where there is none so far, no branch may step
+pub none-of : (s : Setup) (w : World) (turns : List Earliest) (least : Option ℕ) (i : ℕ) → turns ≡ earliest w.last w.branches → length turns ≤ i → is_none least ≡ true → AllWithin (IsReckoned s w least) turns 0 i → NoneMayStep s w
+none-of s w turns (Some m) i is le none h = absurd (cc)
+none-of s w turns None i is le none h = λ q may. so q may (record_at q w.branches) refl
+  where
+    all : All (IsReckoned s w None) (earliest w.last w.branches)
+    all = subst (All (IsReckoned s w None)) is (λ k d l. h k d (omega arith) (omega (arith, l, le)))
+
+    so : (q : List ℕ) → MayStep s w q → (r : Option Record) → record_at q w.branches ≡ r → ⊥
+    so q may None e = let x : false ≡ true = ap is_some (sym e) ∙ may.0 in (cc)
+    so q may (Some r) e =
+        let x = there w.last q w.branches r (IsReckoned s w None) all e may in
+        let none : None ≡ Some x.0 = x.1.0 in (cc)
+
+-- the next branch may step, so one may at the lesser moment
+pub open-more : (s : Setup) (w : World) (p : List ℕ) (a : Option ℕ) (k m : ℕ) → MayStep s w p × (due w p ≡ m) → IfSome a (IsOpenAt s w) → (k ≡ m) ⊎ (a ≡ Some k) → IsOpenAt s w k
+open-more s w p a k m may h (inl e) = record { place = p; may = may.0; due_is = may.1 ∙ sym e }
+open-more s w p a k m may h (inr e) = subst (λ (o : Option ℕ). IfSome o (IsOpenAt s w)) e h
+
 reckoned-later : (s : Setup) (w : World) (a b : Option ℕ) (e : Earliest) → ((m : ℕ) → a ≡ Some m → (k : ℕ) × ((b ≡ Some k) × (k ≤ m))) → IsReckoned s w a e → IsReckoned s w b e
 reckoned-later s w a b e f h may =
     let x = h may in
@@ -108,30 +126,6 @@ reckoned-none s w turns i turn a l e never h =
 
 -- ---- what is known
 
-unknown : (n i : ℕ) → get_or (replicate n false) i false ≡ false
-unknown zero i = refl
-unknown (suc n) zero = refl
-unknown (suc n) (suc i) = unknown n i
-
--- of none so far
-pub none-known : (o : Orders) (s : Setup) (ws : List World) (known : List Bool) (links : List Link) (n : ℕ) → known ≡ replicate n false → links ≡ [] → AreReaching o s ws known links
-none-known o s ws known links n e f = record {
-  known_so = λ i k. absurd (both_ways (is_known known i) (ap (λ (bs : List Bool). is_known bs i) e ∙ unknown n i) k);
-  links_so = subst (All (IsLink o s ws)) (sym f) (λ k d l. absurd (omega (arith, l)));
-}
-
--- of one more
-pub known-more : (o : Orders) (s : Setup) (ws : List World) (known : List Bool) (links : List Link) (i : ℕ) → AreReaching o s ws known links → Reaches o s ws i → AreReaching o s ws (set known i true) links
-known-more o s ws known links i h reaches = record { known_so = λ j. by j (j == i) refl; links_so = h.links_so }
-  where
-    by : (j : ℕ) (c : Bool) → (j == i) ≡ c → is_known (set known i true) j ≡ true → Reaches o s ws j
-    by j true e k = subst (Reaches o s ws) (sym (eqb-true j i e)) reaches
-    by j false e k = h.known_so j (sym (get_or-set_other known i j true false (eqb-false j i e)) ∙ k)
-
--- one more link
-pub link-more : (o : Orders) (s : Setup) (ws : List World) (known : List Bool) (links more : List Link) (l : Link) → more ≡ links ++ l ∷ [] → AreReaching o s ws known links → IsLink o s ws l → AreReaching o s ws known more
-link-more o s ws known links more l e h is = record { known_so = h.known_so; links_so = subst (All (IsLink o s ws)) (sym e) (All-push (IsLink o s ws) links l h.links_so is) }
-
 pub link-at : (o : Orders) (s : Setup) (ws : List World) (known : List Bool) (links : List Link) (i : ℕ) (l : Link) → i < length links → l ≡ get_or links i l → AreReaching o s ws known links → IsLink o s ws l
 link-at o s ws known links i l lt e h = subst (IsLink o s ws) (sym e) (h.links_so i l lt)
 
@@ -152,17 +146,7 @@ before-more known n h k i l = by (nat_lt i n) refl
         let is : n ≡ i = omega (arith, g, l) in
         ap (is_known known) (sym is) ∙ k
 
--- of all
-pub all-end : (o : Orders) (s : Setup) (ns : List Node) (known : List Bool) (links : List Link) (n : ℕ) → length ns ≤ n → AllBefore known n → AreReaching o s (worlds_of ns) known links → All (CanEnd o s) (worlds_of ns)
-all-end o s ns known links n le all h k d l = h.known_so k (all k (omega (arith, l, le, length-map ns (λ (z : Node). bare z.world)))) d
-
 -- ---- by the parts of a step
-
--- the least moment of a world that was entered
-pub least-in : (s z : Setup) (v w : World) (turns : List Earliest) (o : Option ℕ) → z ≡ s → v ≡ bare w → turns ≡ earliest w.last w.branches → (turns ≡ earliest v.last v.branches → IfSome o (IsLeast z v)) → IfSome o (IsLeast s (bare w))
-least-in s z v w turns o ez ev et f =
-    let h : IfSome o (IsLeast z v) = f (et ∙ ap (λ (u : World). earliest u.last u.branches) (sym ev)) in
-    subst (λ (x : Setup). IfSome o (IsLeast x (bare w))) ez (subst (λ (u : World). IfSome o (IsLeast z u)) ev h)
 
 module _ (o : Orders) (s z : Setup) (w v u : World) (p : List ℕ) (bound : Option ℕ) (t : ℕ) (ez : z ≡ s) (ev : v ≡ bare w) (may : MayStep z v p × (due v p ≡ t)) (soon : IsSoon o bound t) (eu : u ≡ step z v p t) (least : IfSome bound (IsLeast s (bare w))) where
   there-too : MayStep s (bare w) p × (due (bare w) p ≡ t)

@@ -1,38 +1,39 @@
 -- A search that expanded worlds by quiet steps alone, each to a world of a higher number, left out nothing.
 use Rattle.std.proofs.Common.{ℕ, zero, suc, ◌≡◌, ◌<◌, ◌≤◌, ◌+◌, ◌⊎◌, inl, inr, Bool, true, false, List, [], ◌∷◌, refl, sym, ◌∙◌, ap, subst, arith, length, get_or, max, Some, None, Option}
-use Rattle.std.specs.Prelude.{is_none}
+use Rattle.std.specs.Prelude.{is_none, unwrap_or}
 use Rattle.std.specs.List.{Contains}
 use Rattle.std.specs.Option.{option_and_then}
 use Rattle.std.proofs.lemmas.Bool.{cond_both, both_ways}
 use Rattle.std.proofs.lemmas.List.{get_or_read}
-use Rattle.asl_json.specs.Data.{Data}
+use Rattle.asl_json_data.specs.Data.{Data}
 use Rattle.asl_def.specs.Machines.{state_object}
-use Rattle.asl_step_rows.specs.declared.effect.Effect.{Effect}
-use Rattle.asl_step_rows.specs.declared.record.Record.{Record}
-use Rattle.asl_step_rows.specs.Records.{state_in, name_or_none}
-use Rattle.asl_step_unread.specs.Reading.{reads}
-use Rattle.asl_step_unread.specs.Steps.{token_keys}
-use Rattle.asl_run_frames.specs.Branches.{record_at}
-use Rattle.asl_run_frames.specs.Turns.{limit_of}
-use Rattle.asl_run_frames.specs.Branches.{forker_at}
-use Rattle.asl_run_world.specs.Bare.{bare}
-use Rattle.asl_run_world.specs.World.{World, is_over, is_late, timed_out, count_of}
-use Rattle.asl_run_world.specs.declared.refusal.Refusal.{Refusal}
-use Rattle.asl_run_world.specs.declared.outcome.Outcome.{Outcome}
-use Rattle.asl_run_setup.specs.declared.setup.Setup.{Setup}
+use Rattle.asl_step.specs.declared.effect.Effect.{Effect}
+use Rattle.asl_step.specs.declared.record.Record.{Record}
+use Rattle.asl_step.specs.Records.{state_in}
+use Rattle.asl_step_reads.specs.Reading.{reads}
+use Rattle.asl_step_reads.specs.Steps.{token_keys}
+use Rattle.asl_run_branches.specs.Branches.{record_at}
+use Rattle.asl_run_branches.specs.Turns.{limit_of}
+use Rattle.asl_run_branches.specs.Branches.{forker_at}
+use Rattle.asl_run_state.specs.Bare.{bare}
+use Rattle.asl_run_state.specs.World.{World, is_over, is_late, timed_out, count_of}
+use Rattle.asl_run_state.specs.declared.refusal.Refusal.{Refusal}
+use Rattle.asl_run_state.specs.declared.outcome.Outcome.{Outcome}
+use Rattle.asl_run_input.specs.declared.setup.Setup.{Setup}
 use Rattle.asl_exec.specs.Exchanges.{IsOneEach}
 use Rattle.asl_exec.specs.Steps.{number_in, limits_in, refusal_in, moved_on, stepped, step, opening}
 use Rattle.asl_exec.proofs.Accepting.{step_refused}
 use Rattle.asl_exec.proofs.Going.{does, GoesOn, so-goes, step-is}
-use Rattle.asl_run_exchange.proofs.OneEach.{one-each, one-stepped}
-use Rattle.asl_run_exchange.proofs.Rooted.{IsRooted}
-use Rattle.asl_run_exchange.proofs.Pending.{IsPending, ahead, none-over, rooted-next, each-next}
+use Rattle.asl_exec_swap_laws.proofs.OneEach.{one-each, one-stepped}
+use Rattle.asl_exec_swap_laws.proofs.Rooted.{IsRooted}
+use Rattle.asl_exec_swap_laws.proofs.Pending.{IsPending, ahead, none-over, rooted-next, each-next}
 use Rattle.asl_explore.specs.declared.orders.Orders.{Orders}
 use Rattle.asl_explore.specs.declared.orders.Orders.TheVariants.{Every, Prompt}
 use Rattle.asl_explore.specs.Orders.{due, after_order, AreTried, IsWhole}
 use Rattle.asl_explore.specs.Settled.{most_invocations}
 use Rattle.asl_explore.specs.Searches.{IsMet, IsExpanded, IsCalm, IsReduced, IsTakenOn, AreTakenOn}
 use Rattle.asl_explore.proofs.Bare.{step-bare, over-refuses}
+use Rattle.asl_explore.proofs.Steady.{AreLike}
 use Rattle.asl_explore.proofs.Asking.{asks-bare, HasRoom, Spent, spent}
 use Rattle.asl_explore.proofs.Carrying.{with_counts, go, after_bare, ArePrompt, asks}
 use Rattle.asl_explore.proofs.Calm.{KeepsOn, IsHeldFor}
@@ -134,27 +135,27 @@ held-so s w r b le (inr x) =
       unread = λ d is. unread-so (state_in r) (x.settled.unread) d is;
     })
   where
-    unread-so : (o : Option (List ℕ)) → ((d : Data) → state_object (name_or_none o) s.machine ≡ Some d → reads token_keys d ≡ false) → (d : Data) → option_and_then (λ n. state_object n s.machine) o ≡ Some d → reads token_keys d ≡ false
+    unread-so : (o : Option (List ℕ)) → ((d : Data) → state_object (unwrap_or o []) s.machine ≡ Some d → reads token_keys d ≡ false) → (d : Data) → option_and_then (λ n. state_object n s.machine) o ≡ Some d → reads token_keys d ≡ false
     unread-so None f d is = (cc)
     unread-so (Some n) f d is = f d is
 
-module _ (s : Setup) (ws : List World) (os : List Outcome) (E : World → Type 0) (R : Type 0)
-    (blind : (w : World) (ds : List ℕ) → E w → E (with_counts ds w))
+module _ (s : Setup) (ws : List World) (os : List Outcome) (E : World → Type 0) (R : Type 0) (spare : ℕ)
+    (blind : (w : World) (ds : List ℕ) → AreLike s spare w.counts ds → E w → E (with_counts ds w))
     (over : (w : World) → is_over w.outcome ≡ true → Contains os w.outcome → E w → R)
     (runs : (i : ℕ) → i < length ws → (w : World) → ((d : World) → get_or ws i d ≡ w) → is_over w.outcome ≡ false → E w → R)
-    (closed : (p : List ℕ) (r : Record) (e : Effect) → KeepsOn e → (u : World) → IsPending s u p r e → E u → E (ahead s u p r e))
+    (closed : (p : List ℕ) (r : Record) (e : Effect) → KeepsOn e → (u : World) → IsPending s u p r e → IsHeldFor s u r spare → E u → E (ahead s u p r e))
     (all : (i : ℕ) → i < length ws → (d : World) → IsTakenOn Prompt s ws os i (get_or ws i d)) where
-  -- from the worlds that were met, k of which have at least this number, by orders of at most n steps, which invoke services no more often than an execution can
+  -- from the worlds that were met, k of which have at least this number, by orders of at most n steps, which with so many more invoke services no more often than an execution can
   abbrev Ends : ℕ → ℕ → Type 0
   Ends n k = (i : ℕ) → i < length ws → length ws ≤ i + k → (w : World) → ((d : World) → get_or ws i d ≡ w) → IsGood w → is_over w.outcome ≡ false
-      → (ps : List (List ℕ)) → length ps ≤ n → ArePrompt s w ps → asks s w ps ≤ most_invocations → E (after_bare s w ps) → R
+      → (ps : List (List ℕ)) → length ps ≤ n → ArePrompt s w ps → asks s w ps + spare ≤ most_invocations → E (after_bare s w ps) → R
 
   abbrev Shorter : ℕ → Type 0
   Shorter n = (m : ℕ) → m < n → (k : ℕ) → Ends m k
 
   module _ (n : ℕ) (less : Shorter n) (i : ℕ) (lt : i < length ws) (w : World) (at : (d : World) → get_or ws i d ≡ w) (good : IsGood w) (running : is_over w.outcome ≡ false) where
     -- a world that is expanded wholly
-    full : IsExpanded Prompt s ws os w → (ps : List (List ℕ)) → length ps ≤ n → ArePrompt s w ps → asks s w ps ≤ most_invocations → E (after_bare s w ps) → R
+    full : IsExpanded Prompt s ws os w → (ps : List (List ℕ)) → length ps ≤ n → ArePrompt s w ps → asks s w ps + spare ≤ most_invocations → E (after_bare s w ps) → R
     full x [] short prompt few ends = runs i lt w at running ends
     full x (p ∷ ps) short prompt few ends = by (is_over (step s w p (due w p)).outcome) refl
       where
@@ -168,7 +169,7 @@ module _ (s : Setup) (ws : List World) (os : List Outcome) (E : World → Type 0
             less (length ps) (omega (arith, short)) (length ws) c.0 c.1 (omega arith) (go s w p) (λ d. sym (get_or_read ws c.0 (go s w p) c.1 (sym c.2) d)) (good-go s w p good) e ps (omega arith) prompt.1 (omega (arith, few)) ends
 
     -- one that is expanded by a quiet step
-    reduced : (k : ℕ) → length ws ≤ i + suc k → Ends n k → IsReduced s ws i w → (ps : List (List ℕ)) → length ps ≤ n → ArePrompt s w ps → asks s w ps ≤ most_invocations → E (after_bare s w ps) → R
+    reduced : (k : ℕ) → length ws ≤ i + suc k → Ends n k → IsReduced s ws i w → (ps : List (List ℕ)) → length ps ≤ n → ArePrompt s w ps → asks s w ps + spare ≤ most_invocations → E (after_bare s w ps) → R
     reduced k le more x ps short prompt few ends =
         let p = x.place in
         let same : max w.last w.last ≡ w.last = omega arith in
@@ -177,7 +178,7 @@ module _ (s : Setup) (ws : List World) (os : List Outcome) (E : World → Type 0
         let g : GoesOn s w p w.last r = subst (λ (t : ℕ). GoesOn s w p t r) same so.1 in
         let e = does s w p w.last r in
         let calm : KeepsOn e = record { silent = g.silent; whole = g.whole } in
-        let held = held-so s w r (asks s w ps) few (x.quiet.calm r g.is_ready.there) in
+        let held = held-so s w r (asks s w ps + spare) few (x.quiet.calm r g.is_ready.there) in
         let pending : IsPending s w p r e = record {
           running = running;
           early = g.is_ready.early;
@@ -188,7 +189,7 @@ module _ (s : Setup) (ws : List World) (os : List Outcome) (E : World → Type 0
           rooted = good.rooted;
           each = good.each;
         } in
-        let o = quiet-first s p r e calm E blind (closed p r e calm) ps w pending held prompt ends in
+        let o = quiet-first s p r e calm E spare blind (closed p r e calm) ps w pending held prompt ends in
         let is : bare (step s w p w.last) ≡ ahead s w p r e = ap bare (step-is s w p w.last w.last r same g.is_ready).1 in
         let l = x.later in
         let j = o.short in
@@ -210,7 +211,7 @@ module _ (s : Setup) (ws : List World) (os : List Outcome) (E : World → Type 0
   by-length zero m lt k = absurd (omega (arith, lt))
   by-length (suc n) m lt k = by-number m (λ j l. by-length n j (omega (arith, lt, l))) k
 
-  pub ends-so : (i : ℕ) → i < length ws → (w : World) → ((d : World) → get_or ws i d ≡ w) → IsGood w → is_over w.outcome ≡ false → (ps : List (List ℕ)) → ArePrompt s w ps → asks s w ps ≤ most_invocations → E (after_bare s w ps) → R
+  pub ends-so : (i : ℕ) → i < length ws → (w : World) → ((d : World) → get_or ws i d ≡ w) → IsGood w → is_over w.outcome ≡ false → (ps : List (List ℕ)) → ArePrompt s w ps → asks s w ps + spare ≤ most_invocations → E (after_bare s w ps) → R
   ends-so i lt w at good running ps prompt few ends = by-length (length ps + 1) (length ps) (omega arith) (length ws) i lt (omega arith) w at good running ps (omega arith) prompt few ends
 
 -- ---- so nothing is left out
@@ -222,12 +223,13 @@ prompt-whole s ws os m all ps tried ends =
     let x = plain s (opening s) ps most_invocations (omega arith) tried in
     let c : Contains ws (bare (opening s)) = m.runs refl in
     let last : E (after_bare s (bare (opening s)) x.places) = subst E x.ends (ends, refl) in
-    ends-so s ws os E (Contains os o)
-    (λ w ds e. e)
+    let few = x.few in
+    ends-so s ws os E (Contains os o) 0
+    (λ w ds like e. e)
     (λ w v k e. subst (Contains os) e.1 k)
     (λ i lt w at v e. absurd (both_ways (is_over w.outcome) v e.0))
-    (λ p r e quiet u pending f. absurd (both_ways (is_over u.outcome) pending.running f.0))
-    all c.0 c.1 (bare (opening s)) (λ d. sym (get_or_read ws c.0 (bare (opening s)) c.1 (sym c.2) d)) (good-opening s) refl x.places x.prompt x.few last
+    (λ p r e quiet u pending held f. absurd (both_ways (is_over u.outcome) pending.running f.0))
+    all c.0 c.1 (bare (opening s)) (λ d. sym (get_or_read ws c.0 (bare (opening s)) c.1 (sym c.2) d)) (good-opening s) refl x.places x.prompt (omega (arith, few)) last
 
 every-expanded : (s : Setup) (ws : List World) (os : List Outcome) (i : ℕ) (w : World) → IsTakenOn Every s ws os i w → IsExpanded Every s ws os w
 every-expanded s ws os i w (inl x) = x

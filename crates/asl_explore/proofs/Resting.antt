@@ -5,9 +5,9 @@ use Rattle.std.specs.List.{All, AllWithin}
 use Rattle.std.proofs.lemmas.Bool.Decides.{nat_tests}
 use Rattle.std.proofs.lemmas.List.{get_or_read}
 use Rattle.std.proofs.lemmas.List.Elements.{AllWithin-more}
-use Rattle.asl_run_frames.specs.declared.earliest.Earliest.{Earliest}
-use Rattle.asl_run_world.specs.World.{World}
-use Rattle.asl_run_world.specs.Bare.{bare, earliest}
+use Rattle.asl_run_branches.specs.declared.earliest.Earliest.{Earliest}
+use Rattle.asl_run_state.specs.World.{World}
+use Rattle.asl_run_state.specs.Bare.{bare, earliest}
 use Rattle.asl_explore.specs.declared.met.Node.{Node}
 use Rattle.asl_explore.specs.Searches.{Waits, worlds_of}
 use Rattle.asl_explore.proofs.Expanding.{node-at}

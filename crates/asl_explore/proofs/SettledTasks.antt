@@ -4,13 +4,13 @@ use Rattle.std.specs.Prelude.{nat_lt}
 use Rattle.std.proofs.lemmas.Bool.{eqb-true, eqb-false}
 use Rattle.std.proofs.lemmas.Bool.Decides.{nat_tests}
 use Rattle.std.proofs.lemmas.List.{get_or-set_same, get_or-set_other, set_past}
-use Rattle.asl_json.specs.Data.{Data}
+use Rattle.asl_json_data.specs.Data.{Data}
 use Rattle.asl_def.specs.Machines.{state_object, state_number}
-use Rattle.asl_step_unread.specs.Reading.{reads}
-use Rattle.asl_step_unread.specs.Mentions.{may_read}
-use Rattle.asl_step_unread.specs.Steps.{token_keys}
-use Rattle.asl_step_unread.proofs.Mentioning.{unmentioned}
-use Rattle.asl_run_setup.specs.declared.setup.Setup.{Setup}
+use Rattle.asl_step_reads.specs.Reading.{reads}
+use Rattle.asl_step_reads.specs.Mentions.{may_read}
+use Rattle.asl_step_reads.specs.Steps.{token_keys}
+use Rattle.asl_step_reads.proofs.Mentioning.{unmentioned}
+use Rattle.asl_run_input.specs.declared.setup.Setup.{Setup}
 use Rattle.asl_explore.specs.Settled.{AreOneFrom, IsSettled, IsSettledAt, AreSettledFrom, most_before}
 use Rattle.asl_explore.proofs.Steady.{one-state}
 

@@ -1,25 +1,25 @@
 -- How often a state was invoked before matters to its step by the answer and by the token alone; counts that don't matter.
 use Rattle.std.proofs.Common.{ℕ, suc, ◌≡◌, ◌≤◌, ◌<◌, ◌+◌, ◌⊎◌, inl, inr, ◌==◌, Bool, true, false, List, refl, sym, ◌∙◌, ap, subst, arith, cond, length, get_or, set, option_map, Some, None, Option}
-use Rattle.std.specs.Prelude.{nat_lt}
+use Rattle.std.specs.Prelude.{[], nat_lt, unwrap_or}
 use Rattle.std.specs.Option.{option_and_then}
 use Rattle.std.proofs.lemmas.Bool.{both_ways, eqb-true, eqb-false}
 use Rattle.std.proofs.lemmas.Bool.Decides.{nat_tests}
 use Rattle.std.proofs.lemmas.List.{length-set, get_or-set_same, get_or-set_other, set_past}
-use Rattle.asl_json.specs.Data.{Data, Pairs, no_members, member, pairs}
+use Rattle.asl_json_data.specs.Data.{Data, Pairs, no_members, member, pairs}
 use Rattle.asl_json.specs.Same.{bytes_eq}
 use Rattle.asl_def.specs.Machines.{number_at, state_number, state_object, states_of}
 use Rattle.asl_mock.specs.Answers.{answer_to}
-use Rattle.asl_step_rows.specs.declared.effect.Effect.{Effect}
-use Rattle.asl_step_rows.specs.declared.record.Record.{Record}
-use Rattle.asl_step_rows.specs.Records.{state_in, name_or_none, name_in}
-use Rattle.asl_step_rows.specs.Seen.{Seen}
+use Rattle.asl_step.specs.declared.effect.Effect.{Effect}
+use Rattle.asl_step.specs.declared.record.Record.{Record}
+use Rattle.asl_step.specs.Records.{state_in, name_in}
+use Rattle.asl_step.specs.Seen.{Seen}
 use Rattle.asl_kinds.specs.Table.{invokes}
-use Rattle.asl_step_unread.specs.Reading.{reads}
-use Rattle.asl_step_unread.specs.Steps.{token_keys, with_count}
-use Rattle.asl_step_unread.proofs.Tokens.{counts, others}
-use Rattle.asl_run_frames.proofs.Linking.{same-eq}
-use Rattle.asl_run_world.specs.World.{World, count_of, raised, counts_after}
-use Rattle.asl_run_setup.specs.declared.setup.Setup.{Setup}
+use Rattle.asl_step_reads.specs.Reading.{reads}
+use Rattle.asl_step_reads.specs.Steps.{token_keys, with_count}
+use Rattle.asl_step_reads.proofs.Tokens.{counts, others}
+use Rattle.asl_run_branches.proofs.Linking.{same-eq}
+use Rattle.asl_run_state.specs.World.{World, count_of, raised, counts_after}
+use Rattle.asl_run_input.specs.declared.setup.Setup.{Setup}
 use Rattle.asl_exec.specs.Steps.{facts_of, number_in, object_in, invokes_by, seen_at, effect_in, effect_by}
 
 -- ---- one number is that of one name
@@ -120,6 +120,16 @@ like-less s a b cs ds le h = record { long = h.long; close = λ k. close-less s 
 pub like-self : (s : Setup) (b : ℕ) (cs : List ℕ) → AreLike s b cs cs
 like-self s b cs = record { long = refl; close = λ k. inl refl }
 
+close-back : (s : Setup) (b k c d : ℕ) → AreClose s b k c d → AreClose s b k d c
+close-back s b k c d (inl same) = inl (sym same)
+close-back s b k c d (inr like) = inr (λ name is. record {
+  answers = λ i j di id cj jc. sym ((like name is).answers j i cj jc di id);
+  unread = (like name is).unread;
+})
+
+pub like-back : (s : Setup) (b : ℕ) (cs ds : List ℕ) → AreLike s b cs ds → AreLike s b ds cs
+like-back s b cs ds h = record { long = sym h.long; close = λ k. close-back s b k (get_or cs k 0) (get_or ds k 0) (h.close k) }
+
 -- a step does the same
 pub like-does : (s : Setup) (u : World) (p : List ℕ) (now : ℕ) (m : Record) (b : ℕ) (cs ds : List ℕ) → AreLike s b cs ds → counted s u p now m (count_of ds (number_in s.machine m)) ≡ counted s u p now m (count_of cs (number_in s.machine m))
 like-does s u p now m b cs ds h = by (state_in m) refl
@@ -129,7 +139,7 @@ like-does s u p now m b cs ds h = by (state_in m) refl
     at n e k f (inl same) = ap (counted s u p now m) (sym same)
     at n e k f (inr like) = same-counted s u p now m (get_or ds k 0) (get_or cs k 0) (λ o is inv. record {
       unread = (like n f).unread o (ap (option_and_then (λ z. state_object z s.machine)) (sym e) ∙ is);
-      answers = subst (λ z. answer_to s.case z (get_or ds k 0) ≡ answer_to s.case z (get_or cs k 0)) (sym (ap name_or_none e)) (sym ((like n f).answers (get_or cs k 0) (get_or ds k 0) (omega arith) (omega arith) (omega arith) (omega arith)));
+      answers = subst (λ z. answer_to s.case z (get_or ds k 0) ≡ answer_to s.case z (get_or cs k 0)) (sym (ap (λ (o : Option (List ℕ)). unwrap_or o []) e)) (sym ((like n f).answers (get_or cs k 0) (get_or ds k 0) (omega arith) (omega arith) (omega arith) (omega arith)));
     })
 
     numbered : (n : List ℕ) → state_in m ≡ Some n → (k : Option ℕ) → state_number n s.machine ≡ k → counted s u p now m (count_of ds k) ≡ counted s u p now m (count_of cs k)
@@ -230,6 +240,6 @@ like-ahead s r true b cs i (inr x) = by (state_in r) refl (λ k l. x.answers k l
     numbered n None f answers unread = like-self s b cs
     numbered n (Some k) f answers unread = at n k f answers unread
 
-    by : (o : Option (List ℕ)) → state_in r ≡ o → ((i j : ℕ) → count_of cs (option_and_then (λ n. state_number n s.machine) o) ≤ i → i ≤ count_of cs (option_and_then (λ n. state_number n s.machine) o) + (b + 1) → count_of cs (option_and_then (λ n. state_number n s.machine) o) ≤ j → j ≤ count_of cs (option_and_then (λ n. state_number n s.machine) o) + (b + 1) → answer_to s.case (name_or_none o) i ≡ answer_to s.case (name_or_none o) j) → ((d : Data) → option_and_then (λ n. state_object n s.machine) o ≡ Some d → reads token_keys d ≡ false) → AreLike s b cs (raised (option_and_then (λ n. state_number n s.machine) o) cs)
+    by : (o : Option (List ℕ)) → state_in r ≡ o → ((i j : ℕ) → count_of cs (option_and_then (λ n. state_number n s.machine) o) ≤ i → i ≤ count_of cs (option_and_then (λ n. state_number n s.machine) o) + (b + 1) → count_of cs (option_and_then (λ n. state_number n s.machine) o) ≤ j → j ≤ count_of cs (option_and_then (λ n. state_number n s.machine) o) + (b + 1) → answer_to s.case (unwrap_or o []) i ≡ answer_to s.case (unwrap_or o []) j) → ((d : Data) → option_and_then (λ n. state_object n s.machine) o ≡ Some d → reads token_keys d ≡ false) → AreLike s b cs (raised (option_and_then (λ n. state_number n s.machine) o) cs)
     by None e answers unread = like-self s b cs
     by (Some n) e answers unread = numbered n (state_number n s.machine) refl answers unread

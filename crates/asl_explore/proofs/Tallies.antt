@@ -3,16 +3,16 @@ use Rattle.std.specs.Prelude.{is_some, slice_index, nat_eq}
 use Rattle.std.proofs.Common.{ℕ, ◌≡◌, ◌<◌, ◌≤◌, ◌+◌, ◌⊎◌, inl, inr, ◌∙◌, ap, sym, refl, subst, arith, Bool, true, false, List, [], ◌∷◌, length, get_or, set, Option, Some, None}
 use Rattle.std.specs.List.{All, AllWithin}
 use Rattle.std.proofs.lemmas.Bool.Decides.{nat_tests}
-use Rattle.std.proofs.lemmas.List.{get_or_read, get_or-set_other}
+use Rattle.std.proofs.lemmas.List.{get_or_read, get_or-set_other, length-set}
 use Rattle.std.proofs.lemmas.Grind.{get_or-set_at}
 use Rattle.std.proofs.lemmas.List.Elements.{All-contains, AllWithin-more}
-use Rattle.asl_step_rows.specs.declared.record.Record.{Record}
-use Rattle.asl_run_frames.specs.Branches.{record_at}
-use Rattle.asl_run_frames.specs.declared.earliest.Earliest.{Earliest}
-use Rattle.asl_run_world.specs.World.{World, is_over}
-use Rattle.asl_run_world.specs.Bare.{bare, earliest}
-use Rattle.asl_run_world.specs.declared.outcome.Outcome.{Outcome}
-use Rattle.asl_run_setup.specs.declared.setup.Setup.{Setup}
+use Rattle.asl_step.specs.declared.record.Record.{Record}
+use Rattle.asl_run_branches.specs.Branches.{record_at}
+use Rattle.asl_run_branches.specs.declared.earliest.Earliest.{Earliest}
+use Rattle.asl_run_state.specs.World.{World, is_over}
+use Rattle.asl_run_state.specs.Bare.{bare, earliest}
+use Rattle.asl_run_state.specs.declared.outcome.Outcome.{Outcome}
+use Rattle.asl_run_input.specs.declared.setup.Setup.{Setup}
 use Rattle.asl_def.specs.Machines.{state_count}
 use Rattle.asl_exec.specs.Steps.{step, opening}
 use Rattle.asl_explore.specs.declared.calls.Bounds.{Bounds}
@@ -30,7 +30,7 @@ use Rattle.asl_explore.proofs.Ends.{ends-everywhere, after-over}
 
 -- ---- bounds that are written over others
 
-not-same : (k i : ℕ) → nat_eq k i ≡ false → k ≡ i → ⊥
+pub not-same : (k i : ℕ) → nat_eq k i ≡ false → k ≡ i → ⊥
 not-same k i e q = grind (arith, nat_tests, e, q)
 
 -- what is within the bounds that are written over
@@ -63,21 +63,18 @@ in-more bs counts i x b h l at new here k d lt = by (nat_eq k i) refl
 
 -- ---- the bounds of an outcome that are written over
 
-pub kept-same : (cs : List Calls) → AreKept cs cs
-kept-same cs i d k e n h = h
-
 pub kept-then : (cs ds es : List Calls) → AreKept cs ds → AreKept ds es → AreKept cs es
-kept-then cs ds es a b i d k e n h = b i d k e n (a i d k e n h)
+kept-then cs ds es a b = record { many = b.many ∙ a.many; wider = λ i d k e n h. b.wider i d k e n (a.wider i d k e n h) }
 
 pub kept-set : (cs : List Calls) (i : ℕ) (x c : Calls) → i < length cs → x ≡ get_or cs i x → AreWider x.bounds.items c.bounds.items → AreKept cs (set cs i c)
-kept-set cs i x c l at w j d = by (nat_eq j i) refl
+kept-set cs i x c l at w = record { many = length-set cs i c; wider = λ j d. by j d (nat_eq j i) refl }
   where
-    by : (b : Bool) → nat_eq j i ≡ b → AreWider (get_or cs j d).bounds.items (get_or (set cs i c) j d).bounds.items
-    by true e =
+    by : (j : ℕ) (d : Calls) (b : Bool) → nat_eq j i ≡ b → AreWider (get_or cs j d).bounds.items (get_or (set cs i c) j d).bounds.items
+    by j d true e =
         let q : j ≡ i = grind (arith, nat_tests, e) in
         let here : x ≡ get_or cs j d = get_or_read cs i x l at d ∙ ap (λ (z : ℕ). get_or cs z d) (sym q) in
         subst (λ (z : Calls). AreWider (get_or cs j d).bounds.items z.bounds.items) (sym (get_or-set_at cs i j c d q l)) (subst (λ (z : Calls). AreWider z.bounds.items c.bounds.items) here w)
-    by false e = subst (λ (z : Calls). AreWider (get_or cs j d).bounds.items z.bounds.items) (sym (get_or-set_other cs i j c d (not-same j i e))) (λ k f n h. h)
+    by j d false e = subst (λ (z : Calls). AreWider (get_or cs j d).bounds.items z.bounds.items) (sym (get_or-set_other cs i j c d (not-same j i e))) (λ k f n h. h)
 
 pub counted-set : (states : ℕ) (os : List Outcome) (cs : List Calls) (i : ℕ) (x c : Calls) (o : Outcome) (counts : List ℕ) → i < length os → ((d : Outcome) → get_or os i d ≡ o) → i < length cs → states ≤ length x.bounds.items
     → ((k : ℕ) (d : Bounds) → k < length x.bounds.items → IsIn (get_or c.bounds.items k d) (slice_index counts k)) → IsCounted states os (set cs i c) o counts
@@ -85,6 +82,7 @@ counted-set states os cs i x c o counts lo at lc le has = record {
   number = i;
   there = lo;
   outcome = at;
+  counted = let long = length-set cs i c in omega (arith, lc, long);
   within = λ d k e lt. subst (λ (z : Calls). IsIn (get_or z.bounds.items k e) (slice_index counts k)) (sym (get_or-set_at cs i i c d refl lc)) (has k e (omega (arith, lt, le)));
 }
 
@@ -95,7 +93,8 @@ counted-kept states os cs ds o counts kept h = record {
   number = h.number;
   there = h.there;
   outcome = h.outcome;
-  within = λ d k e lt. kept h.number d k e (slice_index counts k) (h.within d k e lt);
+  counted = let lt = h.counted in let many = kept.many in omega (arith, lt, many);
+  within = λ d k e lt. kept.wider h.number d k e (slice_index counts k) (h.within d k e lt);
 }
 
 -- ---- each step of a world

@@ -6,27 +6,28 @@ use Rattle.std.proofs.lemmas.Bool.{cond_both, both_ways}
 use Rattle.std.proofs.lemmas.Bool.Decides.{nat_tests}
 use Rattle.std.proofs.lemmas.List.{get_or_read}
 use Rattle.asl_history.specs.Places.{is_prefix}
-use Rattle.asl_step_rows.specs.Records.{is_done, is_failed}
-use Rattle.asl_step_rows.specs.declared.effect.Effect.{Effect}
-use Rattle.asl_step_rows.specs.declared.record.Record.{Record}
-use Rattle.asl_step_rows.specs.declared.record.Record.TheVariants.{New, Ready, Pausing, Again, Forked, Done, Failed}
-use Rattle.asl_run_frames.specs.Branches.{record_at, forker_at}
-use Rattle.asl_run_frames.specs.Earliest.{due_from}
-use Rattle.asl_run_frames.specs.Turns.{limit_of}
-use Rattle.asl_run_world.specs.Bare.{bare}
-use Rattle.asl_run_world.specs.World.{World, is_over, is_late, timed_out}
-use Rattle.asl_run_world.specs.declared.outcome.Outcome.{Outcome}
-use Rattle.asl_run_world.specs.declared.refusal.Refusal.{Refusal}
-use Rattle.asl_run_setup.specs.declared.setup.Setup.{Setup}
+use Rattle.asl_step.specs.Records.{is_done, is_failed}
+use Rattle.asl_step.specs.declared.effect.Effect.{Effect}
+use Rattle.asl_step.specs.declared.record.Record.{Record}
+use Rattle.asl_step.specs.declared.record.Record.TheVariants.{New, Ready, Pausing, Again, Forked, Done, Failed}
+use Rattle.asl_run_branches.specs.Branches.{record_at, forker_at}
+use Rattle.asl_run_branches.specs.Earliest.{due_from}
+use Rattle.asl_run_branches.specs.Turns.{limit_of}
+use Rattle.asl_run_state.specs.Bare.{bare}
+use Rattle.asl_run_state.specs.World.{World, is_over, is_late, timed_out}
+use Rattle.asl_run_state.specs.declared.outcome.Outcome.{Outcome}
+use Rattle.asl_run_state.specs.declared.refusal.Refusal.{Refusal}
+use Rattle.asl_run_input.specs.declared.setup.Setup.{Setup}
 use Rattle.asl_exec.specs.Steps.{limits_in, refusal_in, moved_on, stepped, step, opening, deadline_of}
 use Rattle.asl_exec.proofs.Accepting.{step_refused}
 use Rattle.asl_exec.proofs.Going.{IsReady}
-use Rattle.asl_run_exchange.proofs.Fewer.{not-stopped}
-use Rattle.asl_run_exchange.proofs.Leaving.{record-stays}
-use Rattle.asl_run_exchange.proofs.Rooted.{is_joining, rooted-above, below}
-use Rattle.asl_run_exchange.proofs.Rooting.{one-place}
-use Rattle.asl_run_exchange.proofs.Pending.{IsPending, ahead, none-over}
-use Rattle.asl_run_exchange.proofs.Inline.{none-under, ready-due}
+use Rattle.asl_exec_swap_laws.proofs.Fewer.{not-stopped}
+use Rattle.asl_exec_swap_laws.proofs.Leaving.{record-stays}
+use Rattle.asl_exec_swap_laws.proofs.Rooted.{is_joining, rooted-above, below}
+use Rattle.asl_exec_swap_laws.proofs.Rooting.{one-place}
+use Rattle.asl_exec_swap_laws.proofs.Pending.{IsPending, ahead, none-over}
+use Rattle.asl_exec_swap_laws.proofs.Inline.{none-under, ready-due}
+use Rattle.asl_exec_moment_laws.proofs.Stepping.{ready-if}
 use Rattle.asl_explore.specs.declared.orders.Orders.TheVariants.{Every, Prompt}
 use Rattle.asl_explore.specs.Orders.{due_of, due, after_order, IsPrompt, AreTried, IsWhole}
 use Rattle.asl_explore.specs.Searches.{IsMet, AreTakenOn, Waits, NoneWaits}
@@ -35,7 +36,7 @@ use Rattle.asl_explore.specs.Settled.{most_invocations}
 use Rattle.asl_explore.proofs.Asking.{asks-bare, HasRoom, Spent, spent}
 use Rattle.asl_explore.proofs.Carrying.{go, after_bare, ArePrompt, asks}
 use Rattle.asl_explore.proofs.Calm.{KeepsOn}
-use Rattle.asl_explore.proofs.Orderly.{so-ready, due-least}
+use Rattle.asl_explore.proofs.Orderly.{due-least}
 use Rattle.asl_explore.proofs.Reduced.{good-opening, ends-so, taken-whole}
 
 -- ---- a quiet step keeps a branch waiting
@@ -101,16 +102,16 @@ waits-ahead s u p r e calm w z = by (is_prefix p q) (is_prefix q p) refl refl
 abbrev pub NeverWaits : Setup → World → ℕ → Type 0
 NeverWaits s w b = (ps : List (List ℕ)) → ArePrompt s (bare w) ps → asks s (bare w) ps ≤ b → is_over (after_bare s (bare w) ps).outcome ≡ false → Waits (after_bare s (bare w) ps) → ⊥
 
-never-waits : (s : Setup) (ws : List World) (os : List Outcome) → IsMet ws os (opening s) → AreTakenOn Prompt s ws os (length ws) → NoneWaits ws → NeverWaits s (opening s) most_invocations
+pub never-waits : (s : Setup) (ws : List World) (os : List Outcome) → IsMet ws os (opening s) → AreTakenOn Prompt s ws os (length ws) → NoneWaits ws → NeverWaits s (opening s) most_invocations
 never-waits s ws os m all none ps prompt few running waits =
     let E : World → Type 0 = λ w. (is_over w.outcome ≡ false) × Waits w in
     let c : Contains ws (bare (opening s)) = m.runs refl in
-    ends-so s ws os E ⊥
-    (λ w ds e. (e.0, record { place = e.1.place; current = e.1.current; there = e.1.there; free = e.1.free; waits = e.1.waits }))
+    ends-so s ws os E ⊥ 0
+    (λ w ds like e. (e.0, record { place = e.1.place; current = e.1.current; there = e.1.there; free = e.1.free; waits = e.1.waits }))
     (λ w v k e. both_ways (is_over w.outcome) e.0 v)
     (λ i lt w at v e. none i lt w (subst Waits (sym (at w)) e.1))
-    (λ p r e calm u pending f. (ap is_over (none-over e.outcome calm.silent u.outcome) ∙ f.0, waits-ahead s u p r e calm pending f.1))
-    all c.0 c.1 (bare (opening s)) (λ d. sym (get_or_read ws c.0 (bare (opening s)) c.1 (sym c.2) d)) (good-opening s) refl ps prompt few (running, waits)
+    (λ p r e calm u pending held f. (ap is_over (none-over e.outcome calm.silent u.outcome) ∙ f.0, waits-ahead s u p r e calm pending f.1))
+    all c.0 c.1 (bare (opening s)) (λ d. sym (get_or_read ws c.0 (bare (opening s)) c.1 (sym c.2) d)) (good-opening s) refl ps prompt (omega (arith, few)) (running, waits)
 
 -- ---- so every step is prompt, or refused
 
@@ -148,7 +149,7 @@ module _ (s : Setup) (w : World) (p : List ℕ) (none : w.deadline ≡ None) (b 
   at-last = by (nat_lt w.last (due w p)) refl
     where
       x : (r : Record) × IsReady s w p (max w.last (due w p)) r
-      x = so-ready s w p (due w p) accepted early
+      x = ready-if s w p (due w p) accepted early
 
       by : (b : Bool) → nat_lt w.last (due w p) ≡ b → due w p ≡ w.last
       by true e =
@@ -162,7 +163,7 @@ module _ (s : Setup) (w : World) (p : List ℕ) (none : w.deadline ≡ None) (b 
 
   prompt : IsPrompt s w p
   prompt =
-      let x = so-ready s w p (due w p) accepted early in
+      let x = ready-if s w p (due w p) accepted early in
       let e = at-last in (
         (ap is_some x.1.there, bare-accepts w p (due w p) (limit_of (limits_in s.machine) (forker_at p w.branches)) accepted),
         λ q may. let l = due-least w.last (record_at q w.branches) in omega (arith, e, l),
@@ -180,7 +181,7 @@ module _ (s : Setup) (w : World) (p : List ℕ) (none : w.deadline ≡ None) (b 
 unmoved : (s : Setup) (w v : World) (ps : List (List ℕ)) → v ≡ w → Tried s v ps → Tried s w ps
 unmoved s w v ps e x = subst (λ (z : World). Tried s z ps) e x
 
-all-tried : (s : Setup) (ps : List (List ℕ)) (w : World) (b : ℕ) → HasRoom w b → w.deadline ≡ None → NeverWaits s w b → Tried s w ps
+pub all-tried : (s : Setup) (ps : List (List ℕ)) (w : World) (b : ℕ) → HasRoom w b → w.deadline ≡ None → NeverWaits s w b → Tried s w ps
 all-tried s [] w b room none never = record { places = []; tried = tt; ends = refl }
 all-tried s (p ∷ ps) w b room none never = by (refusal_in s w p (due w p)) refl (all-tried s ps)
   where

@@ -3,24 +3,24 @@ use Rattle.std.specs.Prelude.{is_some}
 use Rattle.std.proofs.Common.{ℕ, ◌≡◌, ◌≤◌, ◌⊎◌, inl, inr, ◌∙◌, ap, sym, refl, subst, arith, Bool, true, false, List, [], ◌∷◌, max, Option, Some, None}
 use Rattle.std.specs.List.{All, Contains}
 use Rattle.std.proofs.lemmas.List.Elements.{All-contains, All-head, All-tail}
-use Rattle.asl_step_rows.specs.declared.record.Record.{Record}
-use Rattle.asl_run_frames.specs.Branches.{Branch, record_at, same_place}
-use Rattle.asl_run_frames.proofs.Linking.{same-eq}
-use Rattle.asl_run_world.specs.World.{World, is_over, is_late}
-use Rattle.asl_run_world.specs.declared.outcome.Outcome.{Outcome}
-use Rattle.asl_run_world.specs.declared.outcome.Outcome.TheVariants.{TimedOut}
-use Rattle.asl_run_setup.specs.declared.setup.Setup.{Setup}
+use Rattle.asl_step.specs.declared.record.Record.{Record}
+use Rattle.asl_run_branches.specs.Branches.{Branch, record_at, same_place}
+use Rattle.asl_run_branches.proofs.Linking.{same-eq}
+use Rattle.asl_run_state.specs.World.{World, is_over, is_late}
+use Rattle.asl_run_state.specs.declared.outcome.Outcome.{Outcome}
+use Rattle.asl_run_state.specs.declared.outcome.Outcome.TheVariants.{TimedOut}
+use Rattle.asl_run_input.specs.declared.setup.Setup.{Setup}
 use Rattle.asl_exec.specs.Steps.{limits_in, step, opening}
 use Rattle.asl_exec.proofs.Accepting.{step_late}
-use Rattle.asl_run_world.proofs.Picks.{late-accepts}
+use Rattle.asl_run_state.proofs.Picks.{late-accepts}
 use Rattle.std.proofs.lemmas.Bool.Decides.{nat_tests}
 use Rattle.asl_explore.specs.declared.orders.Orders.{Orders}
 use Rattle.asl_explore.specs.declared.orders.Orders.TheVariants.{Every, Prompt}
 use Rattle.asl_explore.specs.Orders.{due_of, due, after_order, IsTried, AreTried, IsWhole}
-use Rattle.asl_run_frames.specs.Earliest.{due_from}
+use Rattle.asl_run_branches.specs.Earliest.{due_from}
 use Rattle.asl_explore.specs.Searches.{IsMet, IsExpanded, IsBound, is_beyond}
-use Rattle.asl_run_world.specs.Bare.{bare, earliest}
-use Rattle.asl_run_frames.specs.declared.earliest.Earliest.{Earliest}
+use Rattle.asl_run_state.specs.Bare.{bare, earliest}
+use Rattle.asl_run_branches.specs.declared.earliest.Earliest.{Earliest}
 use Rattle.asl_explore.proofs.Bare.{step-bare, step-over, step-nowhere}
 
 -- ---- what holds of a world holds of one that differs in its history alone

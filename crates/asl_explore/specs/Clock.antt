@@ -2,10 +2,10 @@
 use Rattle.std.specs.Prelude.{ℕ, ◌+◌, Bool, List, [], ◌∷◌, ◌++◌, Option, Some, None, option_map, reverse, if◌then◌else◌}
 use Rattle.std.specs.List.{flat_map}
 use Rattle.std.specs.Fmt.{decimal}
-use Rattle.asl_json.specs.Data.{Data, null, boolean, number, text, list, dict, Chain, no_items, item, Pairs, no_members, member}
-use Rattle.asl_json.specs.Pointers.{name_part}
-use Rattle.asl_step_unread.specs.Mentions.{text_may_read}
-use Rattle.asl_step_unread.specs.Steps.{clock_keys}
+use Rattle.asl_json_data.specs.Data.{Data, null, boolean, number, text, list, dict, Chain, no_items, item, Pairs, no_members, member}
+use Rattle.asl_json_write.specs.Pointers.{name_part}
+use Rattle.asl_step_reads.specs.Mentions.{text_may_read}
+use Rattle.asl_step_reads.specs.Steps.{clock_keys}
 
 -- the names and numbers on the way to a value, the innermost first
 abbrev pub Way : Type 0

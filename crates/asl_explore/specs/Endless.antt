@@ -1,27 +1,14 @@
 -- Orders that never end.
-use Rattle.std.specs.Prelude.{ℕ, ◌≡◌, ◌<◌, ⊤, true, false, length, List, [], ◌∷◌}
-use Rattle.asl_run_world.specs.World.{World, is_over}
-use Rattle.asl_run_world.specs.Bare.{bare}
-use Rattle.asl_run_setup.specs.declared.setup.Setup.{Setup}
-use Rattle.asl_run_setup.specs.declared.step_at.StepAt.{StepAt}
-use Rattle.asl_exec.specs.Steps.{step, opening}
+use Rattle.std.specs.Prelude.{ℕ, ◌≡◌, ◌<◌, ◌≤◌, ◌⊎◌, ⊤, true, false, length, sum, List, [], ◌∷◌}
+use Rattle.asl_run_state.specs.World.{World, is_over}
+use Rattle.asl_run_state.specs.Bare.{bare}
+use Rattle.asl_run_input.specs.declared.setup.Setup.{Setup}
+use Rattle.asl_run_input.specs.declared.step_at.StepAt.{StepAt}
+use Rattle.asl_exec.specs.Steps.{opening}
 use Rattle.asl_explore.specs.declared.orders.Orders.{Orders}
 use Rattle.asl_explore.specs.declared.endless.Lasso.{Lasso}
-use Rattle.asl_explore.specs.Orders.{due, places_of, MayStep, IsTried, AreTried, after_order}
-
--- the world that a step of the branch at a place leaves, without its history
-abbrev pub go : Setup → World → List ℕ → World
-go s w p = bare (step s w p (due w p))
-
--- the same of the branches at these places, one after another
-abbrev pub after_bare : Setup → World → List (List ℕ) → World
-after_bare s w [] = w
-after_bare s w (p ∷ ps) = after_bare s (go s w p) ps
-
--- each of these steps is one that is tried
-abbrev pub AreTriedOn : Orders → Setup → World → List (List ℕ) → Type 0
-AreTriedOn o s w [] = ⊤
-AreTriedOn o s w (p ∷ ps) = IsTried o s w p × AreTriedOn o s (go s w p) ps
+use Rattle.asl_explore.specs.Settled.{most_invocations}
+use Rattle.asl_explore.specs.Orders.{due, places_of, MayStep, IsTried, AreTried, after_order, go, after_bare, AreTriedOn}
 
 -- steps that are tried lead from a world to an end of the execution
 pub record CanEnd (o : Orders) (s : Setup) (w : World) : Type 0 where
@@ -35,6 +22,21 @@ abbrev pub NoneIsEndless : Orders → Setup → Type 0
 NoneIsEndless o s =
     (ps : List (List ℕ)) → AreTried o s (opening s) ps
     → CanEnd o s (bare (after_order s (opening s) ps))
+
+-- steps that are tried lead from a world to one in which services were invoked as often as a history
+-- has room for at most: no step of an execution comes behind it
+pub record CanFill (o : Orders) (s : Setup) (w : World) : Type 0 where
+  pub places : List (List ℕ)
+  pub tried : AreTriedOn o s w places
+  pub full : most_invocations ≤ sum (after_bare s w places).counts
+
+-- every order that is tried can be gone on with by steps that are tried: to an end of the execution,
+-- or until no history has room for more
+abbrev pub EachEndsOrFills : Orders → Setup → Type 0
+EachEndsOrFills o s =
+    (ps : List (List ℕ)) → AreTried o s (opening s) ps
+    → CanEnd o s (bare (after_order s (opening s) ps))
+    ⊎ CanFill o s (bare (after_order s (opening s) ps))
 
 -- ---- one that is told
 

@@ -1,18 +1,19 @@
 -- Laws of searches.
-use Rattle.std.specs.Prelude.{ℕ, ◌≡◌, ◌⊎◌, true, false, List, None, IsSome}
+use Rattle.std.specs.Prelude.{ℕ, ◌≡◌, ◌⊎◌, true, false, List, None, Decides, IsSome}
 use Rattle.std.specs.List.{Contains}
-use Rattle.asl_run_world.specs.World.{World, is_over}
-use Rattle.asl_run_world.specs.Bare.{bare}
-use Rattle.asl_run_world.specs.declared.outcome.Outcome.{Outcome}
-use Rattle.asl_run_world.specs.declared.outcome.Outcome.TheVariants.{TimedOut}
-use Rattle.asl_run_setup.specs.declared.setup.Setup.{Setup}
+use Rattle.asl_run_state.specs.World.{World, is_over}
+use Rattle.asl_run_state.specs.Bare.{bare}
+use Rattle.asl_run_state.specs.declared.outcome.Outcome.{Outcome}
+use Rattle.asl_run_state.specs.declared.outcome.Outcome.TheVariants.{TimedOut}
+use Rattle.asl_run_input.specs.declared.setup.Setup.{Setup}
 use Rattle.asl_exec.specs.Driving.{driven}
 use Rattle.asl_exec.specs.Steps.{deadline_of, opening, step}
-use Rattle.asl_step_unread.specs.Reading.{reads}
-use Rattle.asl_step_unread.specs.Steps.{clock_keys}
-use Rattle.asl_explore.specs.Orders.{IsWhole}
+use Rattle.asl_step_reads.specs.Reading.{reads}
+use Rattle.asl_step_reads.specs.Steps.{clock_keys}
+use Rattle.asl_explore.specs.Orders.{due, IsTried, IsWhole, MayStep}
 use Rattle.asl_explore.specs.declared.orders.Orders.{Orders}
 use Rattle.asl_explore.specs.declared.orders.Orders.TheVariants.{Every, Prompt}
+use Rattle.asl_explore.specs.Remarks.{is_tried_at}
 use Rattle.asl_explore.specs.Searches.{IsClosed, IsMetAside, IsExpandedAside, NoneWaits}
 
 -- a step reads nothing of the history: it is refused, or leaves the same world but for the history
@@ -51,3 +52,10 @@ TimelessIsWhole =
     (s : Setup) (ws : List World) (os : List Outcome) → reads clock_keys s.machine ≡ false
     → deadline_of s ≡ None → IsMetAside ws os (opening s)
     → ((w : World) → Contains ws w → IsExpandedAside s ws os w) → IsWhole Every s os
+
+-- of a branch that may step: that its step is one that is tried, as a truth value (Remarks), is
+-- that it is (Orders)
+abbrev pub TriedIsDecided : Type 0
+TriedIsDecided =
+    (o : Orders) (s : Setup) (w : World) (p : List ℕ) → MayStep s (bare w) p
+    → Decides (is_tried_at o s (bare w) (due w p)) (IsTried o s w p)

@@ -5,7 +5,10 @@ pub mod Clock
 pub mod TimeOver
 pub mod Endless
 pub mod Calls
+pub mod States
+pub mod Remarks
 pub mod Telling
 pub mod Reports
+pub mod Finding
 pub mod Laws
 pub mod private

@@ -2,16 +2,16 @@
 -- may.
 use Rattle.std.specs.Prelude.{ℕ, ◌≡◌, ◌≤◌, ⊤, true, is_some, length, List, [], ◌∷◌, map, None}
 use Rattle.std.specs.List.{Contains}
-use Rattle.asl_run_frames.specs.Branches.{record_at}
-use Rattle.asl_run_world.specs.World.{World, is_over}
-use Rattle.asl_run_world.specs.Bare.{bare}
-use Rattle.asl_run_world.specs.declared.outcome.Outcome.{Outcome}
-use Rattle.asl_run_setup.specs.declared.setup.Setup.{Setup}
-use Rattle.asl_run_setup.specs.declared.step_at.StepAt.{StepAt}
+use Rattle.asl_run_branches.specs.Branches.{record_at}
+use Rattle.asl_run_state.specs.World.{World, is_over}
+use Rattle.asl_run_state.specs.Bare.{bare}
+use Rattle.asl_run_state.specs.declared.outcome.Outcome.{Outcome}
+use Rattle.asl_run_input.specs.declared.setup.Setup.{Setup}
+use Rattle.asl_run_input.specs.declared.step_at.StepAt.{StepAt}
 use Rattle.asl_exec.specs.Steps.{step, opening, world_after, refusal_in}
 use Rattle.asl_explore.specs.declared.orders.Orders.{Orders}
 use Rattle.asl_explore.specs.declared.orders.Orders.TheVariants.{Every, Prompt}
-pub use Rattle.asl_run_moments.specs.Orders.{due_of, due, after_order}
+pub use Rattle.asl_exec_moment_laws.specs.Orders.{due_of, due, after_order}
 
 -- the same as a list of steps
 abbrev pub timed : Setup → World → List (List ℕ) → List StepAt
@@ -44,6 +44,24 @@ IsTried Prompt s w p = IsPrompt s w p
 abbrev pub AreTried : Orders → Setup → World → List (List ℕ) → Type 0
 AreTried o s w [] = ⊤
 AreTried o s w (p ∷ ps) = IsTried o s w p × AreTried o s (step s w p (due w p)) ps
+
+-- ---- if a history could be as long as one likes
+
+-- the world that a step of the branch at a place leaves, without its history
+abbrev pub go : Setup → World → List ℕ → World
+go s w p = bare (step s w p (due w p))
+
+-- the same of the branches at these places, one after another
+abbrev pub after_bare : Setup → World → List (List ℕ) → World
+after_bare s w [] = w
+after_bare s w (p ∷ ps) = after_bare s (go s w p) ps
+
+-- each of these steps is one that is tried
+abbrev pub AreTriedOn : Orders → Setup → World → List (List ℕ) → Type 0
+AreTriedOn o s w [] = ⊤
+AreTriedOn o s w (p ∷ ps) = IsTried o s w p × AreTriedOn o s (go s w p) ps
+
+-- ---- what orders end in
 
 -- in whatever order of these the branches step, the outcome is one of those
 abbrev pub IsWhole : Orders → Setup → List Outcome → Type 0

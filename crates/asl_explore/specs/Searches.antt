@@ -1,18 +1,18 @@
 -- What a search has met.
 use Rattle.std.specs.Prelude.{ℕ, zero, suc, ◌≡◌, ◌⊎◌, ◌<◌, length, get_or, ◌++◌, true, false, ⊤, Bool, nat_lt, List, map, Option, Some, None}
 use Rattle.std.specs.List.{All, AllPairs, Contains}
-use Rattle.asl_step_rows.specs.declared.record.Record.{Record}
-use Rattle.asl_step_rows.specs.Records.{name_in}
-use Rattle.asl_run_frames.specs.Branches.{record_at, is_stopped}
-use Rattle.asl_run_frames.specs.Earliest.{due_from}
-use Rattle.asl_run_world.specs.World.{World, is_over, count_of}
-use Rattle.asl_run_world.specs.Bare.{bare}
-use Rattle.asl_run_world.specs.declared.outcome.Outcome.{Outcome}
-use Rattle.asl_run_setup.specs.declared.setup.Setup.{Setup}
+use Rattle.asl_step.specs.declared.record.Record.{Record}
+use Rattle.asl_step.specs.Records.{name_in}
+use Rattle.asl_run_branches.specs.Branches.{record_at, is_stopped}
+use Rattle.asl_run_branches.specs.Earliest.{due_from}
+use Rattle.asl_run_state.specs.World.{World, is_over, count_of}
+use Rattle.asl_run_state.specs.Bare.{bare}
+use Rattle.asl_run_state.specs.declared.outcome.Outcome.{Outcome}
+use Rattle.asl_run_input.specs.declared.setup.Setup.{Setup}
 use Rattle.asl_exec.specs.Steps.{number_in, object_in, invokes_by, step, opening, world_after}
 use Rattle.asl_exec.specs.Exchanges.{goes_on}
-use Rattle.asl_run_moments.specs.Moments.{DifferInMoments}
-use Rattle.asl_explore.specs.Orders.{due, timed, places_of, MayStep, IsTried, AreTried, after_order}
+use Rattle.asl_exec_moment_laws.specs.Moments.{DifferInMoments}
+use Rattle.asl_explore.specs.Orders.{due, timed, places_of, MayStep, IsTried, AreTried, after_order, after_bare, AreTriedOn}
 use Rattle.asl_explore.specs.Settled.{IsSettledAt}
 use Rattle.asl_explore.specs.declared.found.Found.{Found}
 use Rattle.asl_explore.specs.declared.orders.Orders.{Orders}
@@ -39,6 +39,18 @@ IsExpandedAside s ws os w = (p : List ℕ) → IsMetAside ws os (step s (bare w)
 abbrev pub IsExpanded : Orders → Setup → List World → List Outcome → World → Type 0
 IsExpanded o s ws os w =
     (p : List ℕ) → IsTried o s w p → IsMet ws os (step s w p (due w p))
+
+-- steps that are tried lead to this world from the beginning, if a history could be as long as one
+-- likes
+pub record IsReached (o : Orders) (s : Setup) (w : World) : Type 0 where
+  pub places : List (List ℕ)
+  pub tried : AreTriedOn o s (bare (opening s)) places
+  pub leads : after_bare s (bare (opening s)) places ≡ w
+
+-- whichever world that runs is reached is one of these
+abbrev pub AreAllReached : Orders → Setup → List World → Type 0
+AreAllReached o s ws =
+    (w : World) → IsReached o s w → is_over w.outcome ≡ false → Contains ws w
 
 -- a world is the one of this number
 abbrev pub StandsAt : List World → ℕ → World → Type 0

@@ -1,11 +1,11 @@
 -- Tasks whose answers change no more.
 use Rattle.std.specs.Prelude.{ℕ, ◌≡◌, ◌≤◌, false, get_or, List, Option, Some, None}
-use Rattle.asl_json.specs.Data.{Data}
+use Rattle.asl_json_data.specs.Data.{Data}
 use Rattle.asl_mock.specs.Answers.{Case, answer_to}
 use Rattle.asl_def.specs.Machines.{state_object, state_number}
-use Rattle.asl_run_setup.specs.declared.setup.Setup.{Setup}
-use Rattle.asl_step_unread.specs.Reading.{reads}
-use Rattle.asl_step_unread.specs.Steps.{token_keys}
+use Rattle.asl_run_input.specs.declared.setup.Setup.{Setup}
+use Rattle.asl_step_reads.specs.Reading.{reads}
+use Rattle.asl_step_reads.specs.Steps.{token_keys}
 
 -- No execution invokes services more often: a history has at most 25,000 events (Developer Guide,
 -- "Quotas"), and an invocation tells three at least.

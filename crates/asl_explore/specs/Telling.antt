@@ -2,7 +2,7 @@
 use Rattle.std.specs.Prelude.{ℕ, zero, suc, Bool, ◌||◌, List, [], ◌∷◌, ◌++◌, Option, Some, None, codes, length, nat_eq, nat_lt, slice_get, if◌then◌else◌}
 use Rattle.std.specs.Fmt.{decimal}
 use Rattle.std.specs.List.{flat_map}
-use Rattle.asl_json.specs.Compact.{quoted}
+use Rattle.asl_json_data.specs.Compact.{quoted}
 use Rattle.asl_explore.specs.declared.calls.Bounds.{Bounds}
 use Rattle.asl_explore.specs.declared.calls.Calls.{Calls}
 use Rattle.asl_explore.specs.declared.states.Stated.{Stated}

@@ -1,8 +1,8 @@
 -- Executions whose time is over since a step comes late.
 use Rattle.std.specs.Prelude.{ℕ, ◌≡◌, ◌⊎◌, List, [], ◌∷◌, Some}
-use Rattle.asl_run_world.specs.declared.outcome.Outcome.TheVariants.{TimedOut}
-use Rattle.asl_run_setup.specs.declared.setup.Setup.{Setup}
-use Rattle.asl_run_setup.specs.declared.step_at.StepAt.{StepAt}
+use Rattle.asl_run_state.specs.declared.outcome.Outcome.TheVariants.{TimedOut}
+use Rattle.asl_run_input.specs.declared.setup.Setup.{Setup}
+use Rattle.asl_run_input.specs.declared.step_at.StepAt.{StepAt}
 use Rattle.asl_exec.specs.Steps.{deadline_of, opening, world_after}
 use Rattle.asl_explore.specs.declared.found.Found.{Found}
 use Rattle.asl_explore.specs.declared.orders.Orders.{Orders}

@@ -1,1 +1,3 @@
 pub mod Reaching
+pub mod Seeing
+pub mod Remarking

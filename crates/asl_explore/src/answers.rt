@@ -1,6 +1,8 @@
 // The answers of a case to a Task: as runs of numbers, and from when on they are equal.
-ghost use Rattle.std.specs.Prelude.{◌≡◌, ◌≤◌, true, option_map};
-ghost use Rattle.asl_explore.specs.Settled.{AreOneFrom};
+ghost use Rattle.std.specs.Prelude.{◌≡◌, ◌≤◌, ◌<◌, ◌⊎◌, ◌+◌, ℕ, List, true, false, Decides, option_map, IfOk};
+ghost use Rattle.asl_mock.specs.Answers.{Case};
+ghost use Rattle.asl_explore.specs.Remarks.{AreOneBelow, AreRuns};
+ghost use Rattle.asl_explore.specs.Settled.{AreOneFrom, last_answer};
 
 use asl_mock::{Answer, Case, answer};
 use std::alloc::{AllocError, Global};
@@ -18,8 +20,8 @@ pub(crate) struct Run {
 
 /// Whether two answers are equal, or neither is there.
 fn are_equal(one: Option<&Answer>, other: Option<&Answer>) -> bool
-    ensures { result ≡ true
-        → option_map (λ a. a.now) one.entry ≡ option_map (λ a. a.now) other.entry }
+    ensures { Decides result
+        (option_map (λ a. a.now) one.entry ≡ option_map (λ a. a.now) other.entry) }
 {
     match (one, other) {
         (None, None) => true,
@@ -29,35 +31,49 @@ fn are_equal(one: Option<&Answer>, other: Option<&Answer>) -> bool
 }
 
 /// The runs of the answers of a case to the Task of this name, from number 0 to 9,999. The error is that memory ran out.
-pub(crate) fn runs_of(alloc: Global, case: &Case, task: &str) -> Result<Vec<Run>, AllocError> {
+pub(crate) fn runs_of(alloc: Global, case: &Case, task: &str) -> Result<Vec<Run>, AllocError>
+    ensures { IfOk result (λ v. AreRuns case.now task.now 0 (last_answer + 1) v.items) }
+{
     let mut runs = Vec::new(alloc);
-    let mut before = answer(case, task, 0);
     let mut low = 0;
-    for number in 1..=LAST {
-        let next = answer(case, task, number);
-        if !are_equal(before, next) {
+    for number in 0..LAST {
+        let here = answer(case, task, number);
+        if !are_equal(answer(case, task, number + 1), here) {
             runs.push(Run {
                 low,
-                high: number - 1,
-                is_answer: before.is_some(),
+                high: number,
+                is_answer: here.is_some(),
             })?;
-            low = number;
+            low = number + 1;
         }
-        before = next;
     }
     runs.push(Run {
         low,
         high: LAST,
-        is_answer: before.is_some(),
+        is_answer: answer(case, task, LAST).is_some(),
     })?;
     Ok(runs)
 }
 
+/// Whether a run up to this number has all numbers below the other, but for those of which no execution asks for an answer.
+fn has_all(high: u32, below: u32) -> bool
+    ensures yes { result ≡ true → (last_answer ≤ high) ⊎ (below ≤ high + 1) }
+    ensures no { result ≡ false → (high < last_answer) × (high + 1 < below) }
+{
+    if high >= LAST {
+        return true;
+    }
+    below <= high + 1
+}
+
 /// Whether the answers of these numbers are all equal, from one on and below the other.
-pub(crate) fn are_one(runs: &[Run], from: u32, below: u32) -> bool {
+pub(crate) fn are_one(runs: &[Run], from: u32, below: u32) -> bool
+    ensures { (c : Case) (name : List ℕ) → AreRuns c name 0 (last_answer + 1) runs.now
+        → Decides result (AreOneBelow c name from below) }
+{
     for run in runs {
-        if run.low <= from && from <= run.high {
-            return below <= run.high.saturating_add(1);
+        if from <= run.high {
+            return has_all(run.high, below);
         }
     }
     true

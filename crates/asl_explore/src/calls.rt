@@ -1,11 +1,14 @@
 // How often each state is invoked in the orders that end in an outcome.
-ghost use Rattle.std.specs.Prelude.{◌≡◌, ◌<◌, ℕ, true, length, slice_index, slice_index_or, IfOk, IfSome};
-ghost use Rattle.asl_run_world.specs.declared.outcome.Outcome.{Outcome};
+ghost use Rattle.std.specs.Prelude.{◌≡◌, ◌<◌, ◌≤◌, ◌⊎◌, ℕ, List, true, length, slice_index, slice_index_or, IfOk, IfSome};
+ghost use Rattle.asl_run_input.specs.declared.setup.Setup.{Setup};
+ghost use Rattle.asl_explore.specs.declared.orders.Orders.{Orders};
+ghost use Rattle.asl_run_state.specs.World.{is_over};
+ghost use Rattle.asl_run_state.specs.declared.outcome.Outcome.{Outcome};
 ghost use Rattle.asl_explore.specs.Searches.{outcomes_of};
-ghost use Rattle.asl_explore.specs.Calls.{IsIn, AreWider, AreKept, IsCounted};
+ghost use Rattle.asl_explore.specs.Calls.{AreEachMet, AreKept, AreMetSoFar, AreWider, ComesInOrders, ComesWith, IsCounted, IsIn};
 
 use crate::found::Found;
-use asl_run_world::{Outcome, World};
+use asl_run_state::{Outcome, World};
 use std::alloc::{AllocError, Global};
 
 /// At least and at most so often.
@@ -32,6 +35,9 @@ impl Bounds {
     fn with(self, number: u32) -> Bounds
         ensures has { IsIn result number }
         ensures keeps { (n : ℕ) → IsIn self n → IsIn result n }
+        ensures low { (result.least ≡ number) ⊎ (result.least ≡ self.least) }
+        ensures high { (result.most ≡ number) ⊎ (result.most ≡ self.most) }
+        ensures fits { number ≤ 4_294_967_295 }
     {
         let least = if number < self.least {
             number
@@ -49,11 +55,11 @@ impl Bounds {
 
 impl Calls {
     /// Bounds of so many states, within which no number is. The error is that memory ran out.
-    fn none(alloc: Global, states: usize) -> Result<Calls, AllocError> {
-        let mut bounds = Vec::new(alloc);
-        for _ in 0..states {
-            bounds.push(NOTHING)?;
-        }
+    fn none(alloc: Global, states: usize) -> Result<Calls, AllocError>
+        ensures { (o : Orders) (s : Setup) (outcome : Outcome)
+            → IfOk result (λ c. AreEachMet (ComesWith o s outcome) c.bounds.items) }
+    {
+        let bounds = vec![in alloc; NOTHING; states]?;
         Ok(Calls { bounds })
     }
 
@@ -62,6 +68,10 @@ impl Calls {
         ensures has { (k : ℕ) (d : Bounds) → k < length self.old.bounds.items
             → IsIn (slice_index_or self.new.bounds.items k d) (slice_index world.now.counts k) }
         ensures keeps { AreWider self.old.bounds.items self.new.bounds.items }
+        ensures met { (o : Orders) (s : Setup) (outcome : Outcome)
+            → ((k : ℕ) → ComesWith o s outcome k (slice_index world.now.counts k))
+            → AreEachMet (ComesWith o s outcome) self.old.bounds.items
+            → AreEachMet (ComesWith o s outcome) self.new.bounds.items }
     {
         for number in 0..self.bounds.len() {
             let count = world.count(Some(number));
@@ -76,7 +86,10 @@ pub(crate) fn no_calls(
     alloc: Global,
     outcomes: usize,
     states: usize,
-) -> Result<Vec<Calls>, AllocError> {
+) -> Result<Vec<Calls>, AllocError>
+    ensures { (o : Orders) (s : Setup) (os : List Outcome)
+        → IfOk result (λ v. AreMetSoFar o s os v.items) }
+{
     let mut calls = Vec::new(alloc);
     for _ in 0..outcomes {
         let none = Calls::none(alloc, states)?;
@@ -109,6 +122,9 @@ pub(crate) fn count_end(
         → IsCounted states (outcomes_of found.now) calls.new.items world.now.outcome
         world.now.counts }
     ensures keeps { AreKept calls.old.items calls.new.items }
+    ensures met { (o : Orders) (s : Setup) → is_over world.now.outcome ≡ true
+        → ComesInOrders o s world.now → AreMetSoFar o s (outcomes_of found.now) calls.old.items
+        → AreMetSoFar o s (outcomes_of found.now) calls.new.items }
 {
     let Some(number) = number_of(found, world.outcome()) else {
         return false;

@@ -1,23 +1,25 @@
 // Which text of a definition may read the clock.
 ghost use Rattle.std.specs.Prelude.{◌≡◌, map, option_map, IfOk};
 ghost use Rattle.std.specs.Fmt.{decimal};
-ghost use Rattle.asl_json.specs.Data.{chain, pairs};
+ghost use Rattle.asl_json_data.specs.Data.{chain, pairs};
 ghost use Rattle.asl_json.specs.View.{data_of};
-ghost use Rattle.asl_step_unread.specs.Mentions.{text_may_read};
+ghost use Rattle.asl_step_reads.specs.Mentions.{text_may_read};
 ghost use Rattle.asl_explore.specs.Clock.{clock_place, pointer_text, way_among, way_in, way_to};
 
 use asl_def::Machine;
-use asl_json::{Items, Json, Members, Pointer, Txt};
-use asl_step_unread::may_read;
-use itoa::Buffer;
+use asl_json::{Items, Json, Members, Txt};
+use asl_json_write::Pointer;
+use asl_step_reads::may_read;
+use asl_text::put_decimal;
 use std::alloc::{AllocError, Global};
 
 /// A number in plain decimal. The error is that memory ran out.
 fn number_text(alloc: Global, number: usize) -> Result<Txt, AllocError>
     ensures { IfOk result (λ t. t ≡ decimal number) }
 {
-    let mut buffer = Buffer::new();
-    Txt::of(alloc, buffer.format(number as u64))
+    let mut text = String::new(alloc);
+    put_decimal(&mut text, number as u64)?;
+    Ok(Txt::new(text))
 }
 
 /// The way to the first text of a value that may read what stands at a chain of keys of the Context Object; none where none may. The error

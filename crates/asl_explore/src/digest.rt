@@ -1,8 +1,8 @@
 // Digests of worlds, by which they are looked up. Worlds that are alike have one digest; nothing rests on that but speed.
-use asl_json::Json;
-use asl_run_frames::{Frame, SharedFrame};
-use asl_run_world::World;
-use asl_step_rows::Record;
+use asl_json::{Json, Txt};
+use asl_run_branches::{Frame, SharedFrame};
+use asl_run_state::World;
+use asl_step::{Record, Uses};
 
 /// A digest in the making.
 #[derive(Clone, Copy)]
@@ -10,10 +10,20 @@ struct Digest {
     bits: u64,
 }
 
-/// Of a value so many levels are looked at, and of each list so many items.
-const LEVELS: u32 = 4;
+/// More levels than any value has.
+const LEVELS: u32 = u32::MAX;
 
-const ITEMS: usize = 16;
+/// So many bytes of a text are taken in at once.
+const PIECE: usize = 8;
+
+/// A word of at most eight bytes.
+fn word_of(bytes: &[u8]) -> u64 {
+    let mut word = 0_u64;
+    for byte in bytes {
+        word = word.rotate_left(8) ^ u64::from(*byte);
+    }
+    word
+}
 
 impl Digest {
     /// One more word.
@@ -26,13 +36,13 @@ impl Digest {
     /// One more text.
     fn text(self, text: &str) -> Digest {
         let mut digest = self.word(text.len() as u64);
-        for byte in text.as_bytes() {
-            digest = digest.word(u64::from(*byte));
+        for piece in text.as_bytes().chunks(PIECE) {
+            digest = digest.word(word_of(piece));
         }
         digest
     }
 
-    /// One more value, as far as it is looked at.
+    /// One more value, with so many levels of it.
     fn value(self, value: &Json, levels: u32) -> Digest {
         if levels == 0 {
             return self;
@@ -43,15 +53,15 @@ impl Digest {
             Json::Num(number) => self.word(4).text(number.spelling()),
             Json::Text(text) => self.word(5).text(text.as_str()),
             Json::List(items) => {
-                let mut digest = self.word(6);
-                for item in items.values().iter().take(ITEMS) {
+                let mut digest = self.word(6).word(items.len() as u64);
+                for item in items.values() {
                     digest = digest.value(item, levels - 1);
                 }
                 digest
             }
             Json::Dict(members) => {
-                let mut digest = self.word(7);
-                for member in members.members().iter().take(ITEMS) {
+                let mut digest = self.word(7).word(members.members().len() as u64);
+                for member in members.members() {
                     digest = digest
                         .text(member.key.as_str())
                         .value(&member.value, levels - 1);
@@ -78,22 +88,40 @@ impl Digest {
             Record::Again {
                 state,
                 input,
+                uses,
                 until,
                 ..
             } => self
                 .word(4)
                 .entry(state.as_str(), input)
+                .used(uses)
                 .word(until.millis()),
-            Record::Forked { state, input, .. } => self.word(5).entry(state.as_str(), input),
+            Record::Forked {
+                state,
+                input,
+                uses,
+                ..
+            } => self.word(5).entry(state.as_str(), input).used(uses),
             Record::Done(output) => self.word(6).value(output, LEVELS),
-            Record::Failed(error) => {
-                let digest = self.word(7);
-                match &error.error {
-                    Some(name) => digest.text(name.as_str()),
-                    None => digest,
-                }
-            }
+            Record::Failed(error) => self.word(7).named(&error.error).named(&error.cause),
         }
+    }
+
+    /// A text, where there is one.
+    fn named(self, text: &Option<Txt>) -> Digest {
+        match text {
+            Some(text) => self.word(8).text(text.as_str()),
+            None => self.word(9),
+        }
+    }
+
+    /// How often each retrier was used.
+    fn used(self, uses: &Uses) -> Digest {
+        let mut digest = self;
+        for count in &uses.counts {
+            digest = digest.word(u64::from(*count));
+        }
+        digest
     }
 
     /// A state and its raw input.

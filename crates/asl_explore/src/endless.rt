@@ -1,10 +1,10 @@
 // Worlds from which no end of the execution is reached.
 ghost use Rattle.std.specs.Prelude.{◌≡◌, ◌<◌, ℕ, List, true, length, get_or, is_none, IfOk, IfSome};
 ghost use Rattle.std.specs.List.{All};
-ghost use Rattle.asl_run_world.specs.Bare.{bare};
-ghost use Rattle.asl_run_world.specs.World.{World};
-ghost use Rattle.asl_run_setup.specs.declared.setup.Setup.{Setup};
-ghost use Rattle.asl_exec.specs.Views.{setup_of};
+ghost use Rattle.asl_run_state.specs.Bare.{bare};
+ghost use Rattle.asl_run_state.specs.World.{World};
+ghost use Rattle.asl_run_input.specs.declared.setup.Setup.{Setup};
+ghost use Rattle.asl_exec.specs.Probes.{setup_of};
 ghost use Rattle.asl_explore.specs.declared.orders.Orders.{Orders};
 ghost use Rattle.asl_explore.specs.Endless.{CanEnd, IsLasso};
 ghost use Rattle.asl_explore.specs.private.Reaching.{AllBefore, AreReaching, IsLead, IsLeast, IsSoon, LeadsOn, Reaches, is_known};
@@ -16,10 +16,10 @@ use crate::order::{chance, path};
 use crate::orders::Orders;
 use crate::search::bound_in;
 use crate::visiting::{enter, turns_in};
-use asl_exec::Execution;
+use asl_exec::Probe;
 use asl_history::Place;
-use asl_run_setup::StepAt;
-use asl_run_world::World;
+use asl_run_input::StepAt;
+use asl_run_state::World;
 use asl_time::Moment;
 use std::alloc::{AllocError, Global};
 
@@ -207,7 +207,7 @@ fn is_soon(orders: Orders, bound: &Option<Moment>, moment: Moment) -> bool
 /// Where the step of the branch at a place leads from a world: to an end, or to one of those that were met. The error is that memory ran
 /// out.
 fn lead_of(
-    execution: &mut Execution,
+    probe: &mut Probe,
     alloc: Global,
     orders: Orders,
     met: &Met,
@@ -216,14 +216,14 @@ fn lead_of(
     bound: &Option<Moment>,
 ) -> Result<Lead, AllocError>
     ensures leads { IfOk result (λ l.
-        IfSome bound.now (IsLeast (setup_of execution.old) (bare world.now))
-        → IsLead orders (setup_of execution.old) (worlds_of met.now.nodes.items) (bare world.now) l) }
-    ensures setup { setup_of execution.new ≡ setup_of execution.old }
+        IfSome bound.now (IsLeast (setup_of probe.old) (bare world.now))
+        → IsLead orders (setup_of probe.old) (worlds_of met.now.nodes.items) (bare world.now) l) }
+    ensures setup { setup_of probe.new ≡ setup_of probe.old }
 {
-    if !enter(execution, alloc, world)? {
+    if !enter(probe, alloc, world)? {
         return Ok(Lead::Nowhere);
     }
-    let Some(moment) = chance(execution, place) else {
+    let Some(moment) = chance(probe, place) else {
         return Ok(Lead::Nowhere);
     };
     if !is_soon(orders, bound, moment) {
@@ -233,11 +233,11 @@ fn lead_of(
         place: place.try_clone()?,
         moment,
     };
-    let _reply = execution.reply(&at)?;
-    if !execution.world().is_running() {
+    let _reply = probe.reply(&at)?;
+    if !probe.world().is_running() {
         return Ok(Lead::End);
     }
-    match met.number_of(execution.world()) {
+    match met.number_of(probe.world()) {
         Some(number) => Ok(Lead::World(number)),
         None => Ok(Lead::Nowhere),
     }
@@ -246,7 +246,7 @@ fn lead_of(
 /// Whether an end is known to be reached by a step of a world that was met; else it is noted where its steps lead. The error is that
 /// memory ran out.
 fn look(
-    execution: &mut Execution,
+    probe: &mut Probe,
     alloc: Global,
     orders: Orders,
     met: &Met,
@@ -255,22 +255,22 @@ fn look(
 ) -> Result<bool, AllocError>
     requires { number < length met.now.nodes.items }
     ensures ends { IfOk result (λ b. b ≡ true
-        → AreReaching orders (setup_of execution.old) (worlds_of met.now.nodes.items)
+        → AreReaching orders (setup_of probe.old) (worlds_of met.now.nodes.items)
         reaching.old.known.items reaching.old.links.items
-        → Reaches orders (setup_of execution.old) (worlds_of met.now.nodes.items) number) }
-    ensures kept { AreReaching orders (setup_of execution.old) (worlds_of met.now.nodes.items)
+        → Reaches orders (setup_of probe.old) (worlds_of met.now.nodes.items) number) }
+    ensures kept { AreReaching orders (setup_of probe.old) (worlds_of met.now.nodes.items)
         reaching.old.known.items reaching.old.links.items
-        → AreReaching orders (setup_of execution.old) (worlds_of met.now.nodes.items)
+        → AreReaching orders (setup_of probe.old) (worlds_of met.now.nodes.items)
         reaching.new.known.items reaching.new.links.items }
-    ensures setup { setup_of execution.new ≡ setup_of execution.old }
+    ensures setup { setup_of probe.new ≡ setup_of probe.old }
 {
     let world = &met.nodes[number].world;
     let Some(turns) = turns_in(alloc, world)? else {
         return Ok(false);
     };
-    let bound = bound_in(execution, alloc, orders, world, &turns)?;
+    let bound = bound_in(probe, alloc, orders, world, &turns)?;
     for turn in &turns {
-        let lead = lead_of(execution, alloc, orders, met, world, &turn.place, &bound)?;
+        let lead = lead_of(probe, alloc, orders, met, world, &turn.place, &bound)?;
         if reaching.take_lead(number, lead)? {
             return Ok(true);
         }
@@ -282,21 +282,21 @@ fn look(
 /// known of one, that of those from which links lead there. So of most worlds one step is taken, and of none a step twice. The error is
 /// that memory ran out.
 fn reaching_in(
-    execution: &mut Execution,
+    probe: &mut Probe,
     alloc: Global,
     orders: Orders,
     met: &Met,
 ) -> Result<Reaching, AllocError>
     ensures reaching { IfOk result (λ r.
-        AreReaching orders (setup_of execution.old) (worlds_of met.now.nodes.items) r.known.items
+        AreReaching orders (setup_of probe.old) (worlds_of met.now.nodes.items) r.known.items
         r.links.items) }
-    ensures setup { setup_of execution.new ≡ setup_of execution.old }
+    ensures setup { setup_of probe.new ≡ setup_of probe.old }
 {
     let worlds = met.nodes.len();
     let mut reaching = Reaching::none(alloc, worlds)?;
     for index in 0..worlds {
         let number = worlds - 1 - index;
-        if look(execution, alloc, orders, met, &mut reaching, number)? {
+        if look(probe, alloc, orders, met, &mut reaching, number)? {
             reaching.note(number)?;
         }
     }
@@ -326,14 +326,14 @@ fn stem_to(alloc: Global, nodes: &[Node], number: usize) -> Result<Vec<StepAt>, 
 /// A step that leads from a world to one from which no end is known to be reached, and the number of that one; none where there is none.
 /// The error is that memory ran out.
 fn step_on(
-    execution: &mut Execution,
+    probe: &mut Probe,
     alloc: Global,
     orders: Orders,
     met: &Met,
     reaching: &Reaching,
     number: usize,
 ) -> Result<Option<(StepAt, usize)>, AllocError>
-    ensures { setup_of execution.new ≡ setup_of execution.old }
+    ensures { setup_of probe.new ≡ setup_of probe.old }
 {
     let Some(node) = met.nodes.get(number) else {
         return Ok(None);
@@ -341,17 +341,9 @@ fn step_on(
     let Some(turns) = turns_in(alloc, &node.world)? else {
         return Ok(None);
     };
-    let bound = bound_in(execution, alloc, orders, &node.world, &turns)?;
+    let bound = bound_in(probe, alloc, orders, &node.world, &turns)?;
     for turn in &turns {
-        let lead = lead_of(
-            execution,
-            alloc,
-            orders,
-            met,
-            &node.world,
-            &turn.place,
-            &bound,
-        )?;
+        let lead = lead_of(probe, alloc, orders, met, &node.world, &turn.place, &bound)?;
         if let Lead::World(next) = lead {
             if !reaching.is_known(next) {
                 let at = StepAt {
@@ -387,14 +379,14 @@ fn lasso_of(
 /// An order that never ends, through the world of this number, from which no end is reached: it goes on from there by the first step that
 /// leads to such a world, until one comes again. The error is that memory ran out.
 fn lasso_through(
-    execution: &mut Execution,
+    probe: &mut Probe,
     alloc: Global,
     orders: Orders,
     met: &Met,
     reaching: &Reaching,
     first: usize,
 ) -> Result<Lasso, AllocError>
-    ensures { setup_of execution.new ≡ setup_of execution.old }
+    ensures { setup_of probe.new ≡ setup_of probe.old }
 {
     let stem = stem_to(alloc, &met.nodes, first)?;
     let mut steps = Vec::new(alloc);
@@ -408,7 +400,7 @@ fn lasso_through(
             return lasso_of(alloc, stem, steps, count);
         }
         came[number] = Some(steps.len());
-        let Some((at, next)) = step_on(execution, alloc, orders, met, reaching, number)? else {
+        let Some((at, next)) = step_on(probe, alloc, orders, met, reaching, number)? else {
             break;
         };
         steps.push(at)?;
@@ -441,26 +433,26 @@ fn nothing_endless(whole: bool) -> Endless
 /// An order that never ends, through the first world that was met from which no end is reached; none where one is from each, and where
 /// worlds were left out. The error is that memory ran out.
 pub(crate) fn endless_in(
-    execution: &mut Execution,
+    probe: &mut Probe,
     alloc: Global,
     orders: Orders,
     met: &Met,
     complete: bool,
 ) -> Result<Endless, AllocError>
     ensures none { IfOk result (λ x. complete ≡ true → x.whole ≡ true → is_none x.endless ≡ true
-        → All (CanEnd orders (setup_of execution.old)) (worlds_of met.now.nodes.items)) }
-    ensures lasso { IfOk result (λ x. IfSome x.endless (IsLasso orders (setup_of execution.old))) }
-    ensures setup { setup_of execution.new ≡ setup_of execution.old }
+        → All (CanEnd orders (setup_of probe.old)) (worlds_of met.now.nodes.items)) }
+    ensures lasso { IfOk result (λ x. IfSome x.endless (IsLasso orders (setup_of probe.old))) }
+    ensures setup { setup_of probe.new ≡ setup_of probe.old }
 {
     if !complete {
         return Ok(nothing_endless(true));
     }
-    let reaching = reaching_in(execution, alloc, orders, met)?;
+    let reaching = reaching_in(probe, alloc, orders, met)?;
     let Some(first) = first_lost(&reaching, met.nodes.len()) else {
         return Ok(nothing_endless(true));
     };
-    let lasso = lasso_through(execution, alloc, orders, met, &reaching, first)?;
-    if !is_lasso(execution, alloc, orders, &lasso)? {
+    let lasso = lasso_through(probe, alloc, orders, met, &reaching, first)?;
+    if !is_lasso(probe, alloc, orders, &lasso)? {
         return Ok(nothing_endless(false));
     }
     Ok(Endless {

@@ -5,9 +5,9 @@ use crate::endless::Lasso;
 use crate::orders::Orders;
 use crate::remarks::Remarks;
 use crate::states::Stated;
-use asl_json::Pointer;
-use asl_run_setup::StepAt;
-use asl_run_world::Outcome;
+use asl_json_write::Pointer;
+use asl_run_input::StepAt;
+use asl_run_state::Outcome;
 
 /// An outcome, and steps that end in it.
 #[derive(Drop)]
@@ -37,6 +37,8 @@ pub struct Explored {
     pub complete: bool,
     /// Whether something else than its limit cut the search: an order has more steps than a history has room for.
     pub stuck: bool,
+    /// Whether each world that was met was looked at for what is remarkable.
+    pub seen: bool,
     /// So many worlds were met, the first among them.
     pub worlds: usize,
     /// All orders of at most so many steps were tried; none where that isn't known.

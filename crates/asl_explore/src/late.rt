@@ -1,9 +1,9 @@
 // Outcomes that come only where a branch is late.
 ghost use Rattle.std.specs.Prelude.{◌≡◌, [], true, false, IfOk};
 ghost use Rattle.std.specs.List.{All};
-ghost use Rattle.asl_exec.specs.Views.{setup_of};
+ghost use Rattle.asl_exec.specs.Probes.{setup_of};
 ghost use Rattle.asl_explore.specs.Searches.{AreAllLate, AreAllListed, AreLate, AreOver, ComesPromptly, IsMissing, IsNumbered, IsPromptOutcome, NoneWaits, Waits, worlds_of};
-ghost use Rattle.asl_run_world.specs.Bare.{bare};
+ghost use Rattle.asl_run_state.specs.Bare.{bare};
 
 use crate::found::Found;
 use crate::met::Node;
@@ -12,8 +12,8 @@ use crate::orders::Orders;
 use crate::search::search;
 use crate::visiting::{is_found, turns_in};
 use crate::watch::Unwatched;
-use asl_exec::Execution;
-use asl_run_world::World;
+use asl_exec::Probe;
+use asl_run_state::World;
 use std::alloc::{AllocError, Global};
 
 /// Whether a branch waits in a world. The error is that memory ran out.
@@ -61,33 +61,25 @@ fn others_in(alloc: Global, found: &[Found], prompt: &[Found]) -> Result<Vec<usi
 }
 
 /// Whether the steps of an outcome are those of an order in which no branch is late. The error is that memory ran out.
-fn comes_promptly(
-    execution: &mut Execution,
-    alloc: Global,
-    found: &Found,
-) -> Result<bool, AllocError>
+fn comes_promptly(probe: &mut Probe, alloc: Global, found: &Found) -> Result<bool, AllocError>
     ensures prompt { IfOk result (λ b. b ≡ true
-        → IsPromptOutcome (setup_of execution.old) found.now.outcome) }
-    ensures setup { setup_of execution.new ≡ setup_of execution.old }
+        → IsPromptOutcome (setup_of probe.old) found.now.outcome) }
+    ensures setup { setup_of probe.new ≡ setup_of probe.old }
 {
-    if !replay(execution, alloc, Orders::Prompt, &found.steps)? {
+    if !replay(probe, alloc, Orders::Prompt, &found.steps)? {
         return Ok(false);
     }
-    Ok(*execution.outcome() == found.outcome)
+    Ok(*probe.outcome() == found.outcome)
 }
 
 /// The same of the steps of each of these outcomes.
-fn come_promptly(
-    execution: &mut Execution,
-    alloc: Global,
-    found: &[Found],
-) -> Result<bool, AllocError>
+fn come_promptly(probe: &mut Probe, alloc: Global, found: &[Found]) -> Result<bool, AllocError>
     ensures prompt { IfOk result (λ b. b ≡ true
-        → All (ComesPromptly (setup_of execution.old)) found.now) }
-    ensures setup { setup_of execution.new ≡ setup_of execution.old }
+        → All (ComesPromptly (setup_of probe.old)) found.now) }
+    ensures setup { setup_of probe.new ≡ setup_of probe.old }
 {
     for one in found {
-        if !comes_promptly(execution, alloc, one)? {
+        if !comes_promptly(probe, alloc, one)? {
             return Ok(false);
         }
     }
@@ -106,20 +98,20 @@ pub(crate) struct Lateness {
 /// The outcomes that come only where a branch is late: none, where the steps of each are those of an order in which none is; else those
 /// that a search of such orders doesn't find. None is told where this search is cut. The error is that memory ran out.
 pub(crate) fn late_among(
-    execution: &mut Execution,
+    probe: &mut Probe,
     alloc: Global,
     found: &[Found],
     limit: u32,
 ) -> Result<Lateness, AllocError>
     ensures late { IfOk result (λ x. AreOver found.now
-        → AreLate (setup_of execution.old) found.now x.numbers.items) }
+        → AreLate (setup_of probe.old) found.now x.numbers.items) }
     ensures all { IfOk result (λ x. x.marked ≡ true
-        → AreAllLate (setup_of execution.old) found.now x.numbers.items) }
+        → AreAllLate (setup_of probe.old) found.now x.numbers.items) }
 {
-    if come_promptly(execution, alloc, found)? {
+    if come_promptly(probe, alloc, found)? {
         return Ok(no_lateness(alloc, true));
     }
-    let Some(prompt) = search(execution, alloc, Orders::Prompt, true, limit, &Unwatched)? else {
+    let Some(prompt) = search(probe, alloc, Orders::Prompt, true, limit, &Unwatched)? else {
         return Ok(no_lateness(alloc, false));
     };
     if !prompt.complete {

@@ -3,8 +3,8 @@
 //! Modules in reading order: `orders` says which orders are tried; `found` is what a search finds; `met` the worlds that it met, which are looked up by `table` and `digest`;
 //! `order` takes steps at their earliest moments; `visiting` takes one step of a search; `settling` knows the Tasks whose answers change no more, and `quiet` takes steps that need no other; `search` takes all of them, and tells `watch` how
 //! far it is; `late` marks outcomes; `time_over` adds that of a late step; `endless` looks for orders that never end, and `lasso` tries one; `clock` looks for the clock in a definition; `states` lists its states; `calls` and `counting` say how often each is
-//! invoked; `remarks` is what is remarkable beyond the outcomes, which `seeing` sees, by the `answers` of a mock file; `telling` and `report` tell what was found; `laws` says that nothing is
-//! left out.
+//! invoked; `remarks` is what is remarkable beyond the outcomes: `seeing` looks at the branches of one world, `sights` is what was seen of each state in all worlds, and `remarking` what is told of it, by the `answers` of a mock file; `telling` and `report` tell what was found; `laws` says that nothing is
+//! left out, and of which steps remarks speak.
 #![tactic(auto)]
 
 mod answers;
@@ -21,11 +21,13 @@ mod met;
 mod order;
 mod orders;
 mod quiet;
+mod remarking;
 mod remarks;
 mod report;
 mod search;
 mod seeing;
 mod settling;
+mod sights;
 mod states;
 mod table;
 mod telling;
@@ -36,7 +38,7 @@ mod watch;
 pub use calls::{Bounds, Calls};
 pub use endless::Lasso;
 pub use found::{Explored, Found};
-pub use laws::searches_leave_out_nothing;
+pub use laws::{remarks_speak_of_tried_steps, searches_leave_out_nothing};
 pub use orders::Orders;
 pub use remarks::{Answers, Remarks};
 pub use report::{is_good, put_explored};

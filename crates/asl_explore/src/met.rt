@@ -1,13 +1,16 @@
 // The worlds that a search met.
 ghost use Rattle.std.specs.Prelude.{◌≡◌, List, ◌∷◌, [], IfOk, IfSome};
-ghost use Rattle.asl_run_world.specs.Bare.{bare};
-ghost use Rattle.asl_run_world.specs.declared.outcome.Outcome.{Outcome};
-ghost use Rattle.asl_explore.specs.Searches.{worlds_of, IsLater, StandsAt};
+ghost use Rattle.std.specs.List.{All};
+ghost use Rattle.asl_run_state.specs.Bare.{bare};
+ghost use Rattle.asl_run_input.specs.declared.setup.Setup.{Setup};
+ghost use Rattle.asl_explore.specs.declared.orders.Orders.{Orders};
+ghost use Rattle.asl_run_state.specs.declared.outcome.Outcome.{Outcome};
+ghost use Rattle.asl_explore.specs.Searches.{worlds_of, IsLater, IsReached, StandsAt};
 
 use crate::digest::digest_of;
 use crate::table::Table;
-use asl_run_setup::StepAt;
-use asl_run_world::World;
+use asl_run_input::StepAt;
+use asl_run_state::World;
 use std::alloc::{AllocError, Global};
 
 /// A world that was met, without its history.
@@ -99,6 +102,9 @@ impl Met {
             (λ i. StandsAt (worlds_of self.new.nodes.items) i (bare next)) }
         ensures later { (os : List Outcome)
             → IsLater (worlds_of self.old.nodes.items) os (worlds_of self.new.nodes.items) os }
+        ensures reached { (o : Orders) (s : Setup) → IfOk result (λ i.
+            All (IsReached o s) (worlds_of self.old.nodes.items) → IsReached o s (bare next)
+            → All (IsReached o s) (worlds_of self.new.nodes.items)) }
     {
         let digest = digest_of(&next, self.states);
         if let Some(index) = self.find(&next, digest) {

@@ -1,20 +1,20 @@
 // Steps at the earliest moments.
 ghost use Rattle.std.specs.Prelude.{◌≡◌, ◌≤◌, ◌⊎◌, true, is_none, IfOk, IfSome, Some};
-ghost use Rattle.asl_run_frames.specs.Earliest.{due_from};
-ghost use Rattle.asl_run_world.specs.Bare.{earliest};
+ghost use Rattle.asl_run_branches.specs.Earliest.{due_from};
+ghost use Rattle.asl_run_state.specs.Bare.{earliest};
 ghost use Rattle.asl_exec.specs.Steps.{opening, world_after};
-ghost use Rattle.asl_exec.specs.Views.{setup_of, world_of};
+ghost use Rattle.asl_exec.specs.Probes.{setup_of, world_of};
 ghost use Rattle.asl_explore.specs.Orders.{due, timed, places_of, MayStep, IsPrompt, IsTried, AreTried};
-ghost use Rattle.asl_explore.specs.private.Reaching.{IsLeast};
+ghost use Rattle.asl_explore.specs.private.Reaching.{IsLeast, NoneMayStep};
 ghost use Rattle.asl_explore.specs.Searches.{IsOpenAt};
 
 use crate::met::Node;
 use crate::orders::Orders;
 use crate::visiting::turns_in;
-use asl_exec::Execution;
+use asl_exec::Probe;
 use asl_history::Place;
-use asl_run_frames::{Earliest, due_from};
-use asl_run_setup::StepAt;
+use asl_run_branches::{Earliest, due_from};
+use asl_run_input::StepAt;
 use asl_time::Moment;
 use std::alloc::{AllocError, Global};
 
@@ -41,29 +41,29 @@ pub(crate) fn path(
 }
 
 /// The earliest moment at which the branch at a place may step.
-fn due(execution: &Execution, place: &Place) -> Moment
-    ensures { result ≡ due (world_of execution.now) place.now }
+pub(crate) fn due(probe: &Probe, place: &Place) -> Moment
+    ensures { result ≡ due (world_of probe.now) place.now }
 {
-    let last = execution.world().last();
-    match execution.view(place) {
+    let last = probe.world().last();
+    match probe.view(place) {
         Some(current) => due_from(last, current),
         None => last,
     }
 }
 
 /// The earliest moment at which the branch at a place may step; none where it may not.
-pub(crate) fn chance(execution: &Execution, place: &Place) -> Option<Moment>
+pub(crate) fn chance(probe: &Probe, place: &Place) -> Option<Moment>
     ensures some { IfSome result
-        (λ m. MayStep (setup_of execution.now) (world_of execution.now) place.now
-        × (due (world_of execution.now) place.now ≡ m)) }
+        (λ m. MayStep (setup_of probe.now) (world_of probe.now) place.now
+        × (due (world_of probe.now) place.now ≡ m)) }
     ensures none { is_none result ≡ true
-        → MayStep (setup_of execution.now) (world_of execution.now) place.now → ⊥ }
+        → MayStep (setup_of probe.now) (world_of probe.now) place.now → ⊥ }
 {
-    if execution.view(place).is_none() {
+    if probe.view(place).is_none() {
         return None;
     }
-    let moment = due(execution, place);
-    if execution.refusal(place, moment).is_some() {
+    let moment = due(probe, place);
+    if probe.refusal(place, moment).is_some() {
         return None;
     }
     Some(moment)
@@ -82,15 +82,18 @@ fn earlier(best: Option<Moment>, moment: Moment) -> Moment
 }
 
 /// The earliest moment at which one of these branches may step; none where none may.
-pub(crate) fn soonest(execution: &Execution, turns: &[Earliest]) -> Option<Moment>
-    ensures open { IfSome result (IsOpenAt (setup_of execution.now) (world_of execution.now)) }
+pub(crate) fn soonest(probe: &Probe, turns: &[Earliest]) -> Option<Moment>
+    ensures open { IfSome result (IsOpenAt (setup_of probe.now) (world_of probe.now)) }
     ensures least { turns.now
-        ≡ earliest (world_of execution.now).last (world_of execution.now).branches
-        → IfSome result (IsLeast (setup_of execution.now) (world_of execution.now)) }
+        ≡ earliest (world_of probe.now).last (world_of probe.now).branches
+        → IfSome result (IsLeast (setup_of probe.now) (world_of probe.now)) }
+    ensures none { turns.now
+        ≡ earliest (world_of probe.now).last (world_of probe.now).branches
+        → is_none result ≡ true → NoneMayStep (setup_of probe.now) (world_of probe.now) }
 {
     let mut least = None;
     for turn in turns {
-        if let Some(moment) = chance(execution, &turn.place) {
+        if let Some(moment) = chance(probe, &turn.place) {
             least = Some(earlier(least, moment));
         }
     }
@@ -105,20 +108,20 @@ fn is_by(moment: Moment, other: Moment) -> bool
 }
 
 /// Whether a branch may step at a place, and none may earlier. The error is that memory ran out.
-fn is_prompt(execution: &Execution, alloc: Global, place: &Place) -> Result<bool, AllocError>
+fn is_prompt(probe: &Probe, alloc: Global, place: &Place) -> Result<bool, AllocError>
     ensures { IfOk result (λ b. b ≡ true
-        → IsPrompt (setup_of execution.now) (world_of execution.now) place.now) }
+        → IsPrompt (setup_of probe.now) (world_of probe.now) place.now) }
 {
-    if execution.world().is_full() {
+    if probe.world().is_full() {
         return Ok(false);
     }
-    let Some(moment) = chance(execution, place) else {
+    let Some(moment) = chance(probe, place) else {
         return Ok(false);
     };
-    let Some(turns) = turns_in(alloc, execution.world())? else {
+    let Some(turns) = turns_in(alloc, probe.world())? else {
         return Ok(false);
     };
-    match soonest(execution, &turns) {
+    match soonest(probe, &turns) {
         Some(least) => Ok(is_by(moment, least)),
         None => Ok(false),
     }
@@ -126,46 +129,46 @@ fn is_prompt(execution: &Execution, alloc: Global, place: &Place) -> Result<bool
 
 /// Whether the step of the branch at a place is one that is tried. The error is that memory ran out.
 pub(crate) fn is_tried(
-    execution: &Execution,
+    probe: &Probe,
     alloc: Global,
     orders: Orders,
     place: &Place,
 ) -> Result<bool, AllocError>
     ensures { IfOk result (λ b. b ≡ true
-        → IsTried orders (setup_of execution.now) (world_of execution.now) place.now) }
+        → IsTried orders (setup_of probe.now) (world_of probe.now) place.now) }
 {
     match orders {
         Orders::Every => Ok(true),
-        Orders::Prompt => is_prompt(execution, alloc, place),
+        Orders::Prompt => is_prompt(probe, alloc, place),
     }
 }
 
 /// Takes these steps from the beginning, if this is true: each is one that is tried, at the earliest moment. The error is that memory ran
 /// out.
 pub(crate) fn replay(
-    execution: &mut Execution,
+    probe: &mut Probe,
     alloc: Global,
     orders: Orders,
     steps: &[StepAt],
 ) -> Result<bool, AllocError>
-    ensures world { IfOk result (λ b. b ≡ true → world_of execution.new
-        ≡ world_after (setup_of execution.old) (opening (setup_of execution.old)) steps.now) }
+    ensures world { IfOk result (λ b. b ≡ true → world_of probe.new
+        ≡ world_after (setup_of probe.old) (opening (setup_of probe.old)) steps.now) }
     ensures timed { IfOk result (λ b. b ≡ true → steps.now
-        ≡ timed (setup_of execution.old) (opening (setup_of execution.old)) (places_of steps.now)) }
-    ensures tried { IfOk result (λ b. b ≡ true → AreTried orders (setup_of execution.old)
-        (opening (setup_of execution.old)) (places_of steps.now)) }
-    ensures setup { setup_of execution.new ≡ setup_of execution.old }
+        ≡ timed (setup_of probe.old) (opening (setup_of probe.old)) (places_of steps.now)) }
+    ensures tried { IfOk result (λ b. b ≡ true → AreTried orders (setup_of probe.old)
+        (opening (setup_of probe.old)) (places_of steps.now)) }
+    ensures setup { setup_of probe.new ≡ setup_of probe.old }
 {
-    let world = execution.opening()?;
-    execution.enter(world);
+    let world = probe.opening()?;
+    probe.enter(world);
     for at in steps {
-        if due(execution, &at.place).millis() != at.moment.millis() {
+        if due(probe, &at.place).millis() != at.moment.millis() {
             return Ok(false);
         }
-        if !is_tried(execution, alloc, orders, &at.place)? {
+        if !is_tried(probe, alloc, orders, &at.place)? {
             return Ok(false);
         }
-        let _reply = execution.reply(at)?;
+        let _reply = probe.reply(at)?;
     }
     Ok(true)
 }

@@ -1,6 +1,6 @@
 // What is remarkable of a search beyond its outcomes.
 
-use asl_json::Name;
+use asl_json_shared::Name;
 
 /// Answers of a mock file that are equal, one after another: to the Task of this name, from the low number to the high one.
 #[derive(Drop)]

@@ -3,19 +3,21 @@ ghost use Rattle.std.specs.Prelude.{◌≡◌, ◌++◌, ◌||◌, OnOk, string_
 ghost use Rattle.std.specs.Fmt.{decimal};
 ghost use Rattle.std.specs.List.{list_any};
 ghost use Rattle.asl_json.specs.View.{data_of};
-ghost use Rattle.asl_json.specs.Compact.{compact};
-ghost use Rattle.asl_step_rows.specs.Rows.{error_output};
+ghost use Rattle.asl_json_data.specs.Compact.{compact};
+ghost use Rattle.asl_step.specs.Rows.{error_output};
 ghost use Rattle.asl_explore.specs.Telling.{are_remarks};
 ghost use Rattle.asl_explore.specs.Reports.{ended_text, place_word, order_line, loop_line, endless_text, outcome_line, found_text, late_line, founds_text, number_line, note_text, gap, prompt_note, is_prompt, time_limit_note, clock_words, clock_note, notes_text, tried_text, stuck_text, cut_text, scope_text, complete_text, searched_text, explored_text, are_good, is_good};
 
 use crate::endless::Lasso;
 use crate::found::{Explored, Found};
 use crate::orders::Orders;
-use crate::telling::{are_remarks, put_calls, put_number, put_remarks};
-use asl_json::{Json, Pointer, put, put_quoted};
-use asl_run_setup::StepAt;
-use asl_run_world::{Outcome, is_success};
-use asl_step_rows::{ErrorOut, error_output};
+use crate::telling::{are_remarks, put_calls, put_remarks};
+use asl_json::Json;
+use asl_json_write::{Pointer, put, put_quoted};
+use asl_run_input::StepAt;
+use asl_run_state::{Outcome, is_success};
+use asl_step::{ErrorOut, error_output};
+use asl_text::put_decimal;
 use std::alloc::{AllocError, Global};
 
 /// Appends a word, a number and a line feed. The error is that memory ran out.
@@ -24,7 +26,7 @@ fn put_number_line(out: &mut String, word: &str, number: u64) -> Result<(), Allo
         ≡ string_bytes out.old ++ number_line word.now number) }
 {
     out.push_str(word)?;
-    put_number(out, number)?;
+    put_decimal(out, number)?;
     out.push('\n')
 }
 
@@ -120,7 +122,7 @@ fn put_outcome(
         ≡ string_bytes out.old ++ outcome_line number outcome.now) }
 {
     out.push_str("\noutcome ")?;
-    put_number(out, number)?;
+    put_decimal(out, number)?;
     out.push(' ')?;
     put_ended(alloc, out, outcome)?;
     out.push('\n')
@@ -175,7 +177,7 @@ fn put_tried(out: &mut String, depth: Option<usize>) -> Result<(), AllocError>
         None => out.push_str("search cut\n"),
         Some(depth) => {
             out.push_str("search cut after ")?;
-            put_number(out, depth as u64)?;
+            put_decimal(out, depth as u64)?;
             out.push_str(" steps\n")
         }
     }

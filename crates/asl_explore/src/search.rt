@@ -1,20 +1,19 @@
 // A search over the worlds that steps lead to.
 ghost use Rattle.std.specs.Prelude.{◌≡◌, ◌<◌, ◌≤◌, ◌⊎◌, ◌∷◌, [], true, false, is_none, length, get_or, slice_index_or, nat_eq, ◌+◌, is_some, None, IfOk, IfSome};
 ghost use Rattle.std.specs.List.{All, Contains, HoldsAt};
-ghost use Rattle.asl_run_world.specs.Bare.{bare, earliest};
-ghost use Rattle.asl_run_world.specs.World.{World, is_over};
-ghost use Rattle.asl_run_world.specs.declared.outcome.Outcome.TheVariants.{TimedOut};
-ghost use Rattle.asl_exec.specs.Steps.{deadline_of, opening, step};
-ghost use Rattle.asl_exec.specs.Views.{setup_of};
-ghost use Rattle.asl_explore.specs.Clock.{clock_place};
-ghost use Rattle.asl_explore.specs.Endless.{CanEnd, IsLasso, NoneIsEndless};
+ghost use Rattle.asl_run_state.specs.Bare.{bare, earliest};
+ghost use Rattle.asl_run_state.specs.World.{World, is_over};
+ghost use Rattle.asl_exec.specs.Steps.{deadline_of, opening, refusal_in, step};
+ghost use Rattle.asl_exec.specs.Probes.{setup_of};
+ghost use Rattle.asl_explore.specs.Finding.{IsFound};
+ghost use Rattle.asl_explore.specs.Endless.{CanEnd, EachEndsOrFills, NoneIsEndless};
 ghost use Rattle.asl_explore.specs.private.Reaching.{IsLeast};
-ghost use Rattle.asl_explore.specs.Orders.{IsWhole, IsWholeAtAnyMoment, IsWholeTo};
-ghost use Rattle.asl_explore.specs.TimeOver.{IsWitnessed};
+ghost use Rattle.asl_explore.specs.Orders.{IsWhole, IsWholeTo};
+ghost use Rattle.asl_explore.specs.declared.orders.Orders.{Orders};
 ghost use Rattle.asl_explore.specs.declared.orders.Orders.TheVariants.{Every};
 ghost use Rattle.asl_explore.specs.Settled.{AreSettledFrom};
-ghost use Rattle.asl_explore.specs.Calls.{IsStated, AllAreExpanded, AreCounted};
-ghost use Rattle.asl_explore.specs.Searches.{IsMet, IsExpanded, IsTakenOn, IsClosed, IsBound, AreAllLate, AreLate, worlds_of, outcomes_of, Shows, AreDistinct, IsLater, is_beyond};
+ghost use Rattle.asl_explore.specs.Calls.{AllAreExpanded, AreCounted, AreMetSoFar};
+ghost use Rattle.asl_explore.specs.Searches.{IsMet, IsExpanded, IsReached, IsTakenOn, IsClosed, IsBound, worlds_of, outcomes_of, Shows, AreDistinct, IsLater, is_beyond};
 
 use crate::clock::clock_in;
 use crate::counting::{Counted, count_calls};
@@ -25,40 +24,41 @@ use crate::met::Met;
 use crate::order::soonest;
 use crate::orders::Orders;
 use crate::quiet::quietly;
-use crate::seeing::{no_remarks, remarks_on};
+use crate::remarking::{no_remarks, remarks_on};
 use crate::settling::{Settling, settling_in};
+use crate::sights::sights_in;
 use crate::states::states_in;
 use crate::time_over::{deadline_of, put_time_over};
 use crate::visiting::{enter, turns_in, visit};
 use crate::watch::Watch;
-use asl_exec::Execution;
+use asl_exec::Probe;
 use asl_history::Place;
-use asl_run_frames::Earliest;
-use asl_run_setup::{Setup, StepAt};
-use asl_run_world::World;
+use asl_run_branches::Earliest;
+use asl_run_input::{Setup, StepAt};
+use asl_run_state::World;
 use asl_time::Moment;
 use std::alloc::{AllocError, Global};
 
 /// The moment behind which no branch of a world steps that is tried; none where each is. The error is that memory ran out.
 pub(crate) fn bound_in(
-    execution: &mut Execution,
+    probe: &mut Probe,
     alloc: Global,
     orders: Orders,
     world: &World,
     turns: &[Earliest],
 ) -> Result<Option<Moment>, AllocError>
-    ensures bound { IfOk result (IsBound orders (setup_of execution.old) (bare world.now)) }
+    ensures bound { IfOk result (IsBound orders (setup_of probe.old) (bare world.now)) }
     ensures least { turns.now ≡ earliest world.now.last world.now.branches
-        → IfOk result (λ o. IfSome o (IsLeast (setup_of execution.old) (bare world.now))) }
-    ensures setup { setup_of execution.new ≡ setup_of execution.old }
+        → IfOk result (λ o. IfSome o (IsLeast (setup_of probe.old) (bare world.now))) }
+    ensures setup { setup_of probe.new ≡ setup_of probe.old }
 {
     match orders {
         Orders::Every => Ok(None),
         Orders::Prompt => {
-            if !enter(execution, alloc, world)? {
+            if !enter(probe, alloc, world)? {
                 return Ok(None);
             }
-            Ok(soonest(execution, turns))
+            Ok(soonest(probe, turns))
         }
     }
 }
@@ -73,10 +73,20 @@ pub(crate) fn is_beyond(bound: &Option<Moment>, moment: Moment) -> bool
     }
 }
 
+/// Whether it is known which steps are tried.
+pub(crate) fn is_bounded(orders: Orders, bound: &Option<Moment>) -> bool
+    ensures { result ≡ true → (orders ≡ Every) ⊎ (is_some bound.now ≡ true) }
+{
+    match orders {
+        Orders::Every => true,
+        Orders::Prompt => bound.is_some(),
+    }
+}
+
 /// Takes a step of a branch in a world that was met, unless it is later than is tried: the world that it leads to is met then, if this is
 /// true. The error is that memory ran out.
 fn take(
-    execution: &mut Execution,
+    probe: &mut Probe,
     alloc: Global,
     orders: Orders,
     met: &mut Met,
@@ -90,15 +100,23 @@ fn take(
         → is_over (slice_index_or (worlds_of met.old.nodes.items) number d).outcome ≡ false }
     ensures met { IfOk result (λ b. b ≡ true → is_beyond bound.now turn.now.moment ≡ false → (d : World)
         → IsMet (worlds_of met.new.nodes.items) (outcomes_of found.new.items)
-        (step (setup_of execution.old) (slice_index_or (worlds_of met.old.nodes.items) number d)
+        (step (setup_of probe.old) (slice_index_or (worlds_of met.old.nodes.items) number d)
         turn.now.place turn.now.moment)) }
+    ensures reached { (o : Orders) → IfOk result (λ b.
+        All (IsReached o (setup_of probe.old)) (worlds_of met.old.nodes.items)
+        → (is_beyond bound.now turn.now.moment ≡ false → (d : World)
+        → refusal_in (setup_of probe.old)
+        (slice_index_or (worlds_of met.old.nodes.items) number d) turn.now.place turn.now.moment ≡ None
+        → IsReached o (setup_of probe.old) (bare (step (setup_of probe.old)
+        (slice_index_or (worlds_of met.old.nodes.items) number d) turn.now.place turn.now.moment)))
+        → All (IsReached o (setup_of probe.old)) (worlds_of met.new.nodes.items)) }
     ensures later { IsLater (worlds_of met.old.nodes.items) (outcomes_of found.old.items)
         (worlds_of met.new.nodes.items) (outcomes_of found.new.items) }
-    ensures shown { All (Shows orders (setup_of execution.old)) found.old.items
-        → All (Shows orders (setup_of execution.old)) found.new.items }
+    ensures shown { All (Shows orders (setup_of probe.old)) found.old.items
+        → All (Shows orders (setup_of probe.old)) found.new.items }
     ensures once { AreDistinct (outcomes_of found.old.items)
         → AreDistinct (outcomes_of found.new.items) }
-    ensures setup { setup_of execution.new ≡ setup_of execution.old }
+    ensures setup { setup_of probe.new ≡ setup_of probe.old }
 {
     if is_beyond(bound, turn.moment) {
         return Ok(true);
@@ -107,13 +125,13 @@ fn take(
         place: turn.place.try_clone()?,
         moment: turn.moment,
     };
-    visit(execution, alloc, orders, met, found, number, at)
+    visit(probe, alloc, orders, met, found, number, at)
 }
 
 /// Takes a step of each branch in a world that was met, each at the earliest moment: whichever branch steps of those that are tried, the
 /// world that it leads to is met then, if this is true. The error is that memory ran out.
 fn expand(
-    execution: &mut Execution,
+    probe: &mut Probe,
     alloc: Global,
     orders: Orders,
     met: &mut Met,
@@ -122,25 +140,31 @@ fn expand(
 ) -> Result<bool, AllocError>
     requires { number < length met.old.nodes.items }
     ensures expanded { IfOk result (λ b. b ≡ true → HoldsAt
-        (IsExpanded orders (setup_of execution.old) (worlds_of met.new.nodes.items)
+        (IsExpanded orders (setup_of probe.old) (worlds_of met.new.nodes.items)
         (outcomes_of found.new.items))
         (worlds_of met.new.nodes.items) number) }
+    ensures reached { IfOk result (λ b.
+        All (IsReached orders (setup_of probe.old)) (worlds_of met.old.nodes.items)
+        → All (IsReached orders (setup_of probe.old)) (worlds_of met.new.nodes.items)) }
     ensures later { IsLater (worlds_of met.old.nodes.items) (outcomes_of found.old.items)
         (worlds_of met.new.nodes.items) (outcomes_of found.new.items) }
-    ensures shown { All (Shows orders (setup_of execution.old)) found.old.items
-        → All (Shows orders (setup_of execution.old)) found.new.items }
+    ensures shown { All (Shows orders (setup_of probe.old)) found.old.items
+        → All (Shows orders (setup_of probe.old)) found.new.items }
     ensures once { AreDistinct (outcomes_of found.old.items)
         → AreDistinct (outcomes_of found.new.items) }
-    ensures setup { setup_of execution.new ≡ setup_of execution.old }
+    ensures setup { setup_of probe.new ≡ setup_of probe.old }
 {
     let Some(turns) = turns_in(alloc, &met.nodes[number].world)? else {
         return Ok(false);
     };
-    let bound = bound_in(execution, alloc, orders, &met.nodes[number].world, &turns)?;
+    let bound = bound_in(probe, alloc, orders, &met.nodes[number].world, &turns)?;
+    if !is_bounded(orders, &bound) {
+        return Ok(false);
+    }
     let mut whole = true;
     for index in 0..turns.len() {
         let turn = &turns[index];
-        let is_met = take(execution, alloc, orders, met, found, number, turn, &bound)?;
+        let is_met = take(probe, alloc, orders, met, found, number, turn, &bound)?;
         whole = whole && is_met;
     }
     Ok(whole)
@@ -149,7 +173,7 @@ fn expand(
 /// Of a world that was met takes one quiet step alone, where no branch is to be late and there is one; else a step of each branch: enough of
 /// them were taken, if this is true. The error is that memory ran out.
 fn take_on(
-    execution: &mut Execution,
+    probe: &mut Probe,
     alloc: Global,
     orders: Orders,
     settling: &Settling,
@@ -158,32 +182,35 @@ fn take_on(
     number: usize,
 ) -> Result<bool, AllocError>
     requires there { number < length met.old.nodes.items }
-    requires settled { AreSettledFrom (setup_of execution.old) settling.now.from.items }
+    requires settled { AreSettledFrom (setup_of probe.old) settling.now.from.items }
     ensures taken { IfOk result (λ b. b ≡ true → (d : World)
-        → IsTakenOn orders (setup_of execution.old) (worlds_of met.new.nodes.items)
+        → IsTakenOn orders (setup_of probe.old) (worlds_of met.new.nodes.items)
         (outcomes_of found.new.items) number (get_or (worlds_of met.new.nodes.items) number d)) }
+    ensures reached { IfOk result (λ b.
+        All (IsReached orders (setup_of probe.old)) (worlds_of met.old.nodes.items)
+        → All (IsReached orders (setup_of probe.old)) (worlds_of met.new.nodes.items)) }
     ensures later { IsLater (worlds_of met.old.nodes.items) (outcomes_of found.old.items)
         (worlds_of met.new.nodes.items) (outcomes_of found.new.items) }
-    ensures shown { All (Shows orders (setup_of execution.old)) found.old.items
-        → All (Shows orders (setup_of execution.old)) found.new.items }
+    ensures shown { All (Shows orders (setup_of probe.old)) found.old.items
+        → All (Shows orders (setup_of probe.old)) found.new.items }
     ensures once { AreDistinct (outcomes_of found.old.items)
         → AreDistinct (outcomes_of found.new.items) }
-    ensures setup { setup_of execution.new ≡ setup_of execution.old }
+    ensures setup { setup_of probe.new ≡ setup_of probe.old }
 {
     match orders {
-        Orders::Every => expand(execution, alloc, orders, met, found, number),
+        Orders::Every => expand(probe, alloc, orders, met, found, number),
         Orders::Prompt => {
-            if quietly(execution, alloc, settling, met, number)? {
+            if quietly(probe, alloc, settling, met, number)? {
                 return Ok(true);
             }
-            expand(execution, alloc, orders, met, found, number)
+            expand(probe, alloc, orders, met, found, number)
         }
     }
 }
 
 /// The same, where a quiet step may be taken alone; else a step of each branch: each was taken, if this is true.
 fn go_on(
-    execution: &mut Execution,
+    probe: &mut Probe,
     alloc: Global,
     orders: Orders,
     alone: bool,
@@ -193,41 +220,44 @@ fn go_on(
     number: usize,
 ) -> Result<bool, AllocError>
     requires there { number < length met.old.nodes.items }
-    requires settled { AreSettledFrom (setup_of execution.old) settling.now.from.items }
+    requires settled { AreSettledFrom (setup_of probe.old) settling.now.from.items }
     ensures taken { IfOk result (λ b. b ≡ true → (d : World)
-        → IsTakenOn orders (setup_of execution.old) (worlds_of met.new.nodes.items)
+        → IsTakenOn orders (setup_of probe.old) (worlds_of met.new.nodes.items)
         (outcomes_of found.new.items) number (get_or (worlds_of met.new.nodes.items) number d)) }
+    ensures reached { IfOk result (λ b.
+        All (IsReached orders (setup_of probe.old)) (worlds_of met.old.nodes.items)
+        → All (IsReached orders (setup_of probe.old)) (worlds_of met.new.nodes.items)) }
     ensures expanded { alone ≡ false → IfOk result (λ b. b ≡ true → HoldsAt
-        (IsExpanded orders (setup_of execution.old) (worlds_of met.new.nodes.items)
+        (IsExpanded orders (setup_of probe.old) (worlds_of met.new.nodes.items)
         (outcomes_of found.new.items))
         (worlds_of met.new.nodes.items) number) }
     ensures later { IsLater (worlds_of met.old.nodes.items) (outcomes_of found.old.items)
         (worlds_of met.new.nodes.items) (outcomes_of found.new.items) }
-    ensures shown { All (Shows orders (setup_of execution.old)) found.old.items
-        → All (Shows orders (setup_of execution.old)) found.new.items }
+    ensures shown { All (Shows orders (setup_of probe.old)) found.old.items
+        → All (Shows orders (setup_of probe.old)) found.new.items }
     ensures once { AreDistinct (outcomes_of found.old.items)
         → AreDistinct (outcomes_of found.new.items) }
-    ensures setup { setup_of execution.new ≡ setup_of execution.old }
+    ensures setup { setup_of probe.new ≡ setup_of probe.old }
 {
     if alone {
-        return take_on(execution, alloc, orders, settling, met, found, number);
+        return take_on(probe, alloc, orders, settling, met, found, number);
     }
-    expand(execution, alloc, orders, met, found, number)
+    expand(probe, alloc, orders, met, found, number)
 }
 
 /// The worlds that a search begins with: that before the first step; none where it can't begin. The error is that memory ran out.
-fn beginning(alloc: Global, execution: &Execution) -> Result<Option<Met>, AllocError>
+fn beginning(alloc: Global, probe: &Probe) -> Result<Option<Met>, AllocError>
     ensures { IfOk result (λ o. IfSome o
-        (λ m. worlds_of m.nodes.items ≡ bare (opening (setup_of execution.now)) ∷ [])) }
+        (λ m. worlds_of m.nodes.items ≡ bare (opening (setup_of probe.now)) ∷ [])) }
 {
-    let Some(world) = execution.opening()?.bare_copy(alloc)? else {
+    let Some(world) = probe.opening()?.bare_copy(alloc)? else {
         return Ok(None);
     };
     let at = StepAt {
         place: Place::root(),
         moment: world.last(),
     };
-    let states = execution.setup().machine.len();
+    let states = probe.setup().machine.len();
     Ok(Some(Met::new(alloc, states, world, at)?))
 }
 
@@ -287,7 +317,7 @@ fn is_reduced(orders: Orders, alone: bool) -> bool
 /// of each branch is taken in each world. At most so many worlds are tried. None where the search can't begin. The error is that memory
 /// ran out.
 pub(crate) fn search<W: Watch>(
-    execution: &mut Execution,
+    probe: &mut Probe,
     alloc: Global,
     orders: Orders,
     alone: bool,
@@ -295,42 +325,47 @@ pub(crate) fn search<W: Watch>(
     watch: &W,
 ) -> Result<Option<Searched>, AllocError>
     ensures shown { IfOk result (λ o. IfSome o
-        (λ x. All (Shows orders (setup_of execution.old)) x.found.items)) }
+        (λ x. All (Shows orders (setup_of probe.old)) x.found.items)) }
     ensures once { IfOk result (λ o. IfSome o (λ x. AreDistinct (outcomes_of x.found.items))) }
+    ensures reached { IfOk result (λ o. IfSome o
+        (λ x. All (IsReached orders (setup_of probe.old)) (worlds_of x.met.nodes.items))) }
     ensures whole { IfOk result (λ o. IfSome o (λ x. x.complete ≡ true
-        → IsWhole orders (setup_of execution.old) (outcomes_of x.found.items))) }
+        → IsWhole orders (setup_of probe.old) (outcomes_of x.found.items))) }
     ensures closed { IfOk result (λ o. IfSome o (λ x. x.complete ≡ true
-        → IsClosed orders (setup_of execution.old) (worlds_of x.met.nodes.items)
+        → IsClosed orders (setup_of probe.old) (worlds_of x.met.nodes.items)
         (outcomes_of x.found.items))) }
     ensures expanded { alone ≡ false → IfOk result (λ o. IfSome o (λ x. x.complete ≡ true
-        → AllAreExpanded orders (setup_of execution.old) (worlds_of x.met.nodes.items)
+        → AllAreExpanded orders (setup_of probe.old) (worlds_of x.met.nodes.items)
         (outcomes_of x.found.items))) }
     ensures plain { alone ≡ false → IfOk result (λ o. IfSome o (λ x. x.reduced ≡ false)) }
     ensures reduced { IfOk result (λ o. IfSome o (λ x. x.reduced ≡ false
         → (alone ≡ false) ⊎ (orders ≡ Every))) }
     ensures ending { IfOk result (λ o. IfSome o (λ x. x.reduced ≡ false → x.complete ≡ true
-        → All (CanEnd x.tried (setup_of execution.old)) (worlds_of x.met.nodes.items)
-        → NoneIsEndless orders (setup_of execution.old))) }
+        → All (CanEnd x.tried (setup_of probe.old)) (worlds_of x.met.nodes.items)
+        → NoneIsEndless orders (setup_of probe.old))) }
+    ensures filling { IfOk result (λ o. IfSome o (λ x. x.complete ≡ true
+        → All (CanEnd x.tried (setup_of probe.old)) (worlds_of x.met.nodes.items)
+        → EachEndsOrFills orders (setup_of probe.old))) }
     ensures depth { IfOk result (λ o. IfSome o (λ x. IfSome x.depth
         (λ d. (orders ≡ Every)
-        × IsWholeTo d orders (setup_of execution.old) (outcomes_of x.found.items)))) }
+        × IsWholeTo d orders (setup_of probe.old) (outcomes_of x.found.items)))) }
     ensures cut { IfOk result (λ o. IfSome o (λ x. x.complete ≡ false → x.whole ≡ true
         → limit ≤ length x.met.nodes.items)) }
     ensures tried { IfOk result (λ o. IfSome o (λ x. (x.tried ≡ orders) ⊎ (orders ≡ Every))) }
-    ensures setup { setup_of execution.new ≡ setup_of execution.old }
+    ensures setup { setup_of probe.new ≡ setup_of probe.old }
 {
     let mut found = Vec::new(alloc);
-    let Some(mut met) = beginning(alloc, execution)? else {
+    let Some(mut met) = beginning(alloc, probe)? else {
         return Ok(None);
     };
-    let settling = settling_in(alloc, execution, alone)?;
+    let settling = settling_in(alloc, probe, alone)?;
     let limit = limit as usize;
     let mut number = 0;
     let mut whole = true;
     let mut level = Level { depth: 0, end: 1 };
     while number < met.nodes.len() && number < limit {
         let is_enough = go_on(
-            execution, alloc, orders, alone, &settling, &mut met, &mut found, number,
+            probe, alloc, orders, alone, &settling, &mut met, &mut found, number,
         )?;
         whole = whole && is_enough;
         number += 1;
@@ -350,12 +385,12 @@ pub(crate) fn search<W: Watch>(
 }
 
 /// Whether no time limit ends an execution that is tried in every order.
-fn is_unlimited(execution: &Execution, orders: Orders) -> bool
+fn is_unlimited(probe: &Probe, orders: Orders) -> bool
     ensures every { result ≡ true → orders ≡ Every }
-    ensures limit { result ≡ true → deadline_of (setup_of execution.now) ≡ None }
+    ensures limit { result ≡ true → deadline_of (setup_of probe.now) ≡ None }
 {
     match orders {
-        Orders::Every => execution.setup().machine.timeout().is_none(),
+        Orders::Every => probe.setup().machine.timeout().is_none(),
         Orders::Prompt => false,
     }
 }
@@ -363,43 +398,48 @@ fn is_unlimited(execution: &Execution, orders: Orders) -> bool
 /// The same as `search`. Where no branch ever waits, every order is one in which none is late, of which fewer have to be tried. The error
 /// is that memory ran out.
 fn try_orders<W: Watch>(
-    execution: &mut Execution,
+    probe: &mut Probe,
     alloc: Global,
     orders: Orders,
     limit: u32,
     watch: &W,
 ) -> Result<Option<Searched>, AllocError>
     ensures shown { IfOk result (λ o. IfSome o
-        (λ x. All (Shows orders (setup_of execution.old)) x.found.items)) }
+        (λ x. All (Shows orders (setup_of probe.old)) x.found.items)) }
     ensures once { IfOk result (λ o. IfSome o (λ x. AreDistinct (outcomes_of x.found.items))) }
+    ensures reached { IfOk result (λ o. IfSome o
+        (λ x. All (IsReached orders (setup_of probe.old)) (worlds_of x.met.nodes.items))) }
     ensures whole { IfOk result (λ o. IfSome o (λ x. x.complete ≡ true
-        → IsWhole orders (setup_of execution.old) (outcomes_of x.found.items))) }
+        → IsWhole orders (setup_of probe.old) (outcomes_of x.found.items))) }
     ensures ending { IfOk result (λ o. IfSome o (λ x. x.reduced ≡ false → x.complete ≡ true
-        → All (CanEnd x.tried (setup_of execution.old)) (worlds_of x.met.nodes.items)
-        → NoneIsEndless orders (setup_of execution.old))) }
+        → All (CanEnd x.tried (setup_of probe.old)) (worlds_of x.met.nodes.items)
+        → NoneIsEndless orders (setup_of probe.old))) }
+    ensures filling { IfOk result (λ o. IfSome o (λ x. x.complete ≡ true
+        → All (CanEnd x.tried (setup_of probe.old)) (worlds_of x.met.nodes.items)
+        → EachEndsOrFills orders (setup_of probe.old))) }
     ensures depth { IfOk result (λ o. IfSome o (λ x. IfSome x.depth
         (λ d. (orders ≡ Every)
-        × IsWholeTo d orders (setup_of execution.old) (outcomes_of x.found.items)))) }
+        × IsWholeTo d orders (setup_of probe.old) (outcomes_of x.found.items)))) }
     ensures cut { IfOk result (λ o. IfSome o (λ x. x.complete ≡ false → x.whole ≡ true
         → limit ≤ length x.met.nodes.items)) }
     ensures tried { IfOk result (λ o. IfSome o (λ x. (x.tried ≡ orders) ⊎ (orders ≡ Every))) }
-    ensures setup { setup_of execution.new ≡ setup_of execution.old }
+    ensures setup { setup_of probe.new ≡ setup_of probe.old }
 {
-    if !is_unlimited(execution, orders) {
-        return search(execution, alloc, orders, true, limit, watch);
+    if !is_unlimited(probe, orders) {
+        return search(probe, alloc, orders, true, limit, watch);
     }
-    let Some(prompt) = search(execution, alloc, Orders::Prompt, true, limit, watch)? else {
+    let Some(prompt) = search(probe, alloc, Orders::Prompt, true, limit, watch)? else {
         return Ok(None);
     };
     if prompt.complete && !any_waits(alloc, &prompt.met.nodes)? {
         return Ok(Some(prompt));
     }
-    search(execution, alloc, orders, true, limit, watch)
+    search(probe, alloc, orders, true, limit, watch)
 }
 
 /// The same. Where calls are to be counted, a step of each branch is taken in each world.
 fn search_for<W: Watch>(
-    execution: &mut Execution,
+    probe: &mut Probe,
     alloc: Global,
     orders: Orders,
     calls: bool,
@@ -407,46 +447,55 @@ fn search_for<W: Watch>(
     watch: &W,
 ) -> Result<Option<Searched>, AllocError>
     ensures shown { IfOk result (λ o. IfSome o
-        (λ x. All (Shows orders (setup_of execution.old)) x.found.items)) }
+        (λ x. All (Shows orders (setup_of probe.old)) x.found.items)) }
     ensures once { IfOk result (λ o. IfSome o (λ x. AreDistinct (outcomes_of x.found.items))) }
+    ensures reached { IfOk result (λ o. IfSome o
+        (λ x. All (IsReached orders (setup_of probe.old)) (worlds_of x.met.nodes.items))) }
     ensures whole { IfOk result (λ o. IfSome o (λ x. x.complete ≡ true
-        → IsWhole orders (setup_of execution.old) (outcomes_of x.found.items))) }
+        → IsWhole orders (setup_of probe.old) (outcomes_of x.found.items))) }
     ensures expanded { calls ≡ true → IfOk result (λ o. IfSome o (λ x. x.complete ≡ true
-        → AllAreExpanded orders (setup_of execution.old) (worlds_of x.met.nodes.items)
+        → AllAreExpanded orders (setup_of probe.old) (worlds_of x.met.nodes.items)
         (outcomes_of x.found.items))) }
     ensures plain { calls ≡ true → IfOk result (λ o. IfSome o (λ x. x.reduced ≡ false)) }
     ensures ending { IfOk result (λ o. IfSome o (λ x. x.reduced ≡ false → x.complete ≡ true
-        → All (CanEnd x.tried (setup_of execution.old)) (worlds_of x.met.nodes.items)
-        → NoneIsEndless orders (setup_of execution.old))) }
+        → All (CanEnd x.tried (setup_of probe.old)) (worlds_of x.met.nodes.items)
+        → NoneIsEndless orders (setup_of probe.old))) }
+    ensures filling { IfOk result (λ o. IfSome o (λ x. x.complete ≡ true
+        → All (CanEnd x.tried (setup_of probe.old)) (worlds_of x.met.nodes.items)
+        → EachEndsOrFills orders (setup_of probe.old))) }
     ensures depth { IfOk result (λ o. IfSome o (λ x. IfSome x.depth
         (λ d. (orders ≡ Every)
-        × IsWholeTo d orders (setup_of execution.old) (outcomes_of x.found.items)))) }
+        × IsWholeTo d orders (setup_of probe.old) (outcomes_of x.found.items)))) }
     ensures cut { IfOk result (λ o. IfSome o (λ x. x.complete ≡ false → x.whole ≡ true
         → limit ≤ length x.met.nodes.items)) }
     ensures tried { IfOk result (λ o. IfSome o (λ x. (x.tried ≡ orders) ⊎ (orders ≡ Every))) }
-    ensures setup { setup_of execution.new ≡ setup_of execution.old }
+    ensures setup { setup_of probe.new ≡ setup_of probe.old }
 {
     if calls {
-        return search(execution, alloc, orders, false, limit, watch);
+        return search(probe, alloc, orders, false, limit, watch);
     }
-    try_orders(execution, alloc, orders, limit, watch)
+    try_orders(probe, alloc, orders, limit, watch)
 }
 
 /// How often each state is invoked in the orders that end in each outcome of a search, if that is wanted. The error is that memory ran
 /// out.
 fn calls_in(
-    execution: &mut Execution,
+    probe: &mut Probe,
     alloc: Global,
     orders: Orders,
     searched: &Searched,
     wanted: bool,
 ) -> Result<Counted, AllocError>
     ensures counted { IfOk result (λ c. wanted ≡ true → c.whole ≡ true
-        → AllAreExpanded orders (setup_of execution.old) (worlds_of searched.now.met.nodes.items)
+        → AllAreExpanded orders (setup_of probe.old) (worlds_of searched.now.met.nodes.items)
         (outcomes_of searched.now.found.items)
-        → AreCounted orders (setup_of execution.old) (outcomes_of searched.now.found.items)
+        → AreCounted orders (setup_of probe.old) (outcomes_of searched.now.found.items)
         c.calls.items) }
-    ensures setup { setup_of execution.new ≡ setup_of execution.old }
+    ensures met { IfOk result (λ c. wanted ≡ true
+        → All (IsReached orders (setup_of probe.old)) (worlds_of searched.now.met.nodes.items)
+        → AreMetSoFar orders (setup_of probe.old) (outcomes_of searched.now.found.items)
+        c.calls.items) }
+    ensures setup { setup_of probe.new ≡ setup_of probe.old }
 {
     if !wanted {
         return Ok(Counted {
@@ -454,9 +503,9 @@ fn calls_in(
             whole: true,
         });
     }
-    let states = execution.setup().machine.len();
+    let states = probe.setup().machine.len();
     count_calls(
-        execution,
+        probe,
         alloc,
         orders,
         &searched.met.nodes,
@@ -476,36 +525,13 @@ pub fn explore<W: Watch>(
     limit: u32,
     watch: &W,
 ) -> Result<Explored, AllocError>
-    ensures shown { IfOk result (λ x. All (IsWitnessed orders setup) x.found.items) }
-    ensures once { IfOk result (λ x. AreDistinct (outcomes_of x.found.items)) }
-    ensures whole { IfOk result (λ x. x.complete ≡ true
-        → IsWhole orders setup (outcomes_of x.found.items)) }
-    ensures any_moment { IfOk result (λ x. x.complete ≡ true → orders ≡ Every
-        → is_none x.clock ≡ true → IsWholeAtAnyMoment setup (outcomes_of x.found.items)) }
-    ensures time_over { IfOk result (λ x. x.complete ≡ true → orders ≡ Every → x.limited ≡ true
-        → Contains (outcomes_of x.found.items) TimedOut) }
-    ensures limited { IfOk result (λ x. x.limited ≡ is_some (deadline_of setup)) }
-    ensures clock { IfOk result (λ x. x.clock ≡ clock_place setup.machine) }
-    ensures depth { IfOk result (λ x. IfSome x.depth
-        (λ d. IsWholeTo d orders setup (outcomes_of x.found.items))) }
-    ensures cut { IfOk result (λ x. x.complete ≡ false → x.stuck ≡ false → limit ≤ x.worlds) }
-    ensures ends { IfOk result (λ x. x.reduced ≡ false → x.complete ≡ true
-        → is_none x.endless ≡ true → NoneIsEndless orders setup) }
-    ensures plain { IfOk result (λ x. calls ≡ true → x.complete ≡ true → x.reduced ≡ false) }
-    ensures lasso { IfOk result (λ x. IfSome x.endless (IsLasso orders setup)) }
-    ensures late { IfOk result (λ x. AreLate setup x.found.items x.late.items) }
-    ensures all_late { IfOk result (λ x. x.marked ≡ true
-        → AreAllLate setup x.found.items x.late.items) }
-    ensures calls { IfOk result (λ x. calls ≡ true → x.complete ≡ true
-        → AreCounted orders setup (outcomes_of x.found.items) x.calls.items) }
-    ensures states { IfOk result (λ x. All (IsStated setup.machine) x.states.items) }
-    ensures orders { IfOk result (λ x. x.orders ≡ orders) }
+    ensures { IfOk result (IsFound orders calls limit setup) }
 {
     let limited = deadline_of(&setup).is_some();
     let clock = clock_in(alloc, &setup.machine)?;
     let states = states_in(alloc, &setup.machine)?;
-    let mut execution = Execution::open(alloc, setup)?;
-    let Some(searched) = search_for(&mut execution, alloc, orders, calls, limit, watch)? else {
+    let mut probe = Probe::open(alloc, setup)?;
+    let Some(searched) = search_for(&mut probe, alloc, orders, calls, limit, watch)? else {
         return Ok(Explored {
             found: Vec::new(alloc),
             late: Vec::new(alloc),
@@ -515,6 +541,7 @@ pub fn explore<W: Watch>(
             orders,
             complete: false,
             stuck: true,
+            seen: false,
             worlds: 0,
             depth: None,
             states,
@@ -524,29 +551,29 @@ pub fn explore<W: Watch>(
             clock,
         });
     };
-    let counted = calls_in(&mut execution, alloc, orders, &searched, calls)?;
+    let counted = calls_in(&mut probe, alloc, orders, &searched, calls)?;
     let endless = endless_in(
-        &mut execution,
+        &mut probe,
         alloc,
         searched.tried,
         &searched.met,
         searched.complete,
     )?;
     let mut found = searched.found;
-    let is_over = put_time_over(&mut execution, alloc, orders, &mut found)?;
-    let late = late_among(&mut execution, alloc, &found, limit)?;
-    let others = are_all(counted.whole, endless.whole, is_over);
+    let is_over = put_time_over(&mut probe, alloc, orders, &mut found)?;
+    let sights = sights_in(&mut probe, alloc, orders, &searched.met.nodes)?;
+    let others = are_all(counted.whole, endless.whole, is_over, sights.whole);
     let complete = are_both(searched.complete, others);
     let stuck = is_stuck(searched.whole, others);
     let worlds = searched.met.nodes.len();
     let remarks = remarks_on(
-        &mut execution,
         alloc,
-        orders,
-        &searched.met.nodes,
+        &probe.setup().case,
         &states,
+        &sights.sights,
         complete,
     )?;
+    let late = late_among(&mut probe, alloc, &found, limit)?;
     Ok(Explored {
         found,
         late: late.numbers,
@@ -556,6 +583,7 @@ pub fn explore<W: Watch>(
         orders,
         complete,
         stuck,
+        seen: sights.whole,
         worlds,
         depth: searched.depth,
         states,
@@ -581,11 +609,12 @@ fn is_stuck(one: bool, other: bool) -> bool
     !(one && other)
 }
 
-/// Whether all three are so.
-fn are_all(one: bool, other: bool, third: bool) -> bool
-    ensures { result ≡ true → (one ≡ true) × ((other ≡ true) × (third ≡ true)) }
+/// Whether all four are so.
+fn are_all(one: bool, other: bool, third: bool, fourth: bool) -> bool
+    ensures { result ≡ true
+        → (one ≡ true) × ((other ≡ true) × ((third ≡ true) × (fourth ≡ true))) }
 {
-    one && other && third
+    one && other && third && fourth
 }
 
 /// Whether nothing was left out: so many worlds were tried, each wholly, of so many that were met.

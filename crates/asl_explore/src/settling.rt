@@ -1,16 +1,16 @@
 // Tasks that are settled: each invocation does the same once they were invoked so often.
 ghost use Rattle.std.specs.Prelude.{◌≡◌, ℕ, List, Some, true, IfOk, IfSome};
 ghost use Rattle.asl_def.specs.Machines.{state_number};
-ghost use Rattle.asl_run_setup.specs.declared.setup.Setup.{Setup};
-ghost use Rattle.asl_exec.specs.Views.{setup_of};
+ghost use Rattle.asl_run_input.specs.declared.setup.Setup.{Setup};
+ghost use Rattle.asl_exec.specs.Probes.{setup_of};
 ghost use Rattle.asl_explore.specs.Settled.{AreSettledFrom, IsSettled, IsSettledAt};
 
 use crate::answers::settled_from;
 use crate::states::{Stated, states_in};
 use asl_def_states::State;
-use asl_exec::Execution;
-use asl_run_setup::Setup;
-use asl_step_unread::may_read;
+use asl_exec::Probe;
+use asl_run_input::Setup;
+use asl_step_reads::may_read;
 use std::alloc::{AllocError, Global};
 
 /// So many invocations leave room, below the last answer that an execution can ask for, for all that it can have.
@@ -91,13 +91,13 @@ fn put_settled(
 /// The Tasks of an execution that are settled some time, if quiet steps are to be taken alone. The error is that memory ran out.
 pub(crate) fn settling_in(
     alloc: Global,
-    execution: &Execution,
+    probe: &Probe,
     wanted: bool,
 ) -> Result<Settling, AllocError>
-    ensures { IfOk result (λ x. AreSettledFrom (setup_of execution.now) x.from.items) }
+    ensures { IfOk result (λ x. AreSettledFrom (setup_of probe.now) x.from.items) }
 {
     if !wanted {
         return Ok(Settling::none(alloc));
     }
-    Settling::of(alloc, execution.setup())
+    Settling::of(alloc, probe.setup())
 }

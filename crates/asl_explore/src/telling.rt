@@ -7,28 +7,21 @@ ghost use Rattle.asl_explore.specs.Telling.{span_text, call_line, call_text, sta
 use crate::calls::{Bounds, Calls};
 use crate::remarks::{Answers, Remarks};
 use crate::states::Stated;
-use asl_json::{Name, put_quoted};
-use itoa::Buffer;
+use asl_json_shared::Name;
+use asl_json_write::put_quoted;
+use asl_text::put_decimal;
 use std::alloc::AllocError;
-
-/// Appends a number in plain decimal. The error is that memory ran out.
-pub(crate) fn put_number(out: &mut String, number: u64) -> Result<(), AllocError>
-    ensures { OnOk result (string_bytes out.new ≡ string_bytes out.old ++ decimal number) }
-{
-    let mut buffer = Buffer::new();
-    out.push_str(buffer.format(number))
-}
 
 /// Appends the numbers from the low one to the high one: `4-6`, or `4` alone. The error is that memory ran out.
 fn put_span(out: &mut String, low: u32, high: u32) -> Result<(), AllocError>
     ensures { OnOk result (string_bytes out.new ≡ string_bytes out.old ++ span_text low high) }
 {
-    put_number(out, u64::from(low))?;
+    put_decimal(out, u64::from(low))?;
     if low == high {
         return Ok(());
     }
     out.push('-')?;
-    put_number(out, u64::from(high))
+    put_decimal(out, u64::from(high))
 }
 
 /// Appends a word, a name, a span of numbers and a line feed. The error is that memory ran out.

@@ -1,10 +1,10 @@
 // The outcome of an execution whose time is over since a step comes late.
 ghost use Rattle.std.specs.Prelude.{◌≡◌, List, Some, IsSome, is_none, true, IfOk, IfSome};
 ghost use Rattle.std.specs.List.{All, Contains};
-ghost use Rattle.asl_run_world.specs.World.{World};
-ghost use Rattle.asl_run_world.specs.declared.outcome.Outcome.TheVariants.{TimedOut};
+ghost use Rattle.asl_run_state.specs.World.{World};
+ghost use Rattle.asl_run_state.specs.declared.outcome.Outcome.TheVariants.{TimedOut};
 ghost use Rattle.asl_exec.specs.Steps.{deadline_of};
-ghost use Rattle.asl_exec.specs.Views.{setup_of};
+ghost use Rattle.asl_exec.specs.Probes.{setup_of};
 ghost use Rattle.asl_explore.specs.declared.orders.Orders.TheVariants.{Every};
 ghost use Rattle.asl_explore.specs.Searches.{outcomes_of, AreDistinct, IsLater, Shows};
 ghost use Rattle.asl_explore.specs.TimeOver.{IsWitnessed, RunsOut};
@@ -12,10 +12,10 @@ ghost use Rattle.asl_explore.specs.TimeOver.{IsWitnessed, RunsOut};
 use crate::found::Found;
 use crate::orders::Orders;
 use crate::visiting::is_found;
-use asl_exec::Execution;
+use asl_exec::Probe;
 use asl_history::Place;
-use asl_run_setup::{Setup, StepAt};
-use asl_run_world::Outcome;
+use asl_run_input::{Setup, StepAt};
+use asl_run_state::Outcome;
 use asl_time::{Moment, add};
 use std::alloc::{AllocError, Global};
 
@@ -32,29 +32,29 @@ pub(crate) fn deadline_of(setup: &Setup) -> Option<Moment>
 /// A step of the branch at a place at the start, and one of the root at the deadline; none where these don't end as the time is over. The
 /// error is that memory ran out.
 fn run_late(
-    execution: &mut Execution,
+    probe: &mut Probe,
     alloc: Global,
     place: Place,
     deadline: Moment,
 ) -> Result<Option<Found>, AllocError>
-    ensures late { deadline_of (setup_of execution.old) ≡ Some deadline
-        → IfOk result (λ o. IfSome o (RunsOut (setup_of execution.old))) }
+    ensures late { deadline_of (setup_of probe.old) ≡ Some deadline
+        → IfOk result (λ o. IfSome o (RunsOut (setup_of probe.old))) }
     ensures outcome { IfOk result (λ o. IfSome o (λ f. f.outcome ≡ TimedOut)) }
-    ensures setup { setup_of execution.new ≡ setup_of execution.old }
+    ensures setup { setup_of probe.new ≡ setup_of probe.old }
 {
-    let world = execution.opening()?;
-    execution.enter(world);
+    let world = probe.opening()?;
+    probe.enter(world);
     let first = StepAt {
         place,
-        moment: execution.setup().start,
+        moment: probe.setup().start,
     };
     let last = StepAt {
         place: Place::root(),
         moment: deadline,
     };
-    let _first = execution.reply(&first)?;
-    let _last = execution.reply(&last)?;
-    if *execution.outcome() != Outcome::TimedOut {
+    let _first = probe.reply(&first)?;
+    let _last = probe.reply(&last)?;
+    if *probe.outcome() != Outcome::TimedOut {
         return Ok(None);
     }
     let steps = Vec::from_array(alloc, [first, last])?;
@@ -66,47 +66,47 @@ fn run_late(
 
 /// The same. A step of the root comes first; where this ends the execution, one of a branch that isn't there, which is refused.
 fn late_found(
-    execution: &mut Execution,
+    probe: &mut Probe,
     alloc: Global,
     deadline: Moment,
 ) -> Result<Option<Found>, AllocError>
-    ensures late { deadline_of (setup_of execution.old) ≡ Some deadline
-        → IfOk result (λ o. IfSome o (RunsOut (setup_of execution.old))) }
+    ensures late { deadline_of (setup_of probe.old) ≡ Some deadline
+        → IfOk result (λ o. IfSome o (RunsOut (setup_of probe.old))) }
     ensures outcome { IfOk result (λ o. IfSome o (λ f. f.outcome ≡ TimedOut)) }
-    ensures setup { setup_of execution.new ≡ setup_of execution.old }
+    ensures setup { setup_of probe.new ≡ setup_of probe.old }
 {
-    if let Some(found) = run_late(execution, alloc, Place::root(), deadline)? {
+    if let Some(found) = run_late(probe, alloc, Place::root(), deadline)? {
         return Ok(Some(found));
     }
     let nowhere = Place::root().child(alloc, 0)?;
-    run_late(execution, alloc, nowhere, deadline)
+    run_late(probe, alloc, nowhere, deadline)
 }
 
 /// Puts the outcome of a late step behind those that were found, where branches may be late, the execution has a time limit and it isn't
 /// there: it is among them then, if this is true. The error is that memory ran out.
 pub(crate) fn put_time_over(
-    execution: &mut Execution,
+    probe: &mut Probe,
     alloc: Global,
     orders: Orders,
     found: &mut Vec<Found>,
 ) -> Result<bool, AllocError>
     ensures there { IfOk result (λ b. b ≡ true → orders ≡ Every
-        → IsSome (deadline_of (setup_of execution.old)) → Contains (outcomes_of found.new.items) TimedOut) }
+        → IsSome (deadline_of (setup_of probe.old)) → Contains (outcomes_of found.new.items) TimedOut) }
     ensures later { (ws : List World)
         → IsLater ws (outcomes_of found.old.items) ws (outcomes_of found.new.items) }
-    ensures shown { All (Shows orders (setup_of execution.old)) found.old.items
-        → All (IsWitnessed orders (setup_of execution.old)) found.new.items }
+    ensures shown { All (Shows orders (setup_of probe.old)) found.old.items
+        → All (IsWitnessed orders (setup_of probe.old)) found.new.items }
     ensures once { AreDistinct (outcomes_of found.old.items)
         → AreDistinct (outcomes_of found.new.items) }
-    ensures setup { setup_of execution.new ≡ setup_of execution.old }
+    ensures setup { setup_of probe.new ≡ setup_of probe.old }
 {
-    let Some(deadline) = late_from(execution.setup(), orders) else {
+    let Some(deadline) = late_from(probe.setup(), orders) else {
         return Ok(true);
     };
     if is_found(found, &Outcome::TimedOut) {
         return Ok(true);
     }
-    let Some(late) = late_found(execution, alloc, deadline)? else {
+    let Some(late) = late_found(probe, alloc, deadline)? else {
         return Ok(false);
     };
     found.push(late)?;

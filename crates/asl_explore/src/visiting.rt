@@ -1,23 +1,24 @@
 // One step of a search.
-ghost use Rattle.std.specs.Prelude.{◌≡◌, ◌<◌, List, [], true, false, length, slice_index_or, is_some, IfOk, IfSome};
+ghost use Rattle.std.specs.Prelude.{◌≡◌, ◌<◌, List, [], true, false, length, slice_index_or, is_some, None, IfOk, IfSome};
 ghost use Rattle.std.specs.List.{All, Contains};
-ghost use Rattle.asl_run_frames.specs.Branches.{record_at};
-ghost use Rattle.asl_run_world.specs.Bare.{bare, earliest};
-ghost use Rattle.asl_run_world.specs.World.{World, is_over};
-ghost use Rattle.asl_run_world.specs.declared.outcome.Outcome.{Outcome};
-ghost use Rattle.asl_exec.specs.Steps.{step};
-ghost use Rattle.asl_exec.specs.Views.{setup_of, world_of};
-ghost use Rattle.asl_explore.specs.Searches.{IsMet, worlds_of, outcomes_of, Shows, AreDistinct, IsLater};
+ghost use Rattle.asl_run_branches.specs.Branches.{record_at};
+ghost use Rattle.asl_run_state.specs.Bare.{bare, earliest};
+ghost use Rattle.asl_run_state.specs.World.{World, is_over};
+ghost use Rattle.asl_run_state.specs.declared.outcome.Outcome.{Outcome};
+ghost use Rattle.asl_exec.specs.Steps.{refusal_in, step};
+ghost use Rattle.asl_exec.specs.Probes.{setup_of, world_of};
+ghost use Rattle.asl_explore.specs.declared.orders.Orders.{Orders};
+ghost use Rattle.asl_explore.specs.Searches.{IsMet, IsReached, worlds_of, outcomes_of, Shows, AreDistinct, IsLater};
 
 use crate::found::Found;
 use crate::met::{Met, Node};
 use crate::order::{path, replay};
 use crate::orders::Orders;
-use asl_exec::Execution;
+use asl_exec::Probe;
 use asl_history::Place;
-use asl_run_frames::Earliest;
-use asl_run_setup::StepAt;
-use asl_run_world::{Outcome, World};
+use asl_run_branches::Earliest;
+use asl_run_input::StepAt;
+use asl_run_state::{Outcome, World};
 use std::alloc::{AllocError, Global};
 
 /// Each branch of a world that runs, with the earliest moment at which it may step; none where the world is over. The error is that
@@ -55,17 +56,13 @@ pub(crate) fn is_found(found: &[Found], outcome: &Outcome) -> bool
 }
 
 /// Goes on from a world, without its history, if this is true. The error is that memory ran out.
-pub(crate) fn enter(
-    execution: &mut Execution,
-    alloc: Global,
-    world: &World,
-) -> Result<bool, AllocError>
-    ensures world { IfOk result (λ b. b ≡ true → world_of execution.new ≡ bare world.now) }
-    ensures setup { setup_of execution.new ≡ setup_of execution.old }
+pub(crate) fn enter(probe: &mut Probe, alloc: Global, world: &World) -> Result<bool, AllocError>
+    ensures world { IfOk result (λ b. b ≡ true → world_of probe.new ≡ bare world.now) }
+    ensures setup { setup_of probe.new ≡ setup_of probe.old }
 {
     match world.bare_copy(alloc)? {
         Some(copy) => {
-            execution.enter(copy);
+            probe.enter(copy);
             Ok(true)
         }
         None => Ok(false),
@@ -75,7 +72,7 @@ pub(crate) fn enter(
 /// An outcome is among those that were found, if this is true: put there if it wasn't, with the steps that led to it, unless a run of
 /// these steps ends otherwise. The error is that memory ran out.
 fn conclude(
-    execution: &mut Execution,
+    probe: &mut Probe,
     alloc: Global,
     orders: Orders,
     nodes: &[Node],
@@ -89,20 +86,20 @@ fn conclude(
         (λ b. b ≡ true → Contains (outcomes_of found.new.items) outcome.now) }
     ensures later { (ws : List World)
         → IsLater ws (outcomes_of found.old.items) ws (outcomes_of found.new.items) }
-    ensures shown { All (Shows orders (setup_of execution.old)) found.old.items
-        → All (Shows orders (setup_of execution.old)) found.new.items }
+    ensures shown { All (Shows orders (setup_of probe.old)) found.old.items
+        → All (Shows orders (setup_of probe.old)) found.new.items }
     ensures once { AreDistinct (outcomes_of found.old.items)
         → AreDistinct (outcomes_of found.new.items) }
-    ensures setup { setup_of execution.new ≡ setup_of execution.old }
+    ensures setup { setup_of probe.new ≡ setup_of probe.old }
 {
     if is_found(found, outcome) {
         return Ok(true);
     }
     let steps = path(alloc, nodes, parent, at)?;
-    if !replay(execution, alloc, orders, &steps)? {
+    if !replay(probe, alloc, orders, &steps)? {
         return Ok(false);
     }
-    if execution.outcome() != outcome {
+    if probe.outcome() != outcome {
         return Ok(false);
     }
     let outcome = outcome.try_clone(alloc)?;
@@ -112,7 +109,7 @@ fn conclude(
 
 /// Takes a step in a world that was met: the world that it leads to is met then, if this is true. The error is that memory ran out.
 pub(crate) fn visit(
-    execution: &mut Execution,
+    probe: &mut Probe,
     alloc: Global,
     orders: Orders,
     met: &mut Met,
@@ -125,24 +122,31 @@ pub(crate) fn visit(
         → is_over (slice_index_or (worlds_of met.old.nodes.items) number d).outcome ≡ false }
     ensures met { IfOk result (λ b. b ≡ true → (d : World)
         → IsMet (worlds_of met.new.nodes.items) (outcomes_of found.new.items)
-        (step (setup_of execution.old) (slice_index_or (worlds_of met.old.nodes.items) number d)
+        (step (setup_of probe.old) (slice_index_or (worlds_of met.old.nodes.items) number d)
         at.place at.moment)) }
+    ensures reached { (o : Orders) → IfOk result (λ b.
+        All (IsReached o (setup_of probe.old)) (worlds_of met.old.nodes.items)
+        → ((d : World) → refusal_in (setup_of probe.old)
+        (slice_index_or (worlds_of met.old.nodes.items) number d) at.place at.moment ≡ None
+        → IsReached o (setup_of probe.old) (bare (step (setup_of probe.old)
+        (slice_index_or (worlds_of met.old.nodes.items) number d) at.place at.moment)))
+        → All (IsReached o (setup_of probe.old)) (worlds_of met.new.nodes.items)) }
     ensures later { IsLater (worlds_of met.old.nodes.items) (outcomes_of found.old.items)
         (worlds_of met.new.nodes.items) (outcomes_of found.new.items) }
-    ensures shown { All (Shows orders (setup_of execution.old)) found.old.items
-        → All (Shows orders (setup_of execution.old)) found.new.items }
+    ensures shown { All (Shows orders (setup_of probe.old)) found.old.items
+        → All (Shows orders (setup_of probe.old)) found.new.items }
     ensures once { AreDistinct (outcomes_of found.old.items)
         → AreDistinct (outcomes_of found.new.items) }
-    ensures setup { setup_of execution.new ≡ setup_of execution.old }
+    ensures setup { setup_of probe.new ≡ setup_of probe.old }
 {
     let node = &met.nodes[number];
-    if !enter(execution, alloc, &node.world)? {
+    if !enter(probe, alloc, &node.world)? {
         return Ok(false);
     }
-    if execution.reply(&at)?.is_some() {
+    if probe.reply(&at)?.is_some() {
         return Ok(true);
     }
-    let Some(next) = execution.world().bare_copy(alloc)? else {
+    let Some(next) = probe.world().bare_copy(alloc)? else {
         return Ok(false);
     };
     if next.is_running() {
@@ -150,7 +154,7 @@ pub(crate) fn visit(
         return Ok(true);
     }
     conclude(
-        execution,
+        probe,
         alloc,
         orders,
         &met.nodes,

@@ -2,7 +2,8 @@
 -- thick that were taken, es, and the machines inside states as boxes.
 use Rattle.std.specs.Prelude.{ℕ, suc, List, [], ◌∷◌, ◌++◌, Option, Some, None, if◌then◌else◌, codes}
 use Rattle.std.specs.Fmt.{decimal}
-use Rattle.asl_json.specs.Data.{Data, null, boolean, number, text, list, dict, Chain, no_items, item, Pairs, no_members, member}
+use Rattle.asl_json_data.specs.Data.{Data, null, boolean, number, text, list, dict, Chain, no_items, item, Pairs, no_members, member}
+use Rattle.asl_json.specs.Access.{items_in}
 use Rattle.asl_json.specs.Same.{bytes_eq}
 use Rattle.asl_json.specs.Meaning.{value_in}
 use Rattle.asl_graph.specs.declared.language.Language.{Language}
@@ -21,16 +22,12 @@ text_in _ = []
 abbrev pub text_at : List ℕ → Data → List ℕ
 text_at k d = text_in (value_in k d)
 
-abbrev pub items_in : Option Data → Chain
-items_in (Some (list ds)) = ds
-items_in _ = no_items
+abbrev pub items_of_any : Option Data → Chain
+items_of_any None = no_items
+items_of_any (Some d) = items_in d
 
 abbrev pub items_at : List ℕ → Data → Chain
-items_at k d = items_in (value_in k d)
-
-abbrev pub members_in : Data → Pairs
-members_in (dict ms) = ms
-members_in _ = no_members
+items_at k d = items_of_any (value_in k d)
 
 -- ---- the lines of one state
 

@@ -2,7 +2,7 @@
 ghost use Rattle.std.specs.Prelude.{◌≡◌};
 ghost use Rattle.asl_graph.specs.Edges.{is_way, is_edge, is_taken};
 
-use asl_json::Name;
+use asl_json_shared::Name;
 
 /// How a state is left, or how it is entered where its machine begins there. Numbers count from 0.
 #[derive(Clone, Copy, Debug)]

@@ -1,17 +1,17 @@
 // A state, and where it leads.
 ghost use Rattle.std.specs.Prelude.{◌≡◌, ◌++◌, ◌∷◌, Some, IfOk, OnOk, option_map, string_bytes, codes};
 ghost use Rattle.std.specs.Fmt.{decimal};
-ghost use Rattle.asl_json.specs.Data.{chain};
+ghost use Rattle.asl_json_data.specs.Data.{chain};
 ghost use Rattle.asl_json.specs.View.{data_of, items_of};
 ghost use Rattle.asl_graph.specs.Names.{shown};
-ghost use Rattle.asl_graph.specs.Graphs.{text_in, text_at, items_in, items_at, retry_mark, own_line, next_line, default_line, rule_lines, errors_shown, catcher_lines, state_lines, first_lines};
+ghost use Rattle.asl_graph.specs.Graphs.{text_in, text_at, items_at, retry_mark, own_line, next_line, default_line, rule_lines, errors_shown, catcher_lines, state_lines, first_lines};
 
 use crate::edges::{Edge, Way, is_taken};
 use crate::language::Language;
 use crate::lines::{put_begin_lines, put_labelled_line, put_plain_line, put_state_line};
 use crate::naming::put_shown;
 use asl_json::Json;
-use asl_terminal::put_decimal;
+use asl_text::put_decimal;
 use std::alloc::{AllocError, Global};
 
 /// The text that a value is; empty for any other.
@@ -31,22 +31,14 @@ fn text_at<'a>(value: &'a Json, key: &str) -> &'a str
     text_in(value.get(key))
 }
 
-/// The items that a value is; none for any other.
-fn items_in<'a>(value: Option<&'a Json>) -> &'a [Json]
-    ensures { chain (items_of result.now)
-        ≡ items_in (option_map (λ v. data_of v.now) value.entry) }
-{
-    match value {
-        Some(Json::List(items)) => items.values(),
-        _ => &[],
-    }
-}
-
 /// The items of the member with this key; none where it is no list.
 fn items_at<'a>(value: &'a Json, key: &str) -> &'a [Json]
     ensures { chain (items_of result.now) ≡ items_at key.now (data_of value.now) }
 {
-    items_in(value.get(key))
+    match value.get(key) {
+        Some(value) => value.items(),
+        None => &[],
+    }
 }
 
 /// What marks a state that has retriers.

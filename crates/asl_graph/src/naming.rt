@@ -4,7 +4,7 @@ ghost use Rattle.std.specs.Fmt.{decimal};
 ghost use Rattle.asl_graph.specs.Names.{is_kept, is_refused, entity_lead, numbered, entity, marks_item, shown_char, shown, word_char, word, state_id, box_key};
 
 use crate::language::Language;
-use asl_terminal::{is_hidden, put_decimal};
+use asl_text::{is_hidden, put_decimal};
 use std::alloc::AllocError;
 
 /// Whether a character stands in a label as it is, in both languages.

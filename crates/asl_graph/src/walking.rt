@@ -1,16 +1,15 @@
 // The states of a machine, and of the machines inside it.
 ghost use Rattle.std.specs.Prelude.{◌≡◌, ◌++◌, Some, IfOk, OnOk, string_bytes};
-ghost use Rattle.asl_json.specs.Data.{chain, pairs};
-ghost use Rattle.asl_json.specs.View.{data_of, items_of, members_of};
+ghost use Rattle.asl_json.specs.View.{data_of};
 ghost use Rattle.asl_graph.specs.Lines.{inner_mark};
-ghost use Rattle.asl_graph.specs.Graphs.{members_in, items_in, boxed, branch_told, machine_lines, machine_part, states_lines, inner_lines, state_part, branches_lines};
+ghost use Rattle.asl_graph.specs.Graphs.{boxed, branch_told, machine_lines, machine_part, states_lines, inner_lines, state_part, branches_lines};
 
 use crate::edges::Edge;
 use crate::language::Language;
 use crate::leading::{put_first_lines, put_state_lines};
 use crate::lines::{put_box_ending, put_box_heading, put_inner_mark};
 use asl_json::{Json, Member};
-use asl_terminal::put_decimal;
+use asl_text::put_decimal;
 use std::alloc::{AllocError, Global};
 
 /// What tells of the branch with this number.
@@ -32,26 +31,6 @@ fn mark_of(alloc: Global, name: &str, number: usize) -> Result<String, AllocErro
     Ok(mark)
 }
 
-/// The members of an object; any other value has none.
-fn members_in(value: &Json) -> &[Member]
-    ensures { pairs (members_of result.now) ≡ members_in (data_of value.now) }
-{
-    match value {
-        Json::Dict(members) => members.members(),
-        _ => &[],
-    }
-}
-
-/// The items of a list; any other value has none.
-fn items_in(value: &Json) -> &[Json]
-    ensures { chain (items_of result.now) ≡ items_in (Some (data_of value.now)) }
-{
-    match value {
-        Json::List(items) => items.values(),
-        _ => &[],
-    }
-}
-
 /// Appends the lines of the states of a machine. The error is that memory ran out.
 #[cycle(walk)]
 pub(crate) fn put_machine_lines(
@@ -64,7 +43,7 @@ pub(crate) fn put_machine_lines(
     ensures { OnOk result (string_bytes out.new
         ≡ string_bytes out.old ++ machine_lines language edges.now (data_of machine.now)) }
 {
-    for member in members_in(machine) {
+    for member in machine.members() {
         put_machine_part(
             alloc,
             out,
@@ -107,7 +86,7 @@ fn put_states_lines(
     ensures { OnOk result (string_bytes out.new
         ≡ string_bytes out.old ++ states_lines language edges.now (data_of states.now)) }
 {
-    for member in members_in(states) {
+    for member in states.members() {
         let name = member.key.as_str();
         put_state_lines(alloc, out, language, edges, name, &member.value)?;
         put_inner_lines(alloc, out, language, edges, name, &member.value)?;
@@ -128,7 +107,7 @@ fn put_inner_lines(
     ensures { OnOk result (string_bytes out.new
         ≡ string_bytes out.old ++ inner_lines language edges.now name.now (data_of state.now)) }
 {
-    for member in members_in(state) {
+    for member in state.members() {
         put_state_part(
             alloc,
             out,
@@ -178,7 +157,7 @@ fn put_branches(
     ensures { OnOk result (string_bytes out.new
         ≡ string_bytes out.old ++ branches_lines language edges.now name.now (data_of branches.now)) }
 {
-    for (number, branch) in items_in(branches).iter().enumerate() {
+    for (number, branch) in branches.items().iter().enumerate() {
         let told = branch_told(alloc, number)?;
         let told = told.as_str();
         put_boxed(alloc, out, language, edges, name, number, told, branch)?;

@@ -2,9 +2,9 @@
 -- "Retrying after error",
 -- "Fallback states".)
 use Rattle.std.specs.Prelude.{ℕ, suc, ◌+◌, ◌*◌, min, List, get_or, Option, None, Some, if◌then◌else◌, nat_lt}
-use Rattle.asl_json.specs.Data.{Data, list, Chain, no_items, item}
+use Rattle.asl_json_data.specs.Data.{Data, list, Chain, no_items, item}
 use Rattle.asl_time.specs.Delay.{cap_seconds, delay_after}
-use Rattle.asl_def_members.specs.Retries.{interval_of, attempts_of, rate_of, delay_limit_of}
+use Rattle.asl_def_fields.specs.Retries.{interval_of, attempts_of, rate_of, delay_limit_of}
 use Rattle.asl_handle.specs.Names.{is_for}
 
 pub data Handling : Type 0 where

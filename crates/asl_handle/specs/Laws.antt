@@ -2,9 +2,9 @@
 use Rattle.std.specs.Prelude.{◌≡◌, ℕ, suc, ◌+◌, ◌<◌, List, Bool, true, false, Option, None, Some, if◌then◌else◌, nat_lt}
 use Rattle.std.proofs.Common.{refl, arith, ap, subst}
 use Rattle.std.proofs.lemmas.Bool.{ltb-true}
-use Rattle.asl_json.specs.Data.{Data, Chain, no_items, item}
-use Rattle.asl_def_table.specs.Claims.{item_count}
-use Rattle.asl_def_members.specs.Retries.{attempts_of}
+use Rattle.asl_json_data.specs.Data.{Data, Chain, no_items, item}
+use Rattle.asl_def_schema.specs.Claims.{item_count}
+use Rattle.asl_def_fields.specs.Retries.{attempts_of}
 use Rattle.asl_handle.specs.Names.{is_for}
 use Rattle.asl_handle.specs.Decisions.{Handling, again, handlers_in, first_for, used, wait_after, delayed, retried, caught_by, decision}
 

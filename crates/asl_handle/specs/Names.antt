@@ -1,6 +1,6 @@
 -- Which errors a retrier or a catcher is for. (Amazon States Language, "Errors".)
 use Rattle.std.specs.Prelude.{ℕ, List, Bool, false, not, ◌&&◌, ◌||◌, Option, Some, codes}
-use Rattle.asl_json.specs.Data.{Data, text, list, Chain, no_items, item}
+use Rattle.asl_json_data.specs.Data.{Data, text, list, Chain, no_items, item}
 use Rattle.asl_json.specs.Same.{bytes_eq}
 use Rattle.asl_json.specs.Meaning.{value_in}
 

@@ -1,7 +1,7 @@
 -- What a clause sees of a decision and of a policy.
 use Rattle.std.specs.Prelude.{Option, option_map}
-use Rattle.asl_json.specs.Data.{Data, list, chain}
-use Rattle.asl_def_parts.specs.Parts.{catcher_object}
+use Rattle.asl_json_data.specs.Data.{Data, list, chain}
+use Rattle.asl_def_shared.specs.Parts.{catcher_object}
 use Rattle.asl_handle.specs.declared.policy.Decision.{Decision}
 use Rattle.asl_handle.specs.declared.policy.Decision.TheVariants.{Again, Caught, Unhandled}
 use Rattle.asl_handle.specs.declared.policy.Policy.{Policy}

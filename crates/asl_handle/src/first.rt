@@ -1,13 +1,13 @@
 // The first retrier or catcher that is for an error.
 ghost use Rattle.std.specs.Prelude.{◌≡◌, Some, codes, map, option_map};
-ghost use Rattle.asl_json.specs.Data.{chain};
+ghost use Rattle.asl_json_data.specs.Data.{chain};
 ghost use Rattle.asl_json.specs.Meaning.{value_in};
-ghost use Rattle.asl_def_members.specs.Shown.{names_shown};
+ghost use Rattle.asl_def_fields.specs.Shown.{names_shown};
 ghost use Rattle.asl_handle.specs.Decisions.{first_for};
 
 use crate::names::are_for;
-use asl_def_members::{Compiled, ErrorNames, Retrier};
-use asl_def_parts::Catcher;
+use asl_def_fields::{Compiled, ErrorNames, Retrier};
+use asl_def_shared::Catcher;
 
 /// A retrier or a catcher.
 pub(crate) trait Handler: Compiled {

@@ -1,9 +1,9 @@
 // Which errors a retrier or a catcher is for.
 ghost use Rattle.std.specs.Prelude.{◌≡◌, Some};
-ghost use Rattle.asl_def_members.specs.Shown.{names_shown};
+ghost use Rattle.asl_def_fields.specs.Shown.{names_shown};
 ghost use Rattle.asl_handle.specs.Names.{is_beyond, stands_for, names};
 
-use asl_def_members::ErrorNames;
+use asl_def_fields::ErrorNames;
 
 /// Whether nothing names the error.
 fn is_beyond(error: &str) -> bool

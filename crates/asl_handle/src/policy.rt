@@ -1,13 +1,13 @@
 // What becomes of an error.
 ghost use Rattle.std.specs.Prelude.{◌≡◌, ◌<◌, option_map};
-ghost use Rattle.asl_def_members.specs.Shown.{retrier_object};
-ghost use Rattle.asl_def_parts.specs.Parts.{catcher_object};
+ghost use Rattle.asl_def_fields.specs.Shown.{retrier_object};
+ghost use Rattle.asl_def_shared.specs.Parts.{catcher_object};
 ghost use Rattle.asl_handle.specs.Decisions.{OnAgain, decision, handlers_in, first_for, used, wait_after, delayed};
 ghost use Rattle.asl_handle.specs.Seen.{seen, retry_of, catch_of};
 
 use crate::first::first_for;
-use asl_def_members::{Retrier, Retriers};
-use asl_def_parts::{Catcher, Catchers};
+use asl_def_fields::{Retrier, Retriers};
+use asl_def_shared::{Catcher, Catchers};
 use asl_time::{Moment, add, delay};
 
 /// What becomes of an error.

@@ -3,9 +3,9 @@ use Rattle.std.proofs.Common.{ℕ, zero, suc, ◌≡◌, ◌≤◌, ◌<◌, ◌
 use Rattle.std.proofs.Math.Seq.{take-append-add, take-add}
 use Rattle.std.proofs.lemmas.List.{length-drop, take_rest}
 use Rattle.asl_history.specs.declared.event.Event.{Event}
-use Rattle.asl_json.specs.Data.{text}
+use Rattle.asl_json_data.specs.Data.{text}
 use Rattle.asl_json.specs.View.{data_of}
-use Rattle.asl_json.specs.Compact.{compact}
+use Rattle.asl_json_data.specs.Compact.{compact}
 use Rattle.asl_history.specs.Lines.{line_of, head_of, tail_of, history_text}
 
 -- the text before an event, its line, and the text behind it

@@ -1,5 +1,5 @@
--- The names of the kinds of events (Step Functions Developer Guide, HistoryEvent, `type`).
-use Rattle.std.specs.Prelude.{ℕ, List, codes}
+-- The kinds of events: their names, and which tell that a state is entered or left (Step Functions Developer Guide, HistoryEvent, `type`).
+use Rattle.std.specs.Prelude.{ℕ, Bool, true, false, List, codes}
 use Rattle.asl_history.specs.declared.kind.EventKind.{EventKind}
 use Rattle.asl_history.specs.declared.kind.EventKind.TheVariants.{ExecutionStarted, ExecutionSucceeded, ExecutionFailed, ExecutionTimedOut, PassStateEntered, TaskStateEntered, ChoiceStateEntered, WaitStateEntered, SucceedStateEntered, FailStateEntered, ParallelStateEntered, MapStateEntered, PassStateExited, TaskStateExited, ChoiceStateExited, WaitStateExited, SucceedStateExited, ParallelStateExited, MapStateExited, TaskScheduled, TaskStarted, TaskSucceeded, TaskFailed, ParallelStateStarted, ParallelStateSucceeded, ParallelStateFailed, MapStateStarted, MapStateSucceeded, MapStateFailed, MapIterationStarted, MapIterationSucceeded, MapIterationFailed}
 
@@ -36,3 +36,26 @@ kind_name MapStateFailed = codes "MapStateFailed"
 kind_name MapIterationStarted = codes "MapIterationStarted"
 kind_name MapIterationSucceeded = codes "MapIterationSucceeded"
 kind_name MapIterationFailed = codes "MapIterationFailed"
+
+-- a state is entered
+abbrev pub is_entered : EventKind → Bool
+is_entered PassStateEntered = true
+is_entered TaskStateEntered = true
+is_entered ChoiceStateEntered = true
+is_entered WaitStateEntered = true
+is_entered SucceedStateEntered = true
+is_entered FailStateEntered = true
+is_entered ParallelStateEntered = true
+is_entered MapStateEntered = true
+is_entered k = false
+
+-- a state is left
+abbrev pub is_exited : EventKind → Bool
+is_exited PassStateExited = true
+is_exited TaskStateExited = true
+is_exited ChoiceStateExited = true
+is_exited WaitStateExited = true
+is_exited SucceedStateExited = true
+is_exited ParallelStateExited = true
+is_exited MapStateExited = true
+is_exited k = false

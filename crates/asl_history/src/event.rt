@@ -3,7 +3,7 @@ ghost use Rattle.std.specs.Prelude.{◌≡◌, IfOk};
 
 use crate::kind::EventKind;
 use crate::place::Place;
-use asl_json::{Name, Shared};
+use asl_json_shared::{Name, Shared};
 use asl_time::Moment;
 use std::alloc::AllocError;
 

@@ -5,7 +5,7 @@ ghost use Rattle.asl_history.specs.Events.{is_along, previous_id, IsHistory, eve
 use crate::event::Event;
 use crate::kind::EventKind;
 use crate::place::Place;
-use asl_json::{Name, Shared};
+use asl_json_shared::{Name, Shared};
 use asl_time::Moment;
 use std::alloc::{AllocError, Global};
 use std::marker::Model;

@@ -1,6 +1,6 @@
 // Kinds of events.
 ghost use Rattle.std.specs.Prelude.{◌≡◌};
-ghost use Rattle.asl_history.specs.Kinds.{kind_name};
+ghost use Rattle.asl_history.specs.Kinds.{is_entered, is_exited, kind_name};
 
 /// What an event tells, by the names of the Step Functions Developer Guide (HistoryEvent, `type`).
 #[derive(Clone, Copy, Debug, PartialEq, Eq)]
@@ -77,6 +77,39 @@ impl EventKind {
             EventKind::MapIterationStarted => "MapIterationStarted",
             EventKind::MapIterationSucceeded => "MapIterationSucceeded",
             EventKind::MapIterationFailed => "MapIterationFailed",
+        }
+    }
+
+    /// Whether a state is entered.
+    pub fn is_entered(self) -> bool
+        ensures { result ≡ is_entered self }
+    {
+        match self {
+            EventKind::PassStateEntered
+            | EventKind::TaskStateEntered
+            | EventKind::ChoiceStateEntered
+            | EventKind::WaitStateEntered
+            | EventKind::SucceedStateEntered
+            | EventKind::FailStateEntered
+            | EventKind::ParallelStateEntered
+            | EventKind::MapStateEntered => true,
+            _ => false,
+        }
+    }
+
+    /// Whether a state is left.
+    pub fn is_exited(self) -> bool
+        ensures { result ≡ is_exited self }
+    {
+        match self {
+            EventKind::PassStateExited
+            | EventKind::TaskStateExited
+            | EventKind::ChoiceStateExited
+            | EventKind::WaitStateExited
+            | EventKind::SucceedStateExited
+            | EventKind::ParallelStateExited
+            | EventKind::MapStateExited => true,
+            _ => false,
         }
     }
 }

@@ -1,11 +1,10 @@
 //! The history of an execution: places of branches, events, their printed lines, and sinks that lines are written to
 //! (Step Functions Developer Guide, HistoryEvent; line formats are this project's own).
 //!
-//! Modules in reading order: `appending` for texts that are written behind others; `place`, with `number` for reading one; `kind`
+//! Modules in reading order: `place`, with `number` for reading one; `kind`
 //! and `event`; `history`; `printing` for lines; `sink`, `fault` and `send`, which writes a history to a sink.
 #![tactic(auto)]
 
-mod appending;
 mod event;
 mod fault;
 mod history;

@@ -1,11 +1,11 @@
 // Places of branches.
 ghost use Rattle.std.specs.Prelude.{◌≡◌, ◌↔◌, ◌<◌, ◌^◌, [], ◌∷◌, ◌++◌, List, ℕ, IfOk, IfSome, OnOk, OnErr, IsTrue, string_bytes};
-ghost use Rattle.asl_json.specs.Buffers.{Keeps};
+ghost use Rattle.asl_json_write.specs.Buffers.{Keeps};
 ghost use Rattle.asl_history.specs.Places.{IsPlace, is_prefix, is_child, is_beside, place_text, steps_text};
 
-use crate::appending::put_decimal;
 use crate::number::read_step;
-use asl_json::whole_or_none;
+use asl_json_write::whole_or_none;
+use asl_text::put_decimal;
 use std::alloc::{AllocError, Global};
 use std::marker::Model;
 use std::sync::Arc;

@@ -1,13 +1,13 @@
 // The line of an event.
 ghost use Rattle.std.specs.Prelude.{◌≡◌, ◌∷◌, ◌++◌, [], IfOk, OnOk, OnErr, string_bytes};
 ghost use Rattle.std.specs.Fmt.{decimal};
-ghost use Rattle.asl_json.specs.Buffers.{Keeps};
+ghost use Rattle.asl_json_write.specs.Buffers.{Keeps};
 ghost use Rattle.asl_history.specs.Lines.{head_of, tail_of, line_of};
 ghost use Rattle.asl_time.specs.StampText.{stamp_of};
 
-use crate::appending::put_decimal;
 use crate::event::Event;
-use asl_json::{put, put_quoted, whole_or_none};
+use asl_json_write::{put, put_quoted, whole_or_none};
+use asl_text::put_decimal;
 use asl_time::{Moment, put_stamp};
 use std::alloc::{AllocError, Global};
 

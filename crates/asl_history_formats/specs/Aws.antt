@@ -1,18 +1,20 @@
 -- A history in the shape in which the service tells one (Step Functions API Reference,
 -- GetExecutionHistory): an object with the list of its events, in which inputs and outputs are texts.
-use Rattle.std.specs.Prelude.{ℕ, suc, List, [], ◌∷◌, ◌++◌, Option, Some, None, codes}
+use Rattle.std.specs.Prelude.{ℕ, suc, Bool, false, List, [], ◌∷◌, ◌++◌, Option, Some, None, if◌then◌else◌, codes}
 use Rattle.std.specs.Fmt.{decimal}
-use Rattle.asl_json.specs.Data.{Data}
+use Rattle.asl_json_data.specs.Data.{Data, text}
 use Rattle.asl_json.specs.View.{data_of}
 use Rattle.asl_json.specs.Meaning.{value_in}
-use Rattle.asl_json.specs.Compact.{compact, quoted, separator}
+use Rattle.asl_json.specs.Same.{bytes_eq}
+use Rattle.asl_json_data.specs.Compact.{compact, quoted, separator}
 use Rattle.asl_history.specs.declared.event.Event.{Event}
 use Rattle.asl_history.specs.Kinds.{kind_name}
 use Rattle.asl_time.specs.StampText.{stamp_of}
 use Rattle.asl_history_formats.specs.declared.details.Form.{Form}
-use Rattle.asl_history_formats.specs.declared.details.Form.TheVariants.{Nothing, Input, Output, StateInput, StateOutput, Parameters, Error, Length, Iteration}
+use Rattle.asl_history_formats.specs.declared.details.Form.TheVariants.{Nothing, Input, Output, StateInput, StateOutput, Parameters, Resource, TaskOutput, TaskError, Error, Length, Iteration}
 use Rattle.asl_history_formats.specs.Keys.{stamp_key, previous_key}
 use Rattle.asl_history_formats.specs.Details.{form_of, details_name}
+use Rattle.asl_history_formats.specs.Resources.{resource_type, resource_name}
 
 -- ---- details
 
@@ -36,6 +38,11 @@ error_details (Some e) None = codes "\"error\":" ++ compact e
 error_details None (Some c) = codes "\"cause\":" ++ compact c
 error_details None None = []
 
+-- behind what stands before
+unfoldable pub and_error : Option Data → Option Data → List ℕ
+and_error None None = []
+and_error e c = 44 ∷ error_details e c
+
 -- a member of the event's body, where it is there
 abbrev pub number_member : List ℕ → Option Data → List ℕ
 number_member k (Some d) = 34 ∷ (k ++ (codes "\":" ++ compact d))
@@ -48,30 +55,70 @@ parameters_key = codes "\"parameters\":"
 abbrev pub parameters_told : Data → List ℕ
 parameters_told d = parameters_key ++ quoted (compact d)
 
-abbrev pub details_inside : Form → Event → List ℕ
-details_inside Nothing e = []
-details_inside Input e = said (codes "input") (data_of e.body)
-details_inside Output e = said (codes "output") (data_of e.body)
-details_inside StateInput e = named e ++ said (codes "input") (data_of e.body)
-details_inside StateOutput e = named e ++ said (codes "output") (data_of e.body)
-details_inside Parameters e = parameters_told (data_of e.body)
-details_inside Error e =
-    error_details (value_in (codes "Error") (data_of e.body)) (value_in (codes "Cause") (data_of e.body))
-details_inside Length e = number_member (codes "length") (value_in (codes "length") (data_of e.body))
-details_inside Iteration e =
+-- a Map's name, and the number of the iteration
+abbrev pub iteration_told : Event → List ℕ
+iteration_told e =
     named e ++ number_member (codes "index") (value_in (codes "index") (data_of e.body))
 
+-- what a Task of this resource calls
+unfoldable pub resource_told : List ℕ → List ℕ
+resource_told r =
+    codes "\"resourceType\":"
+    ++ (quoted (resource_type r) ++ (codes ",\"resource\":" ++ quoted (resource_name r)))
+
+-- the emulator is in no region: it tells always the same
+unfoldable pub region_told : List ℕ
+region_told = codes ",\"region\":\"us-east-1\","
+
+-- where Tasks have these resources
+abbrev pub details_inside : (List ℕ → List ℕ) → Form → Event → List ℕ
+details_inside rs Nothing e = []
+details_inside rs Input e = said (codes "input") (data_of e.body)
+details_inside rs Output e = said (codes "output") (data_of e.body)
+details_inside rs StateInput e = named e ++ said (codes "input") (data_of e.body)
+details_inside rs StateOutput e = named e ++ said (codes "output") (data_of e.body)
+details_inside rs Parameters e =
+    resource_told (rs e.name) ++ (region_told ++ parameters_told (data_of e.body))
+details_inside rs Resource e = resource_told (rs e.name)
+details_inside rs TaskOutput e =
+    resource_told (rs e.name) ++ 44 ∷ said (codes "output") (data_of e.body)
+details_inside rs TaskError e =
+    resource_told (rs e.name)
+    ++ and_error (value_in (codes "Error") (data_of e.body)) (value_in (codes "Cause") (data_of e.body))
+details_inside rs Error e =
+    error_details (value_in (codes "Error") (data_of e.body)) (value_in (codes "Cause") (data_of e.body))
+details_inside rs Length e = number_member (codes "length") (value_in (codes "length") (data_of e.body))
+details_inside rs Iteration e = iteration_told e
+
+-- an error says that a Task took too long
+abbrev pub is_timeout : Option Data → Bool
+is_timeout (Some (text t)) = bytes_eq t (codes "States.Timeout")
+is_timeout _ = false
+
+-- a Task that took too long is an event of another type than one that failed otherwise
+abbrev pub has_timed_out : Form → Event → Bool
+has_timed_out TaskError e = is_timeout (value_in (codes "Error") (data_of e.body))
+has_timed_out _ e = false
+
+unfoldable pub details_key : Form → Event → List ℕ
+details_key f e =
+    if has_timed_out f e then codes "taskTimedOutEventDetails" else details_name e.kind
+
 -- a member with details of this form
-abbrev pub details_part : Form → Event → List ℕ
-details_part Nothing e = []
-details_part f e =
-    codes ",\"" ++ (details_name e.kind ++ (codes "\":{" ++ (details_inside f e ++ 125 ∷ [])))
+abbrev pub details_part : (List ℕ → List ℕ) → Form → Event → List ℕ
+details_part rs Nothing e = []
+details_part rs f e =
+    codes ",\"" ++ (details_key f e ++ (codes "\":{" ++ (details_inside rs f e ++ 125 ∷ [])))
 
 -- ---- events
 
+unfoldable pub type_name : Form → Event → List ℕ
+type_name f e = if has_timed_out f e then codes "TaskTimedOut" else kind_name e.kind
+
 abbrev pub event_kind : Event → List ℕ
 event_kind e =
-    123 ∷ (stamp_key ++ (stamp_of e.at ++ (codes "\",\"type\":\"" ++ kind_name e.kind)))
+    123 ∷ (stamp_key
+    ++ (stamp_of e.at ++ (codes "\",\"type\":\"" ++ type_name (form_of e.kind) e)))
 
 abbrev pub event_numbers : Event → List ℕ
 event_numbers e = codes "\",\"id\":" ++ (decimal e.id ++ (previous_key ++ decimal e.previous))
@@ -79,13 +126,15 @@ event_numbers e = codes "\",\"id\":" ++ (decimal e.id ++ (previous_key ++ decima
 abbrev pub event_head : Event → List ℕ
 event_head e = event_kind e ++ event_numbers e
 
-abbrev pub event_object : Event → List ℕ
-event_object e = event_head e ++ (details_part (form_of e.kind) e ++ 125 ∷ [])
+abbrev pub event_object : (List ℕ → List ℕ) → Event → List ℕ
+event_object rs e = event_head e ++ (details_part rs (form_of e.kind) e ++ 125 ∷ [])
 
 -- the events from this number on, with commas between
-abbrev pub events_from : ℕ → List Event → List ℕ
-events_from i [] = []
-events_from i (e ∷ es) = separator i ++ (event_object e ++ events_from (suc i) es)
+abbrev pub events_from : (List ℕ → List ℕ) → ℕ → List Event → List ℕ
+events_from rs i [] = []
+events_from rs i (e ∷ es) = separator i ++ (event_object rs e ++ events_from rs (suc i) es)
 
-abbrev pub aws_text : List Event → List ℕ
-aws_text events = codes "{\"events\":[" ++ (events_from 0 events ++ (codes "]}" ++ 10 ∷ []))
+-- where the Tasks of these names have these resources
+abbrev pub aws_text : (List ℕ → List ℕ) → List Event → List ℕ
+aws_text rs events =
+    codes "{\"events\":[" ++ (events_from rs 0 events ++ (codes "]}" ++ 10 ∷ []))

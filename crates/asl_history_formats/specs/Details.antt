@@ -3,7 +3,7 @@ use Rattle.std.specs.Prelude.{ℕ, List, [], codes}
 use Rattle.asl_history.specs.declared.kind.EventKind.{EventKind}
 use Rattle.asl_history.specs.declared.kind.EventKind.TheVariants.{ExecutionStarted, ExecutionSucceeded, ExecutionFailed, ExecutionTimedOut, PassStateEntered, TaskStateEntered, ChoiceStateEntered, WaitStateEntered, SucceedStateEntered, FailStateEntered, ParallelStateEntered, MapStateEntered, PassStateExited, TaskStateExited, ChoiceStateExited, WaitStateExited, SucceedStateExited, ParallelStateExited, MapStateExited, TaskScheduled, TaskStarted, TaskSucceeded, TaskFailed, ParallelStateStarted, ParallelStateSucceeded, ParallelStateFailed, MapStateStarted, MapStateSucceeded, MapStateFailed, MapIterationStarted, MapIterationSucceeded, MapIterationFailed}
 use Rattle.asl_history_formats.specs.declared.details.Form.{Form}
-use Rattle.asl_history_formats.specs.declared.details.Form.TheVariants.{Nothing, Input, Output, StateInput, StateOutput, Parameters, Error, Length, Iteration}
+use Rattle.asl_history_formats.specs.declared.details.Form.TheVariants.{Nothing, Input, Output, StateInput, StateOutput, Parameters, Resource, TaskOutput, TaskError, Error, Length, Iteration}
 
 abbrev pub form_of : EventKind → Form
 form_of ExecutionStarted = Input
@@ -26,9 +26,9 @@ form_of SucceedStateExited = StateOutput
 form_of ParallelStateExited = StateOutput
 form_of MapStateExited = StateOutput
 form_of TaskScheduled = Parameters
-form_of TaskStarted = Nothing
-form_of TaskSucceeded = Output
-form_of TaskFailed = Error
+form_of TaskStarted = Resource
+form_of TaskSucceeded = TaskOutput
+form_of TaskFailed = TaskError
 form_of ParallelStateStarted = Nothing
 form_of ParallelStateSucceeded = Nothing
 form_of ParallelStateFailed = Nothing
@@ -61,7 +61,7 @@ details_name SucceedStateExited = codes "stateExitedEventDetails"
 details_name ParallelStateExited = codes "stateExitedEventDetails"
 details_name MapStateExited = codes "stateExitedEventDetails"
 details_name TaskScheduled = codes "taskScheduledEventDetails"
-details_name TaskStarted = []
+details_name TaskStarted = codes "taskStartedEventDetails"
 details_name TaskSucceeded = codes "taskSucceededEventDetails"
 details_name TaskFailed = codes "taskFailedEventDetails"
 details_name ParallelStateStarted = []

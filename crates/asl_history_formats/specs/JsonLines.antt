@@ -3,7 +3,7 @@ use Rattle.std.specs.Prelude.{ℕ, List, [], ◌∷◌, ◌++◌, codes}
 use Rattle.std.specs.List.{flat_map}
 use Rattle.std.specs.Fmt.{decimal}
 use Rattle.asl_json.specs.View.{data_of}
-use Rattle.asl_json.specs.Compact.{compact, quoted}
+use Rattle.asl_json_data.specs.Compact.{compact, quoted}
 use Rattle.asl_history.specs.declared.event.Event.{Event}
 use Rattle.asl_history.specs.Kinds.{kind_name}
 use Rattle.asl_history.specs.Places.{place_text}

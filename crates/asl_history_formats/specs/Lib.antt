@@ -1,4 +1,5 @@
 pub mod Keys
 pub mod JsonLines
 pub mod Details
+pub mod Resources
 pub mod Aws

@@ -11,14 +11,20 @@ pub(crate) enum Form {
     Nothing,
     /// The input of the execution.
     Input,
-    /// The output of the execution or of a Task.
+    /// The output of the execution.
     Output,
     /// The name of a state, and its input.
     StateInput,
     /// The name of a state, and its output.
     StateOutput,
-    /// What a Task is called with.
+    /// The resource of a Task, and what it is called with.
     Parameters,
+    /// The resource of a Task.
+    Resource,
+    /// The resource of a Task, and its output.
+    TaskOutput,
+    /// The resource of a Task, an error, and its cause.
+    TaskError,
     /// An error, and its cause.
     Error,
     /// How many items there are.
@@ -32,9 +38,8 @@ pub(crate) fn form_of(kind: EventKind) -> Form
 {
     match kind {
         EventKind::ExecutionStarted => Form::Input,
-        EventKind::ExecutionSucceeded | EventKind::TaskSucceeded => Form::Output,
-        EventKind::ExecutionFailed | EventKind::ExecutionTimedOut | EventKind::TaskFailed =>
-            Form::Error,
+        EventKind::ExecutionSucceeded => Form::Output,
+        EventKind::ExecutionFailed | EventKind::ExecutionTimedOut => Form::Error,
         EventKind::PassStateEntered
         | EventKind::TaskStateEntered
         | EventKind::ChoiceStateEntered
@@ -51,8 +56,10 @@ pub(crate) fn form_of(kind: EventKind) -> Form
         | EventKind::ParallelStateExited
         | EventKind::MapStateExited => Form::StateOutput,
         EventKind::TaskScheduled => Form::Parameters,
-        EventKind::TaskStarted
-        | EventKind::ParallelStateStarted
+        EventKind::TaskStarted => Form::Resource,
+        EventKind::TaskSucceeded => Form::TaskOutput,
+        EventKind::TaskFailed => Form::TaskError,
+        EventKind::ParallelStateStarted
         | EventKind::ParallelStateSucceeded
         | EventKind::ParallelStateFailed
         | EventKind::MapStateSucceeded
@@ -89,8 +96,8 @@ pub(crate) fn details_name(kind: EventKind) -> &'static str
         | EventKind::ParallelStateExited
         | EventKind::MapStateExited => "stateExitedEventDetails",
         EventKind::TaskScheduled => "taskScheduledEventDetails",
-        EventKind::TaskStarted
-        | EventKind::ParallelStateStarted
+        EventKind::TaskStarted => "taskStartedEventDetails",
+        EventKind::ParallelStateStarted
         | EventKind::ParallelStateSucceeded
         | EventKind::ParallelStateFailed
         | EventKind::MapStateSucceeded

@@ -3,9 +3,10 @@ ghost use Rattle.std.specs.Prelude.{◌≡◌, ◌++◌, IfOk, OnOk, string_byte
 ghost use Rattle.std.specs.List.{flat_map};
 ghost use Rattle.asl_history_formats.specs.JsonLines.{json_numbers, json_where, json_head, json_tail, json_line, json_lines_text};
 
-use crate::pieces::{put_number, put_previous_key, put_stamp_key};
+use crate::pieces::{put_previous_key, put_stamp_key};
 use asl_history::Event;
-use asl_json::{put, put_quoted};
+use asl_json_write::{put, put_quoted};
+use asl_text::put_decimal;
 use asl_time::put_stamp;
 use std::alloc::{AllocError, Global};
 
@@ -13,9 +14,9 @@ fn put_numbers(out: &mut String, event: &Event) -> Result<(), AllocError>
     ensures { OnOk result (string_bytes out.new ≡ string_bytes out.old ++ json_numbers event.now) }
 {
     out.push_str("{\"id\":")?;
-    put_number(out, event.id)?;
+    put_decimal(out, event.id)?;
     put_previous_key(out)?;
-    put_number(out, event.previous)
+    put_decimal(out, event.previous)
 }
 
 fn put_where(out: &mut String, event: &Event) -> Result<(), AllocError>

@@ -1,21 +1,13 @@
 // What several formats write.
 ghost use Rattle.std.specs.Prelude.{◌≡◌, ◌++◌, OnOk, string_bytes};
 ghost use Rattle.std.specs.Fmt.{decimal};
-ghost use Rattle.asl_json.specs.Compact.{compact, quoted, separator};
+ghost use Rattle.asl_json_data.specs.Compact.{compact, quoted, separator};
 ghost use Rattle.asl_json.specs.View.{data_of};
 ghost use Rattle.asl_history_formats.specs.Keys.{stamp_key, previous_key};
 
-use asl_json::{Json, put, put_quoted};
-use itoa::Buffer;
+use asl_json::Json;
+use asl_json_write::{put, put_quoted};
 use std::alloc::{AllocError, Global};
-
-/// Appends a number in plain decimal.
-pub(crate) fn put_number(out: &mut String, number: u64) -> Result<(), AllocError>
-    ensures { OnOk result (string_bytes out.new ≡ string_bytes out.old ++ decimal number) }
-{
-    let mut buffer = Buffer::new();
-    out.push_str(buffer.format(number))
-}
 
 /// Appends a comma before each part but the first.
 pub(crate) fn separate(out: &mut String, number: usize) -> Result<(), AllocError>

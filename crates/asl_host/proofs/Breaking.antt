@@ -3,7 +3,7 @@ use Rattle.std.proofs.Common.{ℕ, ◌≡◌, ◌+◌, List, ◌++◌, length, l
 use Rattle.std.proofs.Math.Seq.{take-append-add}
 use Rattle.std.proofs.lemmas.List.{take-append-le}
 use Rattle.asl_history.specs.Sinks.{counted}
-use Rattle.asl_host.specs.Outcomes.{Breaks, IsWhole, IsBroken}
+use Rattle.asl_host.specs.Outcomes.{Breaks, sink_use, IsWhole, IsBroken}
 
 -- a beginning of the first piece is one of the whole
 pub breaks_first : (old new a b : List ℕ) → Breaks old new a → Breaks old new (a ++ b)
@@ -22,11 +22,11 @@ breaks_rest old mid new a b first (n, short, told) = (
 )
 
 pub broken_first : {S : Type 0} (taken : S → List ℕ) (failures : S → ℕ) (old new : S) (a b : List ℕ)
-    → IsBroken taken failures old new a → IsBroken taken failures old new (a ++ b)
+    → IsBroken (sink_use taken failures old new) a → IsBroken (sink_use taken failures old new) (a ++ b)
 broken_first taken failures old new a b broken = (breaks_first (taken old) (taken new) a b broken.0, broken.1)
 
 pub broken_rest : {S : Type 0} (taken : S → List ℕ) (failures : S → ℕ) (old mid new : S) (a b : List ℕ)
-    → IsWhole taken failures old mid a → IsBroken taken failures mid new b → IsBroken taken failures old new (a ++ b)
+    → IsWhole (sink_use taken failures old mid) a → IsBroken (sink_use taken failures mid new) b → IsBroken (sink_use taken failures old new) (a ++ b)
 broken_rest taken failures old mid new a b whole broken = (
   breaks_rest (taken old) (taken mid) (taken new) a b whole.0 broken.0,
   broken.1 ∙ ap counted whole.1,

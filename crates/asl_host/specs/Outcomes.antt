@@ -17,23 +17,37 @@ Breaks old new text = (n : ℕ) × (n < length text) × (new ≡ old ++ take n t
 
 -- ---- a sink, seen by what it has taken and how often it has failed, before and after
 
+-- the use of a sink
+pub record SinkUse (S : Type 0) : Type 0 where
+  pub taken : S → List ℕ
+  pub failures : S → ℕ
+  pub before : S
+  pub after : S
+
+abbrev pub sink_use : {S : Type 0} → (S → List ℕ) → (S → ℕ) → S → S → SinkUse S
+sink_use taken failures before after =
+    record { taken = taken; failures = failures; before = before; after = after }
+
+-- nothing was written to it
+abbrev pub IsUntouched : {S : Type 0} → SinkUse S → Type 0
+IsUntouched s = s.after ≡ s.before
+
 -- it took the whole of a text, and didn't fail
-abbrev pub IsWhole : {S : Type 0} → (S → List ℕ) → (S → ℕ) → S → S → List ℕ → Type 0
-IsWhole taken failures old new text =
-    (taken new ≡ taken old ++ text) × (failures new ≡ failures old)
+abbrev pub IsWhole : {S : Type 0} → SinkUse S → List ℕ → Type 0
+IsWhole s text =
+    (s.taken s.after ≡ s.taken s.before ++ text) × (s.failures s.after ≡ s.failures s.before)
 
 -- it failed, once, before the end of a text
-abbrev pub IsBroken : {S : Type 0} → (S → List ℕ) → (S → ℕ) → S → S → List ℕ → Type 0
-IsBroken taken failures old new text =
-    Breaks (taken old) (taken new) text × (failures new ≡ counted (failures old))
+abbrev pub IsBroken : {S : Type 0} → SinkUse S → List ℕ → Type 0
+IsBroken s text =
+    Breaks (s.taken s.before) (s.taken s.after) text
+    × (s.failures s.after ≡ counted (s.failures s.before))
 
 -- a text was printed and has this status, or its sink failed and the status is 2
-abbrev pub IsPrinted : {S : Type 0} → (S → List ℕ) → (S → ℕ) → S → S → List ℕ → ℕ → ℕ → Type 0
-IsPrinted taken failures old new text wanted status =
-    (IsWhole taken failures old new text × (status ≡ wanted))
-    ⊎ (IsBroken taken failures old new text × (status ≡ 2))
+abbrev pub IsPrinted : {S : Type 0} → SinkUse S → List ℕ → ℕ → ℕ → Type 0
+IsPrinted s text wanted status =
+    (IsWhole s text × (status ≡ wanted)) ⊎ (IsBroken s text × (status ≡ 2))
 
 -- a text was told, as far as the sink didn't fail
-abbrev pub IsTold : {S : Type 0} → (S → List ℕ) → (S → ℕ) → S → S → List ℕ → Type 0
-IsTold taken failures old new text =
-    IsWhole taken failures old new text ⊎ IsBroken taken failures old new text
+abbrev pub IsTold : {S : Type 0} → SinkUse S → List ℕ → Type 0
+IsTold s text = IsWhole s text ⊎ IsBroken s text

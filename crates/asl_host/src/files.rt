@@ -1,7 +1,8 @@
 // What files give.
-ghost use Rattle.std.specs.Prelude.{◌≡◌, ◌≤◌, ◌++◌, length, ⊤, IfOk, IfErr, OnOk, IfSome};
+ghost use Rattle.std.specs.Prelude.{◌≡◌, ◌≤◌, ◌++◌, length, IfOk, IfErr, OnOk, IfSome};
+ghost use Rattle.asl_host.specs.declared.files.Unreadable.TheVariants.{TooLong};
 ghost use Rattle.asl_host.specs.Limits.{most_bytes};
-ghost use Rattle.asl_host.specs.Reading.{unreadable_words};
+ghost use Rattle.asl_host.specs.Reading.{MayGive, MayLack, is_text, unreadable_words};
 
 use std::alloc::Global;
 use std::io::{ErrorKind, Read};
@@ -67,7 +68,8 @@ pub trait Files {
     // Whether the file of a name may be one that can't be read, for this reason.
     ghost lacks: { Self → List ℕ → Unreadable → Type 0 };
 
-    /// Reads the whole of a file, of at most 16,777,216 bytes. The name `-` is that of standard input, which is read once.
+    /// Reads the whole of a file, of at most 16,777,216 bytes. The name `-` is that of standard input, which is read once; a JSON text in place of a
+    /// name, which begins with a brace, a bracket or a quotation mark, is read itself.
     fn read(&mut self, alloc: Global, name: &str) -> Result<Vec<u8>, ReadFault>
         ensures given { IfOk result (λ r. gives self.old name.now r.items) }
         ensures bound { IfOk result (λ r. length r.items ≤ most_bytes) }
@@ -107,12 +109,17 @@ impl<'a, R: rt::Files, I: Read + Drop> HostFiles<'a, R, I> {
 }
 
 impl<'a, R: rt::Files, I: Read + Drop> Files for HostFiles<'a, R, I> {
-    // Nothing is known of what the machine's files give, and any may be lacking.
-    ghost gives = { λ _ _ _. ⊤ };
+    ghost use Rattle.asl_host.specs.Reading.{MayGive, MayLack};
 
-    ghost lacks = { λ _ _ _. ⊤ };
+    // Nothing is known of what the machine's files give, and any may be lacking; a text is given as it is.
+    ghost gives = { λ _ name bytes. MayGive name bytes };
+
+    ghost lacks = { λ _ name why. MayLack name why };
 
     fn read(&mut self, alloc: Global, name: &str) -> Result<Vec<u8>, ReadFault> {
+        if is_text(name) {
+            return text_itself(alloc, name);
+        }
         if name == INPUT {
             return self.read_input(alloc);
         }
@@ -121,6 +128,25 @@ impl<'a, R: rt::Files, I: Read + Drop> Files for HostFiles<'a, R, I> {
             Err(error) => Err(fault_of(&error)),
         }
     }
+}
+
+/// Whether a JSON text stands in place of a file's name.
+fn is_text(name: &str) -> bool
+    ensures { result ≡ is_text name.now }
+{
+    matches!(name.as_bytes().first(), Some(b'{' | b'[' | b'"'))
+}
+
+/// The bytes of a text.
+fn text_itself(alloc: Global, text: &str) -> Result<Vec<u8>, ReadFault>
+    ensures bytes { IfOk result (λ r. r.items ≡ text.now) }
+    ensures bound { IfOk result (λ r. length r.items ≤ most_bytes) }
+    ensures fault { IfErr result (λ e. (u : Unreadable) → e ≡ ReadFault.Unreadable u
+        → u ≡ TooLong) }
+{
+    let mut bytes = Vec::new(alloc);
+    add(&mut bytes, text.as_bytes())?;
+    Ok(bytes)
 }
 
 /// Reads to the end. The fault is that a read failed, that more than 16,777,216 bytes came, or that so many reads didn't
@@ -147,6 +173,8 @@ pub(crate) fn add(bytes: &mut Vec<u8>, piece: &[u8]) -> Result<(), ReadFault>
     requires { length bytes.old.items ≤ most_bytes }
     ensures items { OnOk result (bytes.new.items ≡ bytes.old.items ++ piece.now) }
     ensures bound { OnOk result (length bytes.new.items ≤ most_bytes) }
+    ensures fault { IfErr result (λ e. (u : Unreadable) → e ≡ ReadFault.Unreadable u
+        → u ≡ TooLong) }
 {
     if MOST_BYTES - bytes.len() < piece.len() {
         return Err(ReadFault::Unreadable(Unreadable::TooLong));

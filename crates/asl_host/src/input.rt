@@ -1,5 +1,5 @@
 // What is typed.
-ghost use Rattle.std.specs.Prelude.{◌≡◌, ◌≤◌, ◌++◌, [], length, option_map, IfOk, IfSome, OnErr};
+ghost use Rattle.std.specs.Prelude.{◌≡◌, ◌<◌, ◌≤◌, ◌++◌, [], length, option_map, IfOk, IfSome, OnErr};
 ghost use Rattle.asl_host.specs.Limits.{most_bytes};
 ghost use Rattle.asl_host.specs.Typing.{line_given};
 
@@ -20,9 +20,14 @@ pub trait Input {
         ensures line { IfOk result (λ o. given self.new
             ≡ given self.old ++ line_given (option_map (λ l. l.items) o)) }
         ensures err { OnErr result (given self.new ≡ given self.old) };
+
+    /// Shows a text to whoever types, where there is somebody. That it fails keeps no line from being read.
+    fn greet(&mut self, text: &str)
+        ensures given { given self.new ≡ given self.old };
 }
 
-/// The lines of a reader, as standard input. Before each a prompt is written, where there is somebody to see it.
+/// The lines of a reader, as standard input. Before each a prompt is written, and before the first a greeting, where there is somebody to
+/// see them.
 #[derive(Drop)]
 pub struct Typed<R, W> {
     reader: R,
@@ -45,12 +50,12 @@ impl<R: BufRead, W: Write> Typed<R, W> {
         }
     }
 
-    /// Writes the prompt. That it fails keeps no line from being read.
-    fn prompt(&mut self)
+    /// Writes a text where the prompt is written. That it fails keeps no line from being read.
+    fn show(&mut self, text: &str)
         ensures given { self.new.given ≡ self.old.given }
     {
         if let Some(prompt) = &mut self.prompt {
-            let _ = prompt.write(PROMPT.as_bytes());
+            let _ = prompt.write_all(text.as_bytes());
         }
     }
 }
@@ -59,12 +64,16 @@ impl<R: BufRead, W: Write> Input for Typed<R, W> {
     ghost given = { λ t. t.given.bytes };
 
     fn line(&mut self, alloc: Global) -> Result<Option<Vec<u8>>, ReadFault> {
-        self.prompt();
+        self.show(PROMPT);
         let line = read_line(alloc, &mut self.reader)?;
         if let Some(line) = &line {
             self.given = self.given.with(line.as_slice()).with(b"\n");
         }
         Ok(line)
+    }
+
+    fn greet(&mut self, text: &str) {
+        self.show(text);
     }
 }
 
@@ -118,7 +127,7 @@ fn add_piece(line: &mut Vec<u8>, bytes: &[u8]) -> Result<(usize, Piece), ReadFau
     if bytes.is_empty() {
         return Ok((0, Piece::End));
     }
-    match bytes.iter().position(|byte| *byte == b'\n') {
+    match line_feed_in(bytes) {
         Some(end) => {
             add(line, &bytes[..end])?;
             Ok((end + 1, Piece::Line))
@@ -128,4 +137,16 @@ fn add_piece(line: &mut Vec<u8>, bytes: &[u8]) -> Result<(usize, Piece), ReadFau
             Ok((bytes.len(), Piece::More))
         }
     }
+}
+
+/// Where the first line feed stands.
+fn line_feed_in(bytes: &[u8]) -> Option<usize>
+    ensures { IfSome result (λ i. i < length bytes.now) }
+{
+    for (i, byte) in bytes.iter().enumerate() {
+        if *byte == b'\n' {
+            return Some(i);
+        }
+    }
+    None
 }

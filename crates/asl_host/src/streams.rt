@@ -1,5 +1,5 @@
 // The streams that are written.
-ghost use Rattle.std.specs.Prelude.{◌≡◌, ◌<◌, ◌≤◌, ◌++◌, [], length, take, IfOk, OnErr};
+ghost use Rattle.std.specs.Prelude.{◌≡◌, ◌==◌, ◌<◌, ◌≤◌, ◌++◌, [], not, length, take, IfOk, OnErr};
 ghost use Rattle.std.specs.Io.KnownBytes.{Appends};
 
 use crate::taken::Taken;
@@ -25,6 +25,13 @@ impl<W: Write> Stream<W> {
             taken: Taken::new(),
             failures: 0,
         }
+    }
+
+    /// Whether a write has failed.
+    pub fn has_failed(&self) -> bool
+        ensures { result ≡ not (self.now.failures == 0) }
+    {
+        self.failures != 0
     }
 
     /// Passes bytes on to the stream, which has to take one at least, and tells how many it took.

@@ -3,10 +3,10 @@ use Rattle.std.proofs.Common.{◌≡◌, ◌<◌, ◌==◌, ℕ, suc, true, fals
 use Rattle.std.specs.Prelude.{Result, Ok, Err}
 use Rattle.std.proofs.lemmas.List.{append-nil}
 use Rattle.std.proofs.lemmas.Bool.{eq-eqb}
-use Rattle.asl_json.specs.Data.{Data, null, number}
-use Rattle.asl_json.specs.Grammar.{null_word}
-use Rattle.asl_json.specs.private.Machine.{is_number_front}
-use Rattle.asl_json.proofs.Numerals.{numeral_front, front_decides}
+use Rattle.asl_json_data.specs.Data.{Data, null, number}
+use Rattle.asl_json_data.specs.Grammar.{null_word}
+use Rattle.asl_json_data.specs.private.NumberParts.{is_number_front}
+use Rattle.asl_json_data.proofs.Numerals.{numeral_front, front_decides}
 use Rattle.asl_path.specs.declared.step.Root.{Root}
 use Rattle.asl_path.specs.declared.step.Step.{Step}
 use Rattle.asl_path.specs.Grammar.{IsPrefix as IsPathPrefix}

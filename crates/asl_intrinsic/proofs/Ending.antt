@@ -2,11 +2,11 @@
 use Rattle.std.proofs.Common.{◌≡◌, ◌==◌, ℕ, suc, Bool, true, false, List, [], ◌∷◌, ◌++◌, length, refl, sym, ◌∙◌, ap, arith, cond, append_assoc}
 use Rattle.std.specs.Prelude.{Result, Ok, Err, ◌||◌}
 use Rattle.std.proofs.lemmas.Bool.{eqb-true}
-use Rattle.asl_json.specs.Number.{IsNumeral, is_digit, is_point, is_mark, is_sign}
-use Rattle.asl_json.specs.Open.{EndsNumber}
-use Rattle.asl_json.specs.private.Leads.{begins}
-use Rattle.asl_json.proofs.Numerals.{numeral_some}
-use Rattle.asl_json.proofs.Passing.{is_figure, figure_ends_number, numeral_begins}
+use Rattle.asl_json_data.specs.Number.{IsNumeral, is_digit, is_point, is_mark, is_sign}
+use Rattle.asl_json_data.specs.Number.{EndsNumber}
+use Rattle.asl_json_scan.specs.private.Leads.{begins}
+use Rattle.asl_json_data.proofs.Numerals.{numeral_some}
+use Rattle.asl_json_scan.proofs.Passing.{is_figure, figure_ends_number, numeral_begins}
 use Rattle.asl_path.specs.declared.step.Root.{Root}
 use Rattle.asl_path.specs.declared.step.Root.TheVariants.{Input, Context}
 use Rattle.asl_path.specs.declared.step.Step.{Step}

@@ -3,11 +3,11 @@ use Rattle.std.proofs.Common.{◌≡◌, ◌+◌, ℕ, suc, Bool, true, false, L
 use Rattle.std.specs.Prelude.{Result, Ok, Err}
 use Rattle.std.proofs.lemmas.List.{append-nil, length-append}
 use Rattle.std.proofs.lemmas.Bool.Decides.{not_from_Decides}
-use Rattle.asl_json.specs.Data.{number}
-use Rattle.asl_json.specs.Number.{IsNumeral, is_over}
-use Rattle.asl_json.specs.Open.{EndsNumber}
-use Rattle.asl_json.specs.private.Machine.{is_number_front, is_number}
-use Rattle.asl_json.proofs.Numerals.{dead_ends, front_decides, numeral_decides}
+use Rattle.asl_json_data.specs.Data.{number}
+use Rattle.asl_json_data.specs.Number.{IsNumeral, is_over}
+use Rattle.asl_json_data.specs.Number.{EndsNumber}
+use Rattle.asl_json_data.specs.private.NumberParts.{is_number_front, is_number}
+use Rattle.asl_json_data.proofs.Numerals.{dead_ends, front_decides, numeral_decides}
 use Rattle.asl_intrinsic.specs.Tree.{Argument, Frame, constant, path}
 use Rattle.asl_intrinsic.specs.Grammar.{states_word, SpellsCall, IsSpelled, IsPrefix}
 use Rattle.asl_intrinsic.specs.Fronts.{AwaitsArgument}

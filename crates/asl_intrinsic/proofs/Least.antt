@@ -2,9 +2,9 @@
 use Rattle.std.proofs.Common.{◌≡◌, ◌<◌, ◌≤◌, ◌+◌, ◌-◌, ℕ, Bool, true, List, [], ◌∷◌, ◌++◌, length, refl, sym, ◌∙◌, ap, subst, arith, append_assoc, inl, inr, ◌⊎◌}
 use Rattle.std.specs.Prelude.{Result, Err}
 use Rattle.std.proofs.lemmas.List.{append-nil, length-append}
-use Rattle.asl_json.specs.Number.{IsNumeral, is_over}
-use Rattle.asl_json.specs.Open.{EndsNumber}
-use Rattle.asl_json.proofs.Numerals.{numeral_front}
+use Rattle.asl_json_data.specs.Number.{IsNumeral, is_over}
+use Rattle.asl_json_data.specs.Number.{EndsNumber}
+use Rattle.asl_json_data.proofs.Numerals.{numeral_front}
 use Rattle.asl_path.proofs.Judging.{ahead}
 use Rattle.asl_intrinsic.specs.Tree.{Argument, Frame}
 use Rattle.asl_intrinsic.specs.Grammar.{states_word, IsSpelled, IsPrefix, Fits}

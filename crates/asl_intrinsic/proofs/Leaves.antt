@@ -7,13 +7,13 @@ use Rattle.std.proofs.lemmas.Bool.Decides.{not_from_Decides}
 use Rattle.std.specs.Bool.{Decides}
 use Rattle.std.specs.Str.{IsUtf8, IsCharBoundary}
 use Rattle.std.proofs.lemmas.Str.{IsCharBoundary-from_take, IsCharBoundary-before_ascii, IsCharBoundary-after_ascii, IsCharBoundary-end}
-use Rattle.asl_json.specs.Data.{null, boolean, number}
-use Rattle.asl_json.specs.Number.{IsNumeral, IsNumeralFront, is_over}
-use Rattle.asl_json.specs.Grammar.{null_word, true_word, false_word}
-use Rattle.asl_json.specs.Open.{EndsNumber}
-use Rattle.asl_json.specs.private.Machine.{is_number_front, is_number}
-use Rattle.asl_json.proofs.Numerals.{shorter_numeral_front, dead_ends, ends_dead, front_decides, numeral_decides, front_fails, numeral_fails}
-use Rattle.asl_json.proofs.Figures.{number_utf8}
+use Rattle.asl_json_data.specs.Data.{null, boolean, number}
+use Rattle.asl_json_data.specs.Number.{IsNumeral, IsNumeralFront, is_over}
+use Rattle.asl_json_data.specs.Grammar.{null_word, true_word, false_word}
+use Rattle.asl_json_data.specs.Number.{EndsNumber}
+use Rattle.asl_json_data.specs.private.NumberParts.{is_number_front, is_number}
+use Rattle.asl_json_data.proofs.Numerals.{shorter_numeral_front, dead_ends, ends_dead, front_decides, numeral_decides, front_fails, numeral_fails}
+use Rattle.asl_json_data.proofs.Figures.{number_utf8}
 use Rattle.asl_path.specs.declared.step.Root.{Root}
 use Rattle.asl_path.specs.declared.step.Step.{Step}
 use Rattle.asl_path.specs.Grammar.{IsPath, IsPrefix}

@@ -3,16 +3,16 @@ use Rattle.std.proofs.Common.{◌≡◌, ◌<◌, ◌≤◌, ◌+◌, ◌==◌, 
 use Rattle.std.specs.Prelude.{Result, Ok, Err, not, ◌&&◌}
 use Rattle.std.proofs.lemmas.List.{append-nil, length-append}
 use Rattle.std.proofs.lemmas.Bool.{eqb-true}
-use Rattle.asl_json.specs.Data.{Data, null, boolean, number}
-use Rattle.asl_json.specs.Number.{IsNumeral, is_over, is_digit}
-use Rattle.asl_json.specs.Grammar.{null_word, true_word, false_word}
-use Rattle.asl_json.specs.private.Leads.{begins as starts_number}
-use Rattle.asl_json.proofs.Numerals.{numeral_front, numeral_some}
+use Rattle.asl_json_data.specs.Data.{Data, null, boolean, number}
+use Rattle.asl_json_data.specs.Number.{IsNumeral, is_over, is_digit}
+use Rattle.asl_json_data.specs.Grammar.{null_word, true_word, false_word}
+use Rattle.asl_json_scan.specs.private.Leads.{begins as starts_number}
+use Rattle.asl_json_data.proofs.Numerals.{numeral_front, numeral_some}
 use Rattle.asl_path.specs.private.Leads.{NotFirst}
 use Rattle.asl_intrinsic.specs.Tree.{Argument, Frame, constant, quoted, path, call, Arguments, none, argument, arguments}
 use Rattle.asl_intrinsic.specs.Grammar.{states_word, is_name_byte, AreSpaces, is_escaped, is_inside, is_escape, SpellsConstant, SpellsHead, SpellsArgument, SpellsCall, Fits, FitAll, FitsConstant}
 use Rattle.asl_intrinsic.specs.private.Lists.{SpellsArguments, SpellsMore}
-use Rattle.asl_json.specs.Parts.{Spaced}
+use Rattle.asl_json_data.specs.Parts.{Spaced}
 use Rattle.asl_intrinsic.specs.private.Steps.{Mode, prefix, named, opening, wanting, chars, escape, figure, along, ended, Next, go, in_prefix, in_word, begins, step_by, onward, run_by}
 use Rattle.asl_intrinsic.specs.private.Leads.{begun_by}
 use Rattle.asl_intrinsic.proofs.Stretches.{goes, spaces_pass, name_some, named_space, named_opens}

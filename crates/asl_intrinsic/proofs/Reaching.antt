@@ -3,14 +3,14 @@ use Rattle.std.proofs.Common.{◌≡◌, ◌<◌, ◌==◌, ℕ, suc, Bool, true
 use Rattle.std.specs.Prelude.{Result, Ok, Err, not, ◌&&◌}
 use Rattle.std.proofs.lemmas.List.{append-nil, length-append}
 use Rattle.std.proofs.lemmas.Bool.{eqb-true}
-use Rattle.asl_json.specs.Data.{Data, null, boolean, number}
-use Rattle.asl_json.specs.Number.{is_over}
-use Rattle.asl_json.specs.Grammar.{null_word, true_word, false_word}
-use Rattle.asl_json.specs.private.Machine.{is_number_front, is_number}
-use Rattle.asl_json.proofs.Numerals.{numeral_decides}
+use Rattle.asl_json_data.specs.Data.{Data, null, boolean, number}
+use Rattle.asl_json_data.specs.Number.{is_over}
+use Rattle.asl_json_data.specs.Grammar.{null_word, true_word, false_word}
+use Rattle.asl_json_data.specs.private.NumberParts.{is_number_front, is_number}
+use Rattle.asl_json_data.proofs.Numerals.{numeral_decides}
 use Rattle.asl_path.specs.declared.step.Root.{Root}
 use Rattle.asl_path.specs.declared.step.Step.{Step}
-use Rattle.asl_json.specs.Parts.{Joined}
+use Rattle.asl_json_data.specs.Parts.{Joined}
 use Rattle.asl_path.specs.Grammar.{Each, IsPath}
 use Rattle.asl_path.specs.private.Steps.{steps}
 use Rattle.asl_path.proofs.Fronts.{each_push}
@@ -18,7 +18,7 @@ use Rattle.asl_path.proofs.Judging.{read_spells}
 use Rattle.asl_intrinsic.specs.Tree.{Argument, Frame, constant, quoted, path, call, Arguments, arguments}
 use Rattle.asl_intrinsic.specs.Grammar.{states_word, is_name_byte, is_space, AreSpaces, is_escaped, is_inside, is_escape, SpellsConstant, SpellsHead, SpellsArgument, SpellsCall}
 use Rattle.asl_intrinsic.specs.private.Lists.{SpellsArguments, SpellsMore}
-use Rattle.asl_json.specs.Parts.{Spaced}
+use Rattle.asl_json_data.specs.Parts.{Spaced}
 use Rattle.asl_intrinsic.specs.Fronts.{SpellsBefore, OpensCall, Opens}
 use Rattle.asl_intrinsic.specs.private.Steps.{Mode, prefix, naming, named, opening, wanting, word, chars, escape, figure, along, ended, Next, go, stop, is_read, is_path_front, is_path, closes, in_prefix, in_named, in_naming, in_word, in_chars, in_escape, in_ended, in_figure, in_along, begins, in_opening, in_wanting, step_by, finish_by, onward, run_by}
 

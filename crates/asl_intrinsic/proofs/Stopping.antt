@@ -1,8 +1,8 @@
 -- Without limits of numbers the machine stops where it stands.
 use Rattle.std.proofs.Common.{◌≡◌, ◌==◌, ℕ, Bool, true, false, List, [], ◌∷◌, ◌++◌, refl, subst, cond}
-use Rattle.asl_json.specs.Data.{Data, null, boolean, number}
-use Rattle.asl_json.specs.Grammar.{null_word, true_word, false_word}
-use Rattle.asl_json.specs.private.Machine.{is_number_front, is_number}
+use Rattle.asl_json_data.specs.Data.{Data, null, boolean, number}
+use Rattle.asl_json_data.specs.Grammar.{null_word, true_word, false_word}
+use Rattle.asl_json_data.specs.private.NumberParts.{is_number_front, is_number}
 use Rattle.asl_intrinsic.specs.Tree.{Argument, Frame, constant, path}
 use Rattle.asl_intrinsic.specs.Grammar.{is_name_byte, is_escaped, states_word}
 use Rattle.asl_intrinsic.specs.private.Steps.{Mode, prefix, naming, named, opening, wanting, word, chars, escape, figure, along, ended, Next, go, stop, is_path, is_path_front, in_prefix, in_naming, in_named, in_opening, in_wanting, in_word, in_chars, in_escape, in_ended, in_figure, in_along, begins, closes, step_by}

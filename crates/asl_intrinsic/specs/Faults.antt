@@ -1,7 +1,7 @@
 -- What each fault says of a text.
 use Rattle.std.specs.Prelude.{◌≡◌, ◌⊎◌, ◌≤◌, ℕ, suc, nat_lt, true, List, [], ◌∷◌, ◌++◌, length, if◌then◌else◌, Option, None, Some}
-use Rattle.asl_json.specs.Number.{IsNumeral, is_over}
-use Rattle.asl_json.specs.Open.{EndsNumber}
+use Rattle.asl_json_data.specs.Number.{IsNumeral, is_over}
+use Rattle.asl_json_data.specs.Number.{EndsNumber}
 use Rattle.asl_intrinsic.specs.Tree.{Argument, constant, quoted, path, call, Arguments, none, argument}
 use Rattle.asl_intrinsic.specs.Grammar.{SpellsCall, IsSpelled, IsPrefix, Fits}
 use Rattle.asl_intrinsic.specs.Fronts.{AwaitsArgument}

@@ -1,6 +1,6 @@
 -- The fronts of calls: which calls stand open behind them.
 use Rattle.std.specs.Prelude.{◌≡◌, ℕ, List, [], ◌∷◌}
-use Rattle.asl_json.specs.Parts.{Joined, Spaced, FrontParts}
+use Rattle.asl_json_data.specs.Parts.{Joined, Spaced, FrontParts}
 use Rattle.asl_intrinsic.specs.Tree.{Argument, Frame}
 use Rattle.asl_intrinsic.specs.Grammar.{AreSpaces, SpellsArgument, SpellsHead}
 

@@ -2,10 +2,10 @@
 -- and numbers have no limits here.
 -- (Amazon States Language, "Intrinsic Functions".)
 use Rattle.std.specs.Prelude.{◌≡◌, ◌<◌, ℕ, Bool, true, false, ◌||◌, ◌&&◌, not, ◌==◌, nat_le, List, [], ◌∷◌, ◌++◌, length, if◌then◌else◌, codes}
-use Rattle.asl_json.specs.Data.{Data, null, boolean, number, text, list, dict}
-use Rattle.asl_json.specs.Number.{is_over}
-use Rattle.asl_json.specs.Grammar.{Spells}
-use Rattle.asl_json.specs.Parts.{Joined, Spaced, Parts}
+use Rattle.asl_json_data.specs.Data.{Data, null, boolean, number, text}
+use Rattle.asl_json_data.specs.Number.{is_over}
+use Rattle.asl_json_data.specs.Grammar.{Spells}
+use Rattle.asl_json_data.specs.Parts.{Joined, Spaced, Parts}
 use Rattle.asl_path.specs.Grammar.{Each, IsPath}
 use Rattle.asl_intrinsic.specs.Tree.{Argument, constant, quoted, path, call, Arguments, none, argument}
 
@@ -63,9 +63,7 @@ abbrev pub SpellsConstant : Data → List ℕ → Type 0
 SpellsConstant null t = Spells null t
 SpellsConstant (boolean b) t = Spells (boolean b) t
 SpellsConstant (number s) t = Spells (number s) t
-SpellsConstant (text s) t = ⊥
-SpellsConstant (list ds) t = ⊥
-SpellsConstant (dict ms) t = ⊥
+SpellsConstant _ t = ⊥
 
 -- `States.Name(`, with spaces before the bracket or none
 pub record SpellsHead (name t : List ℕ) : Type 0 where
@@ -90,10 +88,8 @@ abbrev mutual
 
 -- the whole text is a call
 abbrev pub SpellsCall : Argument → List ℕ → Type 0
-SpellsCall (constant d) t = ⊥
-SpellsCall (quoted s) t = ⊥
-SpellsCall (path p) t = ⊥
 SpellsCall (call name ts) t = SpellsArgument (call name ts) t
+SpellsCall _ t = ⊥
 
 pub record IsSpelled (t : List ℕ) : Type 0 where
   pub tree : Argument

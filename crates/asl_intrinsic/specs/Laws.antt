@@ -1,6 +1,6 @@
 -- Laws of texts that spell calls.
 use Rattle.std.specs.Prelude.{◌≡◌, ℕ, List}
-use Rattle.asl_json.specs.Data.{Data}
+use Rattle.asl_json_data.specs.Data.{Data}
 use Rattle.asl_intrinsic.specs.Tree.{Argument}
 use Rattle.asl_intrinsic.specs.Grammar.{SpellsCall, Fits}
 use Rattle.asl_intrinsic.specs.Calls.{value_of}

@@ -1,6 +1,6 @@
 -- A call as a tree, and how deep its calls nest.
 use Rattle.std.specs.Prelude.{ℕ, suc, max, List, [], ◌∷◌}
-use Rattle.asl_json.specs.Data.{Data}
+use Rattle.asl_json_data.specs.Data.{Data}
 
 mutual
   pub data Argument : Type 0 where

@@ -1,6 +1,6 @@
 -- The value of a text that spells a call.
 use Rattle.std.specs.Prelude.{ℕ, List, Result, Ok, Err}
-use Rattle.asl_json.specs.Data.{Data}
+use Rattle.asl_json_data.specs.Data.{Data}
 use Rattle.asl_intrinsic_functions.specs.declared.fault.EvalFault.TheVariants.{PathMissing}
 use Rattle.asl_intrinsic.specs.Tree.{Argument}
 use Rattle.asl_intrinsic_functions.specs.Outcome.{Outcome}

@@ -1,6 +1,6 @@
 // The value of a call.
 ghost use Rattle.std.specs.Prelude.{◌≡◌, Ok, option_map, if◌then◌else◌};
-ghost use Rattle.asl_json.specs.Data.{text};
+ghost use Rattle.asl_json_data.specs.Data.{text};
 ghost use Rattle.asl_json.specs.View.{data_of};
 ghost use Rattle.asl_path.specs.Paths.{part_at};
 ghost use Rattle.asl_intrinsic_functions.specs.Names.{name_of, function_named};

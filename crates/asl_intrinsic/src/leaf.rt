@@ -1,7 +1,7 @@
 // Reading an argument that is no call.
 ghost use Rattle.std.specs.Prelude.{◌≡◌, ◌<◌, ◌≤◌, ◌∷◌, [], List, Bool, true, false, length, take, drop, slice_index, slice_get, nat_eq, IfOk, IfErr, Some, None, Ok, ℕ};
-ghost use Rattle.asl_json.specs.Data.{null, boolean};
-ghost use Rattle.asl_json.specs.Grammar.{null_word};
+ghost use Rattle.asl_json_data.specs.Data.{null, boolean};
+ghost use Rattle.asl_json_data.specs.Grammar.{null_word};
 ghost use Rattle.asl_path.specs.Grammar.{Each};
 ghost use Rattle.asl_intrinsic.specs.private.Steps.{chars, word, figure, along, ended, run};
 ghost use Rattle.asl_intrinsic.specs.Tree.{Frame};
@@ -13,7 +13,8 @@ ghost use Rattle.asl_intrinsic.specs.declared.front.Halt.{Halt};
 
 use crate::call::Argument;
 use crate::front::{Halt, after_byte, after_word, stuck};
-use asl_json::{Dec, Json, Txt, number_front};
+use asl_json::{Dec, Json, Txt};
+use asl_json_scan::number_front;
 use asl_path::{PathFault, RefPath};
 use std::alloc::Global;
 

@@ -1,6 +1,6 @@
 -- A list and an object are what their parts make.
 use Rattle.std.proofs.Common.{◌≡◌, ℕ, List, [], ◌∷◌, refl, ap}
-use Rattle.asl_json.specs.Data.{Data, chain, pairs}
+use Rattle.asl_json_data.specs.Data.{Data, chain, pairs}
 use Rattle.asl_json.specs.View.{unchained, unpaired}
 
 pub list_back : (ds : List Data) → unchained (chain ds) ≡ ds

@@ -6,10 +6,10 @@ use Rattle.std.proofs.lemmas.Bool.Decides.{Decides-int_eq}
 use Rattle.std.specs.Int.RustNames.{unsigned_abs}
 use Rattle.std.specs.Option.{option_map_or}
 use Rattle.std.specs.Cmp.Lexicographic.{same_text}
-use Rattle.asl_json.specs.Data.{Data, null, boolean, number, text, list, dict, Chain, no_items, item, Pairs, no_members, member, chain, pairs, items_depth, members_depth}
-use Rattle.asl_json.specs.Distinct.{Members, has_key, AreDistinct}
+use Rattle.asl_json_data.specs.Data.{Data, null, boolean, number, text, list, dict, Chain, no_items, item, Pairs, no_members, member, chain, pairs, items_depth, members_depth}
+use Rattle.asl_json_data.specs.Distinct.{Members, has_key, AreDistinct}
 use Rattle.asl_json.specs.Meaning.{count, value_at, same, same_items, each_in}
-use Rattle.asl_json.specs.Number.{units_of}
+use Rattle.asl_json_data.specs.Number.{units_of}
 use Rattle.asl_json.specs.Same.{bool_eq, bytes_eq}
 use Rattle.asl_json.specs.private.SameLaws.{bytes_refl}
 use Rattle.asl_intrinsic_functions.specs.declared.mark.TheConstants.{MODULUS, TRUE, FALSE, TEXT, LIST, DICT}

@@ -2,10 +2,10 @@
 use Rattle.std.proofs.Common.{◌≡◌, ◌∷◌, ◌++◌, ◌<◌, [], List, ℕ, zero, suc, length, Bool, true, false, cond, Option, Some, None, refl, sym, ◌∙◌, ap, subst, arith}
 use Rattle.std.specs.Prelude.{option_map}
 use Rattle.std.specs.Cmp.Lexicographic.{same_text}
-use Rattle.asl_json.specs.Data.{Data}
+use Rattle.asl_json_data.specs.Data.{Data}
 use Rattle.asl_json.proofs.Knowing.{bytes_eq-flip}
 use Rattle.asl_json.specs.Same.{bytes_eq}
-use Rattle.asl_json.specs.Distinct.{has_key}
+use Rattle.asl_json_data.specs.Distinct.{has_key}
 use Rattle.asl_json.specs.Access.{key_index, with_value}
 use Rattle.asl_intrinsic_functions.specs.private.Loops.{with_member}
 

@@ -6,8 +6,8 @@ use Rattle.std.specs.List.{filter}
 use Rattle.std.specs.Option.{unwrap_or}
 use Rattle.std.specs.Cmp.Lexicographic.{same_text}
 use Rattle.asl_json.proofs.Knowing.{bytes_eq-flip}
-use Rattle.asl_json.specs.Data.{Data, pairs}
-use Rattle.asl_json.specs.Distinct.{Members, has_key, AreDistinct}
+use Rattle.asl_json_data.specs.Data.{Data, pairs}
+use Rattle.asl_json_data.specs.Distinct.{Members, has_key, AreDistinct}
 use Rattle.asl_json.specs.Meaning.{value_at}
 use Rattle.asl_json.specs.Same.{bytes_eq}
 use Rattle.asl_intrinsic_functions.specs.Merge.{overridden, merged}

@@ -1,7 +1,7 @@
 -- Cutting a list into pieces.
 use Rattle.std.proofs.Common.{◌≡◌, ℕ, zero, suc, ◌+◌, ◌-◌, ◌<◌, ◌≤◌, min, nat_le, Bool, true, false, Ok, Result, List, [], ◌∷◌, ◌++◌, length, take, drop, refl, sym, ap, ◌∙◌, arith, append_assoc, length-append}
 use Rattle.std.proofs.lemmas.List.{take_min, take-map, drop-map, drop_all}
-use Rattle.asl_json.specs.Data.{Data, list, chain}
+use Rattle.asl_json_data.specs.Data.{Data, list, chain}
 use Rattle.asl_json.specs.View.{data_of, items_of}
 use Rattle.asl_json.specs.declared.value.Json.{Json}
 use Rattle.asl_intrinsic_functions.specs.Lists.{pieces}

@@ -5,9 +5,9 @@ use Rattle.std.proofs.lemmas.Bool.Decides.{Decides-int_eq}
 use Rattle.std.specs.Ordering.{int_eq}
 use Rattle.std.specs.Option.{option_map_or}
 use Rattle.std.specs.Cmp.Lexicographic.{same_text}
-use Rattle.asl_json.specs.Data.{Data, null, boolean, number, text, list, dict, Chain, no_items, item, Pairs, no_members, member}
+use Rattle.asl_json_data.specs.Data.{Data, null, boolean, number, text, list, dict, Chain, no_items, item, Pairs, no_members, member}
 use Rattle.asl_json.specs.Meaning.{count, value_at, same, same_items, each_in}
-use Rattle.asl_json.specs.Number.{units_of}
+use Rattle.asl_json_data.specs.Number.{units_of}
 use Rattle.asl_json.specs.Same.{bytes_eq}
 use Rattle.asl_intrinsic_functions.proofs.Marking.{both, of_truth, partner, value_behind}
 

@@ -1,6 +1,6 @@
 -- Each function of the values of its arguments.
 use Rattle.std.specs.Prelude.{ℕ, List, [], ◌∷◌, Option}
-use Rattle.asl_json.specs.Data.{Data}
+use Rattle.asl_json_data.specs.Data.{Data}
 use Rattle.asl_intrinsic_functions.specs.declared.fault.Reason.TheVariants as reason
 use Rattle.asl_intrinsic_functions.specs.declared.function.Function.{Function}
 use Rattle.asl_intrinsic_functions.specs.declared.function.Function.TheVariants.{Format, StringToJson, JsonToString, Array, ArrayPartition, ArrayContains, ArrayRange, ArrayGetItem, ArrayLength, ArrayUnique, Base64Encode, Base64Decode, Hash, JsonMerge, MathAdd, StringSplit}

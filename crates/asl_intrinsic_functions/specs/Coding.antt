@@ -1,6 +1,7 @@
 -- The functions that encode, decode and hash (Amazon States Language, "Intrinsic Functions").
 use Rattle.std.specs.Prelude.{ℕ, List, Option, Some, None, Result, Ok, Err, if◌then◌else◌, codes}
 use Rattle.std.specs.Str.{is_utf8}
+use Rattle.asl_json_data.specs.Results.{◌>>=◌}
 use Rattle.base64.specs.Engines.{standard}
 use Rattle.base64.specs.GeneralPurpose.{encode_of, decode_of}
 use Rattle.base64.specs.declared.decode.DecodeError.{DecodeError}
@@ -9,15 +10,17 @@ use Rattle.md5.specs.Md5.{md5}
 use Rattle.sha1.specs.Sha1.{sha1}
 use Rattle.sha2.specs.Sha256.{sha256}
 use Rattle.sha2.specs.Sha512.{sha384, sha512}
-use Rattle.asl_json.specs.Data.{Data, text}
+use Rattle.asl_json_data.specs.Data.{Data, text}
 use Rattle.asl_json.specs.Same.{bytes_eq}
-use Rattle.asl_intrinsic_functions.specs.Outcome.{Outcome, and_then, fails, or_fails}
+use Rattle.asl_intrinsic_functions.specs.Outcome.{Outcome, fails, or_fails}
 use Rattle.asl_intrinsic_functions.specs.Converting.{text_in}
 use Rattle.asl_intrinsic_functions.specs.declared.fault.Reason.TheVariants.{Range, Undecoded}
 
 -- `States.Base64Encode(t)`: the standard alphabet of RFC 4648 with padding, without line breaks
 abbrev pub base64_encode : Data → Outcome Data
-base64_encode d = and_then (text_in d) (λ t. Ok (text (encode_of standard t)))
+base64_encode d = do
+  t ← text_in d
+  Ok (text (encode_of standard t))
 
 -- bytes that are UTF-8
 abbrev pub text_of : Result (List ℕ) DecodeError → Outcome Data
@@ -26,7 +29,9 @@ text_of (Err e) = fails Undecoded
 
 -- `States.Base64Decode(t)`: the text whose coding t is
 abbrev pub base64_decode : Data → Outcome Data
-base64_decode d = and_then (text_in d) (λ t. text_of (decode_of standard t))
+base64_decode d = do
+  t ← text_in d
+  text_of (decode_of standard t)
 
 -- the digest of a text by the name of its algorithm
 abbrev pub digest_named : List ℕ → List ℕ → Option (List ℕ)
@@ -43,7 +48,7 @@ in_hexadecimal digest = Ok (text (encode_lower digest))
 
 -- `States.Hash(t, g)`: the digest in lowercase hexadecimal
 abbrev pub hash : Data → Data → Outcome Data
-hash d e =
-    and_then (text_in d)
-    (λ t. and_then (text_in e)
-    (λ g. and_then (or_fails Range (digest_named g t)) in_hexadecimal))
+hash d e = do
+  t ← text_in d
+  g ← text_in e
+  or_fails Range (digest_named g t) >>= in_hexadecimal

@@ -1,7 +1,7 @@
 -- What a function takes an argument as; an argument of another type is unfit.
 use Rattle.std.specs.Prelude.{ℕ, ℤ, ◌^◌, nat_lt, unsigned_abs, if◌then◌else◌, List}
 use Rattle.std.specs.Fmt.{signed_decimal}
-use Rattle.asl_json.specs.Data.{Data, number, text, list, dict}
+use Rattle.asl_json_data.specs.Data.{Data, number, text, list, dict}
 use Rattle.asl_json.specs.View.{unchained, unpaired}
 use Rattle.asl_json.specs.Whole.{whole_of}
 use Rattle.asl_intrinsic_functions.specs.Outcome.{Outcome, fails, or_fails}

@@ -3,9 +3,10 @@ use Rattle.std.specs.Prelude.{ℕ, ◌==◌, Bool, true, false, ◌&&◌, List, 
 use Rattle.std.specs.Char.{encode_utf8}
 use Rattle.std.specs.List.{list_all}
 use Rattle.std.specs.Str.{chars}
-use Rattle.asl_json.specs.Data.{Data, null, boolean, number, text, list, dict}
-use Rattle.asl_json.specs.Compact.{compact}
-use Rattle.asl_intrinsic_functions.specs.Outcome.{Outcome, and_then, fails, or_fails}
+use Rattle.asl_json_data.specs.Results.{◌>>=◌}
+use Rattle.asl_json_data.specs.Data.{Data, null, boolean, number, text, list, dict}
+use Rattle.asl_json_data.specs.Compact.{compact}
+use Rattle.asl_intrinsic_functions.specs.Outcome.{Outcome, fails, or_fails}
 use Rattle.asl_intrinsic_functions.specs.Converting.{text_in}
 use Rattle.asl_intrinsic_functions.specs.Letters.{letters, character}
 use Rattle.asl_intrinsic_functions.specs.declared.letter.Letter.{Letter}
@@ -44,12 +45,9 @@ filled (hole ∷ ts) (s ∷ ss) = option_map (λ r. s ++ r) (filled ts ss)
 
 -- all but lists and objects
 abbrev pub is_fit : Data → Bool
-is_fit null = true
-is_fit (boolean b) = true
-is_fit (number s) = true
-is_fit (text t) = true
 is_fit (list ds) = false
 is_fit (dict ms) = false
+is_fit _ = true
 
 -- texts stand without quotes
 abbrev pub shown : Data → List ℕ
@@ -72,4 +70,6 @@ formatted ts ds =
 
 -- `States.Format(t, a..)`: t with each `{}` replaced by the next argument
 abbrev pub format : Option (List ℕ) → Data → List Data → Outcome Data
-format written d ds = and_then (text_in d) (λ t. formatted (template written t) ds)
+format written d ds = do
+  t ← text_in d
+  formatted (template written t) ds

@@ -3,9 +3,10 @@
 use Rattle.std.specs.Prelude.{ℕ, zero, suc, ℤ, pos, negsuc, ◌+ℤ◌, int_lt, Bool, List, [], ◌∷◌, ◌++◌, length, take, drop, Option, Some, None, Ok, if◌then◌else◌, slice_get, option_map}
 use Rattle.std.specs.List.{list_any}
 use Rattle.std.specs.Ordering.{int_eq}
-use Rattle.asl_json.specs.Data.{Data, boolean, list, chain}
+use Rattle.asl_json_data.specs.Results.{◌>>=◌}
+use Rattle.asl_json_data.specs.Data.{Data, boolean, list, chain}
 use Rattle.asl_json.specs.Meaning.{same}
-use Rattle.asl_intrinsic_functions.specs.Outcome.{Outcome, and_then, fails, or_fails}
+use Rattle.asl_intrinsic_functions.specs.Outcome.{Outcome, fails, or_fails}
 use Rattle.asl_intrinsic_functions.specs.Converting.{list_in, number_in, whole, whole_number, computed}
 use Rattle.asl_intrinsic_functions.specs.declared.fault.Reason.TheVariants.{Range}
 
@@ -27,12 +28,16 @@ partition ds (negsuc n) = fails Range
 
 -- `States.ArrayPartition(l, n)`: the pieces of n items, n at least 1
 abbrev pub array_partition : Data → Data → Outcome Data
-array_partition d e =
-    and_then (list_in d) (λ ds. and_then (number_in e) (λ s. and_then (whole s) (partition ds)))
+array_partition d e = do
+  ds ← list_in d
+  s ← number_in e
+  whole s >>= partition ds
 
 -- `States.ArrayContains(l, v)`: whether an item is the same as v
 abbrev pub array_contains : Data → Data → Outcome Data
-array_contains d e = and_then (list_in d) (λ ds. Ok (boolean (list_any (λ x. same x e) ds)))
+array_contains d e = do
+  ds ← list_in d
+  Ok (boolean (list_any (λ x. same x e) ds))
 
 -- z has passed the end, in the direction of the stride
 abbrev pub is_passed : ℤ → ℤ → ℤ → Bool
@@ -53,14 +58,19 @@ range first end stride =
     else or_fails Range (option_map (λ ds. list (chain ds)) (counted 1000 stride end first))
 
 abbrev pub whole_range : List ℕ → List ℕ → List ℕ → Outcome Data
-whole_range s t u =
-    and_then (whole s) (λ a. and_then (whole t) (λ b. and_then (whole u) (λ c. range a b c)))
+whole_range s t u = do
+  a ← whole s
+  b ← whole t
+  c ← whole u
+  range a b c
 
 -- `States.ArrayRange(a, b, s)`: a, a + s and so on, none past b
 abbrev pub array_range : Data → Data → Data → Outcome Data
-array_range d e f =
-    and_then (number_in d) (λ s. and_then (number_in e) (λ t. and_then (number_in f) (λ u.
-    whole_range s t u)))
+array_range d e f = do
+  s ← number_in d
+  t ← number_in e
+  u ← number_in f
+  whole_range s t u
 
 abbrev pub item_of : List Data → ℤ → Option Data
 item_of ds (pos i) = slice_get ds i
@@ -68,13 +78,17 @@ item_of ds (negsuc i) = None
 
 -- `States.ArrayGetItem(l, i)`: item i, from 0
 abbrev pub array_get_item : Data → Data → Outcome Data
-array_get_item d e =
-    and_then (list_in d) (λ ds. and_then (number_in e) (λ s. and_then (whole s) (λ i.
-    or_fails Range (item_of ds i))))
+array_get_item d e = do
+  ds ← list_in d
+  s ← number_in e
+  i ← whole s
+  or_fails Range (item_of ds i)
 
 -- `States.ArrayLength(l)`
 abbrev pub array_length : Data → Outcome Data
-array_length d = and_then (list_in d) (λ ds. computed (pos (length ds)))
+array_length d = do
+  ds ← list_in d
+  computed (pos (length ds))
 
 -- of the items behind `before`, each one that means the same as no item before it in the list
 -- (Developer Guide, "Intrinsics for arrays": duplicate values are removed)
@@ -86,4 +100,6 @@ first_ones before (d ∷ ds) =
 
 -- `States.ArrayUnique(l)`: of the items that mean the same the first, in order
 abbrev pub array_unique : Data → Outcome Data
-array_unique d = and_then (list_in d) (λ ds. Ok (list (chain (first_ones [] ds))))
+array_unique d = do
+  ds ← list_in d
+  Ok (list (chain (first_ones [] ds)))

@@ -2,10 +2,11 @@
 use Rattle.std.specs.Prelude.{ℕ, false, not, List, ◌++◌, map, Ok}
 use Rattle.std.specs.List.{filter}
 use Rattle.std.specs.Option.{unwrap_or}
-use Rattle.asl_json.specs.Data.{Data, boolean, dict, pairs}
-use Rattle.asl_json.specs.Distinct.{Members, has_key}
+use Rattle.asl_json_data.specs.Results.{◌>>=◌}
+use Rattle.asl_json_data.specs.Data.{Data, boolean, dict, pairs}
+use Rattle.asl_json_data.specs.Distinct.{Members, has_key}
 use Rattle.asl_json.specs.Meaning.{value_at}
-use Rattle.asl_intrinsic_functions.specs.Outcome.{Outcome, and_then, fails}
+use Rattle.asl_intrinsic_functions.specs.Outcome.{Outcome, fails}
 use Rattle.asl_intrinsic_functions.specs.Converting.{object_in}
 use Rattle.asl_intrinsic_functions.specs.declared.fault.Reason.TheVariants.{Unfit}
 
@@ -25,6 +26,8 @@ false_in d = fails Unfit
 
 -- `States.JsonMerge(a, b, false)`: no key comes twice in a or in b
 abbrev pub json_merge : Data → Data → Data → Outcome Data
-json_merge d e f =
-    and_then (object_in d) (λ ms. and_then (object_in e) (λ ns. and_then (false_in f) (λ u.
-    Ok (dict (pairs (merged ms ns))))))
+json_merge d e f = do
+  ms ← object_in d
+  ns ← object_in e
+  u ← false_in f
+  Ok (dict (pairs (merged ms ns)))

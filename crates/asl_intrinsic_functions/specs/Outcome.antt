@@ -8,10 +8,6 @@ abbrev pub Outcome : Type 0 → Type 0
 Outcome A = Result A EvalFault
 
 -- go on with what was found; the first fault stays
-abbrev pub and_then : {A : Type 0} {B : Type 0} → Outcome A → (A → Outcome B) → Outcome B
-and_then (Ok a) f = f a
-and_then (Err e) f = Err e
-
 abbrev pub fails : {A : Type 0} → Reason → Outcome A
 fails r = Err (Fails r)
 

@@ -2,16 +2,19 @@
 use Rattle.std.specs.Prelude.{ℕ, ◌+ℤ◌, Bool, List, [], ◌∷◌, ◌++◌, Ok, if◌then◌else◌, nat_eq}
 use Rattle.std.specs.List.{list_any}
 use Rattle.std.specs.Str.{chars, encode_utf8_all}
-use Rattle.asl_json.specs.Data.{Data, text, list, chain}
-use Rattle.asl_json.specs.Compact.{compact}
-use Rattle.asl_json.specs.Reading.{value_read}
-use Rattle.asl_intrinsic_functions.specs.Outcome.{Outcome, and_then, or_fails}
+use Rattle.asl_json_data.specs.Results.{◌>>=◌}
+use Rattle.asl_json_data.specs.Data.{Data, text, list, chain}
+use Rattle.asl_json_data.specs.Compact.{compact}
+use Rattle.asl_json_read.specs.Reading.{value_read}
+use Rattle.asl_intrinsic_functions.specs.Outcome.{Outcome, or_fails}
 use Rattle.asl_intrinsic_functions.specs.Converting.{text_in, number_in, whole, computed}
 use Rattle.asl_intrinsic_functions.specs.declared.fault.Reason.TheVariants.{Undecoded}
 
 -- `States.StringToJson(t)`: the value that t spells
 abbrev pub string_to_json : Data → Outcome Data
-string_to_json d = and_then (text_in d) (λ t. or_fails Undecoded (value_read t))
+string_to_json d = do
+  t ← text_in d
+  or_fails Undecoded (value_read t)
 
 -- `States.JsonToString(v)`: the compact text
 abbrev pub json_to_string : Data → Outcome Data
@@ -45,12 +48,16 @@ texts_of (p ∷ ps) = unless_empty (encode_utf8_all p) ++ texts_of ps
 
 -- `States.StringSplit(t, s)`: each character of s separates; empty pieces are dropped
 abbrev pub string_split : Data → Data → Outcome Data
-string_split d e =
-    and_then (text_in d) (λ t. and_then (text_in e) (λ s.
-    Ok (list (chain (texts_of (between (chars s) (chars t)))))))
+string_split d e = do
+  t ← text_in d
+  s ← text_in e
+  Ok (list (chain (texts_of (between (chars s) (chars t)))))
 
 -- `States.MathAdd(a, b)`: the sum of whole numbers
 abbrev pub math_add : Data → Data → Outcome Data
-math_add d e =
-    and_then (number_in d) (λ s. and_then (number_in e) (λ t.
-    and_then (whole s) (λ a. and_then (whole t) (λ b. computed (a +ℤ b)))))
+math_add d e = do
+  s ← number_in d
+  t ← number_in e
+  a ← whole s
+  b ← whole t
+  computed (a +ℤ b)

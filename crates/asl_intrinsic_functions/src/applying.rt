@@ -1,9 +1,9 @@
 // Each function of the values of its arguments.
 ghost use Rattle.std.specs.Prelude.{◌≡◌, ◌↔◌, ◌∷◌, [], List, ℕ, Option, Ok, Err, option_map};
 ghost use Rattle.std.specs.Str.{IsUtf8};
-ghost use Rattle.asl_json.specs.Data.{Data, text};
+ghost use Rattle.asl_json_data.specs.Data.{Data, text};
 ghost use Rattle.asl_json.specs.View.{data_of};
-ghost use Rattle.asl_json.specs.Wrong.{ReadsAs};
+ghost use Rattle.asl_json_data.specs.Reads.{ReadsAs};
 ghost use Rattle.asl_intrinsic_functions.specs.Gives.{Gives};
 ghost use Rattle.asl_intrinsic_functions.specs.Seen.{all_seen};
 ghost use Rattle.asl_intrinsic_functions.specs.Apply.{of_one, of_two, of_three, by_count, with_template, apply};
@@ -20,7 +20,8 @@ use crate::range::array_range;
 use crate::split::string_split;
 use crate::texts::{json_to_string, math_add, string_to_json};
 use crate::value::Value;
-use asl_json::{Json, a_text_has_the_value_that_it_spells};
+use asl_json::Json;
+use asl_json_read::a_text_has_the_value_that_it_spells;
 use std::alloc::Global;
 
 /// A function of one value.

@@ -1,10 +1,11 @@
 // The functions that encode, decode and hash.
 ghost use Rattle.std.specs.Prelude.{◌≡◌, Result, Ok, Err};
+ghost use Rattle.asl_json_data.specs.Results.{◌>>=◌ as and_then};
 ghost use Rattle.base64.specs.Engines.{standard};
 ghost use Rattle.base64.specs.GeneralPurpose.{decode_of};
 ghost use Rattle.asl_json.specs.View.{data_of};
 ghost use Rattle.asl_intrinsic_functions.specs.Gives.{Gives};
-ghost use Rattle.asl_intrinsic_functions.specs.Outcome.{or_fails, and_then};
+ghost use Rattle.asl_intrinsic_functions.specs.Outcome.{or_fails};
 ghost use Rattle.asl_intrinsic_functions.specs.Coding.{base64_encode, base64_decode, text_of, digest_named, in_hexadecimal, hash};
 ghost use Rattle.asl_intrinsic_functions.specs.declared.fault.Reason.TheVariants.{Range};
 

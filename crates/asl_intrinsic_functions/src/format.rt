@@ -14,7 +14,8 @@ use crate::convert::text;
 use crate::fault::{EvalFault, Reason};
 use crate::letter::{Letter, next_letter};
 use crate::value::Value;
-use asl_json::{Json, Txt, write};
+use asl_json::{Json, Txt};
+use asl_json_write::write;
 use std::alloc::Global;
 
 fn is_open(letter: Letter) -> bool

@@ -9,7 +9,8 @@ ghost use Rattle.asl_intrinsic_functions.specs.private.Marks.{mark};
 
 use crate::fault::EvalFault;
 use crate::mark::mark;
-use asl_json::{Json, same};
+use asl_json::Json;
+use asl_json_same::same;
 use std::alloc::Global;
 use std::collections::HashMap;
 use std::marker::Model;
@@ -29,7 +30,7 @@ impl Model for Kept {
     ghost use Rattle.std.specs.Coded.{coded_list};
     ghost use Rattle.std.specs.HashMap.{get};
     ghost use Rattle.asl_json.specs.private.Code.{coded_data};
-    ghost use Rattle.asl_json.specs.Data.{Data};
+    ghost use Rattle.asl_json_data.specs.Data.{Data};
     ghost use Rattle.asl_json.specs.View.{items_of};
     ghost use Rattle.asl_intrinsic_functions.specs.private.Links.{AreLinked};
 

@@ -2,7 +2,7 @@
 ghost use Rattle.std.specs.Prelude.{◌≡◌, ◌<◌, Ok, [], length, option_map};
 ghost use Rattle.std.specs.List.{list_any};
 ghost use Rattle.asl_json.specs.Meaning.{same};
-ghost use Rattle.asl_json.specs.Data.{list, chain};
+ghost use Rattle.asl_json_data.specs.Data.{list, chain};
 ghost use Rattle.asl_json.specs.View.{data_of, items_of};
 ghost use Rattle.asl_intrinsic_functions.specs.Gives.{Gives};
 ghost use Rattle.asl_intrinsic_functions.specs.Seen.{seen, all_seen};
@@ -14,7 +14,8 @@ use crate::convert::{computed, list, number, whole};
 use crate::fault::{EvalFault, Reason};
 use crate::kept::Kept;
 use crate::value::Value;
-use asl_json::{Items, Json, same};
+use asl_json::{Items, Json};
+use asl_json_same::same;
 use std::alloc::Global;
 
 /// `States.Array`

@@ -1,7 +1,7 @@
 // A mark of a value: values that are the same have the same mark, so only values of one mark have to be compared.
 ghost use Rattle.std.specs.Prelude.{◌≡◌, ◌<◌, ◌%◌};
 ghost use Rattle.std.specs.Int.RustNames.{unsigned_abs};
-ghost use Rattle.asl_json.specs.Data.{chain, pairs};
+ghost use Rattle.asl_json_data.specs.Data.{chain, pairs};
 ghost use Rattle.asl_json.specs.View.{data_of};
 ghost use Rattle.asl_intrinsic_functions.specs.private.Marks.{blended, joined, added, text_mark, mark, items_mark, members_mark, IsApart, AreApart, HasApart};
 

@@ -1,6 +1,6 @@
 // `States.JsonMerge`.
 ghost use Rattle.std.specs.Prelude.{◌≡◌, Ok, IfErr, OnOk};
-ghost use Rattle.asl_json.specs.Data.{Data};
+ghost use Rattle.asl_json_data.specs.Data.{Data};
 ghost use Rattle.asl_json.specs.View.{data_of, members_of};
 ghost use Rattle.asl_intrinsic_functions.specs.Gives.{Gives};
 ghost use Rattle.asl_intrinsic_functions.specs.Merge.{merged, false_in, json_merge};

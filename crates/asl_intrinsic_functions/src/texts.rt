@@ -7,7 +7,9 @@ ghost use Rattle.asl_intrinsic_functions.specs.Texts.{string_to_json, json_to_st
 
 use crate::convert::{computed, number, text, whole};
 use crate::fault::{EvalFault, Reason};
-use asl_json::{Json, JsonFault, Txt, read, write};
+use asl_json::{Json, Txt};
+use asl_json_read::{JsonFault, read};
+use asl_json_write::write;
 use std::alloc::Global;
 
 /// `States.StringToJson`

@@ -2,9 +2,9 @@
 use Rattle.std.proofs.Common.{◌≡◌, ◌∷◌, ◌++◌, ◌<◌, ◌+◌, [], List, ℕ, zero, suc, length, Bool, true, false, ◌||◌, Option, Some, set, get_or, refl, sym, ◌∙◌, ap, arith}
 use Rattle.std.specs.Prelude.{slice_get, option_map, nat_eq}
 use Rattle.std.specs.Cmp.Lexicographic.{pointwise}
-use Rattle.asl_json.specs.Data.{Data}
+use Rattle.asl_json_data.specs.Data.{Data}
 use Rattle.asl_json.specs.View.{data_of, items_of, members_of, member_of}
-use Rattle.asl_json.specs.Distinct.{has_key, AreDistinct}
+use Rattle.asl_json_data.specs.Distinct.{has_key, AreDistinct}
 use Rattle.asl_json.specs.Access.{with_value}
 use Rattle.asl_json.specs.declared.value.Json.{Json}
 use Rattle.asl_json.specs.declared.value.Member.{Member}

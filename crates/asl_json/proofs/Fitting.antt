@@ -1,7 +1,7 @@
 -- A number in the limits has room for its spelling.
 use Rattle.std.proofs.Common.{◌≡◌, ◌≤◌, ℕ, List, length, Bool, true, false, ◌||◌, ◌&&◌, not, nat_lt, nat_le, ◌==◌, refl}
 use Rattle.std.proofs.lemmas.Bool.{ltb-false}
-use Rattle.asl_json.specs.Number.{is_over, IsNumber, max_number_len}
+use Rattle.asl_json_data.specs.Number.{is_over, IsNumber, max_number_len}
 
 or_off : (a b : Bool) → (a || b) ≡ false → a ≡ false
 or_off true b e = e

@@ -9,8 +9,8 @@ use Rattle.std.specs.Cmp.Lexicographic.{same_text}
 use Rattle.std.specs.List.{list_any}
 use Rattle.std.specs.Prelude.{map, Option, Some, option_map}
 use Rattle.std.specs.Str.{bytes_eq}
-use Rattle.asl_json.specs.Data.{Data}
-use Rattle.asl_json.specs.Distinct.{Members, has_key}
+use Rattle.asl_json_data.specs.Data.{Data}
+use Rattle.asl_json_data.specs.Distinct.{Members, has_key}
 use Rattle.asl_json.specs.Keys.{HasKeys, AreKeys, Knows, texts_in}
 use Rattle.asl_json.specs.View.{data_of, member_of, members_of}
 use Rattle.asl_json.specs.declared.value.Member.{Member}

@@ -2,8 +2,8 @@
 use Rattle.std.proofs.Common.{◌≡◌, ℕ, zero, suc, ◌+◌, ◌<◌, ◌≤◌, List, [], ◌∷◌, length, get_or, drop, sym, ◌∙◌, subst, ap, arith}
 use Rattle.std.proofs.lemmas.List.{drop_more, drop_all}
 use Rattle.std.specs.Str.{IsUtf8}
-use Rattle.asl_json.specs.Data.{Data, dict, chain, pairs, depth, items_depth, members_depth}
-use Rattle.asl_json.specs.Distinct.{Members, AreDistinct}
+use Rattle.asl_json_data.specs.Data.{Data, dict, chain, pairs, depth, items_depth, members_depth}
+use Rattle.asl_json_data.specs.Distinct.{Members, AreDistinct}
 use Rattle.asl_json.specs.Sound.{KeysDiffer, KeysDifferInItems, KeysDifferInMembers, IsSound, AreSoundItems, AreSoundMembers}
 use Rattle.asl_json.specs.View.{data_of, items_of, members_of, unpaired, unpaired-pairs}
 use Rattle.asl_json.specs.declared.value.Json.{Json}

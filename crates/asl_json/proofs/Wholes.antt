@@ -6,11 +6,11 @@ use Rattle.std.specs.Fmt.{decimal, signed_decimal}
 use Rattle.std.proofs.lemmas.List.{append-nil}
 use Rattle.std.proofs.lemmas.Fmt.{digits_decimal, digits_value-decimal, first_decimal, decimal_digit, length-decimal-le, decimal_nonempty}
 use Rattle.std.proofs.lemmas.Str.Parse.{IsDigitsTest, FoldsDigits, IsNumeralModel, numerals_by_fold}
-use Rattle.asl_json.specs.Number.{is_digit, is_point, is_mark, AreDigits, IsInt, IsNumeral, IsNumber, IsUnsigned, magnitude, integer, fraction, exponent, before, behind, digits_value, amount_of, units_of, is_over, is_negative, amount_limit, dividend, divisor}
-use Rattle.asl_json.specs.private.Places.{IsAmount}
-use Rattle.asl_json.proofs.Figures.{digit_small, Lacks, before_over, behind_over}
-use Rattle.asl_json.proofs.Numerals.{digit_no_point, digit_no_mark}
-use Rattle.asl_json.proofs.Amounts.{fits_amount}
+use Rattle.asl_json_data.specs.Number.{is_digit, is_point, is_mark, AreDigits, IsInt, IsNumeral, IsNumber, IsUnsigned, magnitude, integer, fraction, exponent, before, behind, digits_value, amount_of, units_of, is_over, is_negative, amount_limit, dividend, divisor}
+use Rattle.asl_json_data.specs.private.Places.{IsAmount}
+use Rattle.asl_json_data.proofs.Figures.{digit_small, Lacks, before_over, behind_over}
+use Rattle.asl_json_data.proofs.Numerals.{digit_no_point, digit_no_mark}
+use Rattle.asl_json_data.proofs.Amounts.{fits_amount}
 
 -- ---- the digits of a decimal
 

@@ -1,7 +1,7 @@
 -- Reaching a part of a list or an object.
 use Rattle.std.specs.Prelude.{ℕ, zero, suc, Bool, true, false, List, [], ◌∷◌, Option, Some, None, if◌then◌else◌, option_map, nat_eq}
 use Rattle.std.specs.Cmp.Lexicographic.{pointwise}
-use Rattle.asl_json.specs.Data.{Data, list, dict}
+use Rattle.asl_json_data.specs.Data.{Data, list, dict, Chain, no_items, Pairs, no_members}
 
 -- the number of the member with this key
 abbrev pub key_index : List ℕ → List (List ℕ × Data) → Option ℕ
@@ -13,6 +13,15 @@ abbrev pub with_value : List (List ℕ × Data) → ℕ → Data → List (List 
 with_value [] i d = []
 with_value (m ∷ ms) zero d = (m.0, d) ∷ ms
 with_value (m ∷ ms) (suc i) d = m ∷ with_value ms i d
+
+-- the members of an object, and the items of a list; any other value has none
+abbrev pub members_in : Data → Pairs
+members_in (dict ms) = ms
+members_in d = no_members
+
+abbrev pub items_in : Data → Chain
+items_in (list ds) = ds
+items_in d = no_items
 
 abbrev pub is_list : Data → Bool
 is_list (list ds) = true

@@ -3,7 +3,7 @@ use Rattle.std.specs.Prelude.{◌≡◌, ℕ, List, Option, Some, None, map, str
 use Rattle.std.specs.declared.string.String.{String}
 use Rattle.std.specs.HashSet.{HashSet, contains_text}
 use Rattle.std.specs.List.{list_any}
-use Rattle.asl_json.specs.Distinct.{Members, has_key}
+use Rattle.asl_json_data.specs.Distinct.{Members, has_key}
 use Rattle.asl_json.specs.Same.{bytes_eq}
 
 -- the set has the keys of these members and no others

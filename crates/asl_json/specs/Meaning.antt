@@ -3,8 +3,8 @@
 use Rattle.std.specs.Prelude.{ℕ, suc, List, Bool, true, false, ◌&&◌, ◌==◌, Option, Some, None, if◌then◌else◌}
 use Rattle.std.specs.Ordering.{int_eq}
 use Rattle.std.specs.Option.{option_map_or}
-use Rattle.asl_json.specs.Data.{Data, null, boolean, number, text, list, dict, Chain, no_items, item, Pairs, no_members, member}
-use Rattle.asl_json.specs.Number.{units_of}
+use Rattle.asl_json_data.specs.Data.{Data, null, boolean, number, text, list, dict, Chain, no_items, item, Pairs, no_members, member}
+use Rattle.asl_json_data.specs.Number.{units_of}
 use Rattle.asl_json.specs.Same.{bool_eq, bytes_eq}
 
 abbrev pub count : Pairs → ℕ
@@ -18,12 +18,8 @@ value_at k (member l d ms) = if bytes_eq k l then Some d else value_at k ms
 
 -- the value at a key of an object
 abbrev pub value_in : List ℕ → Data → Option Data
-value_in k null = None
-value_in k (boolean b) = None
-value_in k (number s) = None
-value_in k (text s) = None
-value_in k (list ds) = None
 value_in k (dict ms) = value_at k ms
+value_in k _ = None
 
 abbrev mutual
   pub same : Data → Data → Bool

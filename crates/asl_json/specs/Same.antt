@@ -1,7 +1,7 @@
 -- Equal values, spelling and order of members included.
 use Rattle.std.specs.Prelude.{ℕ, List, Bool, true, false, ◌&&◌, nat_eq}
 use Rattle.std.specs.Cmp.Lexicographic.{pointwise}
-use Rattle.asl_json.specs.Data.{Data, null, boolean, number, text, list, dict, Chain, no_items, item, Pairs, no_members, member}
+use Rattle.asl_json_data.specs.Data.{Data, null, boolean, number, text, list, dict, Chain, no_items, item, Pairs, no_members, member}
 use Rattle.asl_json.specs.View.{data_of}
 use Rattle.asl_json.specs.declared.value.Json.{Json}
 

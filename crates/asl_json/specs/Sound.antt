@@ -2,9 +2,9 @@
 -- keys in UTF-8.
 use Rattle.std.specs.Prelude.{[]}
 use Rattle.std.specs.Str.{IsUtf8}
-use Rattle.asl_json.specs.Data.{Data, null, boolean, number, text, list, dict, Chain, no_items, item, Pairs, no_members, member}
-use Rattle.asl_json.specs.Distinct.{AreDistinct}
-use Rattle.asl_json.specs.Number.{IsNumber}
+use Rattle.asl_json_data.specs.Data.{Data, null, boolean, number, text, list, dict, Chain, no_items, item, Pairs, no_members, member}
+use Rattle.asl_json_data.specs.Distinct.{AreDistinct}
+use Rattle.asl_json_data.specs.Number.{IsNumber}
 use Rattle.asl_json.specs.View.{unpaired}
 
 -- no object inside a value has a key twice

@@ -1,8 +1,8 @@
 -- What a clause sees of a value.
 use Rattle.std.specs.Prelude.{◌≡◌, List, [], ◌∷◌, ℕ, map, refl}
 use Rattle.std.proofs.Common.{ap, sym, ◌∙◌}
-use Rattle.asl_json.specs.Data as spec
-use Rattle.asl_json.specs.Data.{Data, Chain, no_items, item, Pairs, no_members, member, chain, pairs}
+use Rattle.asl_json_data.specs.Data as spec
+use Rattle.asl_json_data.specs.Data.{Data, Chain, no_items, item, Pairs, no_members, member, chain, pairs}
 use Rattle.asl_json.specs.declared.value.Json.{Json}
 use Rattle.asl_json.specs.declared.value.Json.TheVariants.{Null, Bool, Num, Text, List as JsonList, Dict}
 use Rattle.asl_json.specs.declared.value.Member.{Member}

@@ -1,7 +1,7 @@
 -- Whole numbers.
 use Rattle.std.specs.Prelude.{ℕ, ℤ, pos, List, Option, Some, None, int_div, int_rem, if◌then◌else◌}
 use Rattle.std.specs.Ordering.{int_eq}
-use Rattle.asl_json.specs.Number.{units_of}
+use Rattle.asl_json_data.specs.Number.{units_of}
 
 -- the units of 10 ^ -9 in 1
 abbrev pub one : ℤ

@@ -1,13 +1,37 @@
 // Reaching a part of a value, to read it or to change it in place.
 ghost use Rattle.std.specs.Prelude.{◌≡◌, ◌∷◌, ◌++◌, ◌<◌, [], false, length, option_map, slice_get, IfOk, OnOk, OnErr};
 ghost use Rattle.asl_json.specs.View.{data_of, items_of, members_of};
-ghost use Rattle.asl_json.specs.Distinct.{has_key, AreDistinct};
-ghost use Rattle.asl_json.specs.Access.{key_index};
+ghost use Rattle.asl_json_data.specs.Distinct.{has_key, AreDistinct};
+ghost use Rattle.asl_json.specs.Access.{items_in, key_index, members_in};
+ghost use Rattle.asl_json_data.specs.Data.{chain, pairs};
 ghost use Rattle.asl_json.specs.private.Lending.{LendsValue, LendsItem};
 ghost use Rattle.std.specs.Borrow.{sem};
 
 use crate::value::{Items, Json, Member, Members, Txt};
 use std::alloc::{AllocError, Global};
+
+impl Json {
+    /// The members of an object; any other value has none.
+    pub fn members(&self) -> &[Member]
+        ensures members { pairs (members_of result.now) ≡ members_in (data_of self.now) }
+        ensures distinct { AreDistinct [] (members_of result.now) }
+    {
+        match self {
+            Json::Dict(members) => members.members(),
+            _ => &[],
+        }
+    }
+
+    /// The items of a list; any other value has none.
+    pub fn items(&self) -> &[Json]
+        ensures { chain (items_of result.now) ≡ items_in (data_of self.now) }
+    {
+        match self {
+            Json::List(items) => items.values(),
+            _ => &[],
+        }
+    }
+}
 
 impl Members {
     /// No members.

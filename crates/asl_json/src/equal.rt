@@ -1,7 +1,7 @@
 // Whether two values are equal, spelling included.
 ghost use Rattle.std.specs.Prelude.{◌≡◌, false};
 ghost use Rattle.asl_json.specs.View.{data_of};
-ghost use Rattle.asl_json.specs.Data.{chain, pairs};
+ghost use Rattle.asl_json_data.specs.Data.{chain, pairs};
 ghost use Rattle.asl_json.specs.Same.{equal, equal_items, equal_members};
 
 use crate::value::{Items, Json, Members};

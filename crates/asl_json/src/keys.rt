@@ -1,8 +1,8 @@
 // The keys of an object's members while they are gone through.
 ghost use Rattle.std.specs.Prelude.{◌≡◌, ◌∷◌, ◌++◌, [], IfOk, OnOk, OnErr};
-ghost use Rattle.asl_json.specs.Data.{Data};
+ghost use Rattle.asl_json_data.specs.Data.{Data};
 ghost use Rattle.asl_json.specs.View.{members_of};
-ghost use Rattle.asl_json.specs.Distinct.{has_key};
+ghost use Rattle.asl_json_data.specs.Distinct.{has_key};
 ghost use Rattle.asl_json.specs.Keys.{HasKeys, Knows};
 
 use crate::value::Member;

@@ -1,7 +1,7 @@
 // What every value has at all depths, for contracts that ask it.
 ghost use Rattle.std.specs.Prelude.{[]};
-ghost use Rattle.asl_json.specs.Data.{chain, pairs};
-ghost use Rattle.asl_json.specs.Distinct.{AreDistinct};
+ghost use Rattle.asl_json_data.specs.Data.{chain, pairs};
+ghost use Rattle.asl_json_data.specs.Distinct.{AreDistinct};
 ghost use Rattle.asl_json.specs.Sound.{KeysDiffer, KeysDifferInItems, KeysDifferInMembers, IsSound, AreSoundItems, AreSoundMembers};
 ghost use Rattle.asl_json.specs.View.{data_of};
 

@@ -1,13 +1,14 @@
 // A JSON value. Contracts see a list as the list of its items and an object as the list of its pairs.
-ghost use Rattle.std.specs.Prelude.{◌≡◌, false, length, IfOk, IfErr, slice_get, option_map, string_bytes};
+ghost use Rattle.std.specs.Prelude.{◌≡◌, false, length, IfOk, IfErr, slice_get, option_map, string_bytes, true, MatchOption};
 ghost use Rattle.asl_json.specs.View.{data_of};
 ghost use Rattle.std.specs.Str.{IsUtf8};
-ghost use Rattle.asl_json.specs.Number.{units_of, IsNumber};
-ghost use Rattle.asl_json.specs.Meaning.{value_in};
+ghost use Rattle.asl_json_data.specs.Number.{units_of, is_over, IsNumber, IsNumeral};
+ghost use Rattle.asl_json_data.specs.Data.{pairs};
+ghost use Rattle.asl_json.specs.Meaning.{value_at, value_in};
 ghost use Rattle.asl_json.specs.Access.{is_list, is_dict};
 
-use crate::units::units;
 use arrayvec::ArrayString;
+use asl_json_data::{is_over, units};
 use std::alloc::{AllocError, Global};
 use std::fmt;
 use std::marker::Model;
@@ -46,7 +47,7 @@ impl Drop for Dec {
 
 impl Model for Dec {
     ghost use Rattle.std.specs.Prelude.{List, ℕ};
-    ghost use Rattle.asl_json.specs.Number.{IsNumber};
+    ghost use Rattle.asl_json_data.specs.Number.{IsNumber};
 
     ghost Value = { List ℕ };
 
@@ -115,7 +116,7 @@ pub struct Member {
 
 impl Model for Items {
     ghost use Rattle.std.specs.Prelude.{List};
-    ghost use Rattle.asl_json.specs.Data.{Data, items_size};
+    ghost use Rattle.asl_json_data.specs.Data.{Data, items_size};
     ghost use Rattle.asl_json.specs.private.Code.{coded_items};
 
     ghost Value = { List Data };
@@ -135,7 +136,7 @@ impl Model for Items {
 
 impl Model for Members {
     ghost use Rattle.std.specs.Prelude.{List, [], ℕ};
-    ghost use Rattle.asl_json.specs.Data.{Data, members_size};
+    ghost use Rattle.asl_json_data.specs.Data.{Data, members_size};
     ghost use Rattle.asl_json.specs.private.Code.{coded_members};
 
     ghost Value = { List (List ℕ × Data) };
@@ -146,7 +147,7 @@ impl Model for Members {
 
     ghost view = { λ a. members_of a.members.items };
 
-    ghost use Rattle.asl_json.specs.Distinct.{AreDistinct};
+    ghost use Rattle.asl_json_data.specs.Distinct.{AreDistinct};
 
     ghost invariant = { λ a. AreDistinct [] (members_of a.members.items) };
 
@@ -158,6 +159,7 @@ impl Model for Members {
 }
 
 impl Txt {
+    /// A text of this string.
     pub fn new(string: String) -> Txt
         ensures { result ≡ string_bytes string }
     {
@@ -173,6 +175,7 @@ impl Txt {
         })
     }
 
+    /// The text as it is.
     pub fn as_str(&self) -> &str
         ensures { result.now ≡ self.now }
     {
@@ -251,6 +254,7 @@ impl Dec {
         }
     }
 
+    /// The number as it is spelled.
     pub fn spelling(&self) -> &str
         ensures { result.now ≡ self.now }
     {
@@ -266,7 +270,7 @@ impl Dec {
 
     /// The number that a text spells. It takes no memory.
     #[tactic(auto, using(crate::proofs::Fitting::number_fits))]
-    pub(crate) fn of_number(text: &str) -> Dec
+    pub fn of_number(text: &str) -> Dec
         requires { IsNumber text.now }
         ensures { result ≡ text.now }
     {
@@ -274,6 +278,18 @@ impl Dec {
             unreachable!();
         };
         Dec { spelled }
+    }
+
+    /// The number that a text spells, or `None` where it is past the limits. It takes no memory, and so never fails.
+    pub fn of_numeral(_alloc: Global, text: &str) -> Result<Option<Dec>, AllocError>
+        requires { IsNumeral text.now }
+        ensures { IfOk result (λ o. MatchOption o (is_over text.now ≡ true)
+            (λ d. (d ≡ text.now) × (is_over text.now ≡ false))) }
+    {
+        if is_over(text.as_bytes()) {
+            return Ok(None);
+        }
+        Ok(Some(Dec::of_number(text)))
     }
 
     /// An equal number with the same spelling. It takes no memory, and can't fail.
@@ -343,18 +359,21 @@ impl Json {
 }
 
 impl Items {
+    /// How many items there are.
     pub fn len(&self) -> usize
         ensures { result ≡ length self.now }
     {
         self.values.len()
     }
 
+    /// The item of this number, from 0; none where the list is shorter.
     pub fn get(&self, i: usize) -> Option<&Json>
         ensures { option_map (λ v. data_of v.now) result ≡ slice_get self.now i }
     {
         self.values.get(i)
     }
 
+    /// An equal list, of copies of the items. The error is that memory ran out.
     #[cycle(clone)]
     pub fn try_clone(&self, alloc: Global) -> Result<Items, AllocError>
         ensures { IfOk result (λ v. v ≡ self.now) }
@@ -368,6 +387,26 @@ impl Items {
 }
 
 impl Members {
+    /// How many members there are.
+    pub fn len(&self) -> usize
+        ensures { result ≡ length self.now }
+    {
+        self.members.len()
+    }
+
+    /// The value of the member with this key.
+    pub fn find(&self, key: &str) -> Option<&Json>
+        ensures { option_map (λ v. data_of v.now) result ≡ value_at key.now (pairs self.now) }
+    {
+        for member in &self.members {
+            if key == member.key.as_str() {
+                return Some(&member.value);
+            }
+        }
+        None
+    }
+
+    /// Equal members, of copies of the keys and values. The error is that memory ran out.
     #[cycle(clone)]
     pub fn try_clone(&self, alloc: Global) -> Result<Members, AllocError>
         ensures { IfOk result (λ v. v ≡ self.now) }

@@ -4,7 +4,7 @@ use Rattle.std.specs.Prelude.{map, ◌||◌, nat_lt, codes}
 use Rattle.std.specs.List.{flat_map, list_any}
 use Rattle.std.proofs.lemmas.List.{append-nil, length-append}
 use Rattle.std.proofs.lemmas.Bool.{lt-ltb, le-ltb}
-use Rattle.asl_terminal.specs.Shown.{shown_char}
+use Rattle.asl_text.specs.Shown.{shown_char}
 use Rattle.asl_json_diff.specs.Shown.{first_chars}
 
 or_nothing : (a : Bool) → (a || false) ≡ a

@@ -2,11 +2,11 @@
 use Rattle.std.proofs.Common.{◌≡◌, ℕ, zero, suc, ◌<◌, ◌+◌, List, [], ◌∷◌, ◌++◌, length, get_or, drop, refl, sym, ap, ◌∙◌, append_assoc, arith}
 use Rattle.std.proofs.lemmas.List.{drop_more}
 use Rattle.std.specs.Prelude.{Option, slice_get}
-use Rattle.asl_json.specs.Data.{Data, chain}
+use Rattle.asl_json_data.specs.Data.{Data, chain}
 use Rattle.asl_json.specs.View.{data_of, items_of}
 use Rattle.asl_json.specs.declared.value.Json.{Json}
-use Rattle.asl_json.specs.Data.{Chain}
-use Rattle.asl_json.specs.Pointers.{index_part}
+use Rattle.asl_json_data.specs.Data.{Chain}
+use Rattle.asl_json_write.specs.Pointers.{index_part}
 use Rattle.asl_json_diff.specs.Changes.{first_item, later_items, part_change, item_changes}
 
 pub item_there : (vs : List Json) (i : ℕ) → slice_get (items_of vs) i ≡ first_item (chain (items_of (drop i vs)))

@@ -3,11 +3,11 @@
 -- order they stand, items by their numbers. A part is told by its place, a JSON Pointer (RFC 6901).
 use Rattle.std.specs.Prelude.{ℕ, suc, List, [], ◌∷◌, ◌++◌, if◌then◌else◌, Option, Some, None, codes}
 use Rattle.std.specs.Option.{option_map_or}
-use Rattle.asl_json.specs.Data.{Data, list, dict, Chain, no_items, item, Pairs, no_members, member}
+use Rattle.asl_json_data.specs.Data.{Data, list, dict, Chain, no_items, item, Pairs, no_members, member}
 use Rattle.asl_json.specs.Same.{equal}
 use Rattle.asl_json.specs.Meaning.{value_at}
-use Rattle.asl_json.specs.Pointers.{name_part, index_part}
-use Rattle.asl_terminal.specs.Shown.{shown}
+use Rattle.asl_json_write.specs.Pointers.{name_part, index_part}
+use Rattle.asl_text.specs.Shown.{shown}
 use Rattle.asl_json_diff.specs.Shown.{short}
 
 -- ---- lines. Each begins with the same lead

@@ -2,9 +2,9 @@
 use Rattle.std.specs.Prelude.{ℕ, zero, suc, Bool, List, [], ◌∷◌, ◌++◌, ◌||◌, not, ◌==◌, if◌then◌else◌, codes}
 use Rattle.std.specs.List.{list_any}
 use Rattle.std.specs.Str.{chars}
-use Rattle.asl_json.specs.Data.{Data}
-use Rattle.asl_json.specs.Compact.{compact, quoted}
-use Rattle.asl_terminal.specs.Shown.{is_hidden, shown_char, shown}
+use Rattle.asl_json_data.specs.Data.{Data}
+use Rattle.asl_json_data.specs.Compact.{compact, quoted}
+use Rattle.asl_text.specs.Shown.{is_hidden, shown_char, shown}
 
 -- ---- names
 

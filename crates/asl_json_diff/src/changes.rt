@@ -1,14 +1,15 @@
 // What of a value another has not, has besides, or has otherwise.
 ghost use Rattle.std.specs.Prelude.{◌≡◌, ◌++◌, [], drop, if◌then◌else◌, OnOk, string_bytes, IfOk, option_map, slice_get};
-ghost use Rattle.asl_json.specs.Data.{chain, pairs};
+ghost use Rattle.asl_json_data.specs.Data.{chain, pairs};
 ghost use Rattle.asl_json.specs.View.{data_of, items_of, members_of};
 ghost use Rattle.asl_json.specs.Same.{equal};
-ghost use Rattle.asl_json.specs.Pointers.{name_part, index_part};
+ghost use Rattle.asl_json_write.specs.Pointers.{name_part, index_part};
 ghost use Rattle.asl_json_diff.specs.Changes.{at_place, added, removed, replaced, items_added, added_unless, members_added, changes, part_change, item_changes, member_changes};
 
 use crate::showing::put_short;
-use asl_json::{Items, Json, Member, Members, Pointer};
-use asl_terminal::put_shown;
+use asl_json::{Items, Json, Member, Members};
+use asl_json_write::Pointer;
+use asl_text::put_shown;
 use std::alloc::{AllocError, Global};
 
 /// Appends a mark and a place.

@@ -4,8 +4,9 @@ ghost use Rattle.std.specs.Str.{chars};
 ghost use Rattle.asl_json.specs.View.{data_of};
 ghost use Rattle.asl_json_diff.specs.Shown.{is_out_of_place, is_plain, name_text, first_chars, short};
 
-use asl_json::{Json, put, put_quoted};
-use asl_terminal::{is_hidden, put_shown, put_shown_char};
+use asl_json::Json;
+use asl_json_write::{put, put_quoted};
+use asl_text::{is_hidden, put_shown, put_shown_char};
 use std::alloc::{AllocError, Global};
 
 /// So many characters are shown of a value.

@@ -1,19 +1,19 @@
 -- The branches of a Parallel.
 use Rattle.std.proofs.Common.{◌≡◌, ℕ, List, [], ◌∷◌, map, codes, refl, sym, ap, ◌∙◌}
 use Rattle.std.specs.Prelude.{Ok}
-use Rattle.asl_json.specs.Data.{Data}
+use Rattle.asl_json_data.specs.Data.{Data}
 use Rattle.asl_json.specs.Meaning.{value_in}
 use Rattle.asl_json.specs.declared.value.Json.{Json}
 use Rattle.asl_json.specs.declared.value.Json.TheVariants.{Dict}
-use Rattle.asl_def_table.specs.Claims.{item_count}
+use Rattle.asl_def_schema.specs.Claims.{item_count}
 use Rattle.asl_handle.specs.Decisions.{handlers_in}
 use Rattle.asl_history.specs.declared.kind.EventKind.TheVariants.{ParallelStateStarted}
-use Rattle.asl_def_parts.specs.declared.body.Body.{Body}
-use Rattle.asl_step_rows.specs.declared.effect.Progress.{Progress}
-use Rattle.asl_step_rows.specs.declared.record.Record.{Record}
-use Rattle.asl_step_rows.specs.declared.record.Record.TheVariants.{Ready}
-use Rattle.asl_step_rows.specs.Rows.{forking, telling}
-use Rattle.asl_step_rows.specs.Seen.{Seen}
+use Rattle.asl_def_shared.specs.declared.body.Body.{Body}
+use Rattle.asl_step.specs.declared.effect.Progress.{Progress}
+use Rattle.asl_step.specs.declared.record.Record.{Record}
+use Rattle.asl_step.specs.declared.record.Record.TheVariants.{Ready}
+use Rattle.asl_step.specs.Rows.{forking, telling}
+use Rattle.asl_step.specs.Seen.{Seen}
 use Rattle.asl_kinds.specs.Forks.{starts_in, ready_at}
 use Rattle.asl_kinds.specs.Table.{parallel_forks}
 

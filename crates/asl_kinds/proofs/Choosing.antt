@@ -1,7 +1,7 @@
 -- Where a Choice goes on, by what its rules say.
 use Rattle.std.proofs.Common.{◌≡◌, List, codes, refl, sym}
 use Rattle.std.specs.Prelude.{Option, Some, Result}
-use Rattle.asl_json.specs.Data.{Data, list, chain}
+use Rattle.asl_json_data.specs.Data.{Data, list, chain}
 use Rattle.asl_intrinsic_functions.proofs.Converting.{list_back}
 use Rattle.asl_json.specs.Meaning.{value_in}
 use Rattle.asl_choice.specs.Truth.{Fault}

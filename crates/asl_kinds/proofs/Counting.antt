@@ -1,10 +1,10 @@
 -- How many retriers there are.
 use Rattle.std.proofs.Common.{◌≡◌, suc, List, [], ◌∷◌, length, refl, sym, ap, ◌∙◌}
 use Rattle.std.proofs.lemmas.List.{length-map}
-use Rattle.asl_json.specs.Data.{Data, chain}
-use Rattle.asl_def_table.specs.Claims.{item_count}
-use Rattle.asl_def_members.specs.declared.retry.Retrier.{Retrier}
-use Rattle.asl_def_members.specs.Shown.{retrier_object, retrier_objects}
+use Rattle.asl_json_data.specs.Data.{Data, chain}
+use Rattle.asl_def_schema.specs.Claims.{item_count}
+use Rattle.asl_def_fields.specs.declared.retry.Retrier.{Retrier}
+use Rattle.asl_def_fields.specs.Shown.{retrier_object, retrier_objects}
 
 count_chain : (ds : List Data) → item_count (chain ds) ≡ length ds
 count_chain [] = refl

@@ -3,23 +3,23 @@ use Rattle.std.proofs.Common.{ℕ, ◌≡◌, ◌≤◌, ◌+◌, ◌∙◌, Lis
 use Rattle.std.specs.Prelude.{Option, Some, Ok, Err, codes, slice_get}
 use Rattle.std.proofs.lemmas.List.{drop_more, drop_all}
 use Rattle.std.proofs.lemmas.Option.{slice_get_within, get_or_from_slice_get}
-use Rattle.asl_json.specs.Data.{Data}
+use Rattle.asl_json_data.specs.Data.{Data}
 use Rattle.asl_json.specs.declared.value.Json.{Json}
-use Rattle.asl_step_rows.specs.declared.facts.Facts.{Facts}
-use Rattle.asl_step_rows.specs.declared.record.Record.{Record}
-use Rattle.asl_step_rows.specs.declared.record.Record.TheVariants.{New}
-use Rattle.asl_step_rows.specs.declared.record.ErrorOut.{ErrorOut}
-use Rattle.asl_step_rows.specs.Seen.{Seen}
+use Rattle.asl_step.specs.declared.facts.Facts.{Facts}
+use Rattle.asl_step.specs.declared.record.Record.{Record}
+use Rattle.asl_step.specs.declared.record.Record.TheVariants.{New}
+use Rattle.asl_step.specs.declared.record.ErrorOut.{ErrorOut}
+use Rattle.asl_step.specs.Seen.{Seen}
 use Rattle.asl_json.specs.Meaning.{value_in}
-use Rattle.asl_def_table.specs.Claims.{item_count}
+use Rattle.asl_def_schema.specs.Claims.{item_count}
 use Rattle.asl_handle.specs.Decisions.{handlers_in}
 use Rattle.asl_history.specs.declared.kind.EventKind.TheVariants.{MapStateStarted}
-use Rattle.asl_step_rows.specs.declared.effect.Progress.{Progress}
-use Rattle.asl_step_rows.specs.Rows.{forking, telling}
-use Rattle.asl_step_data.specs.Gives.{Gives}
-use Rattle.asl_step_data.specs.Paths.{Given}
-use Rattle.asl_step_data.specs.declared.fault.Fault.{Fault}
-use Rattle.asl_step_data.specs.declared.fault.Fault.TheVariants.{Memory, Raised}
+use Rattle.asl_step.specs.declared.effect.Progress.{Progress}
+use Rattle.asl_step.specs.Rows.{forking, telling}
+use Rattle.asl_step_io.specs.Gives.{Gives}
+use Rattle.asl_step_io.specs.Paths.{Given}
+use Rattle.asl_step_io.specs.declared.fault.Fault.{Fault}
+use Rattle.asl_step_io.specs.declared.fault.Fault.TheVariants.{Memory, Raised}
 use Rattle.asl_kinds.specs.Forks.{GivenRecords, new_before, item_input, iterations}
 use Rattle.asl_kinds.specs.Table.{length_body, map_forks}
 

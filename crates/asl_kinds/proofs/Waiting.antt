@@ -1,7 +1,7 @@
 -- Until when a Wait waits that has a timestamp.
 use Rattle.std.proofs.Common.{◌≡◌, ℕ, List, codes, refl, sym}
 use Rattle.std.specs.Prelude.{Some, None, Ok}
-use Rattle.asl_json.specs.Data.{Data, text}
+use Rattle.asl_json_data.specs.Data.{Data, text}
 use Rattle.asl_json.specs.Meaning.{value_in}
 use Rattle.asl_time.specs.Timestamp.{IsTimestamp}
 use Rattle.asl_time.proofs.FieldMoments.{moment_is}

@@ -1,18 +1,14 @@
 -- A state that is entered, and that something is told.
 use Rattle.std.specs.Prelude.{◌<◌, ◌≡◌, Bool, true, false, length}
-use Rattle.asl_step_rows.specs.declared.effect.Effect.{Effect}
-use Rattle.asl_step_rows.specs.declared.record.Record.{Record}
-use Rattle.asl_step_rows.specs.declared.record.Record.TheVariants.{New, Ready, Pausing, Again, Forked, Done, Failed}
+use Rattle.asl_step.specs.declared.effect.Effect.{Effect}
+use Rattle.asl_step.specs.declared.record.Record.{Record}
+use Rattle.asl_step.specs.declared.record.Record.TheVariants.{New, Ready}
 
 -- the branch is about to enter its state; not where a state is retried, goes on behind a pause, or joins its branches
 abbrev pub is_entering : Record → Bool
 is_entering (New n x) = true
 is_entering (Ready n x) = true
-is_entering (Pausing n x since until) = false
-is_entering (Again n x since uses until) = false
-is_entering (Forked n x since uses items) = false
-is_entering (Done x) = false
-is_entering (Failed e) = false
+is_entering _ = false
 
 abbrev pub IsEntering : Record → Type 0
 IsEntering r = is_entering r ≡ true

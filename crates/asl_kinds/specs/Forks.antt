@@ -1,31 +1,30 @@
 -- Branches under a state: those that it forks, and what they have come to (ASL, "Parallel State",
 -- "Map State").
-use Rattle.std.specs.Prelude.{ℕ, ◌+◌, false, List, [], ◌∷◌, map, length, nat_le, if◌then◌else◌, Option, Some, None, Result, Ok, Err, codes}
+use Rattle.std.specs.Prelude.{ℕ, ◌+◌, false, List, [], ◌∷◌, map, length, nat_le, if◌then◌else◌, Option, Some, None, Result, Ok, Err, codes, unwrap_or}
 use Rattle.std.specs.Option.{option_or}
-use Rattle.asl_json.specs.Data.{Data}
+use Rattle.asl_json_data.specs.Data.{Data}
 use Rattle.asl_json.specs.View.{data_of, json_of}
 use Rattle.asl_json.specs.Meaning.{value_in}
 use Rattle.asl_json.specs.declared.value.Json.{Json}
-use Rattle.asl_json.specs.declared.value.Json.TheVariants.{Null, Bool, Num, Text, List as ListOf, Dict}
-use Rattle.asl_def_parts.specs.Texts.{text_in}
-use Rattle.asl_step_rows.specs.declared.facts.Facts.{Facts}
-use Rattle.asl_step_rows.specs.Context.{context_of}
-use Rattle.asl_step_rows.specs.declared.effect.Progress.{Progress}
-use Rattle.asl_step_rows.specs.declared.effect.Children.TheVariants.{Removed}
-use Rattle.asl_step_rows.specs.declared.record.ErrorOut.{ErrorOut}
-use Rattle.asl_step_rows.specs.declared.record.Record.{Record}
-use Rattle.asl_step_rows.specs.declared.record.Record.TheVariants.{New, Ready, Pausing, Again, Forked, Done, Failed}
-use Rattle.asl_step_rows.specs.Records.{name_or_none}
-use Rattle.asl_step_data.specs.Paths.{Given, no_value}
-use Rattle.asl_step_data.specs.Payload.{filled}
-use Rattle.asl_step_rows.specs.Seen.{Seen}
+use Rattle.asl_json.specs.declared.value.Json.TheVariants.{List as ListOf}
+use Rattle.asl_def_shared.specs.Texts.{text_in}
+use Rattle.asl_step.specs.declared.facts.Facts.{Facts}
+use Rattle.asl_step.specs.Context.{context_of}
+use Rattle.asl_step.specs.declared.effect.Progress.{Progress}
+use Rattle.asl_step.specs.declared.effect.Children.TheVariants.{Removed}
+use Rattle.asl_step.specs.declared.record.ErrorOut.{ErrorOut}
+use Rattle.asl_step.specs.declared.record.Record.{Record}
+use Rattle.asl_step.specs.declared.record.Record.TheVariants.{New, Ready, Forked, Done, Failed}
+use Rattle.asl_step_io.specs.Paths.{Given, no_value}
+use Rattle.asl_step_io.specs.Payload.{filled}
+use Rattle.asl_step.specs.Seen.{Seen}
 use Rattle.asl_kinds.specs.Members.{values_in}
 
 -- ---- a fork
 
 -- the states that these machines start at
 abbrev pub start_in : Data → List ℕ
-start_in m = name_or_none (text_in (value_in (codes "StartAt") m))
+start_in m = unwrap_or (text_in (value_in (codes "StartAt") m)) []
 
 abbrev pub starts_in : Option Data → List (List ℕ)
 starts_in machines = map start_in (values_in machines)
@@ -38,13 +37,9 @@ ready_at starts y = map (λ (s : List ℕ). Ready s y) starts
 
 -- the items that a Map goes over: a list of at most 999,999,999
 abbrev pub listed : Json → Result (List Data) ErrorOut
-listed Null = Err (no_value (codes "ItemsPath"))
-listed (Bool b) = Err (no_value (codes "ItemsPath"))
-listed (Num n) = Err (no_value (codes "ItemsPath"))
-listed (Text t) = Err (no_value (codes "ItemsPath"))
 listed (ListOf ds) =
     if nat_le (length ds) 999_999_999 then Ok ds else Err (no_value (codes "ItemsPath"))
-listed (Dict ms) = Err (no_value (codes "ItemsPath"))
+listed _ = Err (no_value (codes "ItemsPath"))
 
 abbrev pub items_by : Given → Result (List Data) ErrorOut
 items_by (Ok y) = listed y
@@ -52,17 +47,7 @@ items_by (Err e) = Err e
 
 -- what the Map reads for the iteration of this number over this item
 abbrev pub in_iteration : Seen → ℕ → Data → Seen
-in_iteration v i d = record {
-  place = v.place;
-  current = v.current;
-  children = v.children;
-  forker = v.forker;
-  iteration = Some (i, d);
-  invokes = v.invokes;
-  count = v.count;
-  case = v.case;
-  moment = v.moment;
-}
+in_iteration v i d = record v { iteration = Some (i, d) }
 
 -- the input of an iteration: what the template makes of the Map's effective input; the item, where
 -- there is no template
@@ -97,23 +82,13 @@ with_items ds (Err e) = Err e
 
 -- the raw input of a state that waits for its branches
 abbrev pub forked_with : Record → Option Json
-forked_with (New n x) = None
-forked_with (Ready n x) = None
-forked_with (Pausing n x since until) = None
-forked_with (Again n x since uses until) = None
 forked_with (Forked n x since uses items) = Some x
-forked_with (Done x) = None
-forked_with (Failed e) = None
+forked_with _ = None
 
 -- the error of a branch that has failed
 abbrev pub error_in : Record → Option ErrorOut
-error_in (New n x) = None
-error_in (Ready n x) = None
-error_in (Pausing n x since until) = None
-error_in (Again n x since uses until) = None
-error_in (Forked n x since uses items) = None
-error_in (Done x) = None
 error_in (Failed e) = Some e
+error_in _ = None
 
 -- the error of the first that has failed
 abbrev pub first_error : List Record → Option ErrorOut
@@ -122,13 +97,8 @@ first_error (r ∷ rs) = option_or (error_in r) (first_error rs)
 
 -- the output of a branch that has ended well
 abbrev pub output_in : Record → Option Json
-output_in (New n x) = None
-output_in (Ready n x) = None
-output_in (Pausing n x since until) = None
-output_in (Again n x since uses until) = None
-output_in (Forked n x since uses items) = None
 output_in (Done x) = Some x
-output_in (Failed e) = None
+output_in _ = None
 
 -- one output before others
 abbrev pub output_before : Option Json → Option (List Data) → Option (List Data)

@@ -1,18 +1,19 @@
 -- What a state gives and where it goes on, by the members of its object.
-use Rattle.std.specs.Prelude.{ℕ, ◌*◌, List, [], Option, Some, None, option_map, Result, Ok, Err, codes}
-use Rattle.asl_json.specs.Data.{Data, null, boolean, number, text, list, dict}
+use Rattle.std.specs.Prelude.{ℕ, ◌*◌, List, [], Option, Some, None, option_map, Result, Ok, Err, codes, ok_or}
+use Rattle.asl_json_data.specs.Results.{◌>>=◌}
+use Rattle.asl_json_data.specs.Data.{Data, text, list}
 use Rattle.asl_json.specs.View.{data_of, json_of, unchained}
 use Rattle.asl_json.specs.Meaning.{value_in}
 use Rattle.asl_json.specs.declared.value.Json.{Json}
-use Rattle.asl_def_parts.specs.Texts.{text_in}
+use Rattle.asl_def_shared.specs.Texts.{text_in}
 use Rattle.asl_handle.specs.Decisions.{delayed}
-use Rattle.asl_step_rows.specs.declared.record.ErrorOut.{ErrorOut}
+use Rattle.asl_step.specs.declared.record.ErrorOut.{ErrorOut}
 use Rattle.asl_choice.specs.Truth.{Fault, missing, open_escape}
 use Rattle.asl_def_states.specs.Choosing.{chosen_next}
-use Rattle.asl_step_data.specs.Paths.{Given, taken, put_into, and_then, failure, no_value}
-use Rattle.asl_step_data.specs.Delay.{seconds_of, moment_of, seconds_at, moment_at}
-use Rattle.asl_step_data.specs.Payload.{filled}
-use Rattle.asl_step_data.specs.Reason.{GivenText, text_or, text_at}
+use Rattle.asl_step_io.specs.Paths.{Given, taken, put_into, failure, no_value}
+use Rattle.asl_step_io.specs.Delay.{seconds_of, moment_of, seconds_at, moment_at}
+use Rattle.asl_step_io.specs.Payload.{filled}
+use Rattle.asl_step_io.specs.Reason.{GivenText, text_at}
 
 -- the state that comes next, none where the state ends its branch
 abbrev pub next_in : Data → Option (List ℕ)
@@ -20,20 +21,16 @@ next_in d = text_in (value_in (codes "Next") d)
 
 -- the values of a list; none where it is absent
 abbrev pub values_in : Option Data → List Data
-values_in None = []
 values_in (Some (list ds)) = unchained ds
-values_in (Some null) = []
-values_in (Some (boolean b)) = []
-values_in (Some (number n)) = []
-values_in (Some (text t)) = []
-values_in (Some (dict ms)) = []
+values_in _ = []
 
 -- ---- what several kinds make, of the raw input x, with the Context Object c
 
 -- what InputPath takes, then what Parameters makes of it
 abbrev pub effective_by : Option Data → Option Data → Json → Data → Given
-effective_by path parameters x c =
-    and_then (taken (codes "InputPath") path x c) (λ y. filled parameters y c)
+effective_by path parameters x c = do
+  y ← taken (codes "InputPath") path x c
+  filled parameters y c
 
 -- the effective input
 abbrev pub effective : Data → Json → Data → Given
@@ -42,8 +39,9 @@ effective d x c =
 
 -- a result put into the raw input, and what OutputPath takes of that
 abbrev pub placed_by : Option Data → Option Data → Json → Data → Json → Given
-placed_by path output x c r =
-    and_then (put_into path x r) (λ z. taken (codes "OutputPath") output z c)
+placed_by path output x c r = do
+  z ← put_into path x r
+  taken (codes "OutputPath") output z c
 
 abbrev pub placed : Data → Json → Data → Json → Given
 placed d x c r = placed_by (value_in (codes "ResultPath") d) (value_in (codes "OutputPath") d) x c r
@@ -57,15 +55,17 @@ result_or (Some r) y = json_of r
 
 -- the effective input; the result, and where it is placed
 abbrev pub pass_output : Data → Json → Data → Given
-pass_output d x c =
-    and_then (effective d x c) (λ y. placed d x c (result_or (value_in (codes "Result") d) y))
+pass_output d x c = do
+  y ← effective d x c
+  placed d x c (result_or (value_in (codes "Result") d) y)
 
 -- ---- Task, and states that fork
 
 -- what ResultSelector makes of a result, and where it is placed
 abbrev pub selected_by : Option Data → Option Data → Option Data → Json → Data → Json → Given
-selected_by selector path output x c r =
-    and_then (filled selector r c) (λ s. placed_by path output x c s)
+selected_by selector path output x c r = do
+  s ← filled selector r c
+  placed_by path output x c s
 
 abbrev pub selected : Data → Json → Data → Json → Given
 selected d x c r =
@@ -80,9 +80,9 @@ no_answer = failure (codes "States.Runtime") (codes "no mocked answer")
 
 -- what OutputPath takes of the effective input
 abbrev pub passed_on : Data → Json → Data → Given
-passed_on d x c =
-    and_then (taken (codes "InputPath") (value_in (codes "InputPath") d) x c) (λ y.
-    taken (codes "OutputPath") (value_in (codes "OutputPath") d) y c)
+passed_on d x c = do
+  y ← taken (codes "InputPath") (value_in (codes "InputPath") d) x c
+  taken (codes "OutputPath") (value_in (codes "OutputPath") d) y c
 
 -- ---- Choice
 
@@ -97,8 +97,8 @@ no_choice = failure (codes "States.NoChoiceMatched") (codes "no rule holds")
 -- the state of Next where a rule holds, else of Default
 abbrev pub target_by : Option Data → Result (Option Data) Fault → GivenText
 target_by default (Err f) = Err (undecided f)
-target_by default (Ok None) = text_or no_choice (text_in default)
-target_by default (Ok (Some next)) = text_or no_choice (text_in (Some next))
+target_by default (Ok None) = ok_or (text_in default) no_choice
+target_by default (Ok (Some next)) = ok_or (text_in (Some next)) no_choice
 
 abbrev pub chosen_target : Data → Data → Data → GivenText
 chosen_target d y c =

@@ -1,32 +1,32 @@
 -- The state table: what a step of each kind does, by what the branch is doing (ASL, "State Types";
 -- Developer Guide, "HistoryEvent").
-use Rattle.std.specs.Prelude.{ℕ, pos, Bool, true, false, List, [], ◌∷◌, length, Option, Some, None, if◌then◌else◌, Result, Ok, Err, codes}
+use Rattle.std.specs.Prelude.{ℕ, pos, Bool, true, false, List, [], ◌∷◌, length, Option, Some, None, if◌then◌else◌, Result, Ok, Err, codes, unwrap_or}
 use Rattle.std.specs.Str.{bytes_eq}
-use Rattle.asl_json.specs.Data.{Data, number}
+use Rattle.asl_json_data.specs.Data.{Data, number}
 use Rattle.std.specs.Fmt.{signed_decimal}
 use Rattle.asl_json.specs.View.{data_of}
 use Rattle.asl_json.specs.Meaning.{value_in}
 use Rattle.asl_json.specs.declared.value.Json.{Json}
 use Rattle.asl_json.specs.declared.value.Json.TheVariants.{Dict, List as ListOf}
-use Rattle.asl_def_table.specs.Claims.{item_count}
+use Rattle.asl_def_schema.specs.Claims.{item_count}
 use Rattle.asl_history.specs.declared.kind.EventKind.{EventKind}
 use Rattle.asl_history.specs.declared.kind.EventKind.TheVariants.{PassStateEntered, PassStateExited, SucceedStateEntered, SucceedStateExited, FailStateEntered, ChoiceStateEntered, ChoiceStateExited, WaitStateEntered, WaitStateExited, TaskStateEntered, TaskStateExited, TaskScheduled, TaskStarted, TaskSucceeded, TaskFailed, ParallelStateEntered, ParallelStateExited, ParallelStateStarted, ParallelStateSucceeded, ParallelStateFailed, MapStateEntered, MapStateStarted, MapStateSucceeded, MapStateFailed, MapStateExited}
-use Rattle.asl_def_parts.specs.Texts.{text_in}
+use Rattle.asl_def_shared.specs.Texts.{text_in}
 use Rattle.asl_def_states.specs.Items.{processor_in, selector_in, member_in}
-use Rattle.asl_step_rows.specs.declared.effect.Effect.{Effect}
-use Rattle.asl_step_rows.specs.declared.effect.Progress.{Progress}
-use Rattle.asl_step_rows.specs.declared.facts.Facts.{Facts}
-use Rattle.asl_step_rows.specs.declared.record.ErrorOut.{ErrorOut}
-use Rattle.asl_step_rows.specs.Records.{name_or_none, name_in, uses_in, entering_with, beginning_with, pausing_with}
-use Rattle.asl_step_rows.specs.Seen.{Seen}
-use Rattle.asl_step_rows.specs.Context.{context_of}
-use Rattle.asl_step_rows.specs.Rows.{forking, idle, entering, beginning, telling, unstarted, retrying, pausing, leaving, failing, error_output, is_within_limit, over_limit}
+use Rattle.asl_step.specs.declared.effect.Effect.{Effect}
+use Rattle.asl_step.specs.declared.effect.Progress.{Progress}
+use Rattle.asl_step.specs.declared.facts.Facts.{Facts}
+use Rattle.asl_step.specs.declared.record.ErrorOut.{ErrorOut}
+use Rattle.asl_step.specs.Records.{error_name, name_in, uses_in, entering_with, beginning_with, pausing_with}
+use Rattle.asl_step.specs.Seen.{Seen}
+use Rattle.asl_step.specs.Context.{context_of}
+use Rattle.asl_step.specs.Rows.{forking, idle, entering, beginning, telling, unstarted, retrying, pausing, leaving, failing, error_output, is_within_limit, over_limit}
 use Rattle.asl_mock.specs.Answers.{answer_to}
 use Rattle.asl_mock.specs.declared.response.Answer.{Answer}
 use Rattle.asl_mock.specs.declared.response.Answer.TheVariants.{Returns, Throws}
 use Rattle.asl_handle.specs.Decisions.{Handling, again, caught, unhandled, handlers_in, decision}
-use Rattle.asl_step_data.specs.Paths.{Given, put_into, taken}
-use Rattle.asl_step_data.specs.Delay.{seconds_of}
+use Rattle.asl_step_io.specs.Paths.{Given, put_into, taken}
+use Rattle.asl_step_io.specs.Delay.{seconds_of}
 use Rattle.asl_kinds.specs.Members.{next_in, effective, pass_output, passed_on, selected, no_answer, fail_error, GivenTarget, choice_output, GivenMoment, wait_until}
 use Rattle.asl_kinds.specs.Forks.{starts_in, ready_at, items_by, iterations, GivenFork, with_items, forked_with, first_error, outputs, gathered}
 
@@ -92,10 +92,6 @@ abbrev pub wait_effect : Data → Facts → Seen → Effect
 wait_effect d f v = wait_with d f v (entering_with v.current)
 
 -- ---- errors (ASL, "Retrying after error", "Fallback States")
-
--- the name of an error; empty where it has none
-abbrev pub error_name : ErrorOut → List ℕ
-error_name e = name_or_none e.error
 
 -- the state is retried; or the catcher puts the error into the raw input and says where to go on;
 -- or the branch fails
@@ -220,7 +216,7 @@ length_body ds = Dict ((codes "length", number (signed_decimal (pos (length ds))
 
 -- the state that each iteration begins at
 abbrev pub iteration_start : Option Data → List ℕ
-iteration_start machine = name_or_none (text_in (member_in (codes "StartAt") machine))
+iteration_start machine = unwrap_or (text_in (member_in (codes "StartAt") machine)) []
 
 -- by the effective input y and its items, with the template that makes inputs of them
 abbrev pub fork_over : Option Data → List ℕ → Facts → Seen → Json → Result (List Data) ErrorOut
@@ -293,13 +289,9 @@ invokes d = is_invoking_type (text_in (value_in (codes "Type") d))
 
 -- ---- how many iterations of a Map run at once
 
-abbrev pub whole_or_zero : Option ℕ → ℕ
-whole_or_zero None = 0
-whole_or_zero (Some n) = n
-
 abbrev pub limit_in : Option Data → ℕ
 limit_in None = 0
-limit_in (Some d) = whole_or_zero (seconds_of d)
+limit_in (Some d) = unwrap_or (seconds_of d) 0
 
 abbrev pub slots_by_type : Option (List ℕ) → Data → ℕ
 slots_by_type None d = 0

@@ -1,22 +1,23 @@
 // Choice (ASL, "Choice State").
 ghost use Rattle.std.specs.Prelude.{◌≡◌, List, ℕ, option_map};
-ghost use Rattle.asl_json.specs.Data.{text};
+ghost use Rattle.asl_json_data.specs.Data.{text};
 ghost use Rattle.asl_json.specs.View.{data_of};
 ghost use Rattle.asl_choice.specs.Seen.{fault_of, seen as rules_say};
 ghost use Rattle.asl_def_states.specs.Show.{choice_object};
-ghost use Rattle.asl_step_rows.specs.Context.{context_of};
-ghost use Rattle.asl_step_rows.specs.Seen.{seen};
-ghost use Rattle.asl_step_data.specs.Gives.{IsRaised, GivesSeen};
+ghost use Rattle.asl_step.specs.Context.{context_of};
+ghost use Rattle.asl_step.specs.Seen.{seen};
+ghost use Rattle.asl_step_io.specs.Gives.{IsRaised, GivesSeen};
 ghost use Rattle.asl_kinds.specs.Members.{undecided, target_by, chosen_target, choice_output};
 
 use crate::kind::StateKind;
 use asl_choice::RuleFault;
-use asl_def_parts::Target;
+use asl_def_shared::Target;
 use asl_def_states::Choice;
 use asl_history::EventKind;
-use asl_json::{Json, Shared};
-use asl_step_data::{Fault, missing, raised, taken};
-use asl_step_rows::{Context, Effect, Visit, entering, failing, idle, leaving};
+use asl_json::Json;
+use asl_json_shared::Shared;
+use asl_step::{Context, Effect, Visit, entering, failing, idle, leaving};
+use asl_step_io::{Fault, missing, raised, taken};
 use std::alloc::{AllocError, Global};
 
 /// Why it can't be said which rule holds, as an error.

@@ -2,19 +2,19 @@
 ghost use Rattle.std.specs.Prelude.{◌≡◌, IfOk, option_map, codes};
 ghost use Rattle.asl_json.specs.Meaning.{value_in};
 ghost use Rattle.asl_json.specs.View.{data_of};
-ghost use Rattle.asl_def_parts.specs.Texts.{text_in};
+ghost use Rattle.asl_def_shared.specs.Texts.{text_in};
 ghost use Rattle.asl_def_states.specs.Show.{fail_object, told, told_at};
-ghost use Rattle.asl_step_rows.specs.Context.{context_of};
-ghost use Rattle.asl_step_rows.specs.Seen.{seen};
-ghost use Rattle.asl_step_data.specs.Gives.{Gives};
+ghost use Rattle.asl_step.specs.Context.{context_of};
+ghost use Rattle.asl_step.specs.Seen.{seen};
+ghost use Rattle.asl_step_io.specs.Gives.{Gives};
 ghost use Rattle.asl_kinds.specs.Members.{reason_by, error_and, fail_error};
 
 use crate::kind::StateKind;
 use asl_def_states::{Fail, FailText};
 use asl_history::EventKind;
 use asl_json::{Json, Txt};
-use asl_step_data::{Fault, text_at};
-use asl_step_rows::{Context, Effect, ErrorOut, Visit, entering, failing, idle};
+use asl_step::{Context, Effect, ErrorOut, Visit, entering, failing, idle};
+use asl_step_io::{Fault, text_at};
 use std::alloc::{AllocError, Global};
 
 /// The text of an error's name or cause, where there is one.

@@ -1,21 +1,22 @@
 // What becomes of a state whose branches have ended.
 ghost use Rattle.std.specs.Prelude.{◌≡◌, map, option_map, IfOk};
-ghost use Rattle.asl_def_parts.specs.Member.{completion_object};
-ghost use Rattle.asl_step_rows.specs.Context.{context_of};
-ghost use Rattle.asl_step_rows.specs.Seen.{seen};
+ghost use Rattle.asl_def_shared.specs.Member.{completion_object};
+ghost use Rattle.asl_step.specs.Context.{context_of};
+ghost use Rattle.asl_step.specs.Seen.{seen};
 ghost use Rattle.asl_kinds.specs.Forks.{forked_with, error_in, first_error, output_in, outputs, gathered};
 ghost use Rattle.asl_kinds.specs.Table.{branch_fails, branches_end, joined};
 
 use crate::making::selected;
 use crate::raising::{raise, settled};
-use asl_def_parts::Completion;
+use asl_def_shared::Completion;
 use asl_history::EventKind;
-use asl_json::{Items, Json, Shared};
-use asl_step_data::empty_object;
-use asl_step_rows::{
+use asl_json::{Items, Json};
+use asl_json_shared::Shared;
+use asl_step::{
     Children, Context, Drafts, Effect, ErrorOut, Progress, Record, Visit, error_output, idle,
     telling,
 };
+use asl_step_io::empty_object;
 use std::alloc::{AllocError, Global};
 
 /// The raw input of a state that waits for its branches.

@@ -1,12 +1,12 @@
 // What all kinds of states have in common.
 ghost use Rattle.std.specs.Prelude.{◌≡◌, ℕ, Bool, IfOk};
-ghost use Rattle.asl_step_rows.specs.declared.effect.Effect.{Effect};
-ghost use Rattle.asl_step_rows.specs.declared.facts.Facts.{Facts};
-ghost use Rattle.asl_step_rows.specs.Seen.{Seen, seen};
-ghost use Rattle.asl_step_rows.specs.Bounds.{AreFew, IsBounded};
+ghost use Rattle.asl_step.specs.declared.effect.Effect.{Effect};
+ghost use Rattle.asl_step.specs.declared.facts.Facts.{Facts};
+ghost use Rattle.asl_step.specs.Seen.{Seen, seen};
+ghost use Rattle.asl_step.specs.Bounds.{AreFew, IsBounded};
 ghost use Rattle.asl_kinds.specs.Entering.{IsEntering, IsTold};
 
-use asl_step_rows::{Context, Effect, Visit};
+use asl_step::{Context, Effect, Visit};
 use std::alloc::{AllocError, Global};
 
 /// A kind of state.

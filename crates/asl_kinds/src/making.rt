@@ -1,18 +1,18 @@
 // What several kinds of states make of their raw input, and where a result is placed.
 ghost use Rattle.std.specs.Prelude.{◌≡◌, codes, option_map};
 ghost use Rattle.asl_json.specs.Meaning.{value_in};
-ghost use Rattle.asl_def_members.specs.Shown.{path_shown};
-ghost use Rattle.asl_def_parts.specs.Member.{completion_object};
-ghost use Rattle.asl_step_rows.specs.Context.{context_of};
-ghost use Rattle.asl_step_rows.specs.Seen.{seen};
-ghost use Rattle.asl_step_data.specs.Gives.{Gives};
+ghost use Rattle.asl_def_fields.specs.Shown.{path_shown};
+ghost use Rattle.asl_def_shared.specs.Member.{completion_object};
+ghost use Rattle.asl_step.specs.Context.{context_of};
+ghost use Rattle.asl_step.specs.Seen.{seen};
+ghost use Rattle.asl_step_io.specs.Gives.{Gives};
 ghost use Rattle.asl_kinds.specs.Members.{effective_by, placed_by, selected_by};
 
-use asl_def_members::PathField;
-use asl_def_parts::Completion;
-use asl_json::Shared;
-use asl_step_data::{Fault, filled, put_into, taken};
-use asl_step_rows::{Context, Visit};
+use asl_def_fields::PathField;
+use asl_def_shared::Completion;
+use asl_json_shared::Shared;
+use asl_step::{Context, Visit};
+use asl_step_io::{Fault, filled, put_into, taken};
 use asl_template::Template;
 use std::alloc::Global;
 

@@ -3,25 +3,26 @@ ghost use Rattle.std.specs.Prelude.{◌≡◌, ◌≤◌, [], ◌∷◌, ◌++�
 ghost use Rattle.asl_json.specs.View.{data_of};
 ghost use Rattle.asl_json.specs.Meaning.{value_in};
 ghost use Rattle.asl_def_states.specs.Show.{map_object};
-ghost use Rattle.asl_step_rows.specs.Context.{context_of};
-ghost use Rattle.asl_step_rows.specs.Seen.{seen};
-ghost use Rattle.asl_step_data.specs.Gives.{Gives};
-ghost use Rattle.asl_step_data.specs.Paths.{taken};
+ghost use Rattle.asl_step.specs.Context.{context_of};
+ghost use Rattle.asl_step.specs.Seen.{seen};
+ghost use Rattle.asl_step_io.specs.Gives.{Gives};
+ghost use Rattle.asl_step_io.specs.Paths.{taken};
 ghost use Rattle.asl_kinds.specs.Forks.{listed, item_input, iterations};
 ghost use Rattle.asl_kinds.specs.Table.{length_body, fork_of, map_forks, map_with};
-ghost use Rattle.asl_step_rows.specs.Bounds.{AreFew};
-ghost use Rattle.asl_step_rows.specs.declared.record.Record.TheVariants.{New};
+ghost use Rattle.asl_step.specs.Bounds.{AreFew};
+ghost use Rattle.asl_step.specs.declared.record.Record.TheVariants.{New};
 
 use crate::joining::{forked, join};
 use crate::kind::StateKind;
 use crate::raising::{count_of, raise};
 use asl_def_states::Map;
 use asl_history::EventKind;
-use asl_json::{Dec, Json, Members, Name, Shared, SharedItems, Txt};
-use asl_step_data::{Fault, filled, missing, part_of, taken};
-use asl_step_rows::{
+use asl_json::{Dec, Json, Members, Txt};
+use asl_json_shared::{Name, Shared, SharedItems};
+use asl_step::{
     Context, Effect, Progress, Record, Records, Visit, beginning, forking, idle, telling,
 };
+use asl_step_io::{Fault, filled, missing, part_of, taken};
 use asl_template::Template;
 use std::alloc::{AllocError, Global};
 

@@ -1,24 +1,24 @@
 // Parallel (ASL, "Parallel State").
 ghost use Rattle.std.specs.Prelude.{◌≡◌, ◌≤◌, ◌^◌, [], map, length, Ok, Some, IfOk};
 ghost use Rattle.asl_def_states.specs.Show.{parallel_object};
-ghost use Rattle.asl_step_rows.specs.Bounds.{AreFew};
-ghost use Rattle.asl_step_rows.specs.Context.{context_of};
-ghost use Rattle.asl_step_rows.specs.declared.record.Record.TheVariants.{Ready};
-ghost use Rattle.asl_step_rows.specs.Seen.{seen};
+ghost use Rattle.asl_step.specs.Bounds.{AreFew};
+ghost use Rattle.asl_step.specs.Context.{context_of};
+ghost use Rattle.asl_step.specs.declared.record.Record.TheVariants.{Ready};
+ghost use Rattle.asl_step.specs.Seen.{seen};
 ghost use Rattle.asl_kinds.specs.Table.{parallel_forks, parallel_with};
 
 use crate::joining::{forked, join};
 use crate::kind::StateKind;
 use crate::making::effective;
 use crate::raising::{count_of, raise};
-use asl_def_parts::Bodies;
+use asl_def_shared::Bodies;
 use asl_def_states::Parallel;
 use asl_history::EventKind;
-use asl_json::{Name, Shared, SharedItems};
-use asl_step_data::{Fault, empty_object};
-use asl_step_rows::{
+use asl_json_shared::{Name, Shared, SharedItems};
+use asl_step::{
     Context, Effect, Progress, Record, Records, Visit, beginning, forking, idle, telling,
 };
+use asl_step_io::{Fault, empty_object};
 use std::alloc::{AllocError, Global};
 
 /// A branch for each of these machines, about to enter its first state with this input.

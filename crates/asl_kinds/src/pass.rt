@@ -2,9 +2,9 @@
 ghost use Rattle.std.specs.Prelude.{◌≡◌, IfOk, option_map};
 ghost use Rattle.asl_json.specs.View.{data_of};
 ghost use Rattle.asl_def_states.specs.Show.{pass_object};
-ghost use Rattle.asl_step_rows.specs.Context.{context_of};
-ghost use Rattle.asl_step_rows.specs.Seen.{seen};
-ghost use Rattle.asl_step_data.specs.Gives.{Gives};
+ghost use Rattle.asl_step.specs.Context.{context_of};
+ghost use Rattle.asl_step.specs.Seen.{seen};
+ghost use Rattle.asl_step_io.specs.Gives.{Gives};
 ghost use Rattle.asl_kinds.specs.Members.{pass_output, result_or};
 
 use crate::kind::StateKind;
@@ -12,9 +12,10 @@ use crate::making::{effective, placed};
 use crate::passing::{passed, target};
 use asl_def_states::Pass;
 use asl_history::EventKind;
-use asl_json::{Json, Shared};
-use asl_step_data::{Fault, copied};
-use asl_step_rows::{Context, Effect, Visit, entering, idle};
+use asl_json::Json;
+use asl_json_shared::Shared;
+use asl_step::{Context, Effect, Visit, entering, idle};
+use asl_step_io::{Fault, copied};
 use std::alloc::{AllocError, Global};
 
 /// The result of a Pass that has one, else its effective input.

@@ -1,17 +1,17 @@
 // States that are left in the step that enters them.
 ghost use Rattle.std.specs.Prelude.{◌≡◌, IfOk, option_map};
-ghost use Rattle.asl_def_parts.specs.Parts.{next_shown};
-ghost use Rattle.asl_def_parts.specs.Texts.{text_in};
-ghost use Rattle.asl_step_rows.specs.Seen.{seen};
-ghost use Rattle.asl_step_data.specs.Paths.{Given};
-ghost use Rattle.asl_step_data.specs.Gives.{Gives};
+ghost use Rattle.asl_def_shared.specs.Parts.{next_shown};
+ghost use Rattle.asl_def_shared.specs.Texts.{text_in};
+ghost use Rattle.asl_step.specs.Seen.{seen};
+ghost use Rattle.asl_step_io.specs.Paths.{Given};
+ghost use Rattle.asl_step_io.specs.Gives.{Gives};
 ghost use Rattle.asl_kinds.specs.Table.{passed};
 
-use asl_def_parts::Transition;
+use asl_def_shared::Transition;
 use asl_history::EventKind;
-use asl_json::Shared;
-use asl_step_data::Fault;
-use asl_step_rows::{Effect, Progress, Visit, failing, leaving};
+use asl_json_shared::Shared;
+use asl_step::{Effect, Progress, Visit, failing, leaving};
+use asl_step_io::Fault;
 use std::alloc::{AllocError, Global};
 
 /// The name of the state that comes next; none where the state ends its branch.

@@ -1,36 +1,26 @@
 // What a state does with an error that it raises.
 ghost use Rattle.std.specs.Prelude.{◌≡◌, None, IfOk, codes, option_map};
-ghost use Rattle.asl_json.specs.Data.{list, chain};
+ghost use Rattle.asl_json_data.specs.Data.{list, chain};
 ghost use Rattle.asl_json.specs.Meaning.{value_in};
-ghost use Rattle.asl_def_parts.specs.Member.{completion_object};
-ghost use Rattle.asl_def_table.specs.Claims.{item_count};
+ghost use Rattle.asl_def_shared.specs.Member.{completion_object};
+ghost use Rattle.asl_def_schema.specs.Claims.{item_count};
 ghost use Rattle.asl_handle.specs.Decisions.{caught, handlers_in};
-ghost use Rattle.asl_step_rows.specs.Seen.{seen};
-ghost use Rattle.asl_def_parts.specs.Parts.{catcher_object};
-ghost use Rattle.asl_step_data.specs.Paths.{Given};
-ghost use Rattle.asl_step_data.specs.Gives.{Gives};
+ghost use Rattle.asl_step.specs.Seen.{seen};
+ghost use Rattle.asl_def_shared.specs.Parts.{catcher_object};
+ghost use Rattle.asl_step_io.specs.Paths.{Given};
+ghost use Rattle.asl_step_io.specs.Gives.{Gives};
 ghost use Rattle.asl_kinds.specs.Members.{next_in};
-ghost use Rattle.asl_kinds.specs.Table.{error_name, handled, raised, settled};
+ghost use Rattle.asl_kinds.specs.Table.{handled, raised, settled};
 
 use crate::passing::{passed, target};
-use asl_def_members::Retriers;
-use asl_def_parts::{Catcher, Completion};
+use asl_def_fields::Retriers;
+use asl_def_shared::{Catcher, Completion};
 use asl_handle::{Decision, Policy};
 use asl_history::EventKind;
-use asl_json::Shared;
-use asl_step_data::{Fault, put_into};
-use asl_step_rows::{Effect, ErrorOut, Progress, Visit, error_output, failing, leaving, retrying};
+use asl_json_shared::Shared;
+use asl_step::{Effect, ErrorOut, Progress, Visit, error_output, failing, leaving, retrying};
+use asl_step_io::{Fault, put_into};
 use std::alloc::{AllocError, Global};
-
-/// The name of an error; empty where it has none.
-fn error_name(error: &ErrorOut) -> &str
-    ensures { result.now ≡ error_name error.now }
-{
-    match &error.error {
-        Some(name) => name.as_str(),
-        None => "",
-    }
-}
 
 /// How many retriers there are.
 pub(crate) fn count_of(retriers: Option<&Retriers>) -> usize
@@ -82,7 +72,7 @@ pub(crate) fn raise(
         retriers: completion.retry(),
         catchers: completion.catch(),
     };
-    match policy.decide(error_name(&error), visit.current.uses(), visit.moment) {
+    match policy.decide(error.name(), visit.current.uses(), visit.moment) {
         Decision::Again { retrier, until } => {
             let retriers = count_of(completion.retry());
             retrying(alloc, visit, done, input, retriers, retrier, until)

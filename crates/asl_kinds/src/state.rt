@@ -1,7 +1,7 @@
 // A state of any type.
 use crate::kind::StateKind;
 use asl_def_states::State;
-use asl_step_rows::{Context, Effect, Visit};
+use asl_step::{Context, Effect, Visit};
 use std::alloc::{AllocError, Global};
 
 /// A state does what its kind says. It doesn't depend on the states of the machines inside it: the law `any_table` of `Laws`.

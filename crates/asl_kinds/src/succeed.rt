@@ -1,18 +1,18 @@
 // Succeed (ASL, "Succeed State").
 ghost use Rattle.std.specs.Prelude.{◌≡◌};
 ghost use Rattle.asl_def_states.specs.Show.{succeed_object};
-ghost use Rattle.asl_step_rows.specs.Context.{context_of};
-ghost use Rattle.asl_step_rows.specs.Seen.{seen};
-ghost use Rattle.asl_step_data.specs.Gives.{Gives};
+ghost use Rattle.asl_step.specs.Context.{context_of};
+ghost use Rattle.asl_step.specs.Seen.{seen};
+ghost use Rattle.asl_step_io.specs.Gives.{Gives};
 ghost use Rattle.asl_kinds.specs.Members.{passed_on};
 
 use crate::kind::StateKind;
 use crate::passing::passed;
 use asl_def_states::Succeed;
 use asl_history::EventKind;
-use asl_json::Shared;
-use asl_step_data::{Fault, taken};
-use asl_step_rows::{Context, Effect, Visit, entering, idle};
+use asl_json_shared::Shared;
+use asl_step::{Context, Effect, Visit, entering, idle};
+use asl_step_io::{Fault, taken};
 use std::alloc::{AllocError, Global};
 
 /// What a Succeed gives for a raw input.

@@ -1,8 +1,8 @@
 // Task (ASL, "Task State"): the test case answers in the service's place.
 ghost use Rattle.std.specs.Prelude.{◌≡◌, IfOk, option_map};
 ghost use Rattle.asl_def_states.specs.Show.{task_object};
-ghost use Rattle.asl_step_rows.specs.Context.{context_of};
-ghost use Rattle.asl_step_rows.specs.Seen.{seen};
+ghost use Rattle.asl_step.specs.Context.{context_of};
+ghost use Rattle.asl_step.specs.Seen.{seen};
 ghost use Rattle.asl_kinds.specs.Members.{no_answer};
 ghost use Rattle.asl_kinds.specs.Table.{invoked, task_fails, task_returns, task_answered};
 
@@ -11,13 +11,14 @@ use crate::making::{effective, selected};
 use crate::raising::{raise, settled};
 use asl_def_states::Task;
 use asl_history::EventKind;
-use asl_json::{Json, Shared, clone_text};
+use asl_json::{Json, clone_text};
+use asl_json_shared::Shared;
 use asl_mock::{Answer, answer};
-use asl_step_data::{Fault, copied, empty_object, raised};
-use asl_step_rows::{
+use asl_step::{
     Context, Effect, ErrorOut, Progress, Visit, beginning, error_output, idle, is_within_limit,
     over_limit, telling,
 };
+use asl_step_io::{Fault, copied, empty_object, raised};
 use std::alloc::{AllocError, Global};
 
 /// The service is invoked with this input: the count is raised.

@@ -2,19 +2,20 @@
 ghost use Rattle.std.specs.Prelude.{◌≡◌, ◌≤◌, IfOk, Ok, option_map, codes};
 ghost use Rattle.asl_json.specs.View.{data_of};
 ghost use Rattle.asl_def_states.specs.Show.{wait_object};
-ghost use Rattle.asl_step_rows.specs.Context.{context_of};
-ghost use Rattle.asl_step_rows.specs.Seen.{seen};
-ghost use Rattle.asl_step_data.specs.Gives.{Gives};
-ghost use Rattle.asl_step_data.specs.Paths.{no_value};
+ghost use Rattle.asl_step.specs.Context.{context_of};
+ghost use Rattle.asl_step.specs.Seen.{seen};
+ghost use Rattle.asl_step_io.specs.Gives.{Gives};
+ghost use Rattle.asl_step_io.specs.Paths.{no_value};
 ghost use Rattle.asl_kinds.specs.Members.{moment_or, later, until_in, wait_until, passed_on};
 
 use crate::kind::StateKind;
 use crate::passing::{passed, target};
 use asl_def_states::{Delay, Wait};
 use asl_history::EventKind;
-use asl_json::{Json, Shared};
-use asl_step_data::{Fault, missing, moment_at, seconds_at, taken};
-use asl_step_rows::{Context, Effect, Visit, entering, failing, idle, pausing, unstarted};
+use asl_json::Json;
+use asl_json_shared::Shared;
+use asl_step::{Context, Effect, Visit, entering, failing, idle, pausing, unstarted};
+use asl_step_io::{Fault, missing, moment_at, seconds_at, taken};
 use asl_time::{Moment, add};
 use std::alloc::{AllocError, Global};
 

@@ -1,4 +1,5 @@
 pub mod Telling
 pub mod Mocking
+pub mod Writing
 pub mod Sorting
 pub mod Sentences

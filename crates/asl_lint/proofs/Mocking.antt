@@ -3,9 +3,9 @@ use Rattle.std.proofs.Common.{◌≡◌, ℕ, ◌+◌, ◌<◌, List, [], ◌∷
 use Rattle.std.specs.Prelude.{◌&&◌, not, map, if◌then◌else◌}
 use Rattle.std.specs.HashSet.{contains_text}
 use Rattle.std.proofs.lemmas.List.{append-nil, map-append, drop_more}
-use Rattle.asl_json.specs.Data.{Data}
-use Rattle.asl_json.specs.Distinct.{Members}
-use Rattle.asl_json.specs.Wrong.{ReadsAs}
+use Rattle.asl_json_data.specs.Data.{Data}
+use Rattle.asl_json_data.specs.Distinct.{Members}
+use Rattle.asl_json_data.specs.Reads.{ReadsAs}
 use Rattle.asl_mock.specs.Faults.{bad_keys, overlaps}
 use Rattle.asl_mock.specs.Form.{misfits}
 use Rattle.asl_mock.specs.Places.{Place}
@@ -18,7 +18,7 @@ use Rattle.asl_lint_mocks.specs.Beside.{fits, is_answered, is_unclear, machines_
 use Rattle.asl_lint_mocks.specs.Lost.{lost_names}
 use Rattle.asl_lint_mocks.specs.Places.{AreAt, keys_of}
 use Rattle.asl_lint_mocks.specs.Warnings.{gaps, unused}
-use Rattle.asl_lint_words.specs.States.{Stated, states_of}
+use Rattle.asl_lint_messages.specs.States.{Stated, states_of}
 use Rattle.asl_lint.specs.declared.finding.Finding.{Finding}
 use Rattle.asl_lint.specs.declared.rule.Rule.TheVariants as rule
 use Rattle.asl_lint.specs.declared.rule.MockRule.{MockRule}

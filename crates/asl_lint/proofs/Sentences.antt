@@ -1,7 +1,7 @@
 -- No rule's sentence is empty.
 use Rattle.std.proofs.Common.{◌≡◌, ℕ, true, List, [], ◌∷◌, ◌++◌, refl}
-use Rattle.asl_def_table.specs.declared.fault.FaultKind.{FaultKind}
-use Rattle.asl_def_table.specs.declared.fault.FaultKind.TheVariants as fault
+use Rattle.asl_def_schema.specs.declared.fault.FaultKind.{FaultKind}
+use Rattle.asl_def_schema.specs.declared.fault.FaultKind.TheVariants as fault
 use Rattle.asl_lint_warnings.specs.declared.warning.WarningKind.{WarningKind}
 use Rattle.asl_lint_warnings.specs.declared.warning.WarningKind.TheVariants as warning
 use Rattle.asl_lint.specs.declared.rule.Rule.{Rule}

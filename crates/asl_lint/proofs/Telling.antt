@@ -2,13 +2,13 @@
 use Rattle.std.proofs.Common.{◌≡◌, ℕ, ◌+◌, ◌<◌, List, [], ◌∷◌, ◌++◌, Bool, length, get_or, drop, reverse, refl, sym, ap, ◌∙◌, append_assoc}
 use Rattle.std.specs.Prelude.{Option, map}
 use Rattle.std.proofs.lemmas.List.{reverse-append, map-append, drop_more}
-use Rattle.asl_json.specs.Data.{Data}
-use Rattle.asl_json_outline.specs.declared.span.Node.{Node}
-use Rattle.asl_json_outline.specs.Standing.{AllFind}
-use Rattle.asl_def_table.specs.declared.fault.Step.{Step}
-use Rattle.asl_def_table.specs.declared.fault.FaultKind.{FaultKind}
-use Rattle.asl_def_table.specs.First.{Found as Fault}
-use Rattle.asl_def_table.specs.Faults.{claims_of}
+use Rattle.asl_json_data.specs.Data.{Data}
+use Rattle.asl_json_spans.specs.declared.span.Node.{Node}
+use Rattle.asl_json_spans.specs.Standing.{AllFind}
+use Rattle.asl_def_schema.specs.declared.fault.Step.{Step}
+use Rattle.asl_def_schema.specs.declared.fault.FaultKind.{FaultKind}
+use Rattle.asl_def_schema.specs.First.{Found as Fault}
+use Rattle.asl_def_schema.specs.Faults.{claims_of}
 use Rattle.asl_lint_faults.specs.Told.{AreTold}
 use Rattle.asl_lint_warnings.specs.declared.warning.WarningKind.{WarningKind}
 use Rattle.asl_lint_warnings.specs.Kinds.{Noted as Warned}

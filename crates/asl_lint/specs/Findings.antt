@@ -1,10 +1,10 @@
 -- What is found in a definition.
 use Rattle.std.specs.Prelude.{◌≡◌, ℕ, ◌-◌, List, [], ◌∷◌, ◌++◌, Bool, true, false, ◌&&◌, not, length, map, reverse, take, if◌then◌else◌}
-use Rattle.asl_json.specs.Data.{Data}
-use Rattle.asl_def_table.specs.declared.fault.Step.{Step}
-use Rattle.asl_def_table.specs.declared.fault.FaultKind.TheVariants as fault
-use Rattle.asl_def_table.specs.First.{Found}
-use Rattle.asl_def_table.specs.Faults.{claims_of}
+use Rattle.asl_json_data.specs.Data.{Data}
+use Rattle.asl_def_schema.specs.declared.fault.Step.{Step}
+use Rattle.asl_def_schema.specs.declared.fault.FaultKind.TheVariants as fault
+use Rattle.asl_def_schema.specs.First.{Found}
+use Rattle.asl_def_schema.specs.Faults.{claims_of}
 use Rattle.asl_lint_faults.specs.Told.{AreTold}
 use Rattle.asl_lint_warnings.specs.declared.warning.WarningKind.{WarningKind}
 use Rattle.asl_lint_warnings.specs.declared.warning.WarningKind.TheVariants as warning

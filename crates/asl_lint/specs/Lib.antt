@@ -6,4 +6,6 @@ pub mod Linted
 pub mod Reports
 pub mod Rules
 pub mod Lines
+pub mod JsonLines
+pub mod Sarif
 pub mod private

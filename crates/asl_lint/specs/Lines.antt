@@ -2,11 +2,11 @@
 use Rattle.std.specs.Prelude.{ℕ, ◌+◌, ◌==◌, ◌&&◌, List, [], ◌∷◌, ◌++◌, codes, if◌then◌else◌, string_bytes}
 use Rattle.std.specs.List.{flat_map}
 use Rattle.std.specs.Fmt.{decimal}
-use Rattle.asl_terminal.specs.Shown.{shown}
+use Rattle.asl_text.specs.Shown.{shown}
 use Rattle.asl_lint.specs.declared.finding.Finding.{Finding}
 use Rattle.asl_lint.specs.declared.report.Report.{Report}
 use Rattle.asl_lint.specs.declared.rule.Severity.TheVariants as severity
-use Rattle.asl_lint.specs.Reports.{count}
+use Rattle.asl_lint.specs.Reports.{count, is_of}
 use Rattle.asl_lint.specs.Rules.{severity_of, word_of, rule_name}
 
 -- ---- a finding
@@ -32,6 +32,14 @@ told_text f =
 
 unfoldable pub finding_line : List ℕ → Finding → List ℕ
 finding_line file f = place_text file f ++ (told_text f ++ 10 ∷ [])
+
+-- nothing of one that is no error
+abbrev pub error_line : List ℕ → Finding → List ℕ
+error_line file f = if is_of severity.Error f then finding_line file f else []
+
+-- the errors among these
+abbrev pub error_lines : List ℕ → List Finding → List ℕ
+error_lines file fs = flat_map (error_line file) fs
 
 -- ---- how many there are
 

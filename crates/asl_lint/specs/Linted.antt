@@ -1,9 +1,9 @@
 -- What is told of a definition, and of a mock file beside it.
 use Rattle.std.specs.Prelude.{◌≡◌, ◌⊎◌, List, [], ◌∷◌, ◌++◌, ℕ, Option, Some, None, map}
-use Rattle.asl_json.specs.Data.{Data}
-use Rattle.asl_json.specs.Wrong.{ReadsAs}
+use Rattle.asl_json_data.specs.Data.{Data}
+use Rattle.asl_json_data.specs.Reads.{ReadsAs}
 use Rattle.asl_mock.specs.Tables.{members_in}
-use Rattle.asl_lint_words.specs.States.{Stated, states_of}
+use Rattle.asl_lint_messages.specs.States.{Stated, states_of}
 use Rattle.asl_lint.specs.declared.rule.Rule.{Rule}
 use Rattle.asl_lint.specs.declared.rule.Rule.TheVariants as rule
 use Rattle.asl_lint.specs.declared.rule.MockRule.TheVariants as mock

@@ -1,11 +1,11 @@
 -- What is told of a mock file, by itself and beside the states of a definition.
 use Rattle.std.specs.Prelude.{ℕ, List, [], ◌∷◌, ◌++◌, Bool, true, false, ◌&&◌, not, Option, Some, None, map, if◌then◌else◌}
 use Rattle.std.specs.List.{list_any}
-use Rattle.asl_json.specs.Data.{Data}
-use Rattle.asl_json.specs.Distinct.{Members}
+use Rattle.asl_json_data.specs.Data.{Data}
+use Rattle.asl_json_data.specs.Distinct.{Members}
 use Rattle.asl_json.specs.Same.{bytes_eq}
-use Rattle.asl_def_table.specs.declared.sort.Kind.{Kind}
-use Rattle.asl_def_table.specs.declared.sort.Kind.TheVariants as kind
+use Rattle.asl_def_schema.specs.declared.sort.Kind.{Kind}
+use Rattle.asl_def_schema.specs.declared.sort.Kind.TheVariants as kind
 use Rattle.asl_mock.specs.Faults.{bad_keys, overlaps}
 use Rattle.asl_mock.specs.Form.{misfits}
 use Rattle.asl_mock.specs.Places.{Place}
@@ -15,7 +15,7 @@ use Rattle.asl_lint_mocks.specs.Lost.{lost_names}
 use Rattle.asl_lint_mocks.specs.Places.{keys_of}
 use Rattle.asl_lint_mocks.specs.Warnings.{gaps, unused}
 use Rattle.asl_lint_mocks.specs.declared.beside.NameFault.TheVariants as name
-use Rattle.asl_lint_words.specs.States.{Stated}
+use Rattle.asl_lint_messages.specs.States.{Stated}
 use Rattle.asl_lint.specs.declared.rule.Rule.{Rule}
 use Rattle.asl_lint.specs.declared.rule.Rule.TheVariants as rule
 use Rattle.asl_lint.specs.declared.rule.MockRule.{MockRule}
@@ -51,13 +51,7 @@ is_state ss k = list_any (λ (s : Stated). bytes_eq k s.name) ss
 abbrev pub may_be_task : Option Kind → Bool
 may_be_task None = true
 may_be_task (Some kind.Task) = true
-may_be_task (Some kind.Pass) = false
-may_be_task (Some kind.Choice) = false
-may_be_task (Some kind.Wait) = false
-may_be_task (Some kind.Parallel) = false
-may_be_task (Some kind.Map) = false
-may_be_task (Some kind.Succeed) = false
-may_be_task (Some kind.Fail) = false
+may_be_task _ = false
 
 abbrev pub is_task : List Stated → List ℕ → Bool
 is_task ss k = list_any (λ (s : Stated). bytes_eq k s.name && may_be_task s.kind) ss
@@ -78,14 +72,7 @@ mocks_told w (Some ss) d = own_told d ++ beside_told w ss d
 
 abbrev pub is_a_task : Option Kind → Bool
 is_a_task (Some kind.Task) = true
-is_a_task (Some kind.Pass) = false
-is_a_task (Some kind.Choice) = false
-is_a_task (Some kind.Wait) = false
-is_a_task (Some kind.Parallel) = false
-is_a_task (Some kind.Map) = false
-is_a_task (Some kind.Succeed) = false
-is_a_task (Some kind.Fail) = false
-is_a_task None = false
+is_a_task _ = false
 
 abbrev pub told_if : Bool → Stated → List Noted
 told_if b s = if b then (rule.Mock mock.UnansweredTask, s.place) ∷ [] else []

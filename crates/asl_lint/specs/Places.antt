@@ -3,12 +3,12 @@ use Rattle.std.specs.Prelude.{ℕ, ◌-◌, List, [], ◌∷◌, ◌≡◌, ◌�
 use Rattle.std.specs.List.{All}
 use Rattle.std.specs.List.Sorted.{IsNonDecreasingBy, IsPermutation, IsStableByKey}
 use Rattle.std.specs.Ordering.{nat_cmp}
-use Rattle.asl_json.specs.Data.{Data}
-use Rattle.asl_json_outline.specs.declared.span.Span.{Span}
-use Rattle.asl_json_outline.specs.declared.span.Node.{Node}
-use Rattle.asl_json_outline.specs.Places.{place, place_at}
-use Rattle.asl_json_outline.specs.Position.{IsPosition}
-use Rattle.asl_json_outline.specs.Standing.{Finds}
+use Rattle.asl_json_data.specs.Data.{Data}
+use Rattle.asl_json_spans.specs.declared.span.Span.{Span}
+use Rattle.asl_json_spans.specs.declared.span.Node.{Node}
+use Rattle.asl_json_spans.specs.Places.{place, place_at}
+use Rattle.asl_json_spans.specs.Position.{IsPosition}
+use Rattle.asl_json_spans.specs.Standing.{Finds}
 use Rattle.asl_lint.specs.declared.rule.Rule.{Rule}
 use Rattle.asl_lint.specs.declared.part.Part.{Part}
 use Rattle.asl_lint.specs.declared.part.Part.TheVariants.{Key, Value, End}

@@ -13,17 +13,10 @@ use Rattle.asl_lint.specs.declared.report.Report.{Report}
 -- of a mock file
 
 abbrev pub is_mock_error : MockRule → Bool
-is_mock_error mock.Json = true
-is_mock_error mock.Shape = true
-is_mock_error mock.Key = true
-is_mock_error mock.Overlap = true
-is_mock_error mock.NoResponse = true
-is_mock_error mock.NoMachine = true
-is_mock_error mock.UnknownState = true
-is_mock_error mock.NotTask = true
 is_mock_error mock.UnansweredTask = false
 is_mock_error mock.UnusedResponse = false
 is_mock_error mock.MissingAnswer = false
+is_mock_error _ = true
 
 -- an error is refused; a warning is accepted, and surely isn't meant
 abbrev pub is_error : Rule → Bool

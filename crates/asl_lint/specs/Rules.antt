@@ -1,7 +1,7 @@
 -- How a rule is named, how bad it is, and what it says.
 use Rattle.std.specs.Prelude.{ℕ, List, codes, if◌then◌else◌}
-use Rattle.asl_def_table.specs.declared.fault.FaultKind.{FaultKind}
-use Rattle.asl_def_table.specs.declared.fault.FaultKind.TheVariants as fault
+use Rattle.asl_def_schema.specs.declared.fault.FaultKind.{FaultKind}
+use Rattle.asl_def_schema.specs.declared.fault.FaultKind.TheVariants as fault
 use Rattle.asl_lint_warnings.specs.declared.warning.WarningKind.{WarningKind}
 use Rattle.asl_lint_warnings.specs.declared.warning.WarningKind.TheVariants as warning
 use Rattle.asl_lint_warnings.specs.Kinds.{name_of}

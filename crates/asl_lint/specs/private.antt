@@ -1,2 +1,3 @@
 -- Words that only proofs need.
 pub mod Founds
+pub mod Writing

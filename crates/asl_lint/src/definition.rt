@@ -7,11 +7,11 @@ ghost use Rattle.asl_lint.specs.private.Founds.{noted};
 
 use crate::finding::{Found, said};
 use crate::rule::Rule;
-use asl_def_table::{Fault, FaultKind, Step};
+use asl_def_schema::{Fault, FaultKind, Step};
 use asl_json::Json;
 use asl_lint_faults::every_fault;
+use asl_lint_messages::{EFFORT, Places, States, put_fault, put_warning};
 use asl_lint_warnings::{Warning, WarningKind, every_warning};
-use asl_lint_words::{EFFORT, Places, States, put_fault, put_warning};
 use std::alloc::{AllocError, Global};
 
 /// The numbers of these steps, from the last to the first.

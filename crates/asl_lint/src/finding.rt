@@ -3,7 +3,7 @@ ghost use Rattle.std.specs.Prelude.{◌≡◌, true, IfOk, string_bytes};
 ghost use Rattle.asl_lint.specs.Told.{has_some, is_told};
 
 use crate::rule::Rule;
-use asl_json_outline::{Position, Span};
+use asl_json_spans::{Position, Span};
 use std::alloc::AllocError;
 
 /// A finding that isn't placed yet: its place is the numbers of members and items, from the outermost value in.

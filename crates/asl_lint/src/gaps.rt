@@ -1,6 +1,6 @@
 // Which numbers a response leaves out.
 use asl_json::Member;
-use asl_lint_words::put_name;
+use asl_lint_messages::put_name;
 use asl_mock::{Span, span_in};
 use std::alloc::{AllocError, Global};
 

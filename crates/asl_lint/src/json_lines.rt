@@ -1,33 +1,59 @@
 // Findings as lines of JSON.
+ghost use Rattle.std.specs.Prelude.{◌≡◌, ◌++◌, IfOk, OnOk, string_bytes};
+ghost use Rattle.std.specs.List.{flat_map};
+ghost use Rattle.asl_json_data.specs.Compact.{compact};
+ghost use Rattle.asl_writing.specs.Appends.{Appends};
+ghost use Rattle.asl_lint.specs.JsonLines.{finding_object, json_line, json_lines};
+
 use crate::finding::Finding;
+use crate::pieces::{
+    put_char, put_column, put_level, put_line, put_name, put_offset, put_text, put_words,
+};
 use crate::report::Report;
-use asl_json::put_quoted;
 use std::alloc::{AllocError, Global};
 
-/// Appends a member whose value is a text.
-fn put_text(out: &mut String, name: &str, text: &str) -> Result<(), AllocError> {
-    put_quoted(out, name)?;
-    out.push(':')?;
-    put_quoted(out, text)
+/// Appends the object of a finding in a file of this name.
+fn put_object(out: &mut String, file: &str, finding: &Finding) -> Result<(), AllocError>
+    ensures { OnOk result (Appends (string_bytes out.old)
+        (compact (finding_object file.now finding.now)) (string_bytes out.new)) }
+{
+    put_char(out, '{')?;
+    put_text(out, "file", file)?;
+    put_char(out, ',')?;
+    put_line(out, "line", finding)?;
+    put_char(out, ',')?;
+    put_column(out, "column", finding)?;
+    put_char(out, ',')?;
+    put_offset(out, "begin", finding.span.begin)?;
+    put_char(out, ',')?;
+    put_offset(out, "end", finding.span.end)?;
+    put_char(out, ',')?;
+    put_level(out, "severity", finding.rule)?;
+    put_char(out, ',')?;
+    put_name(out, "name", finding.rule)?;
+    put_char(out, ',')?;
+    put_words(out, "message", finding)?;
+    put_char(out, '}')?;
+    Ok(())
 }
 
-fn put_finding(out: &mut String, file: &str, finding: &Finding) -> Result<(), AllocError> {
-    let line = finding.position.lines.saturating_add(1);
-    let column = finding.position.characters.saturating_add(1);
-    out.push('{')?;
-    put_text(out, "file", file)?;
-    write!(out, ",\"line\":{line},\"column\":{column}")?;
-    write!(
-        out,
-        ",\"begin\":{},\"end\":{},",
-        finding.span.begin, finding.span.end
-    )?;
-    put_text(out, "severity", finding.rule.severity().word())?;
-    out.push(',')?;
-    put_text(out, "name", finding.rule.name())?;
-    out.push(',')?;
-    put_text(out, "message", finding.message.as_str())?;
-    out.push_str("}\n")
+/// Appends it on a line of its own.
+fn put_finding(out: &mut String, file: &str, finding: &Finding) -> Result<(), AllocError>
+    ensures { OnOk result (Appends (string_bytes out.old) (json_line file.now finding.now)
+        (string_bytes out.new)) }
+{
+    put_object(out, file, finding)?;
+    put_char(out, '\n')?;
+    Ok(())
+}
+
+fn put_findings(out: &mut String, file: &str, findings: &[Finding]) -> Result<(), AllocError>
+    ensures { OnOk result (Appends (string_bytes out.old) (flat_map (json_line file.now) findings.now) (string_bytes out.new)) }
+{
+    for finding in findings {
+        put_finding(out, file, finding)?;
+    }
+    Ok(())
 }
 
 /// The findings, a JSON object each on a line: `file`, `line` and `column` from 1, `begin` and `end` in bytes from 0, `severity`, `name` and
@@ -37,13 +63,11 @@ pub fn json(
     definition: &str,
     mocks: &str,
     report: &Report,
-) -> Result<String, AllocError> {
+) -> Result<String, AllocError>
+    ensures { IfOk result (λ t. string_bytes t ≡ json_lines definition.now mocks.now report.now) }
+{
     let mut out = String::new(alloc);
-    for finding in &report.definition {
-        put_finding(&mut out, definition, finding)?;
-    }
-    for finding in &report.mocks {
-        put_finding(&mut out, mocks, finding)?;
-    }
+    put_findings(&mut out, definition, &report.definition)?;
+    put_findings(&mut out, mocks, &report.mocks)?;
     Ok(out)
 }

@@ -2,7 +2,7 @@
 //!
 //! Modules in reading order: `rule`, `finding` and `report` are what is told, and `part` at what it points; `json_faults` says what is wrong with a text that is no JSON; `placing` finds
 //! lines and columns; `definition` has the findings of a definition, `mocks` those of a mock file, by itself and beside a definition, `mock_words` and `gaps` what
-//! is said of them, and `linting` all; `lines`, `json_lines` and `sarif_log` are the formats, and `pieces` has what lines tell of places.
+//! is said of them, and `linting` all; `lines`, `json_lines` and `sarif_log` are the formats, and `pieces` what they share.
 #![tactic(auto)]
 
 mod definition;
@@ -23,8 +23,8 @@ mod sarif_log;
 
 pub use finding::Finding;
 pub use json_lines::json;
-pub use lines::text;
-pub use linting::{Source, lint};
+pub use lines::{errors, text};
+pub use linting::{Source, lint, unread_in};
 pub use report::Report;
 pub use rule::{MockRule, Rule, Severity};
 pub use sarif_log::sarif;

@@ -1,13 +1,13 @@
 // Findings as lines for people.
 ghost use Rattle.std.specs.Prelude.{◌≡◌, ◌++◌, IfOk, OnOk, string_bytes};
 ghost use Rattle.std.specs.List.{flat_map};
-ghost use Rattle.asl_lint.specs.Lines.{counted, finding_line, lines_of, place_text, told_text, total_line};
+ghost use Rattle.asl_lint.specs.Lines.{counted, error_line, error_lines, finding_line, lines_of, place_text, told_text, total_line};
 
 use crate::finding::Finding;
 use crate::pieces::{column_of, line_of};
-use crate::report::Report;
+use crate::report::{Report, is_of};
 use crate::rule::Severity;
-use asl_terminal::put_shown;
+use asl_text::put_shown;
 use std::alloc::{AllocError, Global};
 
 /// Appends where a finding is: `FILE:LINE:COLUMN: `.
@@ -52,6 +52,28 @@ fn put_findings(out: &mut String, file: &str, findings: &[Finding]) -> Result<()
         put_finding(out, file, finding)?;
     }
     Ok(())
+}
+
+/// Appends a finding on a line, if it is an error.
+fn put_error(out: &mut String, file: &str, finding: &Finding) -> Result<(), AllocError>
+    ensures { OnOk result (string_bytes out.new
+        ≡ string_bytes out.old ++ error_line file.now finding.now) }
+{
+    if is_of(finding, Severity::Error) {
+        return put_finding(out, file, finding);
+    }
+    Ok(())
+}
+
+/// The errors among these findings of a file of this name, each on a line. The error is that memory ran out.
+pub fn errors(alloc: Global, file: &str, findings: &[Finding]) -> Result<String, AllocError>
+    ensures { IfOk result (λ t. string_bytes t ≡ error_lines file.now findings.now) }
+{
+    let mut out = String::new(alloc);
+    for finding in findings {
+        put_error(&mut out, file, finding)?;
+    }
+    Ok(out)
 }
 
 /// Appends a number of things.

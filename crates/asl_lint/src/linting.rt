@@ -2,7 +2,7 @@
 ghost use Rattle.std.specs.Prelude.{◌≡◌, None, Some, option_map, map, IfOk, IfErr, OnOk};
 ghost use Rattle.std.specs.List.{All};
 ghost use Rattle.asl_json.specs.View.{data_of};
-ghost use Rattle.asl_json.specs.Wrong.{ReadsAs};
+ghost use Rattle.asl_json_data.specs.Reads.{ReadsAs};
 ghost use Rattle.asl_lint.specs.Linted.{AreApart, AreJudged, AreLinted, AreMocksJudged, AreMocksLinted, AreUnanswered, IsUnread};
 ghost use Rattle.asl_lint.specs.Places.{IsAt, AreIn};
 ghost use Rattle.asl_lint.specs.private.Founds.{Adds, noted};
@@ -15,8 +15,9 @@ use crate::mocks::{add_unanswered, found_in_mocks};
 use crate::placing::placed;
 use crate::report::Report;
 use crate::rule::{MockRule, Rule};
-use asl_json::{Json, JsonFault, read};
-use asl_lint_words::States;
+use asl_json::Json;
+use asl_json_read::{JsonFault, read};
+use asl_lint_messages::States;
 use std::alloc::{AllocError, Global};
 
 /// What is judged: the text of a definition, and that of a mock file where there is one, of which the machine of this name is meant, or the only
@@ -45,6 +46,16 @@ fn value_of(
             let findings = unread(alloc, rule, text, fault)?;
             Ok(Err(findings))
         }
+    }
+}
+
+/// The finding that a text is no JSON; none where it is. The error is that memory ran out.
+pub fn unread_in(alloc: Global, text: &[u8]) -> Result<Vec<Finding>, AllocError>
+    ensures { IfOk result (λ fs. All (IsAt text.now) fs.items) }
+{
+    match value_of(alloc, Rule::Json, text)? {
+        Ok(_value) => Ok(Vec::new(alloc)),
+        Err(findings) => Ok(findings),
     }
 }
 

@@ -1,9 +1,9 @@
 // What is wrong in a mock file, in one sentence on what is wrong.
 use crate::gaps::put_gaps;
 use crate::rule::MockRule;
-use asl_def_table::Kind;
+use asl_def_schema::Kind;
 use asl_json::{Json, Member};
-use asl_lint_words::{EFFORT, Search, States, kind_word, put_name, put_separator};
+use asl_lint_messages::{EFFORT, Search, States, kind_word, put_name, put_separator};
 use asl_mock::{Shape, members_at, members_in};
 use std::alloc::{AllocError, Global};
 

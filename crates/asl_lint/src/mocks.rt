@@ -1,10 +1,10 @@
 // What is found in a mock file, by itself and beside the states of a definition.
 ghost use Rattle.std.specs.Prelude.{◌≡◌, ◌++◌, ◌||◌, ◌&&◌, not, ℕ, List, IfOk, OnOk, map, option_map};
 ghost use Rattle.std.specs.HashSet.{contains_text};
-ghost use Rattle.asl_json.specs.Distinct.{Members};
+ghost use Rattle.asl_json_data.specs.Distinct.{Members};
 ghost use Rattle.asl_json.specs.Same.{bytes_eq};
 ghost use Rattle.asl_json.specs.View.{data_of};
-ghost use Rattle.asl_lint_words.specs.States.{Stated};
+ghost use Rattle.asl_lint_messages.specs.States.{Stated};
 ghost use Rattle.asl_mock.specs.Places.{Place};
 ghost use Rattle.asl_mock.specs.Tables.{members_in};
 ghost use Rattle.asl_lint_mocks.specs.Places.{AreAt, numbers_of};
@@ -14,13 +14,13 @@ ghost use Rattle.asl_lint.specs.private.Founds.{Grows, IsKnown, noted};
 use crate::finding::{Found, said};
 use crate::mock_words::{Beside, put_mock};
 use crate::rule::{MockRule, Rule};
-use asl_def_table::Kind;
+use asl_def_schema::Kind;
 use asl_json::Json;
+use asl_lint_messages::{EFFORT, State, States, put_name};
 use asl_lint_mocks::{
     Faults, Known, NameFault, answered, faults_of, gaps, is_unclear, misnamed, unclear,
     unused_responses,
 };
-use asl_lint_words::{EFFORT, State, States, put_name};
 use std::alloc::{AllocError, Global};
 use std::collections::HashSet;
 

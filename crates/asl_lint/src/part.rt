@@ -3,7 +3,7 @@ ghost use Rattle.std.specs.Prelude.{◌≡◌};
 ghost use Rattle.asl_lint.specs.Findings.{part_of};
 
 use crate::rule::{MockRule, Rule};
-use asl_def_table::FaultKind;
+use asl_def_schema::FaultKind;
 use asl_lint_warnings::WarningKind;
 
 /// Which part of what stands at its place a finding points at.

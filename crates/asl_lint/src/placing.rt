@@ -1,11 +1,11 @@
 // Where findings stand in their text.
 ghost use Rattle.std.specs.Prelude.{◌≡◌, ◌≤◌, ℕ, List, length, map, take, IfOk};
 ghost use Rattle.std.specs.List.{All};
-ghost use Rattle.asl_json.specs.Data.{Data};
-ghost use Rattle.asl_json.specs.Grammar.{IsText};
+ghost use Rattle.asl_json_data.specs.Data.{Data};
+ghost use Rattle.asl_json_data.specs.Grammar.{IsText};
 ghost use Rattle.asl_json.specs.View.{data_of};
-ghost use Rattle.asl_json_outline.specs.Position.{IsPosition};
-ghost use Rattle.asl_json_outline.specs.Standing.{IsOutline, AllFind};
+ghost use Rattle.asl_json_spans.specs.Position.{IsPosition};
+ghost use Rattle.asl_json_spans.specs.Standing.{IsOutline, AllFind};
 ghost use Rattle.asl_lint.specs.Findings.{part_of, pointed};
 ghost use Rattle.asl_lint.specs.Told.{has_some};
 ghost use Rattle.asl_lint.specs.Places.{IsAt, end_of, span_by, AllPoint, ArePlaced, ruled};
@@ -15,7 +15,7 @@ use crate::finding::{Finding, Found};
 use crate::part::{Part, part_of};
 use crate::rule::Rule;
 use asl_json::Json;
-use asl_json_outline::{Node, Outline, Position, Span, outline};
+use asl_json_spans::{Node, Outline, Position, Span, outline};
 use std::alloc::{AllocError, Global};
 
 /// A finding whose stretch of the text is known.

@@ -15,7 +15,8 @@ pub struct Report {
     pub mocks: Vec<Finding>,
 }
 
-fn is_of(finding: &Finding, severity: Severity) -> bool
+/// Whether a finding is so bad.
+pub(crate) fn is_of(finding: &Finding, severity: Severity) -> bool
     ensures { result ≡ is_of severity finding.now }
 {
     match severity {

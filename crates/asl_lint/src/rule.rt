@@ -3,7 +3,7 @@ ghost use Rattle.std.specs.Prelude.{◌≡◌};
 ghost use Rattle.asl_lint.specs.Reports.{is_mock_error, is_error};
 ghost use Rattle.asl_lint.specs.Rules.{severity_of, word_of, rule_name, fault_name, mock_name, sentence, fault_sentence, warning_sentence, mock_sentence};
 
-use asl_def_table::FaultKind;
+use asl_def_schema::FaultKind;
 use asl_lint_warnings::WarningKind;
 
 /// How bad a finding is.

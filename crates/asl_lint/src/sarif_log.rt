@@ -1,21 +1,22 @@
 // Findings in SARIF. (Static Analysis Results Interchange Format, version 2.1.0, OASIS.)
+ghost use Rattle.std.specs.Prelude.{◌≡◌, ◌<◌, ◌∷◌, ◌++◌, false, IfOk, OnOk, map, string_bytes};
+ghost use Rattle.asl_json_data.specs.Data.{chain};
+ghost use Rattle.asl_json_data.specs.Compact.{compact, compact_items};
+ghost use Rattle.asl_writing.specs.Appends.{Appends};
+ghost use Rattle.asl_lint.specs.Rules.{sentence};
+ghost use Rattle.asl_lint.specs.Sarif.{artifact, configuration, driver, is_unreserved, location, locations, log, message, region, result_object, results, rule_object, rules, run, runs, sarif_text, stretch, tool, upper_digit, uri, uri_byte};
+ghost use Rattle.asl_lint.specs.Told.{has_some};
+ghost use Rattle.asl_lint.specs.private.Writing.{comma_if, more_items};
+
 use crate::finding::Finding;
+use crate::pieces::{put_char, put_column, put_key, put_level, put_line, put_name, put_text};
 use crate::report::Report;
 use crate::rule::{MockRule, Rule};
-use asl_def_table::FaultKind;
-use asl_json::put_quoted;
+use asl_def_schema::FaultKind;
 use asl_lint_warnings::WarningKind;
 use std::alloc::{AllocError, Global};
 
-/// What stands before the rules.
-const HEAD: &str =
-    "{\"$schema\":\"https://json.schemastore.org/sarif-2.1.0.json\",\"version\":\"2.1.0\",\"runs\":[{\"tool\":{\"driver\":{\"name\":\"asl\",\"version\":\"0.1.0\",\"rules\":[";
-
-/// What stands between the rules and the results.
-const MIDDLE: &str = "]}},\"columnKind\":\"unicodeCodePoints\",\"results\":[";
-
-/// All rules.
-const RULES: [Rule; 35] = [
+const RULES: &[Rule] = &[
     Rule::Json,
     Rule::Fault(FaultKind::NotObject),
     Rule::Fault(FaultKind::Missing),
@@ -53,85 +54,349 @@ const RULES: [Rule; 35] = [
     Rule::Mock(MockRule::MissingAnswer),
 ];
 
-/// Appends a comma before each part but the first.
-fn separate(out: &mut String, number: usize) -> Result<(), AllocError> {
-    if number > 0 {
-        out.push(',')?;
+/// All rules.
+#[tactic(auto, unfolding(crate::specs::Sarif::rules))]
+fn rules() -> &'static [Rule]
+    ensures { result.now ≡ rules }
+{
+    RULES
+}
+
+/// Appends a comma where something stands before.
+fn separate(out: &mut String, is_begun: bool) -> Result<(), AllocError>
+    ensures { OnOk result (Appends (string_bytes out.old) (comma_if is_begun) (string_bytes out.new)) }
+{
+    if is_begun {
+        put_char(out, ',')?;
     }
     Ok(())
 }
 
-fn put_rule(out: &mut String, rule: Rule) -> Result<(), AllocError> {
-    out.push_str("{\"id\":")?;
-    put_quoted(out, rule.name())?;
-    out.push_str(",\"shortDescription\":{\"text\":")?;
-    put_quoted(out, rule.sentence())?;
-    out.push_str("},\"defaultConfiguration\":{\"level\":")?;
-    put_quoted(out, rule.severity().word())?;
-    out.push_str("}}")
+/// Appends a text as an object.
+fn put_message(out: &mut String, text: &str) -> Result<(), AllocError>
+    ensures { OnOk result (Appends (string_bytes out.old) (compact (message text.now)) (string_bytes out.new)) }
+{
+    put_char(out, '{')?;
+    put_text(out, "text", text)?;
+    put_char(out, '}')?;
+    Ok(())
+}
+
+/// Appends the sentence of a rule as an object.
+fn put_sentence(out: &mut String, rule: Rule) -> Result<(), AllocError>
+    ensures { OnOk result (Appends (string_bytes out.old) (compact (message (sentence rule))) (string_bytes out.new)) }
+{
+    put_message(out, rule.sentence())
+}
+
+/// Appends its level as an object.
+fn put_configuration(out: &mut String, rule: Rule) -> Result<(), AllocError>
+    ensures { OnOk result (Appends (string_bytes out.old) (compact (configuration rule)) (string_bytes out.new)) }
+{
+    put_char(out, '{')?;
+    put_level(out, "level", rule)?;
+    put_char(out, '}')?;
+    Ok(())
+}
+
+fn put_rule(out: &mut String, rule: Rule) -> Result<(), AllocError>
+    ensures { OnOk result (Appends (string_bytes out.old) (compact (rule_object rule)) (string_bytes out.new)) }
+{
+    put_char(out, '{')?;
+    put_name(out, "id", rule)?;
+    put_char(out, ',')?;
+    put_key(out, "shortDescription")?;
+    put_sentence(out, rule)?;
+    put_char(out, ',')?;
+    put_key(out, "defaultConfiguration")?;
+    put_configuration(out, rule)?;
+    put_char(out, '}')?;
+    Ok(())
+}
+
+/// Appends each of these rules, with commas between.
+fn put_each_rule(out: &mut String, rules: &[Rule]) -> Result<(), AllocError>
+    ensures { OnOk result (Appends (string_bytes out.old) (more_items rule_object false rules.now) (string_bytes out.new)) }
+{
+    let mut is_begun = false;
+    for rule in rules {
+        separate(out, is_begun)?;
+        put_rule(out, *rule)?;
+        is_begun = true;
+    }
+    Ok(())
+}
+
+/// Appends these rules as a list.
+fn put_rules(out: &mut String, rules: &[Rule]) -> Result<(), AllocError>
+    ensures { OnOk result (Appends (string_bytes out.old) (91 ∷ compact_items (chain (map rule_object rules.now))) (string_bytes out.new)) }
+{
+    put_char(out, '[')?;
+    put_each_rule(out, rules)?;
+    put_char(out, ']')?;
+    Ok(())
+}
+
+/// Appends what the program is, with these rules.
+fn put_driver(out: &mut String, rules: &[Rule]) -> Result<(), AllocError>
+    ensures { OnOk result (Appends (string_bytes out.old) (compact (driver rules.now)) (string_bytes out.new)) }
+{
+    put_char(out, '{')?;
+    put_text(out, "name", "asl")?;
+    put_char(out, ',')?;
+    put_text(out, "version", "0.1.0")?;
+    put_char(out, ',')?;
+    put_key(out, "rules")?;
+    put_rules(out, rules)?;
+    put_char(out, '}')?;
+    Ok(())
 }
 
 /// Whether a byte stands for itself in a URI. (RFC 3986, section 2.3, and the slash.)
-fn is_unreserved(byte: u8) -> bool {
-    byte.is_ascii_alphanumeric() || matches!(byte, b'-' | b'.' | b'_' | b'~' | b'/')
+#[tactic(auto, unfolding(crate::specs::Sarif::is_unreserved))]
+fn is_unreserved(byte: u8) -> bool
+    ensures { result ≡ is_unreserved byte }
+{
+    byte.is_ascii_alphanumeric()
+        || byte == b'-'
+        || byte == b'.'
+        || byte == b'_'
+        || byte == b'~'
+        || byte == b'/'
 }
 
 /// The upper-case hexadecimal digit of this value.
-fn digit(value: u8) -> char {
+fn digit(value: u8) -> char
+    requires { value < 16 }
+    ensures value { result ≡ upper_digit value }
+    ensures ascii { result < 128 }
+{
     if value < 10 {
         (b'0' + value) as char
     } else {
-        (b'A' + (value % 16).saturating_sub(10)) as char
+        (b'7' + value) as char
     }
 }
 
-/// Appends the name of a file as a reference to a URI. (RFC 3986, section 2.1.)
-fn put_uri(out: &mut String, file: &str) -> Result<(), AllocError> {
-    out.push('"')?;
+/// Appends a byte of the name of a file as it stands in a URI. (RFC 3986, section 2.1.)
+#[tactic(auto, unfolding(crate::specs::Sarif::uri_byte))]
+fn put_uri_byte(out: &mut String, byte: u8) -> Result<(), AllocError>
+    ensures { OnOk result (Appends (string_bytes out.old) (uri_byte byte) (string_bytes out.new)) }
+{
+    if is_unreserved(byte) {
+        return out.push(byte as char);
+    }
+    put_char(out, '%')?;
+    out.push(digit(byte / 16))?;
+    out.push(digit(byte % 16))
+}
+
+/// The name of a file as a reference to a URI.
+fn uri_of(alloc: Global, file: &str) -> Result<String, AllocError>
+    ensures { IfOk result (λ t. string_bytes t ≡ uri file.now) }
+{
+    let mut out = String::new(alloc);
     for byte in file.as_bytes() {
-        if is_unreserved(*byte) {
-            out.push(*byte as char)?;
-        } else {
-            out.push('%')?;
-            out.push(digit(*byte / 16))?;
-            out.push(digit(*byte % 16))?;
-        }
+        put_uri_byte(&mut out, *byte)?;
     }
-    out.push('"')
+    Ok(out)
 }
 
-fn put_result(out: &mut String, file: &str, finding: &Finding) -> Result<(), AllocError> {
-    let line = finding.position.lines.saturating_add(1);
-    let column = finding.position.characters.saturating_add(1);
-    out.push_str("{\"ruleId\":")?;
-    put_quoted(out, finding.rule.name())?;
-    out.push_str(",\"level\":")?;
-    put_quoted(out, finding.rule.severity().word())?;
-    out.push_str(",\"message\":{\"text\":")?;
-    put_quoted(out, finding.message.as_str())?;
-    out.push_str("},\"locations\":[{\"physicalLocation\":{\"artifactLocation\":{\"uri\":")?;
-    put_uri(out, file)?;
-    write!(
-        out,
-        "}},\"region\":{{\"startLine\":{line},\"startColumn\":{column}}}}}}}]}}"
-    )
+fn put_region(out: &mut String, finding: &Finding) -> Result<(), AllocError>
+    ensures { OnOk result (Appends (string_bytes out.old) (compact (region finding.now)) (string_bytes out.new)) }
+{
+    put_char(out, '{')?;
+    put_line(out, "startLine", finding)?;
+    put_char(out, ',')?;
+    put_column(out, "startColumn", finding)?;
+    put_char(out, '}')?;
+    Ok(())
 }
 
+/// Appends the file of this URI.
+fn put_artifact(out: &mut String, uri: &str) -> Result<(), AllocError>
+    ensures { OnOk result (Appends (string_bytes out.old) (compact (artifact uri.now)) (string_bytes out.new)) }
+{
+    put_char(out, '{')?;
+    put_text(out, "uri", uri)?;
+    put_char(out, '}')?;
+    Ok(())
+}
+
+/// Appends where a finding is, in the file of this URI.
+fn put_stretch(out: &mut String, uri: &str, finding: &Finding) -> Result<(), AllocError>
+    ensures { OnOk result (Appends (string_bytes out.old) (compact (stretch uri.now finding.now)) (string_bytes out.new)) }
+{
+    put_char(out, '{')?;
+    put_key(out, "artifactLocation")?;
+    put_artifact(out, uri)?;
+    put_char(out, ',')?;
+    put_key(out, "region")?;
+    put_region(out, finding)?;
+    put_char(out, '}')?;
+    Ok(())
+}
+
+fn put_location(out: &mut String, uri: &str, finding: &Finding) -> Result<(), AllocError>
+    ensures { OnOk result (Appends (string_bytes out.old) (compact (location uri.now finding.now)) (string_bytes out.new)) }
+{
+    put_char(out, '{')?;
+    put_key(out, "physicalLocation")?;
+    put_stretch(out, uri, finding)?;
+    put_char(out, '}')?;
+    Ok(())
+}
+
+/// Appends a list of its one place.
+fn put_locations(out: &mut String, uri: &str, finding: &Finding) -> Result<(), AllocError>
+    ensures { OnOk result (Appends (string_bytes out.old) (compact (locations uri.now finding.now)) (string_bytes out.new)) }
+{
+    put_char(out, '[')?;
+    put_location(out, uri, finding)?;
+    put_char(out, ']')?;
+    Ok(())
+}
+
+/// Appends its message as an object.
+fn put_finding(out: &mut String, finding: &Finding) -> Result<(), AllocError>
+    ensures { OnOk result (Appends (string_bytes out.old) (compact (message (string_bytes finding.now.message))) (string_bytes out.new)) }
+{
+    put_message(out, finding.message.as_str())
+}
+
+fn put_result(out: &mut String, uri: &str, finding: &Finding) -> Result<(), AllocError>
+    ensures { OnOk result (Appends (string_bytes out.old) (compact (result_object uri.now finding.now)) (string_bytes out.new)) }
+{
+    put_char(out, '{')?;
+    put_name(out, "ruleId", finding.rule)?;
+    put_char(out, ',')?;
+    put_level(out, "level", finding.rule)?;
+    put_char(out, ',')?;
+    put_key(out, "message")?;
+    put_finding(out, finding)?;
+    put_char(out, ',')?;
+    put_key(out, "locations")?;
+    put_locations(out, uri, finding)?;
+    put_char(out, '}')?;
+    Ok(())
+}
+
+/// Appends each of these findings in the file of this URI, with commas between, and one before where something stands before.
+fn put_each_result(
+    out: &mut String,
+    is_begun: bool,
+    uri: &str,
+    findings: &[Finding],
+) -> Result<(), AllocError>
+    ensures { OnOk result (Appends (string_bytes out.old) (more_items (result_object uri.now) is_begun findings.now) (string_bytes out.new)) }
+{
+    let mut is_begun = is_begun;
+    for finding in findings {
+        separate(out, is_begun)?;
+        put_result(out, uri, finding)?;
+        is_begun = true;
+    }
+    Ok(())
+}
+
+fn has_some(findings: &[Finding]) -> bool
+    ensures { result ≡ has_some findings.now }
+{
+    match findings {
+        [] => false,
+        _ => true,
+    }
+}
+
+/// Appends the findings as a list. The files have these URIs.
 fn put_results(
     out: &mut String,
     definition: &str,
     mocks: &str,
     report: &Report,
-) -> Result<(), AllocError> {
-    let before = report.definition.len();
-    for (number, finding) in report.definition.iter().enumerate() {
-        separate(out, number)?;
-        put_result(out, definition, finding)?;
-    }
-    for (number, finding) in report.mocks.iter().enumerate() {
-        separate(out, before.saturating_add(number))?;
-        put_result(out, mocks, finding)?;
-    }
+) -> Result<(), AllocError>
+    ensures { OnOk result (Appends (string_bytes out.old) (91 ∷ compact_items (chain (results definition.now mocks.now report.now))) (string_bytes out.new)) }
+{
+    put_char(out, '[')?;
+    put_each_result(out, false, definition, &report.definition)?;
+    let is_begun = has_some(&report.definition);
+    put_each_result(out, is_begun, mocks, &report.mocks)?;
+    put_char(out, ']')?;
+    Ok(())
+}
+
+/// Appends the program that made the log, with these rules.
+fn put_tool(out: &mut String, rules: &[Rule]) -> Result<(), AllocError>
+    ensures { OnOk result (Appends (string_bytes out.old) (compact (tool rules.now)) (string_bytes out.new)) }
+{
+    put_char(out, '{')?;
+    put_key(out, "driver")?;
+    put_driver(out, rules)?;
+    put_char(out, '}')?;
+    Ok(())
+}
+
+/// Appends the run, with these rules. The files have these URIs.
+fn put_run(
+    out: &mut String,
+    rules: &[Rule],
+    definition: &str,
+    mocks: &str,
+    report: &Report,
+) -> Result<(), AllocError>
+    ensures { OnOk result (Appends (string_bytes out.old) (compact (run rules.now (results definition.now mocks.now report.now))) (string_bytes out.new)) }
+{
+    put_char(out, '{')?;
+    put_key(out, "tool")?;
+    put_tool(out, rules)?;
+    put_char(out, ',')?;
+    put_text(out, "columnKind", "unicodeCodePoints")?;
+    put_char(out, ',')?;
+    put_key(out, "results")?;
+    put_results(out, definition, mocks, report)?;
+    put_char(out, '}')?;
+    Ok(())
+}
+
+/// Appends a list of the one run, with these rules. The files have these URIs.
+fn put_runs(
+    out: &mut String,
+    rules: &[Rule],
+    definition: &str,
+    mocks: &str,
+    report: &Report,
+) -> Result<(), AllocError>
+    ensures { OnOk result (Appends (string_bytes out.old)
+        (compact (runs rules.now (results definition.now mocks.now report.now))) (string_bytes out.new)) }
+{
+    put_char(out, '[')?;
+    put_run(out, rules, definition, mocks, report)?;
+    put_char(out, ']')?;
+    Ok(())
+}
+
+/// Appends the log, with these rules. The files have these URIs.
+fn put_log(
+    out: &mut String,
+    rules: &[Rule],
+    definition: &str,
+    mocks: &str,
+    report: &Report,
+) -> Result<(), AllocError>
+    ensures { OnOk result (Appends (string_bytes out.old) (compact (log rules.now (results definition.now mocks.now report.now))) (string_bytes out.new)) }
+{
+    put_char(out, '{')?;
+    put_text(
+        out,
+        "$schema",
+        "https://json.schemastore.org/sarif-2.1.0.json",
+    )?;
+    put_char(out, ',')?;
+    put_text(out, "version", "2.1.0")?;
+    put_char(out, ',')?;
+    put_key(out, "runs")?;
+    put_runs(out, rules, definition, mocks, report)?;
+    put_char(out, '}')?;
     Ok(())
 }
 
@@ -141,14 +406,19 @@ pub fn sarif(
     definition: &str,
     mocks: &str,
     report: &Report,
-) -> Result<String, AllocError> {
-    let mut out = String::from_str(alloc, HEAD)?;
-    for (number, rule) in RULES.iter().enumerate() {
-        separate(&mut out, number)?;
-        put_rule(&mut out, *rule)?;
-    }
-    out.push_str(MIDDLE)?;
-    put_results(&mut out, definition, mocks, report)?;
-    out.push_str("]}]}\n")?;
+) -> Result<String, AllocError>
+    ensures { IfOk result (λ t. string_bytes t ≡ sarif_text definition.now mocks.now report.now) }
+{
+    let definition = uri_of(alloc, definition)?;
+    let mocks = uri_of(alloc, mocks)?;
+    let mut out = String::new(alloc);
+    put_log(
+        &mut out,
+        rules(),
+        definition.as_str(),
+        mocks.as_str(),
+        report,
+    )?;
+    put_char(&mut out, '\n')?;
     Ok(out)
 }

@@ -3,22 +3,22 @@ use Rattle.std.proofs.Common.{◌≡◌, ℕ, suc, ◌+◌, ◌<◌, ◌≤◌, 
 use Rattle.std.specs.Prelude.{Option, map, option_to_list, if◌then◌else◌}
 use Rattle.std.specs.Fmt.{decimal}
 use Rattle.std.proofs.lemmas.List.{drop_more, drop_all, take_more, map-append, append-nil}
-use Rattle.asl_json.specs.Data.{chain, Pairs, pairs}
-use Rattle.asl_json.specs.Distinct.{Members}
+use Rattle.asl_json_data.specs.Data.{chain, Pairs, pairs}
+use Rattle.asl_json_data.specs.Distinct.{Members}
 use Rattle.asl_json.specs.Meaning.{value_at, count}
 use Rattle.asl_json.specs.View.{data_of, items_of, members_of, member_of}
 use Rattle.asl_json.specs.declared.value.Json.{Json}
 use Rattle.asl_json.specs.declared.value.Member.{Member}
-use Rattle.asl_def_table.specs.declared.fault.FaultKind.{FaultKind}
-use Rattle.asl_def_table.specs.declared.fault.FaultKind.TheVariants as kind
-use Rattle.asl_def_table.specs.declared.sort.Sort.{Sort}
-use Rattle.asl_def_table.specs.declared.rows.Row.{Row as CodeRow}
-use Rattle.asl_def_table.specs.declared.rows.Group.{Group as CodeGroup}
-use Rattle.asl_def_table.specs.Members.{Row, Shape, sort_at}
-use Rattle.asl_def_table.specs.Demands.{there, decided}
-use Rattle.asl_def_table.specs.private.Code.{row_of, rows_of, group_of, groups_of}
-use Rattle.asl_def_table.specs.Claims.{Claim, Spot, under, step, heres, is_nonempty, at_item, at_member, claims, item_claims, member_claims, row_claims, is_needed, group_demands, any_in, any_counts}
-use Rattle.asl_def_table.specs.First.{Found, Answers}
+use Rattle.asl_def_schema.specs.declared.fault.FaultKind.{FaultKind}
+use Rattle.asl_def_schema.specs.declared.fault.FaultKind.TheVariants as kind
+use Rattle.asl_def_schema.specs.declared.sort.Sort.{Sort}
+use Rattle.asl_def_schema.specs.declared.rows.Row.{Row as CodeRow}
+use Rattle.asl_def_schema.specs.declared.rows.Group.{Group as CodeGroup}
+use Rattle.asl_def_schema.specs.Members.{Row, Shape, sort_at}
+use Rattle.asl_def_schema.specs.Demands.{there, decided}
+use Rattle.asl_def_schema.specs.private.Code.{row_of, rows_of, group_of, groups_of}
+use Rattle.asl_def_schema.specs.Claims.{Claim, Spot, under, step, heres, is_nonempty, at_item, at_member, claims, item_claims, member_claims, row_claims, is_needed, group_demands, any_in, any_counts}
+use Rattle.asl_def_schema.specs.First.{Found, Answers}
 use Rattle.asl_def_judge.specs.private.Firsts.{under_step, unless}
 use Rattle.asl_def_judge.proofs.Answering.{decided_judged}
 use Rattle.asl_def_judge.proofs.Walking.{any_in-counts, count_is}

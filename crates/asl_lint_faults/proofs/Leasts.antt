@@ -1,9 +1,9 @@
 -- The first fault is the least of all.
 use Rattle.std.proofs.Common.{◌≡◌, ◌<◌, ◌≤◌, inl, inr, List, [], ◌∷◌, ◌++◌, refl, sym, ap, subst, ◌∙◌, arith}
 use Rattle.std.specs.Prelude.{Option, Some, None}
-use Rattle.asl_def_table.specs.Demands.{fault_of}
-use Rattle.asl_def_table.specs.Claims.{Claim}
-use Rattle.asl_def_table.specs.First.{Hold, IsBroken, Each, Found, number, IsFirst, Answers}
+use Rattle.asl_def_schema.specs.Demands.{fault_of}
+use Rattle.asl_def_schema.specs.Claims.{Claim}
+use Rattle.asl_def_schema.specs.First.{Hold, IsBroken, Each, Found, number, IsFirst, Answers}
 use Rattle.asl_def_judge.proofs.Answering.{answers-append, one_broken}
 use Rattle.asl_lint_faults.specs.Told.{AreTold, least}
 

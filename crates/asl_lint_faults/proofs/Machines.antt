@@ -1,12 +1,12 @@
 -- Machines are judged alike, whatever they are called.
 use Rattle.std.proofs.Common.{◌≡◌, ℕ, List, [], Bool, ◌⊎◌, inl, inr, sym, ap, ◌∙◌, subst}
 use Rattle.std.specs.Prelude.{Result, IfOk}
-use Rattle.asl_json.specs.Data.{Pairs}
-use Rattle.asl_def_table.specs.declared.sort.Sort.{Sort}
-use Rattle.asl_def_table.specs.declared.sort.Sort.TheVariants as sort
-use Rattle.asl_def_table.specs.Members.{Shape}
-use Rattle.asl_def_table.specs.Claims.{Spot, inside, one_deeper, names_in, member_claims}
-use Rattle.asl_def_table.specs.First.{Found}
+use Rattle.asl_json_data.specs.Data.{Pairs}
+use Rattle.asl_def_schema.specs.declared.sort.Sort.{Sort}
+use Rattle.asl_def_schema.specs.declared.sort.Sort.TheVariants as sort
+use Rattle.asl_def_schema.specs.Members.{Shape}
+use Rattle.asl_def_schema.specs.Claims.{Spot, inside, one_deeper, names_in, member_claims}
+use Rattle.asl_def_schema.specs.First.{Found}
 use Rattle.asl_lint_faults.specs.Told.{AreTold}
 
 abbrev inner : Spot → (List ℕ → Bool) → ℕ → Spot

@@ -7,19 +7,19 @@ use Rattle.std.specs.HashSet.{HashSet, contains_text, Updates}
 use Rattle.std.specs.String.{string_eq, string_bytes}
 use Rattle.std.proofs.lemmas.Map.Text.{hash_set_updates_text}
 use Rattle.std.proofs.lemmas.List.{drop_all, append-nil}
-use Rattle.asl_json.specs.Data.{chain, pairs}
+use Rattle.asl_json_data.specs.Data.{chain, pairs}
 use Rattle.asl_json.specs.Same.{bytes_eq}
 use Rattle.asl_json.specs.View.{data_of, items_of, members_of}
 use Rattle.asl_json.specs.declared.value.Json.{Json}
 use Rattle.asl_json.specs.declared.value.Member.{Member}
 use Rattle.asl_json.proofs.Knowing.{bytes_eq-flip}
-use Rattle.asl_def_table.specs.declared.fault.FaultKind.TheVariants.{DuplicateState}
-use Rattle.asl_def_table.specs.declared.sort.Sort.{Sort}
-use Rattle.asl_def_table.specs.Members.{Shape, sort_at, is_among}
-use Rattle.asl_def_table.specs.Demands.{unique}
-use Rattle.asl_def_table.specs.Claims.{Claim, step}
-use Rattle.asl_def_table.specs.First.{Found}
-use Rattle.asl_def_table.specs.States.{Named, Has, further, own_name, states_in, item_states, member_states, unique_claims}
+use Rattle.asl_def_schema.specs.declared.fault.FaultKind.TheVariants.{DuplicateState}
+use Rattle.asl_def_schema.specs.declared.sort.Sort.{Sort}
+use Rattle.asl_def_schema.specs.Members.{Shape, sort_at, is_among}
+use Rattle.asl_def_schema.specs.Demands.{unique}
+use Rattle.asl_def_schema.specs.Claims.{Claim, step}
+use Rattle.asl_def_schema.specs.First.{Found}
+use Rattle.asl_def_schema.specs.States.{Named, Has, further, own_name, states_in, item_states, member_states, unique_claims}
 use Rattle.asl_def_judge.proofs.Doubles.{items_split, members_split}
 use Rattle.asl_lint_faults.specs.Told.{AreTold}
 use Rattle.asl_lint_faults.proofs.Going.{Goes, goes-start, goes-step, goes-end}

@@ -2,14 +2,14 @@
 use Rattle.std.proofs.Common.{◌≡◌, ◌≤◌, inl, inr, ℕ, List, [], ◌∷◌, ◌++◌, length, refl, sym, ap, subst, ◌∙◌, append_assoc, arith}
 use Rattle.std.specs.Prelude.{Option, Some, None, map, option_map, option_to_list}
 use Rattle.std.proofs.lemmas.List.{map-append, append-nil, length-append}
-use Rattle.asl_json.specs.Data.{Data, number, text, list, Chain}
-use Rattle.asl_def_table.specs.declared.fault.FaultKind.{FaultKind}
-use Rattle.asl_def_table.specs.declared.fault.Step.{Step}
-use Rattle.asl_def_table.specs.declared.sort.Sort.{Sort}
-use Rattle.asl_def_table.specs.declared.sort.Sort.TheVariants as sort
-use Rattle.asl_def_table.specs.Demands.{Demand, fault_of}
-use Rattle.asl_def_table.specs.Claims.{Claim, Spot, under, here, heres, spot_demands, form_demand, text_demands, number_demands, list_demands, value_demands}
-use Rattle.asl_def_table.specs.First.{IsBroken, Found, Answers}
+use Rattle.asl_json_data.specs.Data.{Data, number, text, list, Chain}
+use Rattle.asl_def_schema.specs.declared.fault.FaultKind.{FaultKind}
+use Rattle.asl_def_schema.specs.declared.fault.Step.{Step}
+use Rattle.asl_def_schema.specs.declared.sort.Sort.{Sort}
+use Rattle.asl_def_schema.specs.declared.sort.Sort.TheVariants as sort
+use Rattle.asl_def_schema.specs.Demands.{Demand, fault_of}
+use Rattle.asl_def_schema.specs.Claims.{Claim, Spot, under, here, heres, spot_demands, form_demand, text_demands, number_demands, list_demands, value_demands}
+use Rattle.asl_def_schema.specs.First.{IsBroken, Found, Answers}
 use Rattle.asl_def_judge.specs.private.Firsts.{Judges, under_step, at_root}
 use Rattle.asl_lint_faults.specs.Told.{AreTold}
 use Rattle.asl_lint_faults.specs.private.Parts.{count_demands, last_demands, listed}

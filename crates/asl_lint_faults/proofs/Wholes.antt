@@ -1,16 +1,16 @@
 -- What is told of a list or an object that is searched, and of one that isn't.
 use Rattle.std.proofs.Common.{◌≡◌, Bool, true, false, List, [], ◌++◌, refl, sym, subst, ◌∙◌}
 use Rattle.std.proofs.lemmas.List.{append-nil}
-use Rattle.asl_json.specs.Data.{Data, Chain, Pairs, list, dict}
-use Rattle.asl_json.specs.Distinct.{Members}
+use Rattle.asl_json_data.specs.Data.{Data, Chain, Pairs, list, dict}
+use Rattle.asl_json_data.specs.Distinct.{Members}
 use Rattle.asl_json.specs.View.{data_of}
 use Rattle.asl_json.specs.declared.value.Json.{Json}
 use Rattle.asl_json.specs.declared.value.Json.TheVariants.{Null, Bool as Truth, Num, Text, List as JsonList, Dict}
 use Rattle.asl_json.specs.Meaning.{count}
-use Rattle.asl_def_table.specs.declared.sort.Sort.{Sort}
-use Rattle.asl_def_table.specs.Members.{Shape, shape_in, item_sort}
-use Rattle.asl_def_table.specs.Claims.{Claim, Spot, heres, demands, claims, item_claims, member_claims, row_claims, group_demands, inside, object_claims, is_list, is_object}
-use Rattle.asl_def_table.specs.First.{Found}
+use Rattle.asl_def_schema.specs.declared.sort.Sort.{Sort}
+use Rattle.asl_def_schema.specs.Members.{Shape, shape_in, item_sort}
+use Rattle.asl_def_schema.specs.Claims.{Claim, Spot, heres, demands, claims, item_claims, member_claims, row_claims, group_demands, inside, object_claims, is_list, is_object}
+use Rattle.asl_def_schema.specs.First.{Found}
 use Rattle.asl_lint_faults.specs.Told.{AreTold}
 use Rattle.asl_lint_faults.proofs.Telling.{told_append}
 

@@ -1,8 +1,8 @@
 -- The faults of a definition, all of them.
 use Rattle.std.specs.Prelude.{◌≡◌, ◌⊎◌, List, [], ◌∷◌, Option, Some, None}
-use Rattle.asl_def_table.specs.Demands.{fault_of}
-use Rattle.asl_def_table.specs.Claims.{Claim}
-use Rattle.asl_def_table.specs.First.{Hold, IsBroken, Found, better}
+use Rattle.asl_def_schema.specs.Demands.{fault_of}
+use Rattle.asl_def_schema.specs.Claims.{Claim}
+use Rattle.asl_def_schema.specs.First.{Hold, IsBroken, Found, better}
 
 -- of some claims the first is broken, and is told first
 pub record IsTold (c : Claim) (Others : List Found → Type 0) (fs : List Found) : Type 0 where

@@ -1,14 +1,14 @@
 // All faults of a definition.
 ghost use Rattle.std.specs.Prelude.{IfOk};
 ghost use Rattle.asl_json.specs.View.{data_of};
-ghost use Rattle.asl_def_table.specs.Faults.{claims_of};
+ghost use Rattle.asl_def_schema.specs.Faults.{claims_of};
 ghost use Rattle.asl_lint_faults.specs.Told.{AreTold};
 
 use crate::joining::joined;
 use crate::states::{doubled, no_names, states_in};
 use crate::walk::check;
 use asl_def_judge::spot::Spot;
-use asl_def_table::{Fault, Sort};
+use asl_def_schema::{Fault, Sort};
 use asl_json::Json;
 use std::alloc::{AllocError, Global};
 

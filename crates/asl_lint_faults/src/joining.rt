@@ -1,11 +1,11 @@
 // Faults that are told one behind another.
 ghost use Rattle.std.specs.Prelude.{◌≡◌, ◌++◌, IfOk, OnOk, map, option_to_list};
 ghost use Rattle.std.specs.Fmt.{decimal};
-ghost use Rattle.asl_def_table.specs.Claims.{step};
+ghost use Rattle.asl_def_schema.specs.Claims.{step};
 ghost use Rattle.asl_def_judge.specs.private.Firsts.{under_step};
 ghost use Rattle.asl_lint_faults.specs.private.Parts.{listed};
 
-use asl_def_table::{Fault, FaultKind};
+use asl_def_schema::{Fault, FaultKind};
 use std::alloc::{AllocError, Global};
 
 /// Tells a fault behind others, where there is one.

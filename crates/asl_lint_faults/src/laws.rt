@@ -1,7 +1,7 @@
 // Laws: each is a contract, over all claims.
 ghost use Rattle.std.specs.Prelude.{◌≡◌, List, Option};
-ghost use Rattle.asl_def_table.specs.Claims.{Claim};
-ghost use Rattle.asl_def_table.specs.First.{Found, Answers};
+ghost use Rattle.asl_def_schema.specs.Claims.{Claim};
+ghost use Rattle.asl_def_schema.specs.First.{Found, Answers};
 ghost use Rattle.asl_lint_faults.specs.Told.{AreTold, least};
 
 /// The fault that a check answers is, of all faults, the first of the lowest number. The law has no code.

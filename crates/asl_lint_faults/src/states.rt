@@ -2,16 +2,16 @@
 ghost use Rattle.std.specs.Prelude.{◌≡◌, ◌++◌, [], map, reverse, IfOk, if◌then◌else◌};
 ghost use Rattle.std.specs.Fmt.{decimal};
 ghost use Rattle.asl_json.specs.View.{data_of};
-ghost use Rattle.asl_json.specs.Data.{pairs, chain};
-ghost use Rattle.asl_def_table.specs.private.Code.{shape_seen};
-ghost use Rattle.asl_def_table.specs.Claims.{step};
-ghost use Rattle.asl_def_table.specs.Members.{sort_at};
-ghost use Rattle.asl_def_table.specs.States.{Has, further, own_name, states_in, item_states, member_states, unique_claims};
+ghost use Rattle.asl_json_data.specs.Data.{pairs, chain};
+ghost use Rattle.asl_def_schema.specs.private.Code.{shape_seen};
+ghost use Rattle.asl_def_schema.specs.Claims.{step};
+ghost use Rattle.asl_def_schema.specs.Members.{sort_at};
+ghost use Rattle.asl_def_schema.specs.States.{Has, further, own_name, states_in, item_states, member_states, unique_claims};
 ghost use Rattle.asl_lint_faults.specs.Told.{AreTold};
 
 use crate::joining::add;
 use asl_def_judge::value::{is_list, is_object};
-use asl_def_table::{Fault, FaultKind, Shape, Sort, Step, item_sort, shape_in, sort_at};
+use asl_def_schema::{Fault, FaultKind, Shape, Sort, Step, item_sort, shape_in, sort_at};
 use asl_json::{Items, Json, Member, Members, Txt};
 use std::alloc::{AllocError, Global};
 use std::collections::HashSet;
@@ -26,7 +26,7 @@ pub(crate) struct Named {
 
 impl Model for Named {
     ghost use Rattle.std.specs.Prelude.{List, ℕ};
-    ghost use Rattle.asl_def_table.specs.declared.fault.Step.{Step};
+    ghost use Rattle.asl_def_schema.specs.declared.fault.Step.{Step};
 
     ghost Value = { List ℕ × List Step };
 

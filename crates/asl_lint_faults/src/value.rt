@@ -1,10 +1,10 @@
 // The faults of a value by itself.
 ghost use Rattle.std.specs.Prelude.{◌++◌, List, IfOk, OnOk};
 ghost use Rattle.asl_json.specs.View.{data_of};
-ghost use Rattle.asl_json.specs.Data.{chain};
+ghost use Rattle.asl_json_data.specs.Data.{chain};
 ghost use Rattle.asl_def_judge.specs.private.Spots.{spot_of};
-ghost use Rattle.asl_def_table.specs.Demands.{Demand};
-ghost use Rattle.asl_def_table.specs.Claims.{value_demands, demands, heres};
+ghost use Rattle.asl_def_schema.specs.Demands.{Demand};
+ghost use Rattle.asl_def_schema.specs.Claims.{value_demands, demands, heres};
 ghost use Rattle.asl_def_judge.specs.private.Firsts.{Judges};
 ghost use Rattle.asl_lint_faults.specs.Told.{AreTold};
 ghost use Rattle.asl_lint_faults.specs.private.Parts.{count_demands, last_demands};
@@ -14,7 +14,7 @@ use asl_def_judge::spot::Spot;
 use asl_def_judge::value::{
     form_fault, is_fork, is_last, is_nonempty, number_fault, spot_fault, text_fault, unless,
 };
-use asl_def_table::{Fault, FaultKind, Sort};
+use asl_def_schema::{Fault, FaultKind, Sort};
 use asl_json::{Items, Json};
 use std::alloc::{AllocError, Global};
 

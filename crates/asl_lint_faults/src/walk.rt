@@ -1,13 +1,13 @@
 // One walk over a definition for its faults.
 ghost use Rattle.std.specs.Prelude.{◌∷◌, [], IfOk, option_to_list};
 ghost use Rattle.asl_json.specs.View.{data_of, members_of};
-ghost use Rattle.asl_json.specs.Data.{pairs, chain};
+ghost use Rattle.asl_json_data.specs.Data.{pairs, chain};
 ghost use Rattle.asl_json.specs.Keys.{Knows};
 ghost use Rattle.asl_json.specs.Meaning.{count};
-ghost use Rattle.asl_def_table.specs.private.Code.{shape_seen, rows_of, groups_of};
+ghost use Rattle.asl_def_schema.specs.private.Code.{shape_seen, rows_of, groups_of};
 ghost use Rattle.asl_def_judge.specs.private.Spots.{spot_of};
-ghost use Rattle.asl_def_table.specs.Members.{sort_at};
-ghost use Rattle.asl_def_table.specs.Claims.{heres, group_demands, row_claims, inside, at_member, claims, item_claims, member_claims, object_claims};
+ghost use Rattle.asl_def_schema.specs.Members.{sort_at};
+ghost use Rattle.asl_def_schema.specs.Claims.{heres, group_demands, row_claims, inside, at_member, claims, item_claims, member_claims, object_claims};
 ghost use Rattle.asl_lint_faults.specs.Told.{AreTold};
 
 use crate::joining::{add, joined, tell, under_index, under_name};
@@ -15,7 +15,7 @@ use crate::value::own_faults;
 use asl_def_judge::spot::{Spot, at_item, one_deeper};
 use asl_def_judge::value::{is_list, is_object};
 use asl_def_judge::walk::{is_doubled, is_twice, lack, state_names, undecided};
-use asl_def_table::{Fault, Group, Row, Shape, Sort, item_sort, shape_in, sort_at};
+use asl_def_schema::{Fault, Group, Row, Shape, Sort, item_sort, shape_in, sort_at};
 use asl_json::{Items, Json, Keys, Member, Members};
 use std::alloc::{AllocError, Global};
 

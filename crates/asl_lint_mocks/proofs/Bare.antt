@@ -4,8 +4,8 @@ use Rattle.std.specs.Prelude.{◌||◌, not, nat_le, nat_lt, Option, Some, None,
 use Rattle.std.specs.List.{list_any, before_first, after_first}
 use Rattle.std.proofs.lemmas.Bool.{and_parts, and_from, and_cases, not-true, leb-true, leb-false, le-leb, ltb-true, lt-ltb}
 use mathlib.Core.Logic.{⊎_elim}
-use Rattle.asl_json.specs.Data.{Data}
-use Rattle.asl_json.specs.Distinct.{Members}
+use Rattle.asl_json_data.specs.Data.{Data}
+use Rattle.asl_json_data.specs.Distinct.{Members}
 use Rattle.asl_mock.specs.Key.{number_in, span_of, span_in, is_dash}
 use Rattle.asl_mock.specs.declared.key.Span.{Span}
 use Rattle.asl_lint_mocks.specs.Laws.{LeavesOut}

@@ -7,8 +7,8 @@ use Rattle.std.specs.HashSet.{HashSet, UpdatesBy, contains_text}
 use Rattle.std.specs.Str.{bytes_eq}
 use Rattle.std.proofs.lemmas.List.{drop_more}
 use Rattle.std.proofs.lemmas.Map.Text.{hash_set_updates_text}
-use Rattle.asl_json.specs.Data.{Data}
-use Rattle.asl_json.specs.Distinct.{Members, has_key}
+use Rattle.asl_json_data.specs.Data.{Data}
+use Rattle.asl_json_data.specs.Distinct.{Members, has_key}
 use Rattle.asl_json.specs.View.{member_of, members_of}
 use Rattle.asl_json.specs.declared.value.Member.{Member}
 use Rattle.asl_json.proofs.Knowing.{bytes_eq-flip}

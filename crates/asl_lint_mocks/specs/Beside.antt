@@ -1,8 +1,8 @@
 -- What doesn't fit between a mock file and the states of a definition.
 use Rattle.std.specs.Prelude.{ℕ, List, [], ◌∷◌, Bool, true, false, ◌&&◌, ◌||◌, not, nat_lt, Option, Some, None, if◌then◌else◌, codes, length}
 use Rattle.std.specs.List.{list_any}
-use Rattle.asl_json.specs.Data.{Data}
-use Rattle.asl_json.specs.Distinct.{Members, has_key}
+use Rattle.asl_json_data.specs.Data.{Data}
+use Rattle.asl_json_data.specs.Distinct.{Members, has_key}
 use Rattle.asl_json.specs.Same.{bytes_eq}
 use Rattle.asl_mock.specs.Form.{has, unless}
 use Rattle.asl_mock.specs.Places.{Place, under, in_each}

@@ -1,6 +1,6 @@
 -- M5: the name of a response that isn't there. Where a case has another value than a text, that it doesn't fit is told alone.
 use Rattle.std.specs.Prelude.{ℕ, List, Bool, true, codes, is_some}
-use Rattle.asl_json.specs.Data.{Data, text, null, boolean, number, list, dict}
+use Rattle.asl_json_data.specs.Data.{Data, text}
 use Rattle.asl_mock.specs.Answers.{Response, responses_of}
 use Rattle.asl_mock.specs.Form.{unless}
 use Rattle.asl_mock.specs.Places.{Place, under, in_each}
@@ -8,11 +8,7 @@ use Rattle.asl_mock.specs.Tables.{Named, value_for, members_in, members_at}
 
 abbrev pub is_known : List (Named Response) → Data → Bool
 is_known rs (text t) = is_some (value_for t rs)
-is_known rs null = true
-is_known rs (boolean b) = true
-is_known rs (number n) = true
-is_known rs (list ds) = true
-is_known rs (dict ms) = true
+is_known rs _ = true
 
 abbrev pub lost_name : List (Named Response) → List ℕ × Data → List Place
 lost_name rs s = unless (is_known rs s.1)

@@ -1,8 +1,8 @@
 -- Places in a mock file by the numbers of the members on the way, from 0, and the keys that they have.
 use Rattle.std.specs.Prelude.{◌≡◌, ℕ, List, [], ◌∷◌, get_or, map}
 use Rattle.std.specs.declared.vec.Vec.{Vec}
-use Rattle.asl_json.specs.Data.{Data, null}
-use Rattle.asl_json.specs.Distinct.{Members}
+use Rattle.asl_json_data.specs.Data.{Data, null}
+use Rattle.asl_json_data.specs.Distinct.{Members}
 use Rattle.asl_mock.specs.Places.{Place}
 use Rattle.asl_mock.specs.Tables.{members_in}
 

@@ -1,8 +1,8 @@
 -- What is suspicious in a mock file.
 use Rattle.std.specs.Prelude.{ℕ, ◌-◌, List, Bool, false, ◌&&◌, not, nat_le, nat_lt, Option, Some, None, codes}
 use Rattle.std.specs.List.{list_any}
-use Rattle.asl_json.specs.Data.{Data, text}
-use Rattle.asl_json.specs.Distinct.{Members}
+use Rattle.asl_json_data.specs.Data.{Data, text}
+use Rattle.asl_json_data.specs.Distinct.{Members}
 use Rattle.asl_json.specs.Same.{bytes_eq}
 use Rattle.asl_mock.specs.Form.{unless}
 use Rattle.asl_mock.specs.Key.{span_in}

@@ -2,7 +2,7 @@
 ghost use Rattle.std.specs.Prelude.{◌≡◌, ◌||◌, ◌&&◌, ℕ, List, None, IfOk, OnOk, option_map};
 ghost use Rattle.std.specs.HashSet.{contains_text};
 ghost use Rattle.std.specs.List.{list_any};
-ghost use Rattle.asl_json.specs.Distinct.{has_key};
+ghost use Rattle.asl_json_data.specs.Distinct.{has_key};
 ghost use Rattle.asl_json.specs.View.{data_of, member_of, members_of};
 ghost use Rattle.asl_mock.specs.Form.{unless};
 ghost use Rattle.asl_mock.specs.Places.{in_each};

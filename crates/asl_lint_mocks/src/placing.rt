@@ -1,8 +1,8 @@
 // Places by numbers.
 ghost use Rattle.std.specs.Prelude.{◌≡◌, ◌∷◌, ◌++◌, [], ℕ, List, IfOk, OnOk, map};
-ghost use Rattle.asl_json.specs.Data.{Data};
+ghost use Rattle.asl_json_data.specs.Data.{Data};
 ghost use Rattle.asl_json.specs.View.{data_of, members_of};
-ghost use Rattle.asl_json.specs.Distinct.{Members};
+ghost use Rattle.asl_json_data.specs.Distinct.{Members};
 ghost use Rattle.asl_mock.specs.Form.{unless};
 ghost use Rattle.asl_mock.specs.Places.{Place, under, in_each};
 ghost use Rattle.asl_mock.specs.Tables.{members_in, members_at};

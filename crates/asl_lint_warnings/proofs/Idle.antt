@@ -2,13 +2,13 @@
 use Rattle.std.proofs.Common.{◌≡◌, inl, inr, ℕ, List, [], ◌∷◌, Bool, true, false, ◌||◌, ◌&&◌, refl, sym, ap, subst, ◌∙◌}
 use Rattle.std.specs.Prelude.{not, Option, Some, None, codes}
 use Rattle.std.specs.List.{list_any}
-use Rattle.asl_json.specs.Data.{Data, null, boolean, number, text, list, dict, Chain, no_items, item}
+use Rattle.asl_json_data.specs.Data.{Data, null, boolean, number, text, list, dict, Chain, no_items, item}
 use Rattle.asl_json.specs.Same.{bytes_eq}
 use Rattle.asl_json.specs.Meaning.{value_in}
 use Rattle.std.specs.Cmp.Lexicographic.{bytes_decides}
 use Rattle.asl_handle.specs.Names.{is_beyond, stands_for, is_name_for, has_name_for, names, is_for}
 use Rattle.asl_lint_warnings.specs.Handlers.{items_in, names_in, is_text, has_text, is_taken, is_taken_name, are_taken}
-use Rattle.asl_def_table.specs.Claims.{is_nonempty}
+use Rattle.asl_def_schema.specs.Claims.{is_nonempty}
 use Rattle.asl_lint_warnings.specs.Laws.{UnaskedHandlersAreIdle}
 use Rattle.asl_lint_warnings.proofs.Joining.{or_true, or_left, or_right, and_true, and_both}
 

@@ -3,7 +3,7 @@ use Rattle.std.proofs.Common.{◌≡◌, inl, inr, ◌<◌, ◌+◌, ℕ, zero, 
 use Rattle.std.specs.Prelude.{◌↔◌, nat_lt, if◌then◌else◌, codes}
 use Rattle.std.specs.List.{list_any}
 use Rattle.std.proofs.lemmas.Bool.{ltb-true, lt-ltb}
-use Rattle.asl_json.specs.Data.{Data, Pairs, no_members, member, pairs}
+use Rattle.asl_json_data.specs.Data.{Data, Pairs, no_members, member, pairs}
 use Rattle.asl_json.specs.Meaning.{count, value_at}
 use Rattle.asl_json.specs.View.{members_of}
 use Rattle.asl_json.specs.declared.value.Member.{Member}

@@ -2,13 +2,13 @@
 use Rattle.std.proofs.Common.{◌≡◌, ℕ, suc, ◌+◌, ◌<◌, Bool, ◌||◌, List, ◌∷◌, ◌++◌, length, get_or, drop, sym, ◌∙◌, ap, add-one, append_assoc}
 use Rattle.std.specs.Fmt.{decimal}
 use Rattle.std.proofs.lemmas.List.{drop_more}
-use Rattle.asl_json.specs.Data.{chain, Pairs, pairs}
+use Rattle.asl_json_data.specs.Data.{chain, Pairs, pairs}
 use Rattle.asl_json.specs.View.{data_of, items_of, members_of}
 use Rattle.asl_json.specs.declared.value.Json.{Json}
 use Rattle.asl_json.specs.declared.value.Member.{Member}
-use Rattle.asl_def_table.specs.declared.sort.Sort.{Sort}
-use Rattle.asl_def_table.specs.Members.{Shape, sort_at, item_sort}
-use Rattle.asl_def_table.specs.Claims.{step}
+use Rattle.asl_def_schema.specs.declared.sort.Sort.{Sort}
+use Rattle.asl_def_schema.specs.Members.{Shape, sort_at, item_sort}
+use Rattle.asl_def_schema.specs.Claims.{step}
 use Rattle.asl_lint_warnings.specs.Kinds.{Noted, noted}
 use Rattle.asl_lint_warnings.specs.Handlers.{names_in, has_text, item_kind}
 use Rattle.asl_lint_warnings.specs.Warnings.{Spot, further, beside, warnings, item_warnings, member_warnings}

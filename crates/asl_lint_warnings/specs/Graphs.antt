@@ -2,10 +2,10 @@
 use Rattle.std.specs.Prelude.{ℕ, zero, suc, List, [], ◌∷◌, ◌++◌, Bool, true, false, ◌||◌, ◌&&◌, not, ◌==◌, Option, Some, None, is_some, if◌then◌else◌, codes, nat_lt, get_or}
 use Rattle.std.specs.List.{list_any}
 use Rattle.std.specs.Option.{option_to_list}
-use Rattle.asl_json.specs.Data.{Data, text, Chain, no_items, item, Pairs, no_members, member}
+use Rattle.asl_json_data.specs.Data.{Data, text, Chain, no_items, item, Pairs, no_members, member}
 use Rattle.asl_json.specs.Same.{bytes_eq}
 use Rattle.asl_json.specs.Meaning.{value_at, value_in, count}
-use Rattle.asl_def_table.specs.Claims.{is_true, members_in}
+use Rattle.asl_def_schema.specs.Claims.{is_true, members_in}
 use Rattle.asl_lint_warnings.specs.Handlers.{items_in}
 
 -- ---- where a state leads

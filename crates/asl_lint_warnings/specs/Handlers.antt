@@ -1,12 +1,12 @@
 -- What the items of a list are warned of: errors that there aren't, retriers and catchers that no
 -- error reaches.
 use Rattle.std.specs.Prelude.{ℕ, List, Bool, true, false, ◌||◌, ◌&&◌, not, Option, Some, None, codes}
-use Rattle.asl_json.specs.Data.{Data, text, list, Chain, no_items, item}
+use Rattle.asl_json_data.specs.Data.{Data, text, list, Chain, no_items, item}
 use Rattle.asl_json.specs.Same.{bytes_eq}
 use Rattle.asl_json.specs.Meaning.{value_in}
-use Rattle.asl_def_table.specs.declared.sort.Sort.{Sort}
-use Rattle.asl_def_table.specs.declared.sort.Sort.TheVariants as sort
-use Rattle.asl_def_table.specs.Claims.{is_nonempty}
+use Rattle.asl_def_schema.specs.declared.sort.Sort.{Sort}
+use Rattle.asl_def_schema.specs.declared.sort.Sort.TheVariants as sort
+use Rattle.asl_def_schema.specs.Claims.{is_nonempty}
 use Rattle.asl_handle.specs.Names.{is_beyond}
 use Rattle.asl_lint_warnings.specs.declared.warning.WarningKind.{WarningKind}
 use Rattle.asl_lint_warnings.specs.declared.warning.WarningKind.TheVariants as kind

@@ -1,6 +1,6 @@
 -- The names of the warnings, and a warning at its place.
 use Rattle.std.specs.Prelude.{ℕ, List, [], ◌∷◌, Bool, Option, Some, None, codes, if◌then◌else◌}
-use Rattle.asl_def_table.specs.declared.fault.Step.{Step}
+use Rattle.asl_def_schema.specs.declared.fault.Step.{Step}
 use Rattle.asl_lint_warnings.specs.declared.warning.WarningKind.{WarningKind}
 use Rattle.asl_lint_warnings.specs.declared.warning.WarningKind.TheVariants as kind
 

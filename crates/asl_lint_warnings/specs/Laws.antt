@@ -1,7 +1,7 @@
 -- Laws of the definitions.
 use Rattle.std.specs.Prelude.{◌≡◌, ◌↔◌, ℕ, List, true, length}
 use Rattle.std.specs.List.{list_any}
-use Rattle.asl_json.specs.Data.{Data}
+use Rattle.asl_json_data.specs.Data.{Data}
 use Rattle.asl_handle.specs.Names.{is_for}
 use Rattle.asl_lint_warnings.specs.Handlers.{names_in, has_text, is_unasked}
 use Rattle.asl_lint_warnings.specs.Graphs.{joins}

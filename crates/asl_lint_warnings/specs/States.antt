@@ -1,13 +1,13 @@
 -- What a state is warned of by itself.
 use Rattle.std.specs.Prelude.{ℕ, List, Bool, false, ◌||◌, ◌&&◌, not, Option, Some, None, codes, nat_eq, is_some, int_lt, if◌then◌else◌}
 use Rattle.std.specs.List.{ends_with}
-use Rattle.asl_json.specs.Data.{Data, text, number, Pairs}
+use Rattle.asl_json_data.specs.Data.{Data, text, number, Pairs}
 use Rattle.asl_json.specs.Same.{bytes_eq}
 use Rattle.asl_json.specs.Meaning.{value_at}
-use Rattle.asl_json.specs.Number.{units_of}
-use Rattle.asl_def_table.specs.declared.sort.Kind.{Kind}
-use Rattle.asl_def_table.specs.declared.sort.Kind.TheVariants.{Choice, Task}
-use Rattle.asl_def_table.specs.Members.{kind_named}
+use Rattle.asl_json_data.specs.Number.{units_of}
+use Rattle.asl_def_schema.specs.declared.sort.Kind.{Kind}
+use Rattle.asl_def_schema.specs.declared.sort.Kind.TheVariants.{Choice, Task}
+use Rattle.asl_def_schema.specs.Members.{kind_named}
 use Rattle.asl_lint_warnings.specs.declared.warning.WarningKind.{WarningKind}
 use Rattle.asl_lint_warnings.specs.declared.warning.WarningKind.TheVariants as kind
 use Rattle.asl_lint_warnings.specs.Kinds.{kind_if}

@@ -1,12 +1,12 @@
 -- The warnings of a definition, in document order.
 use Rattle.std.specs.Prelude.{ℕ, suc, List, [], ◌∷◌, ◌++◌, Bool, false, not, ◌||◌, Option, None, if◌then◌else◌}
 use Rattle.std.specs.Fmt.{decimal}
-use Rattle.asl_json.specs.Data.{Data, null, boolean, number, text, list, dict, Chain, no_items, item, Pairs, no_members, member}
-use Rattle.asl_def_table.specs.declared.fault.Step.{Step}
-use Rattle.asl_def_table.specs.declared.sort.Sort.{Sort}
-use Rattle.asl_def_table.specs.declared.sort.Sort.TheVariants as sort
-use Rattle.asl_def_table.specs.Members.{shape_in, sort_at, item_sort, Shape}
-use Rattle.asl_def_table.specs.Claims.{step, is_list, is_object}
+use Rattle.asl_json_data.specs.Data.{Data, null, boolean, number, text, list, dict, Chain, no_items, item, Pairs, no_members, member}
+use Rattle.asl_def_schema.specs.declared.fault.Step.{Step}
+use Rattle.asl_def_schema.specs.declared.sort.Sort.{Sort}
+use Rattle.asl_def_schema.specs.declared.sort.Sort.TheVariants as sort
+use Rattle.asl_def_schema.specs.Members.{shape_in, sort_at, item_sort, Shape}
+use Rattle.asl_def_schema.specs.Claims.{step, is_list, is_object}
 use Rattle.asl_lint_warnings.specs.declared.warning.WarningKind.{WarningKind}
 use Rattle.asl_lint_warnings.specs.declared.warning.WarningKind.TheVariants as kind
 use Rattle.asl_lint_warnings.specs.Kinds.{Noted, noted, kind_if}
@@ -23,7 +23,7 @@ pub record Spot : Type 0 where
   pub ending : ℕ → Bool
 
 abbrev pub further : Spot → Step → Spot
-further p s = record { place = s ∷ p.place; reached = p.reached; ending = p.ending }
+further p s = record p { place = s ∷ p.place }
 
 -- the members of a machine
 abbrev pub in_machine : Spot → Pairs → Spot

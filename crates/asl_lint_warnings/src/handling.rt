@@ -1,15 +1,15 @@
 // Retriers and catchers that no error reaches, and errors that there aren't.
 ghost use Rattle.std.specs.Prelude.{◌≡◌, ◌||◌, ℕ, List, OnOk};
 ghost use Rattle.std.specs.HashSet.{contains_text};
-ghost use Rattle.asl_json.specs.Data.{chain};
+ghost use Rattle.asl_json_data.specs.Data.{chain};
 ghost use Rattle.asl_json.specs.View.{data_of, items_of};
-ghost use Rattle.asl_def_table.specs.Claims.{is_nonempty};
+ghost use Rattle.asl_def_schema.specs.Claims.{is_nonempty};
 ghost use Rattle.asl_handle.specs.Names.{is_beyond};
 ghost use Rattle.asl_lint_warnings.specs.Handlers.{names_in, is_text, has_text, is_taken, is_taken_name, are_taken, are_all_taken, is_unasked, is_unknown_name, item_kind};
 
 use crate::naming::is_unknown_error;
 use crate::warning::{WarningKind, kind_if};
-use asl_def_table::Sort;
+use asl_def_schema::Sort;
 use asl_json::Json;
 use std::alloc::{AllocError, Global};
 use std::collections::HashSet;

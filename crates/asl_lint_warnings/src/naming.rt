@@ -1,10 +1,10 @@
 // Texts that name what isn't there.
 ghost use Rattle.std.specs.Prelude.{◌≡◌, map};
-ghost use Rattle.asl_def_table.specs.Members.{is_among};
+ghost use Rattle.asl_def_schema.specs.Members.{is_among};
 ghost use Rattle.asl_lint_warnings.specs.Texts.{begins, begins_any, error_names, is_unknown_error, context_parts, context_fronts, is_unknown_part, is_forgotten, text_kind};
 
 use crate::warning::{WarningKind, kind_if};
-use asl_def_table::{Sort, is_among};
+use asl_def_schema::{Sort, is_among};
 
 /// The errors of the language. (Amazon States Language, "Errors", appendix A; Developer Guide, "Handling errors".)
 pub const ERRORS: &[&str] = &[

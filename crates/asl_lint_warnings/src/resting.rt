@@ -1,12 +1,12 @@
 // One state by itself.
 ghost use Rattle.std.specs.Prelude.{◌≡◌, option_map};
-ghost use Rattle.asl_json.specs.Data.{pairs};
+ghost use Rattle.asl_json_data.specs.Data.{pairs};
 ghost use Rattle.asl_json.specs.View.{data_of, members_of};
-ghost use Rattle.asl_def_table.specs.declared.sort.Kind.{Kind};
+ghost use Rattle.asl_def_schema.specs.declared.sort.Kind.{Kind};
 ghost use Rattle.asl_lint_warnings.specs.States.{has, is_waiting, is_limited, kind_by, state_kind, heartbeat_kind, member_kind};
 
 use crate::warning::{WarningKind, kind_if};
-use asl_def_table::{Kind, find, kind_named};
+use asl_def_schema::{Kind, find, kind_named};
 use asl_json::{Json, Member};
 
 fn has(members: &[Member], key: &str) -> bool

@@ -1,6 +1,6 @@
 // Which states of a machine are reached, and which reach an end.
 ghost use Rattle.std.specs.Prelude.{◌≡◌, ◌<◌, ◌↔◌, ◌++◌, ℕ, List, Bool, false, if◌then◌else◌, IfOk, OnOk, option_map, map, length, get_or, [], ◌∷◌};
-ghost use Rattle.asl_json.specs.Data.{pairs};
+ghost use Rattle.asl_json_data.specs.Data.{pairs};
 ghost use Rattle.asl_json.specs.Meaning.{count};
 ghost use Rattle.asl_json.specs.View.{data_of, members_of};
 ghost use Rattle.asl_lint_warnings.specs.Ways.{IsIn, Edge};
@@ -10,7 +10,7 @@ ghost use Rattle.asl_lint_warnings.specs.Graphs.{place_of, states_of, numbers_of
 
 use crate::leading::{is_last, targets};
 use crate::search::reached;
-use asl_def_table::find;
+use asl_def_schema::find;
 use asl_json::{Json, Member};
 use std::alloc::{AllocError, Global};
 use std::collections::HashMap;

@@ -1,12 +1,12 @@
 // The steps to a value, as the walk goes down.
 ghost use Rattle.std.specs.Prelude.{◌≡◌, ◌++◌, IfOk, OnOk};
 ghost use Rattle.std.specs.Fmt.{decimal};
-ghost use Rattle.asl_def_table.specs.Claims.{step};
+ghost use Rattle.asl_def_schema.specs.Claims.{step};
 ghost use Rattle.asl_lint_warnings.specs.private.Trails.{steps_of};
 ghost use Rattle.asl_lint_warnings.specs.Kinds.{noted};
 
 use crate::warning::{Warning, WarningKind};
-use asl_def_table::Step;
+use asl_def_schema::Step;
 use asl_json::Txt;
 use std::alloc::{AllocError, Global};
 

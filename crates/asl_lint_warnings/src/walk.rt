@@ -1,8 +1,8 @@
 // One walk over a definition for all its warnings.
 ghost use Rattle.std.specs.Prelude.{◌≡◌, ◌++◌, false, IfOk, OnOk};
-ghost use Rattle.asl_json.specs.Data.{pairs, chain};
+ghost use Rattle.asl_json_data.specs.Data.{pairs, chain};
 ghost use Rattle.asl_json.specs.View.{data_of, members_of};
-ghost use Rattle.asl_def_table.specs.Members.{shape_in};
+ghost use Rattle.asl_def_schema.specs.Members.{shape_in};
 ghost use Rattle.asl_lint_warnings.specs.private.Spots.{spot_of};
 ghost use Rattle.asl_lint_warnings.specs.Warnings.{object_kind, own_kind, standing, beside, inside, warnings, item_warnings, member_warnings, object_warnings, warnings_of};
 
@@ -13,7 +13,7 @@ use crate::standing::{Standing, standing_of};
 use crate::trail::{Trail, tell};
 use crate::warning::{Warning, WarningKind, kind_if};
 use asl_def_judge::value::{is_list, is_object};
-use asl_def_table::{Shape, Sort, item_sort, shape_in, sort_at};
+use asl_def_schema::{Shape, Sort, item_sort, shape_in, sort_at};
 use asl_json::{Items, Json, Member, Members};
 use std::alloc::{AllocError, Global};
 use std::collections::HashSet;

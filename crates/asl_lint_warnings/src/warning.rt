@@ -2,7 +2,7 @@
 ghost use Rattle.std.specs.Prelude.{◌≡◌};
 ghost use Rattle.asl_lint_warnings.specs.Kinds.{name_of, kind_if};
 
-use asl_def_table::Step;
+use asl_def_schema::Step;
 use std::marker::Model;
 
 /// What a definition is warned of.
@@ -57,7 +57,7 @@ pub struct Warning {
 impl Model for Warning {
     ghost use Rattle.std.specs.Prelude.{List};
     ghost use Rattle.asl_lint_warnings.specs.declared.warning.WarningKind.{WarningKind};
-    ghost use Rattle.asl_def_table.specs.declared.fault.Step.{Step};
+    ghost use Rattle.asl_def_schema.specs.declared.fault.Step.{Step};
 
     ghost Value = { WarningKind × List Step };
 

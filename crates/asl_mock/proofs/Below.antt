@@ -2,12 +2,12 @@
 use Rattle.std.proofs.Common.{◌≡◌, ◌<◌, ◌≤◌, ◌+◌, ℕ, zero, suc, List, [], ◌∷◌, ◌++◌, length, get_or, take, refl, ap, sym, ◌∙◌, arith}
 use Rattle.std.specs.Prelude.{Option, Some, None}
 use Rattle.std.proofs.lemmas.List.{length-map, take_all}
-use Rattle.asl_json.specs.Data.{Data, depth, members_depth, pairs}
-use Rattle.asl_json.specs.Distinct.{Members}
+use Rattle.asl_json_data.specs.Data.{Data, depth, members_depth, pairs}
+use Rattle.asl_json_data.specs.Distinct.{Members}
 use Rattle.asl_json.specs.View.{data_of, member_of, members_of}
 use Rattle.asl_json.specs.Meaning.{count}
 use Rattle.asl_json.specs.declared.value.Member.{Member}
-use Rattle.asl_json.proofs.Counting.{count_pairs}
+use Rattle.asl_json_same.proofs.Counting.{count_pairs}
 use Rattle.asl_mock.specs.Places.{Place, under, in_each, first_of}
 use Rattle.asl_mock.specs.Form.{part_shape, misfits, misfits_below}
 use Rattle.asl_mock.proofs.Each.{none_more, found_there}

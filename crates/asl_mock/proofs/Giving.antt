@@ -3,7 +3,7 @@ use Rattle.std.proofs.Common.{◌≡◌, List, [], subst}
 use Rattle.std.specs.Prelude.{Option, Some, None, true, false, Result, Ok, Err}
 use Rattle.asl_mock.specs.Places.{Place, first_of}
 use Rattle.asl_mock.specs.Gives.{Gives}
-use Rattle.asl_json.specs.Data.{Data}
+use Rattle.asl_json_data.specs.Data.{Data}
 use Rattle.asl_mock.specs.Answers.{with_answer}
 use Rattle.asl_mock.specs.private.Apart.{AreApart, any_has, Added}
 use Rattle.asl_mock.specs.declared.key.Span.{Span}

@@ -1,13 +1,14 @@
 -- The first fault of a value, part by part.
 use Rattle.std.proofs.Common.{◌≡◌, ℕ, List, [], ◌∷◌, ◌++◌, refl, sym, ap, ◌∙◌}
 use Rattle.std.specs.Prelude.{Option, Some, None, Result, Ok, Err, IfOk, IfErr, codes}
-use Rattle.asl_json.specs.Data.{Data}
-use Rattle.asl_json.specs.Distinct.{Members}
-use Rattle.asl_json.specs.Wrong.{ReadsAs, IsFaultOf, IsFirstOf, IsRead}
+use Rattle.asl_json_data.specs.Data.{Data}
+use Rattle.asl_json_data.specs.Distinct.{Members}
+use Rattle.asl_json_data.specs.Reads.{ReadsAs}
+use Rattle.asl_json_read.specs.Wrong.{IsFaultOf, IsFirstOf, IsRead}
 use Rattle.asl_json.specs.View.{data_of}
 use Rattle.asl_json.specs.declared.value.Json.{Json as JsonValue}
-use Rattle.asl_json.specs.declared.fault.JsonFault.{JsonFault}
-use Rattle.asl_json.specs.declared.fault.JsonFault.TheVariants as json
+use Rattle.asl_json_read.specs.declared.fault.JsonFault.{JsonFault}
+use Rattle.asl_json_read.specs.declared.fault.JsonFault.TheVariants as json
 use Rattle.asl_mock.specs.Places.{Place, pointer_text, under, in_each, first_of}
 use Rattle.asl_mock.specs.Form.{misfits}
 use Rattle.asl_mock.specs.Tables.{Named, members_at}

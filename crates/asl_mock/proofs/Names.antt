@@ -4,8 +4,8 @@ use Rattle.std.specs.Prelude.{◌||◌, Option, Some, None, nat_eq, map, String,
 use Rattle.std.specs.Cmp.Lexicographic.{pointwise}
 use Rattle.std.specs.Map.{lookup}
 use Rattle.std.proofs.lemmas.List.{append-nil, map-append}
-use Rattle.asl_json.specs.Data.{Data}
-use Rattle.asl_json.specs.Distinct.{Members, has_key, AreDistinct}
+use Rattle.asl_json_data.specs.Data.{Data}
+use Rattle.asl_json_data.specs.Distinct.{Members, has_key, AreDistinct}
 use Rattle.asl_json.specs.View.{member_of, members_of}
 use Rattle.asl_json.specs.declared.value.Member.{Member}
 use Rattle.asl_mock.specs.Tables.{Named, named, value_for}

@@ -5,7 +5,7 @@ use Rattle.std.specs.List.{list_any, insert}
 use Rattle.std.specs.List.Sorted.{IsNonDecreasingBy}
 use Rattle.std.proofs.lemmas.Bool.Decides.{nat_tests}
 use Rattle.std.proofs.lemmas.List.{get_or_default}
-use Rattle.asl_json.specs.Data.{Data}
+use Rattle.asl_json_data.specs.Data.{Data}
 use Rattle.asl_mock.specs.Answers.{placed, with_answer, answer_of, has_number, first_with}
 use Rattle.asl_mock.specs.Faults.{have_a_number}
 use Rattle.asl_mock.specs.private.Apart.{EachRanged, AreApart, Meets, IsGap, any_has}

@@ -1,8 +1,8 @@
 -- What the answers of a mock file are, and which one is given.
-use Rattle.std.specs.Prelude.{ℕ, List, [], ◌∷◌, Bool, ◌&&◌, nat_le, nat_lt, Option, Some, None, if◌then◌else◌, codes, map}
-use Rattle.asl_json.specs.Data.{Data, null, boolean, number, text, list, dict}
+use Rattle.std.specs.Prelude.{ℕ, List, [], ◌∷◌, Bool, ◌&&◌, nat_le, nat_lt, Option, Some, None, if◌then◌else◌, codes, map, unwrap_or}
+use Rattle.asl_json_data.specs.Data.{Data, number, text}
 use Rattle.asl_json.specs.View.{json_of}
-use Rattle.asl_json.specs.Distinct.{Members}
+use Rattle.asl_json_data.specs.Distinct.{Members}
 use Rattle.asl_json.specs.Meaning.{value_in}
 use Rattle.asl_mock.specs.Key.{span_in}
 use Rattle.asl_mock.specs.Tables.{Named, value_for, members_in, members_at}
@@ -15,12 +15,7 @@ use Rattle.asl_mock.specs.declared.response.Ranged.{Ranged}
 
 abbrev pub text_of : Option Data → List ℕ
 text_of (Some (text t)) = t
-text_of (Some null) = []
-text_of (Some (boolean b)) = []
-text_of (Some (number n)) = []
-text_of (Some (list ds)) = []
-text_of (Some (dict ms)) = []
-text_of None = []
+text_of _ = []
 
 abbrev pub cause_of : Option Data → Option (List ℕ)
 cause_of None = None
@@ -71,12 +66,8 @@ responses_of ms = map named_response ms
 abbrev pub Case : Type 0
 Case = List (Named Response)
 
-abbrev pub or_nothing : Option Response → Response
-or_nothing None = []
-or_nothing (Some r) = r
-
 abbrev pub named_state : List (Named Response) → List ℕ × Data → Named Response
-named_state rs m = (m.0, or_nothing (value_for (text_of (Some m.1)) rs))
+named_state rs m = (m.0, unwrap_or (value_for (text_of (Some m.1)) rs) [])
 
 abbrev pub case_of : List (Named Response) → Members → Case
 case_of rs ms = map (named_state rs) ms

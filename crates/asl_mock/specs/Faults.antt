@@ -1,8 +1,8 @@
 -- What is wrong with a mock file, and which fault is answered.
 use Rattle.std.specs.Prelude.{ℕ, List, [], ◌∷◌, ◌++◌, Bool, true, false, ◌&&◌, nat_le, Option, Some, None, if◌then◌else◌, codes, is_some, map}
 use Rattle.std.specs.List.{list_any}
-use Rattle.asl_json.specs.Data.{Data}
-use Rattle.asl_json.specs.Distinct.{Members}
+use Rattle.asl_json_data.specs.Data.{Data}
+use Rattle.asl_json_data.specs.Distinct.{Members}
 use Rattle.asl_mock.specs.Key.{span_in}
 use Rattle.asl_mock.specs.Places.{Place, under, in_each}
 use Rattle.asl_mock.specs.Form.{misfits, unless}

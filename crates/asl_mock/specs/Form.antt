@@ -1,7 +1,7 @@
 -- What a mock file is made of, value by value. (AWS Step Functions, "Mocked service integrations",
 -- the file MockConfigFile.json.)
 use Rattle.std.specs.Prelude.{ℕ, List, [], ◌∷◌, ◌++◌, Bool, true, false, ◌&&◌, ◌||◌, ◌==◌, if◌then◌else◌, codes, is_some}
-use Rattle.asl_json.specs.Data.{Data, null, boolean, number, text, list, dict, Pairs, no_members, member}
+use Rattle.asl_json_data.specs.Data.{Data, null, boolean, number, text, list, dict, Pairs, no_members, member}
 use Rattle.asl_json.specs.Same.{bytes_eq}
 use Rattle.asl_json.specs.Meaning.{value_in, count}
 use Rattle.asl_mock.specs.Places.{Place, under}
@@ -29,11 +29,7 @@ has k d = is_some (value_in k d)
 
 abbrev pub members_count : Data → ℕ
 members_count (dict ms) = count ms
-members_count null = 0
-members_count (boolean b) = 0
-members_count (number n) = 0
-members_count (text t) = 0
-members_count (list ds) = 0
+members_count _ = 0
 
 -- whether an object has the members that it needs, and none besides
 abbrev pub fits : Shape → Data → Bool
@@ -44,40 +40,17 @@ fits Answer d = (members_count d == 1) && (has (codes "Return") d || has (codes 
 fits Thrown d =
     has (codes "Error") d && (members_count d == (if has (codes "Cause") d then 2 else 1))
 fits Text d = false
-fits Any d = true
-fits Top d = true
-fits Machines d = true
-fits Cases d = true
-fits Case d = true
-fits Responses d = true
-fits Response d = true
+fits _ d = true
 
 -- any value may stand there
 abbrev pub takes_any : Shape → Bool
 takes_any Any = true
-takes_any Text = false
-takes_any Top = false
-takes_any Machines = false
-takes_any Machine = false
-takes_any Cases = false
-takes_any Case = false
-takes_any Responses = false
-takes_any Response = false
-takes_any Answer = false
-takes_any Thrown = false
+takes_any _ = false
 
 abbrev pub takes_text : Shape → Bool
 takes_text Any = true
 takes_text Text = true
-takes_text Top = false
-takes_text Machines = false
-takes_text Machine = false
-takes_text Cases = false
-takes_text Case = false
-takes_text Responses = false
-takes_text Response = false
-takes_text Answer = false
-takes_text Thrown = false
+takes_text _ = false
 
 abbrev pub unless : Bool → List Place
 unless true = []

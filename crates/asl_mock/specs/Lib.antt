@@ -9,3 +9,4 @@ pub mod Told
 pub mod Lines
 pub mod Equal
 pub mod private
+pub mod Chosen

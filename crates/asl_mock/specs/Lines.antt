@@ -1,7 +1,7 @@
 -- The texts of faults: number and name, and the place where it isn't the whole file.
 use Rattle.std.specs.Prelude.{ℕ, List, ◌++◌, codes}
-use Rattle.asl_json.specs.FaultText.{fault_text}
-use Rattle.asl_json.specs.Pointers.{with_pointer}
+use Rattle.asl_json_read.specs.FaultText.{fault_text}
+use Rattle.asl_json_write.specs.Pointers.{with_pointer}
 use Rattle.asl_mock.specs.declared.fault.CaseFault.{CaseFault}
 use Rattle.asl_mock.specs.declared.fault.CaseFault.TheVariants.{NoMachine, NoCase}
 use Rattle.asl_mock.specs.declared.fault.MockFault.{MockFault}

@@ -1,9 +1,9 @@
 -- Where something stands in a mock file: the keys on the way to it, from the outermost in.
 use Rattle.std.specs.Prelude.{ℕ, List, [], ◌∷◌, ◌++◌, Option, Some, None, map}
 use Rattle.std.specs.List.{flat_map}
-use Rattle.asl_json.specs.Data.{Data}
-use Rattle.asl_json.specs.Distinct.{Members}
-use Rattle.asl_json.specs.Pointers.{name_part}
+use Rattle.asl_json_data.specs.Data.{Data}
+use Rattle.asl_json_data.specs.Distinct.{Members}
+use Rattle.asl_json_write.specs.Pointers.{name_part}
 
 abbrev pub Place : Type 0
 Place = List (List ℕ)

@@ -1,8 +1,8 @@
 -- Values under names.
 use Rattle.std.specs.Prelude.{ℕ, List, [], ◌∷◌, Option, Some, None, if◌then◌else◌, map, String, string_bytes}
-use Rattle.asl_json.specs.Data.{Data, null, boolean, number, text, list, dict}
+use Rattle.asl_json_data.specs.Data.{Data, dict}
 use Rattle.asl_json.specs.View.{unpaired}
-use Rattle.asl_json.specs.Distinct.{Members}
+use Rattle.asl_json_data.specs.Distinct.{Members}
 use Rattle.asl_json.specs.Meaning.{value_in}
 use Rattle.asl_json.specs.Same.{bytes_eq}
 
@@ -21,12 +21,8 @@ value_for k (n ∷ ns) = if bytes_eq k n.0 then Some n.1 else value_for k ns
 
 -- the members of an object
 abbrev pub members_in : Data → Members
-members_in null = []
-members_in (boolean b) = []
-members_in (number n) = []
-members_in (text t) = []
-members_in (list ds) = []
 members_in (dict ms) = unpaired ms
+members_in _ = []
 
 abbrev pub members_of_any : Option Data → Members
 members_of_any None = []

@@ -1,9 +1,10 @@
 -- Which bytes are a mock file, what it holds, and which fault is answered for any other.
-use Rattle.std.specs.Prelude.{◌≡◌, ℕ, List, [], Option, Some, None, Result, Ok, Err}
-use Rattle.asl_json.specs.Data.{Data}
-use Rattle.asl_json.specs.Wrong.{ReadsAs, IsFaultOf, IsFirstOf}
-use Rattle.asl_json.specs.declared.fault.JsonFault.{JsonFault}
-use Rattle.asl_json.specs.declared.fault.JsonFault.TheVariants as json
+use Rattle.std.specs.Prelude.{◌≡◌, ℕ, List, [], Option, Some, None, Result, Ok, Err, ok_or}
+use Rattle.asl_json_data.specs.Data.{Data}
+use Rattle.asl_json_data.specs.Reads.{ReadsAs}
+use Rattle.asl_json_read.specs.Wrong.{IsFaultOf, IsFirstOf}
+use Rattle.asl_json_read.specs.declared.fault.JsonFault.{JsonFault}
+use Rattle.asl_json_read.specs.declared.fault.JsonFault.TheVariants as json
 use Rattle.asl_mock.specs.Places.{Place, pointer_text, first_of}
 use Rattle.asl_mock.specs.Tables.{Named, value_for}
 use Rattle.asl_mock.specs.Answers.{Case, Machine, mocks_of}
@@ -67,13 +68,9 @@ unread json.OutOfMemory = OutOfMemory
 
 -- ---- a case by its names
 
-abbrev pub or_no_case : Option Case → Result Case CaseFault
-or_no_case None = Err NoCase
-or_no_case (Some c) = Ok c
-
 abbrev pub or_no_machine : Option Machine → List ℕ → Result Case CaseFault
 or_no_machine None k = Err NoMachine
-or_no_machine (Some m) k = or_no_case (value_for k m)
+or_no_machine (Some m) k = ok_or (value_for k m) NoCase
 
 abbrev pub case_at : List (Named Machine) → List ℕ → List ℕ → Result Case CaseFault
 case_at ms machine case = or_no_machine (value_for machine ms) case

@@ -1,6 +1,6 @@
 // The cases of a mock file.
 ghost use Rattle.std.specs.Prelude.{◌≡◌, ◌↔◌, [], IfOk, IsTrue, Some, option_map};
-ghost use Rattle.asl_json.specs.Distinct.{AreDistinct};
+ghost use Rattle.asl_json_data.specs.Distinct.{AreDistinct};
 ghost use Rattle.asl_json.specs.View.{data_of, members_of};
 ghost use Rattle.asl_mock.specs.Tables.{named, value_for};
 ghost use Rattle.asl_mock.specs.Places.{in_each};

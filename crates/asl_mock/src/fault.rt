@@ -3,7 +3,8 @@ ghost use Rattle.std.specs.Prelude.{◌≡◌, IfOk, string_bytes};
 ghost use Rattle.asl_mock.specs.Lines.{mock_line, case_line};
 ghost use Rattle.asl_mock.specs.Told.{unread};
 
-use asl_json::{JsonFault, Pointer};
+use asl_json_read::JsonFault;
+use asl_json_write::Pointer;
 use std::alloc::{AllocError, Global};
 use std::error::Error;
 use std::fmt;

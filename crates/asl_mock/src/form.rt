@@ -1,6 +1,6 @@
 // The values of a mock file that don't fit.
 ghost use Rattle.std.specs.Prelude.{◌≡◌, IfOk};
-ghost use Rattle.asl_json.specs.Data.{pairs};
+ghost use Rattle.asl_json_data.specs.Data.{pairs};
 ghost use Rattle.asl_json.specs.View.{data_of};
 ghost use Rattle.asl_mock.specs.Places.{first_of};
 ghost use Rattle.asl_mock.specs.Form.{misfits, misfits_below, unless};

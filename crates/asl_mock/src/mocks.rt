@@ -1,8 +1,8 @@
 // Mock files.
 ghost use Rattle.std.specs.Prelude.{◌≡◌, ◌∷◌, [], Ok, Err, IfOk, IfErr};
-ghost use Rattle.asl_json.specs.Data.{Data};
+ghost use Rattle.asl_json_data.specs.Data.{Data};
 ghost use Rattle.asl_json.specs.View.{data_of};
-ghost use Rattle.asl_json.specs.Wrong.{ReadsAs};
+ghost use Rattle.asl_json_data.specs.Reads.{ReadsAs};
 ghost use Rattle.asl_mock.specs.Places.{pointer_text};
 ghost use Rattle.asl_mock.specs.Faults.{faults};
 ghost use Rattle.asl_mock.specs.Told.{IsMockFile, IsJudged, IsAnswer, case_at};
@@ -16,7 +16,9 @@ use crate::place::Place;
 use crate::responses::responses;
 use crate::shape::Shape;
 use crate::table::{find, members_at};
-use asl_json::{Json, Pointer, read};
+use asl_json::Json;
+use asl_json_read::read;
+use asl_json_write::Pointer;
 use indexmap::IndexMap;
 use std::alloc::{AllocError, Global};
 use std::marker::Model;

@@ -2,7 +2,8 @@
 ghost use Rattle.std.specs.Prelude.{◌≡◌, ◌∷◌, [], reverse, IfOk};
 ghost use Rattle.asl_mock.specs.Places.{pointer_text};
 
-use asl_json::{Pointer, Txt};
+use asl_json::Txt;
+use asl_json_write::Pointer;
 use std::alloc::{AllocError, Global};
 use std::marker::Model;
 

@@ -1,6 +1,6 @@
 // The responses of a mock file.
 ghost use Rattle.std.specs.Prelude.{◌≡◌, [], IfOk, option_map};
-ghost use Rattle.asl_json.specs.Distinct.{AreDistinct};
+ghost use Rattle.asl_json_data.specs.Distinct.{AreDistinct};
 ghost use Rattle.asl_json.specs.View.{members_of};
 ghost use Rattle.asl_mock.specs.Tables.{named};
 ghost use Rattle.asl_mock.specs.Places.{in_each};

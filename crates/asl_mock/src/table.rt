@@ -1,6 +1,6 @@
 // Values under names.
 ghost use Rattle.std.specs.Prelude.{◌≡◌, ◌∷◌, ◌++◌, [], None, OnOk, OnErr, option_map};
-ghost use Rattle.asl_json.specs.Distinct.{AreDistinct};
+ghost use Rattle.asl_json_data.specs.Distinct.{AreDistinct};
 ghost use Rattle.asl_json.specs.View.{data_of, members_of};
 ghost use Rattle.asl_mock.specs.Tables.{named, value_for, members_in, members_at};
 

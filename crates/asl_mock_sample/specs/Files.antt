@@ -1,7 +1,7 @@
 -- A mock file to begin with (Step Functions Developer Guide, "Mocked service integrations").
 use Rattle.std.specs.Prelude.{ℕ, suc, List, [], ◌∷◌, ◌++◌, codes}
-use Rattle.asl_json.specs.Data.{Data}
-use Rattle.asl_json.specs.Compact.{quoted, separator}
+use Rattle.asl_json_data.specs.Data.{Data}
+use Rattle.asl_json_data.specs.Compact.{quoted, separator}
 use Rattle.asl_mock_sample.specs.declared.call.Call.{Call}
 use Rattle.asl_mock_sample.specs.Answers.{answer_of}
 use Rattle.asl_mock_sample.specs.Calls.{calls_in}

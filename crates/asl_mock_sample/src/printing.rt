@@ -1,13 +1,14 @@
 // The mock file.
 ghost use Rattle.std.specs.Prelude.{◌≡◌, ◌++◌, IfOk, OnOk, string_bytes};
 ghost use Rattle.asl_json.specs.View.{data_of};
-ghost use Rattle.asl_json.specs.Compact.{separator};
+ghost use Rattle.asl_json_data.specs.Compact.{separator};
 ghost use Rattle.asl_mock_sample.specs.Files.{state_entry, state_entries, return_open, answer_entry, answer_entries, machines_open, case_open, machines_part, responses_open, responses_part, sample_of, sample_text};
 
 use crate::answers::answer_of;
 use crate::call::Call;
-use crate::walking::add_calls;
-use asl_json::{Json, put_quoted};
+use crate::tasks::calls_in;
+use asl_json::Json;
+use asl_json_write::put_quoted;
 use std::alloc::{AllocError, Global};
 
 /// Appends a comma before each part but the first.
@@ -114,8 +115,7 @@ fn put_responses(out: &mut String, calls: &[Call]) -> Result<(), AllocError>
 pub fn sample(alloc: Global, machine: &str, definition: &Json) -> Result<String, AllocError>
     ensures { IfOk result (λ t. string_bytes t ≡ sample_text machine.now (data_of definition.now)) }
 {
-    let mut calls = Vec::new(alloc);
-    add_calls(alloc, &mut calls, definition)?;
+    let calls = calls_in(alloc, definition)?;
     let mut out = String::new(alloc);
     put_machines(&mut out, machine, &calls)?;
     put_responses(&mut out, &calls)?;

@@ -6,7 +6,7 @@ use Rattle.std.proofs.lemmas.Bool.{eqb-true}
 use Rattle.asl_path.specs.declared.step.Step.{Step}
 use Rattle.asl_path.specs.declared.step.Step.TheVariants.{Name, Index}
 use Rattle.asl_path.specs.Grammar.{single_quote, double_quote, is_digit, is_name_byte, is_between, Each, number_from, SpellsDotted, SpellsIndex, SpellsStep, SpellsSteps}
-use Rattle.asl_json.specs.Parts.{Joined}
+use Rattle.asl_json_data.specs.Parts.{Joined}
 use Rattle.asl_path.specs.private.Steps.{Mode, between, dot, name, bracket, quoted, closing, digits, Next, go, stop, begin_step, advance, finish}
 
 abbrev pub IsQuote : ℕ → Type 0

@@ -2,10 +2,10 @@
 use Rattle.std.proofs.Common.{◌≡◌, ◌<◌, ◌≤◌, ◌-◌, ℕ, zero, suc, false, Option, Some, None, List, [], ◌∷◌, ◌++◌, length, set, refl, sym, ◌∙◌, ap, subst, arith}
 use Rattle.std.specs.Prelude.{option_map, slice_get, slice_set, Result, Ok, Err}
 use Rattle.std.proofs.lemmas.List.{length-append}
-use Rattle.asl_json.specs.Data.{Data, null, list, dict, no_members, member, chain, pairs}
+use Rattle.asl_json_data.specs.Data.{Data, null, list, dict, no_members, member, chain, pairs}
 use Rattle.asl_json.specs.View.{data_of, same_json}
 use Rattle.asl_json.specs.Access.{key_index, with_value}
-use Rattle.asl_json.specs.Distinct.{has_key}
+use Rattle.asl_json_data.specs.Distinct.{has_key}
 use Rattle.asl_json.specs.declared.value.Json.{Json}
 use Rattle.asl_json.specs.declared.value.Json.TheVariants.{Dict}
 use Rattle.asl_path.specs.declared.step.Step.{Step}

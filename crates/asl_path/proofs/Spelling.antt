@@ -1,7 +1,7 @@
 -- Laws of path texts, by what the machine answers of them.
 use Rattle.std.proofs.Common.{◌≡◌, ℕ, List, refl, sym, ◌∙◌, ap, Some, None}
 use Rattle.std.specs.Prelude.{Result, Ok, Err}
-use Rattle.asl_json.specs.Data.{Data}
+use Rattle.asl_json_data.specs.Data.{Data}
 use Rattle.asl_path.specs.declared.step.Root.{Root}
 use Rattle.asl_path.specs.declared.step.Step.{Step}
 use Rattle.asl_path.specs.private.Steps.{steps}

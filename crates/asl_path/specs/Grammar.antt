@@ -2,7 +2,7 @@
 -- lists of bytes.
 -- (Amazon States Language, "Paths" and "Reference Paths".)
 use Rattle.std.specs.Prelude.{◌≡◌, ◌⊎◌, ◌<◌, ◌≤◌, ℕ, ◌+◌, ◌*◌, ◌-◌, Bool, true, ◌||◌, ◌&&◌, not, ◌==◌, nat_le, List, [], ◌∷◌, ◌++◌, length}
-use Rattle.asl_json.specs.Parts.{Joined}
+use Rattle.asl_json_data.specs.Parts.{Joined}
 use Rattle.asl_path.specs.declared.step.Root.{Root}
 use Rattle.asl_path.specs.declared.step.Root.TheVariants.{Input, Context}
 use Rattle.asl_path.specs.declared.step.Step.{Step}

@@ -1,6 +1,6 @@
 -- Laws of paths.
 use Rattle.std.specs.Prelude.{◌≡◌, ◌⊎◌, ℕ, List, [], ◌∷◌, Some, None}
-use Rattle.asl_json.specs.Data.{Data}
+use Rattle.asl_json_data.specs.Data.{Data}
 use Rattle.asl_path.specs.Grammar.{SpellsPath, IsPath}
 use Rattle.asl_path.specs.Walk.{at, put}
 use Rattle.asl_path.specs.Paths.{part_at, with_part}

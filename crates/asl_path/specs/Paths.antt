@@ -1,7 +1,7 @@
 -- What a path text says of a value. (Which part that is, by the grammar and the steps: the law of
 -- one meaning.)
 use Rattle.std.specs.Prelude.{ℕ, List, Option, None, Result, Ok, Err}
-use Rattle.asl_json.specs.Data.{Data}
+use Rattle.asl_json_data.specs.Data.{Data}
 use Rattle.asl_path.specs.declared.step.Root.{Root}
 use Rattle.asl_path.specs.declared.step.Step.{Step}
 use Rattle.asl_path.specs.private.Steps.{steps}

@@ -1,6 +1,6 @@
 -- What the steps of a path reach in a value, and a value with another part there.
 use Rattle.std.specs.Prelude.{ℕ, zero, suc, List, [], ◌∷◌, Option, Some, None, if◌then◌else◌, option_map, option_and_then}
-use Rattle.asl_json.specs.Data.{Data, list, dict, Chain, no_items, item, Pairs, no_members, member}
+use Rattle.asl_json_data.specs.Data.{Data, list, dict, Chain, no_items, item, Pairs, no_members, member}
 use Rattle.asl_json.specs.Meaning.{value_at}
 use Rattle.asl_json.specs.Same.{bytes_eq}
 use Rattle.asl_path.specs.declared.step.Step.{Step}

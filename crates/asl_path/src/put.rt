@@ -2,7 +2,7 @@
 // again: so no value is copied, and a long path needs no deep stack.
 ghost use Rattle.std.specs.Prelude.{◌≡◌, ◌∷◌, [], Some, None, IfOk, IfErr, List};
 ghost use Rattle.asl_json.specs.View.{data_of};
-ghost use Rattle.asl_json.specs.Data.{Data, null, list, dict, chain, pairs, no_members};
+ghost use Rattle.asl_json_data.specs.Data.{Data, null, list, dict, chain, pairs, no_members};
 ghost use Rattle.asl_json.specs.declared.value.Json.{Json};
 ghost use Rattle.asl_path.specs.declared.step.Step.{Step};
 ghost use Rattle.asl_path.specs.Walk.{put};

@@ -1,8 +1,8 @@
 // A Task and a Parallel that are retried, step by step: the replies, and what is told in the end.
 use crate::setups::{put_ended, setup_by, steps_of, unchanged};
 use asl_exec::Execution;
-use asl_run_setup::StepAt;
-use asl_run_world::{Refusal, put_step};
+use asl_run_input::StepAt;
+use asl_run_state::{Refusal, put_step};
 use std::alloc::{AllocError, Global};
 use std::test::Fail;
 

@@ -1,8 +1,8 @@
 // Executions.
 use crate::setups::{INPUT, MOCKS, RETRIED, put_ended, setup_of, unchanged};
 use asl_exec::{Emulated, Execution, emulate, emulate_driven};
-use asl_run_setup::{EmulateFault, StepAt, put_steps};
-use asl_run_world::{Refusal, put_step};
+use asl_run_input::{EmulateFault, StepAt, put_steps};
+use asl_run_state::{Refusal, put_step};
 use std::alloc::{AllocError, Global};
 use std::test::Fail;
 

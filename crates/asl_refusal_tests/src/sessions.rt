@@ -1,6 +1,6 @@
 // Sessions of the debugger.
 use crate::setups::{RETRIED, ROUND, put_ended, setup_by, setup_of, steps_of, unchanged};
-use asl_run_setup::StepAt;
+use asl_run_input::StepAt;
 use asl_session::{
     Command, Reply, ScriptFault, Session, Stop, put_answer, read_command, run_script,
 };

@@ -1,6 +1,6 @@
 // What executions begin with; and what is made again where there was no memory.
-use asl_run_setup::{EmulateFault, Setup, StepAt, StepsFault, read_steps};
-use asl_run_world::{World, put_end};
+use asl_run_input::{EmulateFault, Setup, StepAt, StepsFault, read_steps};
+use asl_run_state::{World, put_end};
 use std::alloc::{AllocError, Global};
 use std::test::Fail;
 

@@ -2,10 +2,10 @@
 ghost use Rattle.std.specs.Prelude.{◌≤◌};
 
 use crate::setups::{RETRIED, setup_of, unchanged};
-use asl_run_world::Outcome;
+use asl_run_state::Outcome;
 use asl_session::{Command, Reply, put_answer, read_command};
 use asl_threads::{ApplyFault, Clock, RunRecord, Seat, SharedRun, drive_shared};
-use asl_threads_gate::{Gate, NoGate};
+use asl_threads_base::{Gate, NoGate};
 use asl_time::Moment;
 use std::alloc::{AllocError, Global};
 use std::sync::Wait;

@@ -2,15 +2,15 @@
 use Rattle.std.specs.Prelude.{ℕ, List, [], ◌∷◌, ◌++◌, ◌≡◌, Bool, true, false, if◌then◌else◌, Option, Some, None, codes, map}
 use Rattle.std.specs.Fmt.{decimal}
 use Rattle.std.specs.List.{flat_map}
-use Rattle.asl_json.specs.Compact.{quoted}
-use Rattle.asl_def_table.specs.Members.{is_among}
-use Rattle.asl_terminal.specs.Shown.{shown}
-use Rattle.asl_run_setup.specs.declared.setup.Setup.{Setup}
-use Rattle.asl_run_setup.specs.Chosen.{case_name}
-use Rattle.asl_run_setup.specs.Emulations.{Texts}
-use Rattle.asl_run_world.specs.World.{World}
-use Rattle.asl_run_world.specs.declared.outcome.Outcome.{Outcome}
-use Rattle.asl_run_world.specs.declared.outcome.Outcome.TheVariants.{Failed}
+use Rattle.asl_json_data.specs.Compact.{quoted}
+use Rattle.asl_def_schema.specs.Members.{is_among}
+use Rattle.asl_text.specs.Shown.{shown}
+use Rattle.asl_run_input.specs.declared.setup.Setup.{Setup}
+use Rattle.asl_run_input.specs.Chosen.{case_name}
+use Rattle.asl_run_input.specs.Emulations.{Texts}
+use Rattle.asl_run_state.specs.World.{World}
+use Rattle.asl_run_state.specs.declared.outcome.Outcome.{Outcome}
+use Rattle.asl_run_state.specs.declared.outcome.Outcome.TheVariants.{Failed}
 use Rattle.asl_exec.specs.Lacking.{unanswered_in, IsLackingIn}
 use Rattle.asl_exec.specs.declared.lacking.Invocation.{Invocation}
 use Rattle.asl_exec.specs.Steps.{opening, world_after}

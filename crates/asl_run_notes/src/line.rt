@@ -1,13 +1,13 @@
 // A line that tells which answer was lacking.
 ghost use Rattle.std.specs.Prelude.{◌≡◌, ◌++◌, IfOk, OnOk, string_bytes};
 ghost use Rattle.std.specs.Fmt.{decimal};
-ghost use Rattle.asl_run_setup.specs.Chosen.{case_name};
+ghost use Rattle.asl_run_input.specs.Chosen.{case_name};
 ghost use Rattle.asl_exec.specs.Views.{setup_of, world_of};
 ghost use Rattle.asl_run_notes.specs.Notes.{answer_words, case_words, note_in, note_line, note_text, note_words};
 
 use asl_exec::{Execution, Invocation};
-use asl_json::put_quoted;
-use asl_terminal::{put_decimal, put_shown};
+use asl_json_write::put_quoted;
+use asl_text::{put_decimal, put_shown};
 use std::alloc::{AllocError, Global};
 
 /// The name of the case that is chosen.

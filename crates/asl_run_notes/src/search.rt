@@ -1,6 +1,6 @@
 // Which answers the outcomes of a search lack.
 ghost use Rattle.std.specs.Prelude.{◌≡◌, ◌++◌, IfOk, OnOk, map, string_bytes};
-ghost use Rattle.asl_def_table.specs.Members.{is_among};
+ghost use Rattle.asl_def_schema.specs.Members.{is_among};
 ghost use Rattle.asl_exec.specs.Steps.{opening, world_after};
 ghost use Rattle.asl_exec.specs.Views.{setup_of, world_of};
 ghost use Rattle.asl_run_notes.specs.Notes.{note_in, note_of_found, notes_text, search_notes, with_line};
@@ -8,8 +8,8 @@ ghost use Rattle.asl_run_notes.specs.Notes.{note_in, note_of_found, notes_text, 
 use crate::line::note_in;
 use asl_exec::Execution;
 use asl_explore::Found;
-use asl_run_setup::{Setup, StepAt};
-use asl_run_world::Outcome;
+use asl_run_input::{Setup, StepAt};
+use asl_run_state::Outcome;
 use std::alloc::{AllocError, Global};
 
 /// Takes these steps from the beginning.
@@ -18,8 +18,7 @@ fn replay(execution: &mut Execution, steps: &[StepAt]) -> Result<(), AllocError>
         ≡ world_after (setup_of execution.old) (opening (setup_of execution.old)) steps.now) }
     ensures setup { setup_of execution.new ≡ setup_of execution.old }
 {
-    let world = execution.opening()?;
-    execution.enter(world);
+    execution.restart()?;
     execution.take_all(steps)
 }
 

@@ -2,7 +2,7 @@
 use crate::opened::opened;
 use crate::shown::{place_of, record_text, view};
 use asl_exec::Execution;
-use asl_run_frames::Frame;
+use asl_run_branches::Frame;
 use asl_time::Moment;
 use std::test::Fail;
 

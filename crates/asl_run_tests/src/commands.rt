@@ -1,6 +1,6 @@
 // Sessions and commands of texts, and texts of replies.
 use crate::opened::{LOOP, setup_of};
-use asl_run_setup::{StepAt, read_steps};
+use asl_run_input::{StepAt, read_steps};
 use asl_session::{Command, Reply, Session, Stop, put_answer, read_command};
 use std::test::Fail;
 

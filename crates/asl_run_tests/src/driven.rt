@@ -2,7 +2,7 @@
 use crate::opened::{LOOP, opened, setup_of};
 use asl_exec::{Ended, Execution};
 use asl_history::Place;
-use asl_run_world::{Next, Refusal};
+use asl_run_state::{Next, Refusal};
 use asl_time::Moment;
 use std::test::Fail;
 

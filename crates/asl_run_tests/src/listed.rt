@@ -6,11 +6,14 @@ use asl_def::Machine;
 use asl_def_states::State;
 use asl_exec::Execution;
 use asl_history::{EventKind, History, Place, line};
-use asl_json::{Json, Name, Shared, SharedItems, read, write};
+use asl_json::Json;
+use asl_json_read::read;
+use asl_json_shared::{Name, Shared, SharedItems};
+use asl_json_write::write;
 use asl_kinds::StateKind;
-use asl_run_setup::Setup;
-use asl_run_world::{Next, Outcome, Refusal, put_step};
-use asl_step_rows::{
+use asl_run_input::Setup;
+use asl_run_state::{Next, Outcome, Refusal, put_step};
+use asl_step::{
     Children, Context, Draft, Drafts, Effect, Ended, Facts, Record, Visit, error_output, idle,
     zeros,
 };

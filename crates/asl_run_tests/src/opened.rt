@@ -1,6 +1,6 @@
 // Executions to try.
 use asl_exec::Execution;
-use asl_run_setup::Setup;
+use asl_run_input::Setup;
 use std::alloc::Global;
 use std::test::Fail;
 

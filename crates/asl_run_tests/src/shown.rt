@@ -1,8 +1,9 @@
 // Records as texts, so that tests can compare them.
 use asl_exec::Execution;
 use asl_history::Place;
-use asl_json::{Name, Shared, SharedItems, put};
-use asl_step_rows::{ErrorOut, Record, Uses, error_output};
+use asl_json_shared::{Name, Shared, SharedItems};
+use asl_json_write::put;
+use asl_step::{ErrorOut, Record, Uses, error_output};
 use asl_time::Moment;
 use std::alloc::Global;
 use std::test::Fail;

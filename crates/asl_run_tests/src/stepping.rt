@@ -2,8 +2,8 @@
 use crate::opened::opened;
 use crate::shown::view;
 use asl_history::Place;
-use asl_run_setup::read_steps;
-use asl_run_world::Refusal;
+use asl_run_input::read_steps;
+use asl_run_state::Refusal;
 use asl_time::Moment;
 use std::test::Fail;
 

@@ -2,7 +2,7 @@
 use crate::opened::setup_of;
 use crate::shown::place_of;
 use asl_exec::{Execution, put_obstacle};
-use asl_run_setup::StepAt;
+use asl_run_input::StepAt;
 use asl_time::Moment;
 use std::test::Fail;
 

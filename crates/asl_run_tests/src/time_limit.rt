@@ -2,7 +2,7 @@
 use crate::opened::opened;
 use asl_exec::Ended;
 use asl_history::Place;
-use asl_run_world::{Next, Outcome, Refusal};
+use asl_run_state::{Next, Outcome, Refusal};
 use asl_time::Moment;
 use std::test::Fail;
 

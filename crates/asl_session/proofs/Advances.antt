@@ -1,7 +1,7 @@
 -- Steps one after another.
 use Rattle.std.proofs.Common.{ℕ, ◌≡◌, ◌∙◌, List, [], ◌∷◌, ◌++◌, Option, Some, None, refl, sym, ap}
-use Rattle.asl_run_world.specs.declared.refusal.Refusal.{Refusal}
-use Rattle.asl_run_setup.specs.declared.step_at.StepAt.{StepAt}
+use Rattle.asl_run_state.specs.declared.refusal.Refusal.{Refusal}
+use Rattle.asl_run_input.specs.declared.step_at.StepAt.{StepAt}
 use Rattle.asl_exec.specs.Steps.{refusal_in}
 use Rattle.asl_session.specs.Sessions.{Session, world_in, pause_at, reply_to_step, reply_to, changed, next_session}
 use Rattle.asl_session.specs.Advancing.{stop_of, after_steps, AreTaken, IsStop, IsTried}

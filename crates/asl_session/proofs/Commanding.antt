@@ -6,17 +6,17 @@ use Rattle.std.proofs.lemmas.Bool.Decides.{Decides-eqb}
 use Rattle.std.proofs.lemmas.Slice.Eq.{strip_prefix_is}
 use Rattle.std.specs.Str.{IsUtf8}
 use Rattle.std.proofs.lemmas.Str.{IsUtf8-from_ascii}
-use Rattle.asl_json.specs.Data.{Data}
+use Rattle.asl_json_data.specs.Data.{Data}
 use Rattle.asl_json.specs.View.{data_of}
-use Rattle.asl_json.specs.Wrong.{IsRead}
+use Rattle.asl_json_read.specs.Wrong.{IsRead}
 use Rattle.asl_json.specs.declared.value.Json.{Json}
-use Rattle.asl_json.specs.declared.fault.JsonFault.{JsonFault}
-use Rattle.asl_json.specs.declared.fault.JsonFault.TheVariants.{OutOfMemory}
+use Rattle.asl_json_read.specs.declared.fault.JsonFault.{JsonFault}
+use Rattle.asl_json_read.specs.declared.fault.JsonFault.TheVariants.{OutOfMemory}
 use Rattle.asl_history.specs.Places.{place_text}
 use Rattle.std.proofs.Math.Nat.{pow-le-pow_right}
-use Rattle.asl_run_setup.specs.declared.step_at.StepAt.{StepAt}
-use Rattle.asl_run_setup.specs.StepsFile.{IsStepLine}
-use Rattle.asl_run_setup.proofs.StepLines.{place_ascii}
+use Rattle.asl_run_input.specs.declared.step_at.StepAt.{StepAt}
+use Rattle.asl_run_input.specs.StepsFile.{IsStepLine}
+use Rattle.asl_run_input.proofs.StepLines.{place_ascii}
 use Rattle.asl_session.specs.Scripts.{IsNamed, IsPlaceText, count_in, IsCommandLine}
 use Rattle.asl_session.specs.declared.command.Command.{Command}
 use Rattle.asl_session.specs.declared.command.Command.TheVariants.{Step, Break, Clear, Resume, Show, Back}

@@ -2,12 +2,12 @@
 use Rattle.std.proofs.Common.{ℕ, zero, suc, ◌≡◌, ◌⊎◌, inl, inr, ◌+◌, ◌-◌, ◌*◌, ◌<◌, ◌≤◌, List, [], ◌∷◌, ◌++◌, length, take, drop, Some, refl, sym, ◌∙◌, ap, arith, length-append, length-take-le, take_all, take-take, take-append-drop}
 use Rattle.std.specs.Prelude.{slice_get}
 use Rattle.std.proofs.lemmas.List.{take-append-le, drop-take}
-use Rattle.asl_run_world.specs.World.{World}
-use Rattle.asl_run_world.specs.Checkpoints.{world_at, IsCheckpointOf}
-use Rattle.asl_run_world.specs.declared.checkpoint.Checkpoint.{Checkpoint}
-use Rattle.asl_run_world.proofs.Earlier.{shows-earlier, is-earlier}
-use Rattle.asl_run_setup.specs.declared.setup.Setup.{Setup}
-use Rattle.asl_run_setup.specs.declared.step_at.StepAt.{StepAt}
+use Rattle.asl_run_state.specs.World.{World}
+use Rattle.asl_run_state.specs.Checkpoints.{world_at, IsCheckpointOf}
+use Rattle.asl_run_state.specs.declared.checkpoint.Checkpoint.{Checkpoint}
+use Rattle.asl_run_state.proofs.Earlier.{shows-earlier, is-earlier}
+use Rattle.asl_run_input.specs.declared.setup.Setup.{Setup}
+use Rattle.asl_run_input.specs.declared.step_at.StepAt.{StepAt}
 use Rattle.asl_exec.specs.Steps.{opening, world_after}
 use Rattle.asl_exec.proofs.Growing.{GoesOn, steps-go-on, after-append}
 use Rattle.asl_session.specs.private.Marks.{IsMark, AreMarks}

@@ -1,11 +1,11 @@
 -- A line spells at most one command, and so a file at most one list of commands.
 use Rattle.std.proofs.Common.{ℕ, ◌≡◌, ◌∙◌, List, Some, sym, ap, arith}
 use Rattle.std.specs.Prelude.{codes}
-use Rattle.asl_json.specs.Data.{text}
-use Rattle.asl_run_setup.specs.FileLines.{lines_in}
-use Rattle.asl_run_setup.proofs.OneReading.{one_place, one_step}
-use Rattle.asl_run_setup.proofs.OneRun.{one_value}
-use Rattle.asl_run_setup.proofs.LinesRead.{one_list}
+use Rattle.asl_json_data.specs.Data.{text}
+use Rattle.asl_run_input.specs.FileLines.{lines_in}
+use Rattle.asl_run_input.proofs.OneReading.{one_place, one_step}
+use Rattle.asl_run_input.proofs.OneRun.{one_value}
+use Rattle.asl_run_input.proofs.LinesRead.{one_list}
 use Rattle.asl_session.specs.Scripts.{IsNamed, IsPlaceText, count_in, IsBehind, IsCommandLine, IsScript}
 use Rattle.asl_session.proofs.Commanding.{same-rest, letters}
 use Rattle.asl_session.specs.declared.command.Command.{Command}

@@ -1,6 +1,6 @@
 -- What a reply that takes memory to copy leaves.
 use Rattle.std.proofs.Common.{ℕ, ◌≡◌, false, List, refl}
-use Rattle.asl_step_rows.specs.declared.record.Record.{Record}
+use Rattle.asl_step.specs.declared.record.Record.{Record}
 use Rattle.asl_session.specs.Sessions.{Session, changed, reply_to, next_session}
 use Rattle.asl_session.specs.Replies.{is_plain}
 use Rattle.asl_session.specs.declared.command.Command.{Command}

@@ -4,8 +4,8 @@ use Rattle.std.specs.Prelude.{is_some}
 use Rattle.std.specs.List.{list_any}
 use Rattle.std.proofs.lemmas.Bool.{or_parts}
 use Rattle.std.proofs.Math.Seq.{take-nil}
-use Rattle.asl_run_frames.specs.Branches.{Branch, record_at}
-use Rattle.asl_run_setup.specs.declared.step_at.StepAt.{StepAt}
+use Rattle.asl_run_branches.specs.Branches.{Branch, record_at}
+use Rattle.asl_run_input.specs.declared.step_at.StepAt.{StepAt}
 use Rattle.asl_exec.specs.Steps.{opening, world_after}
 use Rattle.asl_session.specs.Sessions.{Session, restarted, opened, world_in, entering_of, held_by, breakpoint_at, shown_or_none, reply_to, changed, next_session, session_after}
 use Rattle.asl_session.specs.ReplyLines.{answer_line}

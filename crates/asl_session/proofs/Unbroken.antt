@@ -4,12 +4,12 @@ use Rattle.std.specs.Prelude.{is_none, is_some}
 use Rattle.std.specs.List.{list_any}
 use Rattle.std.proofs.lemmas.Bool.{or_parts}
 use Rattle.asl_def.specs.Machines.{state_object}
-use Rattle.asl_step_rows.specs.declared.record.Record.{Record}
-use Rattle.asl_run_frames.specs.Branches.{record_at}
-use Rattle.asl_run_world.specs.World.{World}
-use Rattle.asl_run_world.specs.declared.refusal.Refusal.{Refusal}
-use Rattle.asl_run_setup.specs.declared.setup.Setup.{Setup}
-use Rattle.asl_run_setup.specs.declared.step_at.StepAt.{StepAt}
+use Rattle.asl_step.specs.declared.record.Record.{Record}
+use Rattle.asl_run_branches.specs.Branches.{record_at}
+use Rattle.asl_run_state.specs.World.{World}
+use Rattle.asl_run_state.specs.declared.refusal.Refusal.{Refusal}
+use Rattle.asl_run_input.specs.declared.setup.Setup.{Setup}
+use Rattle.asl_run_input.specs.declared.step_at.StepAt.{StepAt}
 use Rattle.asl_exec.specs.Steps.{opening, world_after, refusal_in}
 use Rattle.asl_exec.proofs.Accepting.{step_refused}
 use Rattle.asl_exec.proofs.Growing.{after-append}

@@ -1,6 +1,6 @@
 -- Steps one after another until one isn't taken.
 use Rattle.std.specs.Prelude.{◌≡◌, List, [], ◌∷◌, ⊤, Option, Some, None}
-use Rattle.asl_run_setup.specs.declared.step_at.StepAt.{StepAt}
+use Rattle.asl_run_input.specs.declared.step_at.StepAt.{StepAt}
 use Rattle.asl_session.specs.Sessions.{Session, reply_to, next_session}
 use Rattle.asl_session.specs.declared.command.Command.TheVariants.{Step}
 use Rattle.asl_session.specs.declared.reply.Reply.{Reply}

@@ -1,8 +1,8 @@
 -- Laws of sessions, over all commands.
 use Rattle.std.specs.Prelude.{ℕ, ◌≡◌, Bool, true, false, ◌||◌, List, [], ◌∷◌, ◌++◌}
 use Rattle.std.specs.List.{list_any}
-use Rattle.asl_run_setup.specs.declared.setup.Setup.{Setup}
-use Rattle.asl_run_setup.specs.declared.step_at.StepAt.{StepAt}
+use Rattle.asl_run_input.specs.declared.setup.Setup.{Setup}
+use Rattle.asl_run_input.specs.declared.step_at.StepAt.{StepAt}
 use Rattle.asl_exec.specs.Steps.{world_after}
 use Rattle.asl_session.specs.Sessions.{Session, begun_at, restarted, opened, world_in, reply_to, next_session, session_after}
 use Rattle.asl_session.specs.Replies.{is_plain}

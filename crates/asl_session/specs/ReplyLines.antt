@@ -1,14 +1,14 @@
 -- The lines that tell of replies.
 use Rattle.std.specs.Prelude.{ℕ, List, [], ◌∷◌, ◌++◌, map, Some, codes, pos}
 use Rattle.std.specs.Fmt.{decimal, signed_decimal}
-use Rattle.asl_json.specs.Data.{Data, text, number, list, chain}
+use Rattle.asl_json_data.specs.Data.{Data, text, number, list, chain}
 use Rattle.asl_json.specs.View.{data_of}
-use Rattle.asl_json.specs.Compact.{compact}
+use Rattle.asl_json_data.specs.Compact.{compact}
 use Rattle.asl_time.specs.StampText.{stamp_of}
-use Rattle.asl_step_rows.specs.Rows.{error_output}
-use Rattle.asl_step_rows.specs.declared.record.Record.{Record}
-use Rattle.asl_step_rows.specs.declared.record.Record.TheVariants.{New, Ready, Pausing, Again, Forked, Done, Failed}
-use Rattle.asl_run_world.specs.Lines.{reply_text}
+use Rattle.asl_step.specs.Rows.{error_output}
+use Rattle.asl_step.specs.declared.record.Record.{Record}
+use Rattle.asl_step.specs.declared.record.Record.TheVariants.{New, Ready, Pausing, Again, Forked, Done, Failed}
+use Rattle.asl_run_state.specs.Lines.{reply_text}
 use Rattle.asl_session.specs.declared.reply.Reply.{Reply}
 use Rattle.asl_session.specs.declared.reply.Reply.TheVariants.{Stepped, Refused, Paused, Set, Cleared, Resumed, NotPaused, NoSuchState, NoSuchPlace, Shown, WentBack, TooFar}
 

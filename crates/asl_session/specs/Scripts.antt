@@ -2,14 +2,14 @@
 use Rattle.std.specs.Prelude.{◌≡◌, ℕ, Bool, ◌&&◌, nat_le, if◌then◌else◌, List, [], ◌∷◌, ◌++◌, length, ⊤, Option, Some, None, codes}
 use Rattle.std.specs.List.{list_all}
 use Rattle.std.specs.Fmt.{decimal}
-use Rattle.asl_json.specs.Data.{text}
-use Rattle.asl_json.specs.Number.{digits_value}
-use Rattle.asl_json.specs.Wrong.{ReadsAs}
+use Rattle.asl_json_data.specs.Data.{text}
+use Rattle.asl_json_data.specs.Number.{digits_value}
+use Rattle.asl_json_data.specs.Reads.{ReadsAs}
 use Rattle.asl_history.specs.Places.{IsPlace, place_text}
-use Rattle.asl_run_world.specs.Lines.{end_text}
-use Rattle.asl_run_setup.specs.declared.setup.Setup.{Setup}
-use Rattle.asl_run_setup.specs.FileLines.{lines_in, AreSpelled, IsFirstBadLine}
-use Rattle.asl_run_setup.specs.StepsFile.{IsStepLine}
+use Rattle.asl_run_state.specs.Lines.{end_text}
+use Rattle.asl_run_input.specs.declared.setup.Setup.{Setup}
+use Rattle.asl_run_input.specs.FileLines.{lines_in, AreSpelled, IsFirstBadLine}
+use Rattle.asl_run_input.specs.StepsFile.{IsStepLine}
 use Rattle.asl_session.specs.Sessions.{Session, begun_at, opened, world_in, reply_to, next_session, session_after}
 use Rattle.asl_session.specs.ReplyLines.{answer_line}
 use Rattle.asl_session.specs.declared.command.Command.{Command}

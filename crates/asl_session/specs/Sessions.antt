@@ -4,13 +4,13 @@ use Rattle.std.specs.List.{filter, list_any}
 use Rattle.std.specs.Cmp.Lexicographic.{pointwise}
 use Rattle.asl_history.specs.Places.{is_prefix}
 use Rattle.asl_def.specs.Machines.{state_object}
-use Rattle.asl_step_rows.specs.declared.record.Record.{Record}
-use Rattle.asl_step_rows.specs.declared.record.Record.TheVariants.{New, Ready, Pausing, Again, Forked, Done, Failed}
-use Rattle.asl_run_frames.specs.Branches.{record_at}
-use Rattle.asl_run_world.specs.World.{World, is_late}
-use Rattle.asl_run_world.specs.declared.refusal.Refusal.{Refusal}
-use Rattle.asl_run_setup.specs.declared.setup.Setup.{Setup}
-use Rattle.asl_run_setup.specs.declared.step_at.StepAt.{StepAt}
+use Rattle.asl_step.specs.declared.record.Record.{Record}
+use Rattle.asl_step.specs.declared.record.Record.TheVariants.{New, Ready}
+use Rattle.asl_run_branches.specs.Branches.{record_at}
+use Rattle.asl_run_state.specs.World.{World, is_late}
+use Rattle.asl_run_state.specs.declared.refusal.Refusal.{Refusal}
+use Rattle.asl_run_input.specs.declared.setup.Setup.{Setup}
+use Rattle.asl_run_input.specs.declared.step_at.StepAt.{StepAt}
 use Rattle.asl_exec.specs.Steps.{opening, world_after, refusal_in}
 use Rattle.asl_session.specs.declared.command.Command.{Command}
 use Rattle.asl_session.specs.declared.command.Command.TheVariants.{Step, Break, Clear, Resume, Show, Back}
@@ -31,23 +31,11 @@ opened setup = record { setup = setup; steps = []; breakpoints = []; released = 
 
 -- an execution that begins with the same, at this moment
 abbrev pub begun_at : ℕ → Setup → Setup
-begun_at start s = record {
-  machine = s.machine;
-  name_of_machine = s.name_of_machine;
-  case = s.case;
-  input = s.input;
-  name = s.name;
-  start = start;
-}
+begun_at start s = record s { start = start }
 
 -- the session whose execution begins anew at this moment; what was said of breakpoints stays
 abbrev pub restarted : ℕ → Session → Session
-restarted start s = record {
-  setup = begun_at start s.setup;
-  steps = [];
-  breakpoints = s.breakpoints;
-  released = s.released;
-}
+restarted start s = record s { setup = begun_at start s.setup; steps = [] }
 
 -- its world is that of its steps, whatever else it was told
 abbrev pub world_in : Session → World
@@ -74,11 +62,7 @@ left_by p ps = filter (λ q. not (is_prefix p q)) ps
 abbrev pub entering_in : Record → Option (List ℕ)
 entering_in (New n x) = Some n
 entering_in (Ready n x) = Some n
-entering_in (Pausing n x since until) = None
-entering_in (Again n x since uses until) = None
-entering_in (Forked n x since uses items) = None
-entering_in (Done x) = None
-entering_in (Failed e) = None
+entering_in _ = None
 
 abbrev pub entering_of : Option Record → Option (List ℕ)
 entering_of None = None
@@ -125,36 +109,14 @@ reply_to s (Back n) =
 -- ---- what is changed, as the reply tells
 
 abbrev pub changed : Session → Command → Reply → Session
-changed s (Step a) Stepped = record {
-  setup = s.setup;
+changed s (Step a) Stepped = record s {
   steps = s.steps ++ a ∷ [];
-  breakpoints = s.breakpoints;
   released = left_by a.place s.released;
 }
-changed s (Break n) Set = record {
-  setup = s.setup;
-  steps = s.steps;
-  breakpoints = with_one n s.breakpoints;
-  released = s.released;
-}
-changed s (Clear n) Cleared = record {
-  setup = s.setup;
-  steps = s.steps;
-  breakpoints = without n s.breakpoints;
-  released = s.released;
-}
-changed s (Resume p) Resumed = record {
-  setup = s.setup;
-  steps = s.steps;
-  breakpoints = s.breakpoints;
-  released = s.released ++ p ∷ [];
-}
-changed s (Back n) (WentBack left) = record {
-  setup = s.setup;
-  steps = take left s.steps;
-  breakpoints = s.breakpoints;
-  released = [];
-}
+changed s (Break n) Set = record s { breakpoints = with_one n s.breakpoints }
+changed s (Clear n) Cleared = record s { breakpoints = without n s.breakpoints }
+changed s (Resume p) Resumed = record s { released = s.released ++ p ∷ [] }
+changed s (Back n) (WentBack left) = record s { steps = take left s.steps; released = [] }
 changed s c r = s
 
 -- the session after a command

@@ -3,9 +3,9 @@ ghost use Rattle.std.specs.Prelude.{◌≡◌, ◌≤◌, length, take, drop};
 ghost use Rattle.asl_session.specs.Advancing.{after_steps, AreTaken, IsStop};
 
 use crate::session::Session;
-use asl_json::Name;
-use asl_run_setup::StepAt;
-use asl_run_world::Refusal;
+use asl_json_shared::Name;
+use asl_run_input::StepAt;
+use asl_run_state::Refusal;
 use std::alloc::AllocError;
 
 /// Why no further step was taken.

@@ -1,14 +1,14 @@
 // The lines of replies.
 ghost use Rattle.std.specs.Prelude.{◌≡◌, ◌++◌, ◌∷◌, [], OnOk, OnErr, string_bytes};
 ghost use Rattle.std.specs.Fmt.{decimal};
-ghost use Rattle.asl_json.specs.Buffers.{Keeps};
+ghost use Rattle.asl_json_write.specs.Buffers.{Keeps};
 ghost use Rattle.asl_session.specs.ReplyLines.{answer_text, answer_line};
 
 use crate::reply::Reply;
 use crate::showing::record_json;
-use asl_json::{put, put_quoted, whole_or_none};
-use asl_run_world::put_reply;
-use asl_terminal::put_decimal;
+use asl_json_write::{put, put_quoted, whole_or_none};
+use asl_run_state::put_reply;
+use asl_text::put_decimal;
 use std::alloc::{AllocError, Global};
 
 /// Appends the line of a reply. The error is that memory ran out, and then nothing is appended.

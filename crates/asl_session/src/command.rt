@@ -2,8 +2,8 @@
 ghost use Rattle.std.specs.Prelude.{◌≡◌, IfOk};
 
 use asl_history::Place;
-use asl_json::Name;
-use asl_run_setup::StepAt;
+use asl_json_shared::Name;
+use asl_run_input::StepAt;
 use std::alloc::AllocError;
 
 /// What a session is told.

@@ -2,7 +2,7 @@
 ghost use Rattle.std.specs.Prelude.{◌≡◌, [], OnOk, OnErr};
 ghost use Rattle.asl_session.specs.Sessions.{is_among, with_one, without};
 
-use asl_json::Name;
+use asl_json_shared::Name;
 use std::alloc::{AllocError, Global};
 use std::marker::Model;
 

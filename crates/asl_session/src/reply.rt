@@ -3,9 +3,9 @@ ghost use Rattle.std.specs.Prelude.{◌≡◌, IfOk, IsOk, true};
 ghost use Rattle.asl_session.specs.Replies.{is_plain};
 
 use crate::advancing::Stop;
-use asl_json::Name;
-use asl_run_world::Refusal;
-use asl_step_rows::Record;
+use asl_json_shared::Name;
+use asl_run_state::Refusal;
+use asl_step::Record;
 use std::alloc::{AllocError, Global};
 
 /// What a session replies to a command.

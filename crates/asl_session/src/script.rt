@@ -8,8 +8,8 @@ use crate::answers::put_answer;
 use crate::command::Command;
 use crate::script_file::{ScriptFault, read_script};
 use crate::session::{Session, begun_at};
-use asl_run_setup::Setup;
-use asl_run_world::put_end;
+use asl_run_input::Setup;
+use asl_run_state::put_end;
 use asl_time::Moment;
 use std::alloc::{AllocError, Global};
 

@@ -1,8 +1,8 @@
 // Scripts: files of commands.
 ghost use Rattle.std.specs.Prelude.{◌≡◌, ◌∷◌, ◌++◌, [], List, ℕ, true, IfOk, IfErr, IfSome, IsSomeAnd, MatchResult, None, Some, string_bytes};
-ghost use Rattle.asl_json.specs.Data.{text};
+ghost use Rattle.asl_json_data.specs.Data.{text};
 ghost use Rattle.asl_json.specs.View.{data_of};
-ghost use Rattle.asl_json.specs.declared.fault.JsonFault.{JsonFault};
+ghost use Rattle.asl_json_read.specs.declared.fault.JsonFault.{JsonFault};
 ghost use Rattle.asl_session.specs.declared.command.Command.{Command};
 ghost use Rattle.asl_session.specs.declared.script_file.ScriptFault.{ScriptFault};
 ghost use Rattle.asl_session.specs.declared.script_file.ScriptFault.TheVariants.{OutOfMemory};
@@ -10,8 +10,10 @@ ghost use Rattle.asl_session.specs.Scripts.{IsNamed, IsPlaceText, count_in, IsCo
 
 use crate::command::Command;
 use asl_history::Place;
-use asl_json::{Json, JsonFault, Name, read};
-use asl_run_setup::{read_step, split_line};
+use asl_json::Json;
+use asl_json_read::{JsonFault, read};
+use asl_json_shared::Name;
+use asl_run_input::{read_step, split_line};
 use std::alloc::{AllocError, AllocFailed, Global};
 use std::error::Error;
 use std::{fmt, str};

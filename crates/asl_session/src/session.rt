@@ -10,9 +10,9 @@ use crate::reply::Reply;
 use crate::timeline::Timeline;
 use asl_exec::Execution;
 use asl_history::Place;
-use asl_json::Name;
-use asl_run_setup::{Setup, StepAt};
-use asl_step_rows::Record;
+use asl_json_shared::Name;
+use asl_run_input::{Setup, StepAt};
+use asl_step::Record;
 use asl_time::Moment;
 use std::alloc::{AllocError, Global};
 use std::marker::Model;
@@ -45,8 +45,8 @@ impl Model for Session {
     ghost Value = { Session };
 
     ghost use Rattle.std.specs.Coded.{codes};
-    ghost use Rattle.asl_run_setup.specs.contracts.setup.Setup as setup_row;
-    ghost use Rattle.asl_run_setup.specs.contracts.step_at.StepAt as step_row;
+    ghost use Rattle.asl_run_input.specs.contracts.setup.Setup as setup_row;
+    ghost use Rattle.asl_run_input.specs.contracts.step_at.StepAt as step_row;
 
     ghost coded = { Prim.hlevel (codes, setup_row.the_row.coded, step_row.the_row.coded) };
 

@@ -1,12 +1,13 @@
 // A record as JSON.
 ghost use Rattle.std.specs.Prelude.{◌≡◌, ◌∷◌, ◌++◌, [], map, IfOk};
-ghost use Rattle.asl_json.specs.Data.{Data, text, list, chain};
+ghost use Rattle.asl_json_data.specs.Data.{Data, text, list, chain};
 ghost use Rattle.asl_json.specs.View.{data_of, items_of};
 ghost use Rattle.asl_time.specs.StampText.{stamp_of};
 ghost use Rattle.asl_session.specs.ReplyLines.{uses_data, record_data};
 
-use asl_json::{Dec, Items, Json, Name, Shared, SharedItems, Txt};
-use asl_step_rows::{Record, error_output};
+use asl_json::{Dec, Items, Json, Txt};
+use asl_json_shared::{Name, Shared, SharedItems};
+use asl_step::{Record, error_output};
 use asl_time::{Moment, put_stamp};
 use std::alloc::{AllocError, Global};
 

@@ -5,8 +5,8 @@ ghost use Rattle.asl_exec.specs.Views.{setup_of, world_of};
 ghost use Rattle.asl_session.specs.private.Marks.{AreMarks};
 
 use asl_exec::Execution;
-use asl_run_setup::{Setup, StepAt};
-use asl_run_world::Checkpoint;
+use asl_run_input::{Setup, StepAt};
+use asl_run_state::Checkpoint;
 use std::alloc::{AllocError, Global};
 use std::marker::Model;
 
@@ -41,8 +41,8 @@ impl Model for Timeline {
     ghost Value = { Course };
 
     ghost use Rattle.std.specs.Coded.{codes, coded_list};
-    ghost use Rattle.asl_run_setup.specs.contracts.setup.Setup as setup_row;
-    ghost use Rattle.asl_run_setup.specs.contracts.step_at.StepAt as step_row;
+    ghost use Rattle.asl_run_input.specs.contracts.setup.Setup as setup_row;
+    ghost use Rattle.asl_run_input.specs.contracts.step_at.StepAt as step_row;
 
     ghost coded = { Prim.hlevel (codes, setup_row.the_row.coded, step_row.the_row.coded) };
 

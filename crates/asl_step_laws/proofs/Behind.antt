@@ -4,25 +4,25 @@ use Rattle.std.specs.Prelude.{Ok, Err, codes}
 use Rattle.std.specs.List.{All}
 use Rattle.std.proofs.lemmas.List.{append_assoc, append-nil}
 use Rattle.std.proofs.lemmas.List.Elements.{All-append, All-cons, All-nil}
-use Rattle.asl_json.specs.Data.{Data}
+use Rattle.asl_json_data.specs.Data.{Data}
 use Rattle.asl_json.specs.Meaning.{value_in}
 use Rattle.asl_json.specs.declared.value.Json.{Json}
 use Rattle.asl_history.specs.declared.kind.EventKind.{EventKind}
 use Rattle.asl_history.specs.declared.kind.EventKind.TheVariants.{MapIterationStarted, MapIterationSucceeded, MapIterationFailed}
 use Rattle.asl_handle.specs.Decisions.{Handling, again, caught, unhandled, decision}
-use Rattle.asl_step_rows.specs.declared.effect.Children.TheVariants.{Kept}
-use Rattle.asl_step_rows.specs.declared.effect.Draft.{Draft}
-use Rattle.asl_step_rows.specs.declared.effect.Effect.{Effect}
-use Rattle.asl_step_rows.specs.declared.effect.Progress.{Progress}
-use Rattle.asl_step_rows.specs.declared.record.ErrorOut.{ErrorOut}
-use Rattle.asl_step_rows.specs.declared.record.Record.{Record}
-use Rattle.asl_step_rows.specs.declared.record.Record.TheVariants.{New, Ready, Pausing, Again, Forked, Done, Failed}
-use Rattle.asl_step_rows.specs.Records.{name_in, uses_in}
-use Rattle.asl_step_rows.specs.Rows.{draft, iteration_event, told_begin, entering, unstarted, beginning_by, told_success, left, told_failure, failing, leaving, error_output, is_within_limit, over_limit}
-use Rattle.asl_step_rows.specs.Seen.{Seen}
-use Rattle.asl_step_data.specs.Paths.{Given, put_into}
+use Rattle.asl_step.specs.declared.effect.Children.TheVariants.{Kept}
+use Rattle.asl_step.specs.declared.effect.Draft.{Draft}
+use Rattle.asl_step.specs.declared.effect.Effect.{Effect}
+use Rattle.asl_step.specs.declared.effect.Progress.{Progress}
+use Rattle.asl_step.specs.declared.record.ErrorOut.{ErrorOut}
+use Rattle.asl_step.specs.declared.record.Record.{Record}
+use Rattle.asl_step.specs.declared.record.Record.TheVariants.{New, Ready, Pausing, Again, Forked, Done, Failed}
+use Rattle.asl_step.specs.Records.{name_in, uses_in, error_name}
+use Rattle.asl_step.specs.Rows.{draft, iteration_event, told_begin, entering, unstarted, beginning_by, told_success, left, told_failure, failing, leaving, error_output, is_within_limit, over_limit}
+use Rattle.asl_step.specs.Seen.{Seen}
+use Rattle.asl_step_io.specs.Paths.{Given, put_into}
 use Rattle.asl_kinds.specs.Members.{next_in}
-use Rattle.asl_kinds.specs.Table.{passed, error_name, handled, raised}
+use Rattle.asl_kinds.specs.Table.{passed, handled, raised}
 use Rattle.asl_step_laws.specs.Faults.{error_failing, TellsFirst, is_of_work, InvokesNothing}
 
 -- no event tells of work

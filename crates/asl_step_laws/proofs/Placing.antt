@@ -1,20 +1,20 @@
 -- A fault in placing keeps what was told.
 use Rattle.std.proofs.Common.{◌≡◌, List, [], ◌∷◌, true, false, refl, subst}
 use Rattle.std.specs.Prelude.{codes}
-use Rattle.asl_json.specs.Data.{Data}
+use Rattle.asl_json_data.specs.Data.{Data}
 use Rattle.asl_json.specs.Meaning.{value_in}
 use Rattle.asl_json.specs.declared.value.Json.{Json}
 use Rattle.asl_json.specs.declared.value.Json.TheVariants.{Dict}
 use Rattle.asl_history.specs.declared.kind.EventKind.{EventKind}
 use Rattle.asl_history.specs.declared.kind.EventKind.TheVariants.{PassStateEntered, SucceedStateEntered, ChoiceStateEntered, TaskStateEntered, TaskStateExited, ParallelStateExited, ParallelStateSucceeded, MapStateExited, MapStateSucceeded}
-use Rattle.asl_step_rows.specs.declared.effect.Children.TheVariants.{Removed}
-use Rattle.asl_step_rows.specs.declared.effect.Draft.{Draft}
-use Rattle.asl_step_rows.specs.declared.effect.Effect.{Effect}
-use Rattle.asl_step_rows.specs.declared.effect.Progress.{Progress}
-use Rattle.asl_step_rows.specs.declared.record.ErrorOut.{ErrorOut}
-use Rattle.asl_step_rows.specs.Records.{name_in}
-use Rattle.asl_step_rows.specs.Rows.{draft, entering, beginning, telling, unstarted, failing}
-use Rattle.asl_step_rows.specs.Seen.{Seen}
+use Rattle.asl_step.specs.declared.effect.Children.TheVariants.{Removed}
+use Rattle.asl_step.specs.declared.effect.Draft.{Draft}
+use Rattle.asl_step.specs.declared.effect.Effect.{Effect}
+use Rattle.asl_step.specs.declared.effect.Progress.{Progress}
+use Rattle.asl_step.specs.declared.record.ErrorOut.{ErrorOut}
+use Rattle.asl_step.specs.Records.{name_in}
+use Rattle.asl_step.specs.Rows.{draft, entering, beginning, telling, unstarted, failing}
+use Rattle.asl_step.specs.Seen.{Seen}
 use Rattle.asl_kinds.specs.Forks.{gathered}
 use Rattle.asl_kinds.specs.Table.{raised}
 use Rattle.asl_step_laws.specs.Faults.{error_failing, error_handled, TellsFirst, is_of_work}

@@ -1,17 +1,18 @@
 -- A fault in preparation invokes nothing.
 use Rattle.std.proofs.Common.{◌≡◌, false, refl, ap}
 use Rattle.std.specs.Prelude.{codes}
-use Rattle.asl_json.specs.Data.{Data}
+use Rattle.asl_json_data.specs.Results.{◌>>=◌}
+use Rattle.asl_json_data.specs.Data.{Data}
 use Rattle.asl_json.specs.Meaning.{value_in}
 use Rattle.asl_json.specs.declared.value.Json.{Json}
 use Rattle.asl_history.specs.declared.kind.EventKind.{EventKind}
 use Rattle.asl_history.specs.declared.kind.EventKind.TheVariants.{PassStateEntered, SucceedStateEntered, ChoiceStateEntered, WaitStateEntered, TaskStateEntered, TaskStateExited, ParallelStateEntered, ParallelStateExited, MapStateEntered, MapStateExited}
-use Rattle.asl_step_rows.specs.declared.effect.Effect.{Effect}
-use Rattle.asl_step_rows.specs.declared.record.ErrorOut.{ErrorOut}
-use Rattle.asl_step_rows.specs.Context.{context_of}
-use Rattle.asl_step_rows.specs.Rows.{entering, beginning, failing}
-use Rattle.asl_step_rows.specs.Seen.{Seen}
-use Rattle.asl_step_data.specs.Paths.{Given, taken, and_then}
+use Rattle.asl_step.specs.declared.effect.Effect.{Effect}
+use Rattle.asl_step.specs.declared.record.ErrorOut.{ErrorOut}
+use Rattle.asl_step.specs.Context.{context_of}
+use Rattle.asl_step.specs.Rows.{entering, beginning, failing}
+use Rattle.asl_step.specs.Seen.{Seen}
+use Rattle.asl_step_io.specs.Paths.{Given, taken}
 use Rattle.asl_kinds.specs.Members.{placed, result_or, choice_by}
 use Rattle.asl_kinds.specs.Table.{raised}
 use Rattle.asl_step_laws.specs.Faults.{error_failing, error_handled, TellsFirst, is_of_work, InvokesNothing, data_of_target, placing_error}
@@ -44,10 +45,10 @@ handles d v entered exited x e step idle left is =
 pub preparation : PreparationFaults
 preparation = record {
   pass = λ d f v x e is begins wrong. fails v PassStateEntered x e _ refl
-      (pass-row d f v x e is begins (ap (λ (g : Given). placing_error (and_then g (λ y.
+      (pass-row d f v x e is begins (ap (λ (g : Given). placing_error (g >>= (λ y.
       placed d x (context_of f v) (result_or (value_in (codes "Result") d) y)))) wrong));
   succeed = λ d f v x e is begins wrong. fails v SucceedStateEntered x e _ refl
-      (succeed-row d f v x e is begins (ap (λ (g : Given). placing_error (and_then g (λ y.
+      (succeed-row d f v x e is begins (ap (λ (g : Given). placing_error (g >>= (λ y.
       taken (codes "OutputPath") (value_in (codes "OutputPath") d) y (context_of f v)))) wrong));
   choice = λ d f v x e is begins wrong. fails v ChoiceStateEntered x e _ refl
       (choice-row d f v x e is begins (ap (λ (g : Given).

@@ -2,7 +2,7 @@
 use Rattle.std.proofs.Common.{◌≡◌, ℕ, suc, List, [], ◌∷◌, ◌++◌, Bool, true, false, Option, Some, None, if◌then◌else◌, refl, sym, ap, ◌∙◌}
 use Rattle.std.specs.Prelude.{Ok, Err, codes}
 use Rattle.std.proofs.lemmas.List.{append_assoc}
-use Rattle.asl_json.specs.Data.{Data, null, boolean, number, text, list, dict, Chain, no_items, item}
+use Rattle.asl_json_data.specs.Data.{Data, null, boolean, number, text, list, dict, Chain, no_items, item}
 use Rattle.asl_json.specs.Meaning.{value_in}
 use Rattle.asl_json.specs.declared.value.Json.{Json}
 use Rattle.asl_json.specs.declared.value.Json.TheVariants.{Dict, List as ListOf}
@@ -12,17 +12,17 @@ use Rattle.asl_mock.specs.Answers.{answer_to}
 use Rattle.asl_mock.specs.declared.response.Answer.TheVariants.{Returns}
 use Rattle.asl_handle.specs.Names.{names}
 use Rattle.asl_handle.specs.Decisions.{unhandled, handlers_in, first_for, retried, caught_by, decision}
-use Rattle.asl_step_rows.specs.declared.effect.Draft.{Draft}
-use Rattle.asl_step_rows.specs.declared.effect.Progress.{Progress}
-use Rattle.asl_step_rows.specs.declared.facts.Facts.{Facts}
-use Rattle.asl_step_rows.specs.declared.record.ErrorOut.{ErrorOut}
-use Rattle.asl_step_rows.specs.declared.record.Record.{Record}
-use Rattle.asl_step_rows.specs.declared.record.Record.TheVariants.{New, Ready, Pausing, Again, Forked, Done, Failed}
-use Rattle.asl_step_rows.specs.Records.{name_in, uses_in, entering_with, beginning_with, pausing_with}
-use Rattle.asl_step_rows.specs.Context.{context_of}
-use Rattle.asl_step_rows.specs.Rows.{entering, beginning, telling, unstarted, left, failing, is_within_limit, over_limit}
-use Rattle.asl_step_rows.specs.Seen.{Seen}
-use Rattle.asl_step_data.specs.Paths.{Given}
+use Rattle.asl_step.specs.declared.effect.Draft.{Draft}
+use Rattle.asl_step.specs.declared.effect.Progress.{Progress}
+use Rattle.asl_step.specs.declared.facts.Facts.{Facts}
+use Rattle.asl_step.specs.declared.record.ErrorOut.{ErrorOut}
+use Rattle.asl_step.specs.declared.record.Record.{Record}
+use Rattle.asl_step.specs.declared.record.Record.TheVariants.{New, Ready, Pausing, Again, Forked, Done, Failed}
+use Rattle.asl_step.specs.Records.{name_in, uses_in, entering_with, beginning_with, pausing_with}
+use Rattle.asl_step.specs.Context.{context_of}
+use Rattle.asl_step.specs.Rows.{entering, beginning, telling, unstarted, left, failing, is_within_limit, over_limit}
+use Rattle.asl_step.specs.Seen.{Seen}
+use Rattle.asl_step_io.specs.Paths.{Given}
 use Rattle.asl_kinds.specs.Members.{next_in, effective, pass_output, passed_on, selected, GivenTarget, choice_output, wait_until}
 use Rattle.asl_kinds.specs.Forks.{forked_with, first_error, output_in, output_before, outputs, gathered}
 use Rattle.asl_kinds.specs.Table.{passed, in_one, begun, decided, waits, wait_over, wait_with, handled, raised, settled, invoked, task_returns, task_fails, task_answered, task_with, joined_by, parallel_forks, parallel_joins, parallel_with, fork_of, map_forks, map_joins, map_with, effect_by_type, state_effect}

@@ -3,8 +3,8 @@ use Rattle.std.proofs.Common.{◌≡◌, ℕ, suc, ◌+◌, ◌≤◌, List, [],
 use Rattle.std.specs.Prelude.{nat_lt}
 use Rattle.std.proofs.lemmas.Bool.{le-ltb}
 use Rattle.std.proofs.lemmas.List.Elements.{All-head, All-tail}
-use Rattle.asl_json.specs.Data.{Data, chain}
-use Rattle.asl_def_members.specs.Retries.{attempts_of}
+use Rattle.asl_json_data.specs.Data.{Data, chain}
+use Rattle.asl_def_fields.specs.Retries.{attempts_of}
 use Rattle.asl_handle.specs.Names.{is_for}
 use Rattle.asl_handle.specs.Decisions.{Handling, OnAgain, again, handlers_in, first_for, used, wait_after, delayed, retried, caught_by, decision}
 use Rattle.asl_step_laws.specs.Laws.{IsFirstFor, retry_of}

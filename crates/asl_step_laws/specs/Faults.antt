@@ -1,21 +1,21 @@
 -- What a step tells and does where data of its state can't be made (ASL, "Input and Output Processing", "Errors").
 use Rattle.std.specs.Prelude.{◌≡◌, ℕ, List, ◌++◌, Bool, true, false, Option, Some, None, if◌then◌else◌, Ok, Err, codes}
 use Rattle.std.specs.List.{All}
-use Rattle.asl_json.specs.Data.{Data}
+use Rattle.asl_json_data.specs.Data.{Data}
 use Rattle.asl_json.specs.Meaning.{value_in}
 use Rattle.asl_json.specs.declared.value.Json.{Json}
-use Rattle.asl_def_parts.specs.Texts.{text_in}
+use Rattle.asl_def_shared.specs.Texts.{text_in}
 use Rattle.asl_history.specs.declared.kind.EventKind.{EventKind}
 use Rattle.asl_history.specs.declared.kind.EventKind.TheVariants.{TaskScheduled, TaskStarted, TaskSucceeded, TaskFailed, ParallelStateStarted, ParallelStateSucceeded, ParallelStateFailed, MapStateStarted, MapStateSucceeded, MapStateFailed}
-use Rattle.asl_step_rows.specs.declared.effect.Children.TheVariants.{Kept}
-use Rattle.asl_step_rows.specs.declared.effect.Draft.{Draft}
-use Rattle.asl_step_rows.specs.declared.effect.Effect.{Effect}
-use Rattle.asl_step_rows.specs.declared.facts.Facts.{Facts}
-use Rattle.asl_step_rows.specs.declared.record.ErrorOut.{ErrorOut}
-use Rattle.asl_step_rows.specs.Context.{context_of}
-use Rattle.asl_step_rows.specs.Rows.{unstarted, failing, is_within_limit, over_limit}
-use Rattle.asl_step_rows.specs.Seen.{Seen}
-use Rattle.asl_step_data.specs.Paths.{Given, taken}
+use Rattle.asl_step.specs.declared.effect.Children.TheVariants.{Kept}
+use Rattle.asl_step.specs.declared.effect.Draft.{Draft}
+use Rattle.asl_step.specs.declared.effect.Effect.{Effect}
+use Rattle.asl_step.specs.declared.facts.Facts.{Facts}
+use Rattle.asl_step.specs.declared.record.ErrorOut.{ErrorOut}
+use Rattle.asl_step.specs.Context.{context_of}
+use Rattle.asl_step.specs.Rows.{unstarted, failing, is_within_limit, over_limit}
+use Rattle.asl_step.specs.Seen.{Seen}
+use Rattle.asl_step_io.specs.Paths.{Given, taken}
 use Rattle.asl_kinds.specs.Members.{GivenTarget, choice_output, GivenMoment, wait_until}
 use Rattle.asl_kinds.specs.Table.{raised}
 

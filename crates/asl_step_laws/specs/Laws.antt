@@ -1,25 +1,25 @@
 -- What the rows of the table of states come to, in the words of the standard.
 use Rattle.std.specs.Prelude.{◌≡◌, ℕ, ◌≤◌, List, [], ◌∷◌, ◌++◌, length, true, false, Option, Some, None, Result, Err, Ok, codes}
 use Rattle.std.specs.List.{All}
-use Rattle.asl_json.specs.Data.{Data, list, chain}
+use Rattle.asl_json_data.specs.Data.{Data, list, chain}
 use Rattle.asl_json.specs.declared.value.Json.{Json}
 use Rattle.asl_json.specs.declared.value.Json.TheVariants.{Dict, List as ListOf}
 use Rattle.asl_history.specs.declared.kind.EventKind.{EventKind}
 use Rattle.asl_history.specs.declared.kind.EventKind.TheVariants.{PassStateEntered, SucceedStateEntered, ChoiceStateEntered, WaitStateEntered, TaskStateEntered, TaskStateExited, TaskScheduled, TaskStarted, TaskSucceeded, ParallelStateEntered, ParallelStateExited, ParallelStateSucceeded, MapStateEntered, MapStateExited, MapStateSucceeded}
 use Rattle.asl_mock.specs.Answers.{answer_to}
 use Rattle.asl_mock.specs.declared.response.Answer.TheVariants.{Returns}
-use Rattle.asl_def_members.specs.Retries.{attempts_of}
+use Rattle.asl_def_fields.specs.Retries.{attempts_of}
 use Rattle.asl_handle.specs.Names.{is_for}
 use Rattle.asl_handle.specs.Decisions.{OnAgain, used, decision}
-use Rattle.asl_step_rows.specs.declared.effect.Children.TheVariants.{Removed}
-use Rattle.asl_step_rows.specs.declared.effect.Draft.{Draft}
-use Rattle.asl_step_rows.specs.declared.facts.Facts.{Facts}
-use Rattle.asl_step_rows.specs.declared.record.ErrorOut.{ErrorOut}
-use Rattle.asl_step_rows.specs.Records.{name_in, entering_with, beginning_with, pausing_with}
-use Rattle.asl_step_rows.specs.Context.{context_of}
-use Rattle.asl_step_rows.specs.Rows.{draft, entering, beginning, is_within_limit}
-use Rattle.asl_step_rows.specs.Seen.{Seen}
-use Rattle.asl_step_data.specs.Paths.{Given}
+use Rattle.asl_step.specs.declared.effect.Children.TheVariants.{Removed}
+use Rattle.asl_step.specs.declared.effect.Draft.{Draft}
+use Rattle.asl_step.specs.declared.facts.Facts.{Facts}
+use Rattle.asl_step.specs.declared.record.ErrorOut.{ErrorOut}
+use Rattle.asl_step.specs.Records.{name_in, entering_with, beginning_with, pausing_with}
+use Rattle.asl_step.specs.Context.{context_of}
+use Rattle.asl_step.specs.Rows.{draft, entering, beginning, is_within_limit}
+use Rattle.asl_step.specs.Seen.{Seen}
+use Rattle.asl_step_io.specs.Paths.{Given}
 use Rattle.asl_kinds.specs.Members.{effective, pass_output, passed_on, selected}
 use Rattle.asl_kinds.specs.Forks.{forked_with, outputs}
 use Rattle.asl_kinds.specs.Table.{fork_of, state_effect}

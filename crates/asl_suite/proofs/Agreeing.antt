@@ -4,22 +4,25 @@ use Rattle.std.specs.Prelude.{Bool, not, ◌&&◌, Option, Some, None, Result, O
 use Rattle.std.specs.Option.{option_map}
 use Rattle.std.specs.List.{list_all}
 use Rattle.std.specs.declared.alloc.AllocError.{AllocError}
-use Rattle.asl_json.specs.Meaning.{same}
+use Rattle.asl_json_data.specs.Data.{Data}
 use Rattle.asl_json.specs.View.{data_of}
 use Rattle.asl_json.specs.declared.value.Json.{Json}
-use Rattle.asl_history.specs.declared.event.Event.{Event}
 use Rattle.asl_mock.specs.Answers.{Case}
 use Rattle.asl_mock.specs.declared.fault.CaseFault.{CaseFault}
-use Rattle.asl_run_world.specs.World.{World, is_over}
-use Rattle.asl_run_world.specs.declared.outcome.Outcome.{Outcome}
-use Rattle.asl_run_world.specs.declared.outcome.Outcome.TheVariants.{Running, Succeeded, Failed, TimedOut}
-use Rattle.asl_run_setup.specs.Chosen.{case_or_empty}
-use Rattle.asl_suite_expect.specs.Differences.{difference}
-use Rattle.asl_suite_expect.specs.declared.difference.Difference.{Difference}
-use Rattle.asl_suite_expect.specs.declared.expectation.Expectation.{Expectation}
-use Rattle.asl_suite_expect.specs.declared.expectation.Visit.{Visit}
-use Rattle.asl_suite.specs.Cases.{is_wanted, is_output, is_visited, verdict_on, test_setup, driven_within, step_limit, report_by, report_on}
-use Rattle.asl_suite.specs.Reasons.{output_difference, first_unmet, by_visits, by_output, by_status, reason_in, reason_by, reason_for, verdict_by}
+use Rattle.asl_run_state.specs.World.{World, is_over}
+use Rattle.asl_run_state.specs.declared.outcome.Outcome.{Outcome}
+use Rattle.asl_run_state.specs.declared.outcome.Outcome.TheVariants.{Running, Succeeded, Failed, TimedOut}
+use Rattle.asl_run_input.specs.Chosen.{case_or_empty}
+use Rattle.asl_suite_file.specs.Differences.{difference}
+use Rattle.asl_suite_file.specs.declared.difference.Difference.{Difference}
+use Rattle.asl_suite_file.specs.declared.expectation.Expectation.{Expectation}
+use Rattle.asl_suite_file.specs.Holding.{is_like}
+use Rattle.asl_suite_file.specs.declared.holding.Likeness.{Likeness}
+use Rattle.asl_suite_file.specs.declared.holding.Likeness.TheVariants.{Same, Holding}
+use Rattle.asl_suite_file.specs.declared.expectation.StateCount.{StateCount}
+use Rattle.asl_suite_file.specs.declared.expectation.StateCalls.{StateCalls}
+use Rattle.asl_suite.specs.Cases.{is_wanted, is_output, has_error, has_cause, is_visited, is_invoked, is_called, verdict_by_states, verdict_by_end, verdict_on, test_world, step_limit, report_by, report_on}
+use Rattle.asl_suite.specs.Reasons.{no_output, output_difference, first_not, by_visits, by_invocations, by_calls, by_part, by_output, by_status, reason_by_states, reason_by_error, reason_by_end, reason_in, reason_by, reason_for, verdict_by}
 use Rattle.asl_suite.specs.declared.suite.Suite.{Suite}
 use Rattle.asl_suite.specs.declared.case_report.Verdict.{Verdict}
 use Rattle.asl_suite.specs.declared.case_report.Verdict.TheVariants as verdict
@@ -31,38 +34,65 @@ by_choice : (b : Bool) (p q : Reason) (u v : Verdict) → verdict_by p ≡ u →
 by_choice true p q u v e f = e
 by_choice false p q u v e f = f
 
-visits_agree : (es : List Event) (vs : List Visit) → verdict_by (by_visits es (first_unmet es vs)) ≡ (if not (list_all (is_visited es) vs) then verdict.Visits else verdict.Passed)
-visits_agree es [] = refl
-visits_agree es (v ∷ vs) = by (is_visited es v) (visits_agree es vs)
+-- of what is the first of a list for which something doesn't hold
+first_agrees : {A : Type 0} (f : A → Bool) (by_first : Option A → Reason) (v w : Verdict) → verdict_by (by_first None) ≡ w → ((x : A) → verdict_by (by_first (Some x)) ≡ v) → (xs : List A) → verdict_by (by_first (first_not f xs)) ≡ (if not (list_all f xs) then v else w)
+first_agrees f by_first v w none some [] = none
+first_agrees f by_first v w none some (x ∷ xs) = step (f x) (first_agrees f by_first v w none some xs)
   where
-    by : (b : Bool) → verdict_by (by_visits es (first_unmet es vs)) ≡ (if not (list_all (is_visited es) vs) then verdict.Visits else verdict.Passed) → verdict_by (by_visits es (if b then first_unmet es vs else Some v)) ≡ (if not (b && list_all (is_visited es) vs) then verdict.Visits else verdict.Passed)
-    by true e = e
-    by false e = refl
+    step : (b : Bool) → verdict_by (by_first (first_not f xs)) ≡ (if not (list_all f xs) then v else w) → verdict_by (by_first (if b then first_not f xs else Some x)) ≡ (if not (b && list_all f xs) then v else w)
+    step true e = e
+    step false e = some x
 
-same_agrees : (b : Bool) (d : Difference) (r : Reason) (v : Verdict) → verdict_by r ≡ v → verdict_by (by_output (if b then None else Some d) r) ≡ (if not b then verdict.Output else v)
-same_agrees true d r v e = e
-same_agrees false d r v e = refl
+states_agree : (d : Data) (x : Expectation) (w : World) → verdict_by (reason_by_states d x w) ≡ verdict_by_states d x w
+states_agree d x w =
+    let calls = first_not (is_called w.events) x.states.calls in
+    let invocations = first_not (is_invoked d w.counts) x.states.invocations in
+    let called = if not (list_all (is_called w.events) x.states.calls) then verdict.Calls else verdict.Passed in
+    let invoked = if not (list_all (is_invoked d w.counts) x.states.invocations) then verdict.Invocations else called in
+    first_agrees (is_visited w.events) (λ (o : Option StateCount). by_visits w o (by_invocations d w invocations (by_calls w.events calls))) verdict.Visits invoked
+    (first_agrees (is_invoked d w.counts) (λ (o : Option StateCount). by_invocations d w o (by_calls w.events calls)) verdict.Invocations called
+    (first_agrees (is_called w.events) (by_calls w.events) verdict.Calls verdict.Passed refl (λ (c : StateCalls). refl) x.states.calls)
+    (λ (v : StateCount). refl) x.states.invocations)
+    (λ (v : StateCount). refl) x.states.visits
 
-output_agrees : (y : Option Json) (o : Outcome) (r : Reason) (v : Verdict) → verdict_by r ≡ v → verdict_by (by_output (output_difference y o) r) ≡ (if not (is_output y o) then verdict.Output else v)
-output_agrees None o r v e = e
-output_agrees (Some y) (Succeeded x) r v e = same_agrees (same (data_of y) (data_of x)) (difference [] (data_of y) (data_of x)) r v e
-output_agrees (Some y) Running r v e = refl
-output_agrees (Some y) (Failed x) r v e = refl
-output_agrees (Some y) TimedOut r v e = refl
+-- of a difference, where there is one
+difference_agrees : (by_difference : Option Difference → Reason) (v w : Verdict) → verdict_by (by_difference None) ≡ w → ((d : Difference) → verdict_by (by_difference (Some d)) ≡ v) → (b : Bool) (d : Difference) → verdict_by (by_difference (if b then None else Some d)) ≡ (if not b then v else w)
+difference_agrees by_difference v w none some true d = none
+difference_agrees by_difference v w none some false d = some d
 
-reason_agrees : (x : Expectation) (c : Case) (w : World) → verdict_by (reason_in x c w) ≡ verdict_on x w
-reason_agrees x c w =
-    let visits = by_visits w.events (first_unmet w.events x.visits) in
-    let rest = by_output (output_difference x.output w.outcome) visits in
-    let met = if not (list_all (is_visited w.events) x.visits) then verdict.Visits else verdict.Passed in
-    let good = if not (is_output x.output w.outcome) then verdict.Output else met in
-    by_choice (not (is_over w.outcome)) reason.Limit (if not (is_wanted x.status w.outcome) then by_status x c w else rest) verdict.Limit (if not (is_wanted x.status w.outcome) then verdict.Status else good) refl
-    (by_choice (not (is_wanted x.status w.outcome)) (by_status x c w) rest verdict.Status good refl
-    (output_agrees x.output w.outcome visits met (visits_agree w.events x.visits)))
+output_agrees : (l : Likeness) (by_difference : Option Difference → Reason) (v w : Verdict) → verdict_by (by_difference None) ≡ w → ((d : Difference) → verdict_by (by_difference (Some d)) ≡ v) → (y : Option Json) (o : Outcome) → verdict_by (by_difference (output_difference l y o)) ≡ (if not (is_output l y o) then v else w)
+output_agrees l by_difference v w none some None o = none
+output_agrees l by_difference v w none some (Some y) (Succeeded x) = difference_agrees by_difference v w none some (is_like l (data_of y) (data_of x)) (difference l [] (data_of y) (data_of x))
+output_agrees l by_difference v w none some (Some y) Running = some (no_output y)
+output_agrees l by_difference v w none some (Some y) (Failed x) = some (no_output y)
+output_agrees l by_difference v w none some (Some y) TimedOut = some (no_output y)
+
+error_agrees : (d : Data) (x : Expectation) (w : World) → verdict_by (reason_by_error d x w) ≡ (if not (has_error x.end.error w.outcome) then verdict.Error else (if not (has_cause x.end.cause w.outcome) then verdict.Cause else verdict_by_states d x w))
+error_agrees d x w =
+    let states = reason_by_states d x w in
+    let cause = if not (has_cause x.end.cause w.outcome) then reason.Cause x.end.cause w.outcome else states in
+    let good = if not (has_cause x.end.cause w.outcome) then verdict.Cause else verdict_by_states d x w in
+    by_choice (not (has_error x.end.error w.outcome)) (reason.Error x.end.error w.outcome) cause verdict.Error good refl
+    (by_choice (not (has_cause x.end.cause w.outcome)) (reason.Cause x.end.cause w.outcome) states verdict.Cause (verdict_by_states d x w) refl (states_agree d x w))
+
+end_agrees : (d : Data) (x : Expectation) (w : World) → verdict_by (reason_by_end d x w) ≡ verdict_by_end d x w
+end_agrees d x w =
+    let error = if not (has_error x.end.error w.outcome) then verdict.Error else (if not (has_cause x.end.cause w.outcome) then verdict.Cause else verdict_by_states d x w) in
+    let part = if not (is_output Holding x.end.part w.outcome) then verdict.Match else error in
+    output_agrees Same (λ (o : Option Difference). by_output o (by_part (output_difference Holding x.end.part w.outcome) (reason_by_error d x w))) verdict.Output part
+    (output_agrees Holding (λ (o : Option Difference). by_part o (reason_by_error d x w)) verdict.Match error (error_agrees d x w) (λ (e : Difference). refl) x.end.part w.outcome)
+    (λ (e : Difference). refl) x.end.output w.outcome
+
+reason_agrees : (d : Data) (x : Expectation) (c : Case) (w : World) → verdict_by (reason_in d x c w) ≡ verdict_on d x w
+reason_agrees d x c w =
+    let rest = reason_by_end d x w in
+    let good = verdict_by_end d x w in
+    by_choice (not (is_over w.outcome)) reason.Limit (if not (is_wanted x.end.status w.outcome) then by_status x c w else rest) verdict.Limit (if not (is_wanted x.end.status w.outcome) then verdict.Status else good) refl
+    (by_choice (not (is_wanted x.end.status w.outcome)) (by_status x c w) rest verdict.Status good refl (end_agrees d x w))
 
 case_agrees : (n : ℕ) (s : Suite) (x : Expectation) (r : Result Case CaseFault) → (report_by n s x r).verdict ≡ verdict_by (reason_by n s x r)
 case_agrees n s x (Err e) = refl
-case_agrees n s x (Ok c) = sym (reason_agrees x c (driven_within n (test_setup s x c)))
+case_agrees n s x (Ok c) = sym (reason_agrees s.machine x c (test_world n s x c))
 
 test_agrees : (s : Suite) (x : Expectation) → (report_on s x).verdict ≡ verdict_by (reason_for s x)
 test_agrees s x = case_agrees step_limit s x (case_or_empty s.mocks x.machine x.case)

@@ -1,3 +1,9 @@
+pub mod Doubts
 pub mod Cases
 pub mod Reports
 pub mod Reasons
+pub mod Findings
+pub mod JsonLines
+pub mod Xml
+pub mod Junit
+pub mod Remarks

@@ -1,4 +1,5 @@
 // What is reported of a test.
+use asl_exec::Invocation;
 use asl_json::Txt;
 
 /// What comes of a test: the first of these that applies.
@@ -6,14 +7,28 @@ use asl_json::Txt;
 pub enum Verdict {
     /// The mock file has no such case.
     NoCase,
-    /// The execution isn't over after 10,000 steps, or its history is full.
+    /// The execution isn't over after 10,000 steps, or its history is full; or it isn't over after the steps that the test has.
     Limit,
     /// It ended otherwise than expected.
     Status,
     /// It has another output, or none.
     Output,
+    /// Its output doesn't hold what it is to hold, or there is none.
+    Match,
+    /// It ended in an error of another name, or in none.
+    Error,
+    /// That error has another cause, or there is none.
+    Cause,
     /// A state was entered more or less often.
     Visits,
+    /// A Task invoked its service more or less often.
+    Invocations,
+    /// A Task invoked its service with other inputs.
+    Calls,
+    /// Its run failed since its case has no answer, where that counts.
+    Unanswered,
+    /// It failed by accident, where that counts.
+    Accident,
     /// All is as expected.
     Passed,
 }
@@ -33,6 +48,27 @@ pub enum Status {
     TimedOut,
 }
 
+/// Why a test that is `ok` may not mean what it says.
+pub enum Doubt {
+    /// Nothing speaks for it.
+    None,
+    /// Its run failed since its case has no answer to this invocation.
+    Unanswered(Invocation),
+    /// It names no error, and failed in one that no state machine means to end in: of this name.
+    Accident(Txt),
+}
+
+// Written out, so that a caller's proof sees one call and not the drop of each part.
+impl Drop for Doubt {
+    fn drop(self) {
+        match self {
+            Doubt::None => {}
+            Doubt::Unanswered(_invocation) => {}
+            Doubt::Accident(_name) => {}
+        }
+    }
+}
+
 /// What is reported of a test.
 pub struct CaseReport {
     /// What comes of it.
@@ -41,21 +77,26 @@ pub struct CaseReport {
     pub machine: Txt,
     /// The case's name.
     pub case: Txt,
+    /// What the test is called, if it has a name.
+    pub name: Option<Txt>,
     /// How the execution ended.
     pub status: Status,
     /// How many events it told.
     pub events: u64,
+    /// Where it is `ok`, why that may not mean what it says.
+    pub doubt: Doubt,
 }
 
-// Written out, so that a caller's proof sees one call and not the drop of each part.
 impl Drop for CaseReport {
     fn drop(self) {
         let CaseReport {
             verdict: _verdict,
             machine: _machine,
             case: _case,
+            name: _name,
             status: _status,
             events: _events,
+            doubt: _doubt,
         } = self;
     }
 }

@@ -1,8 +1,9 @@
 // Why a test isn't passed.
 use asl_exec::Invocation;
+use asl_json::Txt;
 use asl_mock::CaseFault;
-use asl_run_world::Outcome;
-use asl_suite_expect::{Difference, Visit, Wanted};
+use asl_run_state::Outcome;
+use asl_suite_file::{Difference, StateCount, Wanted, WantedText};
 
 /// Why a test isn't passed: the first of these that applies.
 pub enum Reason {
@@ -21,12 +22,42 @@ pub enum Reason {
     },
     /// It has another output, or none: the first difference.
     Output(Difference),
+    /// Its output doesn't hold what it is to hold, or there is none: the first difference.
+    Match(Difference),
+    /// It ended in an error of another name, or in none.
+    Error {
+        /// The name that was wanted.
+        wanted: WantedText,
+        /// How it ended.
+        outcome: Outcome,
+    },
+    /// That error has another cause, or there is none.
+    Cause {
+        /// The cause that was wanted.
+        wanted: WantedText,
+        /// How it ended.
+        outcome: Outcome,
+    },
     /// A state was entered more or less often: the first one.
     Visits {
         /// How often it was to be entered.
-        wanted: Visit,
+        wanted: StateCount,
         /// How often it was.
         entered: u64,
+    },
+    /// A Task invoked its service more or less often: the first one.
+    Invocations {
+        /// How often it was to invoke it.
+        wanted: StateCount,
+        /// How often it did.
+        invoked: u64,
+    },
+    /// A Task invoked its service with other inputs: the first one, and where their list differs first from the one that is wanted.
+    Calls {
+        /// The name of the Task.
+        state: Txt,
+        /// Where the inputs differ first.
+        difference: Difference,
     },
     /// All is as expected.
     Passed,
@@ -41,10 +72,26 @@ impl Drop for Reason {
                 outcome: _outcome,
                 unanswered: _unanswered,
             } => {}
-            Reason::Output(_difference) => {}
+            Reason::Output(_difference) | Reason::Match(_difference) => {}
+            Reason::Error {
+                wanted: _wanted,
+                outcome: _outcome,
+            }
+            | Reason::Cause {
+                wanted: _wanted,
+                outcome: _outcome,
+            } => {}
             Reason::Visits {
                 wanted: _wanted,
                 entered: _entered,
+            } => {}
+            Reason::Invocations {
+                wanted: _wanted,
+                invoked: _invoked,
+            } => {}
+            Reason::Calls {
+                state: _state,
+                difference: _difference,
             } => {}
         }
     }

@@ -2,10 +2,12 @@
 ghost use Rattle.std.specs.Prelude.{◌≡◌, ◌++◌, IfOk, OnOk, string_bytes};
 ghost use Rattle.std.specs.Fmt.{decimal};
 ghost use Rattle.std.specs.List.{flat_map, list_all};
-ghost use Rattle.asl_suite.specs.Reports.{verdict_word, status_word, report_head, report_tail, report_line, is_passed, passed, report_text};
+ghost use Rattle.asl_suite.specs.Reports.{verdict_word, status_word, report_head, report_name, report_tail, report_line, is_passed, passed, report_text};
 
 use crate::case_report::{CaseReport, Status, Verdict};
-use asl_terminal::{put_decimal, put_shown};
+use asl_json::Txt;
+use asl_json_write::put_quoted;
+use asl_text::{put_decimal, put_shown};
 use std::alloc::{AllocError, Global};
 
 impl Verdict {
@@ -18,7 +20,14 @@ impl Verdict {
             Verdict::Limit => "limit",
             Verdict::Status => "status",
             Verdict::Output => "output",
+            Verdict::Match => "match",
+            Verdict::Error => "error",
+            Verdict::Cause => "cause",
             Verdict::Visits => "visits",
+            Verdict::Invocations => "invocations",
+            Verdict::Calls => "calls",
+            Verdict::Unanswered => "unanswered",
+            Verdict::Accident => "accident",
             Verdict::Passed => "ok",
         }
     }
@@ -49,12 +58,26 @@ fn put_head(out: &mut String, report: &CaseReport) -> Result<(), AllocError>
     put_shown(out, report.case.as_str())
 }
 
+/// Appends a name as a JSON text behind a space, if there is one.
+pub(crate) fn put_name(out: &mut String, name: &Option<Txt>) -> Result<(), AllocError>
+    ensures { OnOk result (string_bytes out.new ≡ string_bytes out.old ++ report_name name.now) }
+{
+    match name {
+        Some(name) => {
+            out.push(' ')?;
+            put_quoted(out, name.as_str())
+        }
+        None => Ok(()),
+    }
+}
+
 fn put_tail(out: &mut String, report: &CaseReport) -> Result<(), AllocError>
     ensures { OnOk result (string_bytes out.new ≡ string_bytes out.old ++ report_tail report.now) }
 {
     out.push_str(report.status.word())?;
     out.push(' ')?;
     put_decimal(out, report.events)?;
+    put_name(out, &report.name)?;
     out.push('\n')
 }
 
@@ -77,7 +100,7 @@ fn put_lines(out: &mut String, reports: &[CaseReport]) -> Result<(), AllocError>
     Ok(())
 }
 
-fn is_passed(report: &CaseReport) -> bool
+pub(crate) fn is_passed(report: &CaseReport) -> bool
     ensures { result ≡ is_passed report.now }
 {
     match report.verdict {

@@ -1,22 +1,27 @@
 // The run of a test.
-ghost use Rattle.std.specs.Prelude.{◌≡◌, ◌<◌, length, Ok, Some, IfOk, slice_get};
+ghost use Rattle.std.specs.Prelude.{◌≡◌, ◌<◌, length, Ok, Some, None, IfOk, slice_get};
 ghost use Rattle.std.specs.Option.{option_map};
+ghost use Rattle.asl_exec.specs.Steps.{opening, world_after};
 ghost use Rattle.asl_exec.specs.Views.{world_of};
-ghost use Rattle.asl_run_setup.specs.Chosen.{name_or_run, case_or_empty};
-ghost use Rattle.asl_suite.specs.Cases.{step_limit, test_setup, setup_in, driven_within, judged, no_case, report_by, report_within, report_on};
+ghost use Rattle.asl_run_input.specs.Chosen.{name_or_run, case_or_empty};
+ghost use Rattle.asl_run_input.specs.Texts.{start_of};
+ghost use Rattle.asl_suite.specs.Cases.{step_limit, test_setup, setup_in, world_behind, test_world, judged, no_case, report_by, report_within, report_on};
 
-use crate::case_report::{CaseReport, Status, Verdict};
+use crate::case_report::{CaseReport, Doubt, Status, Verdict};
+use crate::doubting::doubt_of;
 use crate::judging::{status_of, verdict_on};
 use crate::suite::Suite;
+use asl_def::Machine;
 use asl_exec::Execution;
-use asl_json::Txt;
+use asl_json::{Txt, clone_text};
 use asl_mock::{Case, CaseFault, Mocks};
-use asl_run_setup::Setup;
-use asl_suite_expect::Expectation;
+use asl_run_input::{Setup, StepAt};
+use asl_run_state::World;
+use asl_suite_file::{Expectation, Steps};
 use asl_time::Moment;
 use std::alloc::{AllocError, Global};
 
-/// A test is driven by at most so many steps.
+/// A test without steps of its own is driven by at most so many.
 #[tactic(auto, unfolding(crate::specs::Cases::step_limit))]
 pub(crate) fn step_limit() -> u32
     ensures { result ≡ step_limit }
@@ -51,6 +56,25 @@ pub(crate) fn case_of(
     }
 }
 
+fn first_moment(steps: &[StepAt]) -> Moment
+    ensures { result ≡ start_of (Some steps.now) }
+{
+    match steps {
+        [first, ..] => first.moment,
+        [] => Moment::FIRST,
+    }
+}
+
+/// The moment at which an execution starts that takes these steps: that of the first one, else the epoch.
+fn start_of(steps: &Option<Steps>) -> Moment
+    ensures { result ≡ start_of steps.now }
+{
+    match steps {
+        Some(steps) => first_moment(steps.steps()),
+        None => Moment::FIRST,
+    }
+}
+
 /// What the execution of a test begins with. The error is that memory ran out.
 pub(crate) fn setup_of(
     alloc: Global,
@@ -70,7 +94,7 @@ pub(crate) fn setup_of(
         case,
         input,
         name,
-        start: Moment::FIRST,
+        start: start_of(&test.steps),
     })
 }
 
@@ -89,8 +113,8 @@ pub fn setup_in(
 }
 
 /// The execution of a setup, driven by at most so many steps. The error is that memory ran out.
-pub(crate) fn driven(alloc: Global, setup: Setup, limit: u32) -> Result<Execution, AllocError>
-    ensures { IfOk result (λ x. world_of x ≡ driven_within limit setup) }
+fn driven(alloc: Global, setup: Setup, limit: u32) -> Result<Execution, AllocError>
+    ensures { IfOk result (λ x. world_of x ≡ world_behind limit setup None) }
 {
     let mut execution = Execution::open(alloc, setup)?;
     match execution.drive(limit) {
@@ -99,39 +123,87 @@ pub(crate) fn driven(alloc: Global, setup: Setup, limit: u32) -> Result<Executio
     }
 }
 
+/// The execution of a setup behind these steps. The error is that memory ran out.
+fn stepped(alloc: Global, setup: Setup, steps: &[StepAt]) -> Result<Execution, AllocError>
+    ensures { IfOk result (λ x. world_of x ≡ world_after setup (opening setup) steps.now) }
+{
+    let mut execution = Execution::open(alloc, setup)?;
+    execution.take_all(steps)?;
+    Ok(execution)
+}
+
+/// The execution of a setup behind these steps; without them, driven by at most so many. The error is that memory ran out.
+fn run_by(
+    alloc: Global,
+    setup: Setup,
+    steps: &Option<Steps>,
+    limit: u32,
+) -> Result<Execution, AllocError>
+    ensures { IfOk result (λ x. world_of x ≡ world_behind limit setup steps.now) }
+{
+    match steps {
+        Some(steps) => stepped(alloc, setup, steps.steps()),
+        None => driven(alloc, setup, limit),
+    }
+}
+
+/// The execution of a test of this case; without steps of its own, driven by at most so many. The error is that memory ran out.
+pub(crate) fn execution_of(
+    alloc: Global,
+    suite: &Suite,
+    test: &Expectation,
+    case: Case,
+    limit: u32,
+) -> Result<Execution, AllocError>
+    ensures { IfOk result (λ x. world_of x ≡ test_world limit suite.now test.now case) }
+{
+    let setup = setup_of(alloc, suite, test, case)?;
+    run_by(alloc, setup, &test.steps, limit)
+}
+
 fn no_case(alloc: Global, test: &Expectation) -> Result<CaseReport, AllocError>
     ensures { IfOk result (λ r. r ≡ no_case test.now) }
 {
     let machine = test.machine.try_clone(alloc)?;
     let case = test.case.try_clone(alloc)?;
+    let name = clone_text(alloc, &test.name)?;
     Ok(CaseReport {
         verdict: Verdict::NoCase,
         machine,
         case,
+        name,
         status: Status::None,
         events: 0,
+        doubt: Doubt::None,
     })
 }
 
 fn judged(
     alloc: Global,
+    machine: &Machine,
     test: &Expectation,
-    execution: &Execution,
+    case: &Case,
+    world: &World,
 ) -> Result<CaseReport, AllocError>
-    ensures { IfOk result (λ r. r ≡ judged test.now (world_of execution.now)) }
+    ensures { IfOk result (λ r. r ≡ judged machine.now test.now case.now world.now) }
 {
-    let machine = test.machine.try_clone(alloc)?;
-    let case = test.case.try_clone(alloc)?;
+    let verdict = verdict_on(machine, test, world);
+    let doubt = doubt_of(alloc, verdict, test, case, world)?;
+    let name_of_machine = test.machine.try_clone(alloc)?;
+    let name_of_case = test.case.try_clone(alloc)?;
+    let name = clone_text(alloc, &test.name)?;
     Ok(CaseReport {
-        verdict: verdict_on(test, execution),
-        machine,
-        case,
-        status: status_of(execution.outcome()),
-        events: execution.history().len() as u64,
+        verdict,
+        machine: name_of_machine,
+        case: name_of_case,
+        name,
+        status: status_of(world.outcome()),
+        events: world.history().len() as u64,
+        doubt,
     })
 }
 
-/// What is reported of a test of this case, driven by at most so many steps.
+/// What is reported of a test of this case; without steps of its own, it is driven by at most so many.
 fn run_with(
     alloc: Global,
     suite: &Suite,
@@ -141,12 +213,12 @@ fn run_with(
 ) -> Result<CaseReport, AllocError>
     ensures { IfOk result (λ r. r ≡ report_by limit suite.now test.now (Ok case)) }
 {
-    let setup = setup_of(alloc, suite, test, case)?;
-    let execution = driven(alloc, setup, limit)?;
-    judged(alloc, test, &execution)
+    let own = case.try_clone()?;
+    let execution = execution_of(alloc, suite, test, own, limit)?;
+    judged(alloc, &suite.machine, test, &case, execution.world())
 }
 
-/// What is reported of a test, driven by at most so many steps.
+/// What is reported of a test; without steps of its own, it is driven by at most so many.
 fn run_test(
     alloc: Global,
     suite: &Suite,

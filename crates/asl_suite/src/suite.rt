@@ -1,7 +1,7 @@
 // What a suite has.
 use asl_def::Machine;
 use asl_mock::Mocks;
-use asl_suite_expect::Expectations;
+use asl_suite_file::Expectations;
 
 /// A machine, what its tasks answer in the cases of a mock file, and its tests.
 pub struct Suite {

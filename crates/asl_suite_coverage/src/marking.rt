@@ -1,31 +1,32 @@
 // Covering points.
-ghost use Rattle.std.specs.Prelude.{◌≡◌};
-ghost use Rattle.asl_suite_coverage.specs.Points.{with_covered, with_all_covered, IsMore};
+ghost use Rattle.std.specs.Prelude.{◌≡◌, map};
+ghost use Rattle.std.specs.List.{list_any};
+ghost use Rattle.asl_suite_coverage.specs.Spots.{same_spot};
+ghost use Rattle.asl_suite_coverage.specs.Points.{is_covered_by, with_spots};
 
 use crate::point::Point;
+use crate::spot::{Spot, is_same};
 
-/// Covers the point of this number, if there is one.
-#[tactic(auto, using(crate::proofs::Covering::set_covers, crate::proofs::Covering::past_covers))]
-fn cover(points: &mut Vec<Point>, number: usize)
-    ensures { points.new.items ≡ with_covered points.old.items number }
+/// Whether something is among what was seen.
+fn is_seen(spot: &Spot, seen: &[Spot]) -> bool
+    ensures { result ≡ list_any (same_spot spot.now) seen.now }
 {
-    if number < points.len() {
-        points[number].covered = true;
-    }
+    seen.iter().any(|other| is_same(spot, other))
 }
 
-/// Covers the points of these numbers, one after another.
-fn cover_each(points: &mut Vec<Point>, numbers: &[usize])
-    ensures { points.new.items ≡ with_all_covered points.old.items numbers.now }
+/// Whether a point was covered, or is by what was seen.
+fn is_covered_by(point: &Point, seen: &[Spot]) -> bool
+    ensures { result ≡ is_covered_by seen.now point.now }
 {
-    for number in numbers {
-        cover(points, *number);
-    }
+    point.covered || is_seen(&point.spot, seen)
 }
 
-/// Covers the points of these numbers.
-pub(crate) fn cover_all(points: &mut Vec<Point>, numbers: &[usize])
-    ensures { IsMore points.old.items points.new.items }
+/// Covers the points of what was seen.
+pub(crate) fn cover_all(points: &mut Vec<Point>, seen: &[Spot])
+    ensures { points.new.items ≡ map (with_spots seen.now) points.old.items }
 {
-    cover_each(points, numbers);
+    for i in 0..points.len() {
+        let covered = is_covered_by(&points[i], seen);
+        points[i].covered = covered;
+    }
 }

@@ -1,9 +1,12 @@
-// What tests can cover.
+// What is kept of something that tests can cover.
+use crate::spot::Spot;
 use asl_json::Txt;
 
 /// Something that tests can cover.
 pub struct Point {
-    /// What it is, on one line, as `state "A"`.
+    /// Which part of the definition or of the mock file it is.
+    pub spot: Spot,
+    /// What is told of it, on one line, as `state "A"`.
     pub told: Txt,
     /// Whether a test covered it.
     pub covered: bool,
@@ -13,6 +16,7 @@ pub struct Point {
 impl Drop for Point {
     fn drop(self) {
         let Point {
+            spot: _spot,
             told: _told,
             covered: _covered,
         } = self;

@@ -1,5 +1,5 @@
 // What workers pass.
-use asl_threads_gate::Gate;
+use asl_threads_base::Gate;
 use std::sync::atomic::{AtomicBool, AtomicU64, Ordering};
 use std::thread;
 use std::time::{Clock, Duration};

@@ -77,6 +77,42 @@ ok N# FAILED 6
 }
 
 #[test]
+fn what_a_test_may_say_of_its_end(rt: HostRuntime) -> Result<(), Fail> {
+    let tests =
+        r#"[{"machine":"M","case":"A","input":{"k":1},"status":"SUCCEEDED","name":"a \"b\"","match":1.0,"invocations":{"T":1,"U":0},
+      "calls":{"T":[{"k":1.0}],"U":[]}},
+     {"machine":"M","case":"B","input":{},"status":"FAILED","error":"E","invocations":{"T":1}},
+     {"machine":"M","case":"A","input":{},"status":"SUCCEEDED","output":2,"match":2},
+     {"machine":"M","case":"A","input":{},"status":"SUCCEEDED","match":2,"error":null},
+     {"machine":"M","case":"A","input":{},"status":"SUCCEEDED","error":null,"cause":null},
+     {"machine":"M","case":"B","input":{},"status":"FAILED","error":"F","cause":"F"},
+     {"machine":"M","case":"B","input":{},"status":"FAILED","error":null},
+     {"machine":"M","case":"B","input":{},"status":"FAILED","cause":"F","visits":{"T":2}},
+     {"machine":"M","case":"A","input":{},"status":"SUCCEEDED","visits":{"T":2},"invocations":{"T":2}},
+     {"machine":"M","case":"A","input":{},"status":"SUCCEEDED","invocations":{"T":2},"calls":{"T":[]}},
+     {"machine":"M","case":"A","input":{},"status":"SUCCEEDED","calls":{"T":[]}},
+     {"machine":"M","case":"A","input":{},"status":"SUCCEEDED","calls":{"T":[{},{}]}},
+     {"machine":"M","case":"A","input":{},"status":"SUCCEEDED","calls":{"T":[{"k":1}]}}]"#;
+    let wanted = "ok M#A SUCCEEDED 7 \"a \\\"b\\\"\"
+ok M#B FAILED 6
+output M#A SUCCEEDED 7
+match M#A SUCCEEDED 7
+error M#A SUCCEEDED 7
+error M#B FAILED 6
+error M#B FAILED 6
+cause M#B FAILED 6
+visits M#A SUCCEEDED 7
+invocations M#A SUCCEEDED 7
+calls M#A SUCCEEDED 7
+calls M#A SUCCEEDED 7
+calls M#A SUCCEEDED 7
+2 passed, 11 failed
+";
+    assert!(rt; is_told(rt.alloc(), TASK, tests, wanted));
+    Ok(())
+}
+
+#[test]
 fn a_round_without_end(rt: HostRuntime) -> Result<(), Fail> {
     let tests = r#"[{"machine":"M","case":"","input":{},"status":"SUCCEEDED"}]"#;
     let wanted = "limit M# UNFINISHED 20001

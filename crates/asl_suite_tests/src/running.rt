@@ -4,8 +4,8 @@ ghost use Rattle.std.specs.Prelude.{◌≤◌};
 use crate::gates::{Meet, Tally};
 use crate::suites::{alike, suite_of, text_of};
 use asl_suite::Suite;
-use asl_suite_workers::run_suite;
-use asl_threads_gate::{Gate, NoGate};
+use asl_suite_workers::{SuiteFault, run_suite};
+use asl_threads_base::{Gate, NoGate};
 use std::alloc::Global;
 use std::sync::Wait;
 use std::test::Fail;
@@ -77,6 +77,18 @@ fn each_test_is_run_once(rt: HostRuntime) -> Result<(), Fail> {
         let text = told(&rt, alloc, &suite, workers, &gate)?;
         assert!(rt; text.as_str().ends_with("500 passed, 0 failed\n"));
         assert_eq!(rt; gate.told(), [500, 124_750, 500, 124_750]);
+    }
+    Ok(())
+}
+
+#[test]
+fn each_fault_has_its_number(rt: HostRuntime) -> Result<(), Fail> {
+    for (fault, text) in [
+        (SuiteFault::NotRun(12), "H4 NotRun 12"),
+        (SuiteFault::OutOfMemory, "H5 OutOfMemory"),
+    ] {
+        let told = fault.to_string(rt.alloc())?;
+        assert_eq!(rt; told.as_str(), text);
     }
     Ok(())
 }

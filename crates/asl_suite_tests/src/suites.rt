@@ -2,7 +2,7 @@
 use asl_check::accept;
 use asl_mock::Mocks;
 use asl_suite::{CaseReport, Suite, report};
-use asl_suite_expect::Expectations;
+use asl_suite_file::Expectations;
 use std::alloc::Global;
 use std::test::Fail;
 

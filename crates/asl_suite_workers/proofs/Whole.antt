@@ -1,14 +1,14 @@
 -- A report for each test, in order, is the list of reports.
 use Rattle.std.proofs.Common.{◌≡◌, ℕ, ◌<◌, List, [], ◌∷◌, length, map, slice_index_or, sym, arith, Result, Ok, Err, refl, suc}
-use Rattle.std.specs.Prelude.{MatchResult, Some, slice_get}
+use Rattle.std.specs.Prelude.{IfOk, MatchResult, Some, slice_get}
 use Rattle.std.specs.Option.{option_map}
 use Rattle.std.specs.Global.{Vec}
-use Rattle.asl_suite_expect.specs.declared.expectation.Expectation.{Expectation}
+use Rattle.asl_suite_file.specs.declared.expectation.Expectation.{Expectation}
 use Rattle.asl_suite.specs.Cases.{report_on, reports_of}
 use Rattle.asl_suite.specs.declared.suite.Suite.{Suite}
 use Rattle.asl_suite.specs.declared.case_report.CaseReport.{CaseReport}
 use Rattle.asl_suite_workers.specs.declared.cases.SuiteFault.{SuiteFault}
-use Rattle.asl_suite_workers.specs.Cases.{IsEach, IsFault}
+use Rattle.asl_suite_workers.specs.Cases.{IsRun, IsEach, IsFault}
 use Rattle.asl_suite_workers.specs.Suites.{test_count, Gives}
 
 some_is : {A : Type 0} (x y : A) → Some x ≡ Some y → x ≡ y
@@ -25,11 +25,11 @@ listed f (x ∷ xs) (r ∷ rs) len each =
     let rest : rs ≡ map f xs = listed f xs rs (omega arith) (λ i d lt. each (suc i) d (omega arith)) in
     λ i. sym here i ∷ rest i
 
-each_report : (s : Suite) (reports : List CaseReport) → IsEach (test_count s) (Gives s) reports → reports ≡ reports_of s
-each_report s reports h = listed (report_on s) s.tests.list.items reports h.len h.each
+pub each_report : (began ended : ℕ → ℕ → Type 0) (s : Suite) (reports : List CaseReport) → IsEach (test_count s) (IsRun began ended (Gives s)) reports → reports ≡ reports_of s
+each_report began ended s reports h = listed (report_on s) s.tests.list.items reports h.len (λ i d lt. (h.each i d lt).outcome)
 
-pub all_reports : (s : Suite) (r : Result (Vec CaseReport) SuiteFault)
-    → MatchResult r (λ v. IsEach (test_count s) (Gives s) v.items) (IsFault (test_count s) (Gives s))
-    → MatchResult r (λ v. v.items ≡ reports_of s) (IsFault (test_count s) (Gives s))
-all_reports s (Ok v) h = each_report s v.items h
-all_reports s (Err e) h = h
+pub all_reports : (began ended : ℕ → ℕ → Type 0) (s : Suite) (r : Result (Vec CaseReport) SuiteFault)
+    → MatchResult r (λ v. IsEach (test_count s) (IsRun began ended (Gives s)) v.items) (IsFault (test_count s) (IsRun began ended (Gives s)))
+    → IfOk r (λ v. v.items ≡ reports_of s)
+all_reports began ended s (Ok v) h = each_report began ended s v.items h
+all_reports began ended s (Err e) h = tt

@@ -6,6 +6,13 @@ use Rattle.asl_suite_workers.specs.declared.claims.Done.{Done}
 use Rattle.asl_suite_workers.specs.declared.cases.SuiteFault.{SuiteFault}
 use Rattle.asl_suite_workers.specs.declared.cases.SuiteFault.TheVariants.{NotRun, OutOfMemory}
 
+-- a worker told of the case at the gate, ran it, which gave this, and told that it was done
+pub record IsRun (began ended : ℕ → ℕ → Type 0) (gives : ℕ → Result CaseReport AllocError → Type 0) (i : ℕ) (r : Result CaseReport AllocError) : Type 0 where
+  pub worker : ℕ
+  pub before : began worker i
+  pub outcome : gives i r
+  pub after : ended worker i
+
 -- so many cases, and what the run of each may give
 module _ (count : ℕ) (gives : ℕ → Result CaseReport AllocError → Type 0) where
   -- a case of the suite, with an outcome that its run may give

@@ -1,7 +1,8 @@
 // What workers run, and why there may be no reports.
 use asl_suite::CaseReport;
 use std::alloc::{AllocError, Global};
-use thiserror::Error;
+use std::error::Error;
+use std::fmt;
 
 /// What has numbered cases.
 pub trait Cases {
@@ -24,13 +25,11 @@ pub trait Cases {
 }
 
 /// Why a suite has no reports.
-#[derive(Debug, Clone, Copy, PartialEq, Eq, Error)]
+#[derive(Debug, Clone, Copy, PartialEq, Eq)]
 pub enum SuiteFault {
-    /// The case of this number found no memory, the least of those that found none.
-    #[error("case {0}: OutOfMemory")]
+    /// H4: the case of this number found no memory, the least of those that found none.
     NotRun(usize),
-    /// There was no memory for the list of reports.
-    #[error("OutOfMemory")]
+    /// H5: there was no memory for the list of reports.
     OutOfMemory,
 }
 
@@ -45,3 +44,19 @@ impl From<AllocError> for SuiteFault {
         SuiteFault::OutOfMemory
     }
 }
+
+impl fmt::Display for SuiteFault {
+    ghost use Rattle.std.specs.Prelude.{Some};
+    ghost use Rattle.asl_suite_workers.specs.Lines.{suite_line};
+
+    ghost output = { λ e. Some (suite_line e) };
+
+    fn fmt<W: fmt::Write>(&self, f: &mut fmt::Formatter<W>) -> fmt::Result {
+        match self {
+            SuiteFault::NotRun(case) => write!(f, "H4 NotRun {case}"),
+            SuiteFault::OutOfMemory => f.write_str("H5 OutOfMemory"),
+        }
+    }
+}
+
+impl Error for SuiteFault {}

@@ -1,13 +1,13 @@
 // The tests of a suite, run by several workers.
-ghost use Rattle.std.specs.Prelude.{◌≡◌, ◌≤◌, MatchResult};
+ghost use Rattle.std.specs.Prelude.{◌≡◌, ◌≤◌, IfOk, MatchResult};
 ghost use Rattle.asl_suite.specs.Cases.{reports_of};
-ghost use Rattle.asl_suite_workers.specs.Cases.{IsFault};
+ghost use Rattle.asl_suite_workers.specs.Cases.{IsRun, IsEach, IsFault};
 ghost use Rattle.asl_suite_workers.specs.Suites.{test_count, Gives};
 
 use crate::cases::{Cases, SuiteFault};
 use crate::workers::run_cases;
 use asl_suite::{CaseReport, Suite, run_case};
-use asl_threads_gate::Gate;
+use asl_threads_base::Gate;
 use std::alloc::{AllocError, Global};
 use std::sync::Wait;
 use std::thread::Threads;
@@ -28,8 +28,9 @@ impl Cases for Suite {
     }
 }
 
-/// The reports of all tests of a suite in order, for any number of workers and any gate. The caller runs a test that no worker reported. A fault
-/// is the least number of a test that found no memory, or that there was none for the list.
+/// The reports of all tests of a suite in order, for any number of workers and any gate, at which each was told before and after it was run.
+/// The caller runs a test that no worker reported. A fault is the least number of a test that found no memory, or that there was none for
+/// the list. (No clause of `run_case` says where memory runs out, so that it did for a test is said of any cases, by `run_cases`.)
 pub fn run_suite<R: Threads + Wait + Sync, G: Gate + Sync>(
     rt: &R,
     alloc: Global,
@@ -38,8 +39,10 @@ pub fn run_suite<R: Threads + Wait + Sync, G: Gate + Sync>(
     gate: &G,
 ) -> Result<Vec<CaseReport>, SuiteFault>
     requires { (1 ≤ workers) × (workers ≤ 64) }
-    ensures { MatchResult result (λ v. v.items ≡ reports_of suite.now)
-        (IsFault (test_count suite.now) (Gives suite.now)) }
+    ensures reports { IfOk result (λ v. v.items ≡ reports_of suite.now) }
+    ensures run { MatchResult result
+        (λ v. IsEach (test_count suite.now) (IsRun G.began G.ended (Gives suite.now)) v.items)
+        (IsFault (test_count suite.now) (IsRun G.began G.ended (Gives suite.now))) }
 {
     run_cases(rt, alloc, suite, workers, gate)
 }

@@ -1,6 +1,6 @@
 -- The fault that reading finds is the one to answer.
 use Rattle.std.proofs.Common.{◌≡◌, ℕ, List, [], ◌∷◌, ◌++◌, sym, subst}
-use Rattle.asl_json.specs.Data.{Data}
+use Rattle.asl_json_data.specs.Data.{Data}
 use Rattle.asl_path.specs.Faults.{FaultAt}
 use Rattle.asl_path.specs.declared.step.Step.{Step}
 use Rattle.asl_intrinsic.specs.Faults.{IsFaultOf}

@@ -2,9 +2,9 @@
 use Rattle.std.proofs.Common.{◌≡◌, ◌<◌, ℕ, ◌+◌, List, [], ◌∷◌, ◌++◌, Bool, false, ◌||◌, length, get_or, take, drop, refl, sym, ap, subst, ◌∙◌, append_assoc}
 use Rattle.std.specs.Prelude.{map}
 use Rattle.std.proofs.lemmas.List.{drop_more, map_more, map_push, map-append, take-append-drop}
-use Rattle.asl_json.specs.Data.{Data}
+use Rattle.asl_json_data.specs.Data.{Data}
 use Rattle.asl_json.specs.Same.{bytes_eq}
-use Rattle.asl_json.specs.Distinct.{Members, has_key, AreDistinct}
+use Rattle.asl_json_data.specs.Distinct.{Members, has_key, AreDistinct}
 use Rattle.asl_template.specs.Names.{name_of, named}
 use Rattle.asl_template.specs.private.View.{field_data, fields_data}
 use Rattle.asl_template.specs.declared.part.Field.{Field}

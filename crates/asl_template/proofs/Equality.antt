@@ -1,7 +1,7 @@
 -- Comparing members.
 use Rattle.std.proofs.Common.{◌≡◌, ℕ, List, ◌++◌, Bool, true, false, ◌&&◌, refl, sym, ap, subst, ◌∙◌}
 use Rattle.std.specs.Prelude.{None}
-use Rattle.asl_json.specs.Data.{Data, text}
+use Rattle.asl_json_data.specs.Data.{Data, text}
 use Rattle.asl_json.specs.Same.{bytes_eq, equal}
 use Rattle.asl_json.proofs.Knowing.{bytes_eq-flip}
 use Rattle.asl_template.specs.Names.{mark, name_before}

@@ -2,7 +2,8 @@
 use Rattle.std.proofs.Common.{◌≡◌, ◌<◌, ◌≤◌, ℕ, ◌+◌, List, [], ◌∷◌, ◌++◌, Bool, true, false, length, get_or, drop, refl, sym, ap, subst, ◌∙◌, zero, suc}
 use Rattle.std.specs.Prelude.{None, Result, Ok, Err, if◌then◌else◌}
 use Rattle.std.proofs.lemmas.List.{drop_more, map_push, drop_all}
-use Rattle.asl_json.specs.Data.{Data, text, Chain, no_items, item, Pairs, no_members, member, chain, pairs}
+use Rattle.asl_json_data.specs.Results.{◌>>=◌}
+use Rattle.asl_json_data.specs.Data.{Data, text, Chain, no_items, item, Pairs, no_members, member, chain, pairs}
 use Rattle.asl_json.specs.View.{data_of, items_of}
 use Rattle.asl_json.specs.declared.value.Json.{Json}
 use Rattle.asl_path.specs.Paths.{part_at}
@@ -10,7 +11,7 @@ use Rattle.asl_intrinsic.specs.Values.{ev}
 use Rattle.asl_template.specs.Names.{mark, name_before, name_of}
 use Rattle.asl_template.specs.private.View.{part_data, parts_data, field_data, fields_data, Fits, AllFit}
 use Rattle.asl_intrinsic.specs.Calls.{is_context}
-use Rattle.asl_template.specs.Filling.{Outcome, and_then, is_path, found, called, computed, chosen, fill, fill_items, fill_members}
+use Rattle.asl_template.specs.Filling.{Outcome, is_path, found, called, computed, chosen, fill, fill_items, fill_members}
 use Rattle.asl_template.specs.Gives.{Gives}
 use Rattle.asl_template.specs.declared.fill.FillFault.{FillFault}
 use Rattle.asl_template.specs.declared.part.Part.{Part}
@@ -56,10 +57,10 @@ with_members [] ns = ns
 with_members (m ∷ ms) ns = member m.0 m.1 (with_members ms ns)
 
 abbrev pub items_behind : List Data → Outcome Chain → Outcome Chain
-items_behind ds o = and_then o (λ es. Ok (with_items ds es))
+items_behind ds o = (o >>= (λ es. Ok (with_items ds es)))
 
 abbrev pub members_behind : List (List ℕ × Data) → Outcome Pairs → Outcome Pairs
-members_behind ms o = and_then o (λ ns. Ok (with_members ms ns))
+members_behind ms o = (o >>= (λ ns. Ok (with_members ms ns)))
 
 one_item : (ds : List Data) (d : Data) (es : Chain) → with_items (ds ++ d ∷ []) es ≡ with_items ds (item d es)
 one_item [] d es = refl
@@ -77,11 +78,11 @@ all_members : (ms : List (List ℕ × Data)) → with_members ms no_members ≡ 
 all_members [] = refl
 all_members (m ∷ ms) = ap (member m.0 m.1) (all_members ms)
 
-items_next : (ds : List Data) (d : Data) (o : Outcome Chain) → items_behind (ds ++ d ∷ []) o ≡ items_behind ds (and_then o (λ es. Ok (item d es)))
+items_next : (ds : List Data) (d : Data) (o : Outcome Chain) → items_behind (ds ++ d ∷ []) o ≡ items_behind ds (o >>= (λ es. Ok (item d es)))
 items_next ds d (Ok es) = ap (λ (x : Chain). Ok x) (one_item ds d es)
 items_next ds d (Err e) = refl
 
-members_next : (ms : List (List ℕ × Data)) (m : List ℕ × Data) (o : Outcome Pairs) → members_behind (ms ++ m ∷ []) o ≡ members_behind ms (and_then o (λ ns. Ok (member m.0 m.1 ns)))
+members_next : (ms : List (List ℕ × Data)) (m : List ℕ × Data) (o : Outcome Pairs) → members_behind (ms ++ m ∷ []) o ≡ members_behind ms (o >>= (λ ns. Ok (member m.0 m.1 ns)))
 members_next ms m (Ok ns) = ap (λ (x : Pairs). Ok x) (one_member ms m ns)
 members_next ms m (Err e) = refl
 
@@ -101,15 +102,15 @@ pub parts_step : (ps : List Part) (i : ℕ) (p : Part) (values new : List Json) 
     → items_behind (items_of values) (rest_of ps i x c) ≡ whole → items_behind (items_of new) (rest_of ps (i + 1) x c) ≡ whole
 parts_step ps i p values new v x c whole lt at is filled so_far =
     let grown : items_of new ≡ items_of values ++ data_of v ∷ [] = ap items_of is ∙ map_push data_of values v in
-    let front : rest_of ps i x c ≡ and_then (rest_of ps (i + 1) x c) (λ es. Ok (item (data_of v) es)) = ap (λ (qs : List Part). fill_items (chain (parts_data qs)) x c) (parts_front ps i p lt at) ∙ ap (λ (o : Outcome Data). and_then o (λ e. and_then (rest_of ps (i + 1) x c) (λ es. Ok (item e es)))) filled in
+    let front : rest_of ps i x c ≡ ((rest_of ps (i + 1) x c) >>= (λ es. Ok (item (data_of v) es))) = ap (λ (qs : List Part). fill_items (chain (parts_data qs)) x c) (parts_front ps i p lt at) ∙ ap (λ (o : Outcome Data). (o >>= (λ e. ((rest_of ps (i + 1) x c) >>= (λ es. Ok (item e es)))))) filled in
     ap (λ (ds : List Data). items_behind ds (rest_of ps (i + 1) x c)) grown ∙ items_next (items_of values) (data_of v) (rest_of ps (i + 1) x c) ∙ ap (items_behind (items_of values)) (sym front) ∙ so_far
 
 pub fields_step : (fs : List Field) (i : ℕ) (f : Field) (values new : List (List ℕ × Data)) (k : List ℕ) (v : Json) (x c : Data) (whole : Outcome Pairs) → i < length fs → f ≡ get_or fs i f → new ≡ values ++ (k, data_of v) ∷ [] → k ≡ name_of (field_data f).0 → gives x c (field_data f) ≡ Ok (data_of v)
     → members_behind values (rest_of_fields fs i x c) ≡ whole → members_behind new (rest_of_fields fs (i + 1) x c) ≡ whole
 fields_step fs i f values new k v x c whole lt at is named filled so_far =
     let rest = rest_of_fields fs (i + 1) x c in
-    let front : rest_of_fields fs i x c ≡ and_then rest (λ ns. Ok (member (name_of (field_data f).0) (data_of v) ns)) = ap (λ (gs : List Field). fill_members (pairs (fields_data gs)) x c) (fields_front fs i f lt at) ∙ ap (λ (o : Outcome Data). and_then o (λ e. and_then rest (λ ns. Ok (member (name_of (field_data f).0) e ns)))) filled in
-    ap (λ (ms : List (List ℕ × Data)). members_behind ms rest) is ∙ members_next values (k, data_of v) rest ∙ ap (λ (l : List ℕ). members_behind values (and_then rest (λ ns. Ok (member l (data_of v) ns)))) named ∙ ap (members_behind values) (sym front) ∙ so_far
+    let front : rest_of_fields fs i x c ≡ (rest >>= (λ ns. Ok (member (name_of (field_data f).0) (data_of v) ns))) = ap (λ (gs : List Field). fill_members (pairs (fields_data gs)) x c) (fields_front fs i f lt at) ∙ ap (λ (o : Outcome Data). (o >>= (λ e. (rest >>= (λ ns. Ok (member (name_of (field_data f).0) e ns)))))) filled in
+    ap (λ (ms : List (List ℕ × Data)). members_behind ms rest) is ∙ members_next values (k, data_of v) rest ∙ ap (λ (l : List ℕ). members_behind values (rest >>= (λ ns. Ok (member l (data_of v) ns)))) named ∙ ap (members_behind values) (sym front) ∙ so_far
 
 -- a member fits where all do
 pub fit_at : (fs : List Field) (i : ℕ) (f : Field) → i < length fs → f ≡ get_or fs i f → AllFit fs → Fits f

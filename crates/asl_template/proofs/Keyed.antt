@@ -2,10 +2,10 @@
 use Rattle.std.proofs.Common.{◌≡◌, ℕ, List, [], ◌∷◌, ◌++◌, Bool, true, false, ◌||◌, refl, sym, ap, subst, ◌∙◌}
 use Rattle.std.specs.Prelude.{map, Option, Some, None}
 use Rattle.std.specs.Cmp.Lexicographic.{same_text}
-use Rattle.asl_json.specs.Data.{pairs}
+use Rattle.asl_json_data.specs.Data.{pairs}
 use Rattle.asl_json.specs.Same.{bytes_eq}
 use Rattle.asl_json.specs.private.SameLaws.{bytes_refl}
-use Rattle.asl_json.specs.Distinct.{Members, has_key, AreDistinct}
+use Rattle.asl_json_data.specs.Distinct.{Members, has_key, AreDistinct}
 use Rattle.asl_template.specs.Names.{mark, name_before, first_of, name_of, named, has_name, is_double}
 use Rattle.asl_template.specs.Faults.{Claim, double_claims, member_claims, Each, Holds}
 use Rattle.asl_template.proofs.Marks.{name_before-mark, ends_in_mark}

@@ -1,6 +1,6 @@
 -- The text of a place, from the outermost step in.
 use Rattle.std.proofs.Common.{◌≡◌, ℕ, ◌+◌, ◌-◌, ◌<◌, List, ◌++◌, length, get_or, drop, reverse}
-use Rattle.asl_json.proofs.Pointing.{one_further}
+use Rattle.asl_json_write.proofs.Pointing.{one_further}
 use Rattle.asl_path.specs.declared.step.Step.{Step}
 use Rattle.asl_template.specs.Places.{step_part, pointer_text}
 

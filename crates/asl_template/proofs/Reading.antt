@@ -2,9 +2,9 @@
 use Rattle.std.proofs.Common.{◌≡◌, ◌<◌, ℕ, zero, suc, ◌+◌, List, [], ◌∷◌, ◌++◌, Bool, true, false, length, get_or, take, refl, sym, ap, subst, ◌∙◌, append_assoc, arith}
 use Rattle.std.specs.Prelude.{map, Result, Ok, Err, IfOk}
 use Rattle.std.proofs.lemmas.List.{map_more, append-nil}
-use Rattle.asl_json.specs.Data.{Data, chain, pairs}
+use Rattle.asl_json_data.specs.Data.{Data, chain, pairs}
 use Rattle.asl_json.specs.View.{data_of, items_of, member_of, members_of}
-use Rattle.asl_json.specs.Distinct.{Members}
+use Rattle.asl_json_data.specs.Distinct.{Members}
 use Rattle.asl_json.specs.declared.value.Json.{Json}
 use Rattle.asl_json.specs.declared.value.Member.{Member}
 use Rattle.asl_path.specs.declared.step.Step.{Step}

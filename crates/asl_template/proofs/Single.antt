@@ -2,9 +2,9 @@
 use Rattle.std.proofs.Common.{◌≡◌, ℕ, List, [], ◌∷◌, ◌++◌, true, false, refl, sym, subst, ◌∙◌, length, ◌≤◌, take}
 use Rattle.std.specs.Prelude.{Option, Some, Result, Ok, IfOk, map}
 use Rattle.std.proofs.lemmas.List.{take_all}
-use Rattle.asl_json.specs.Data.{Data, text, pairs}
+use Rattle.asl_json_data.specs.Data.{Data, text, pairs}
 use Rattle.asl_json.specs.View.{data_of, members_of}
-use Rattle.asl_json.specs.Distinct.{AreDistinct, Members}
+use Rattle.asl_json_data.specs.Distinct.{AreDistinct, Members}
 use Rattle.asl_json.specs.declared.value.Json.{Json}
 use Rattle.asl_json.specs.declared.value.Json.TheVariants.{Null, Bool as Truth, Num, Text, List as JsonList, Dict}
 use Rattle.asl_json.specs.declared.value.Member.{Member}

@@ -1,6 +1,6 @@
 -- The fault that is answered for a value that is no template.
 use Rattle.std.specs.Prelude.{◌≡◌, ℕ, List}
-use Rattle.asl_json.specs.Data.{Data}
+use Rattle.asl_json_data.specs.Data.{Data}
 use Rattle.asl_path.specs.Faults.{FaultAt}
 use Rattle.asl_intrinsic.specs.Faults.{IsFaultOf}
 use Rattle.asl_intrinsic.specs.declared.expr.CallFault.TheVariants.{OutOfMemory as NoMemory}

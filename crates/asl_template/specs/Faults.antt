@@ -1,8 +1,8 @@
 -- Which values are templates, and which fault is answered for any other. (Amazon States Language,
 -- "Payload Template".)
 use Rattle.std.specs.Prelude.{◌≡◌, ◌<◌, ◌≤◌, ℕ, suc, List, [], ◌∷◌, ◌++◌, Bool, true, false, if◌then◌else◌, map}
-use Rattle.asl_json.specs.Data.{Data, null, boolean, number, text, list, dict, Chain, no_items, item, Pairs, no_members, member}
-use Rattle.asl_json.specs.Distinct.{Members}
+use Rattle.asl_json_data.specs.Data.{Data, null, boolean, number, text, list, dict, Chain, no_items, item, Pairs, no_members, member}
+use Rattle.asl_json_data.specs.Distinct.{Members}
 use Rattle.asl_path.specs.Grammar.{IsPath}
 use Rattle.asl_path.specs.declared.step.Step.{Step}
 use Rattle.asl_path.specs.declared.step.Step.TheVariants.{Name, Index}

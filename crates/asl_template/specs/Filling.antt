@@ -1,7 +1,8 @@
 -- What a template gives on an input and a Context Object. (Amazon States Language, "Payload
 -- Template".)
 use Rattle.std.specs.Prelude.{ℕ, List, [], ◌∷◌, Bool, false, ◌==◌, Option, Some, None, if◌then◌else◌, Result, Ok, Err}
-use Rattle.asl_json.specs.Data.{Data, null, boolean, number, text, list, dict, Chain, no_items, item, Pairs, no_members, member}
+use Rattle.asl_json_data.specs.Results.{◌>>=◌}
+use Rattle.asl_json_data.specs.Data.{Data, null, boolean, number, text, list, dict, Chain, no_items, item, Pairs, no_members, member}
 use Rattle.asl_path.specs.Paths.{part_at}
 use Rattle.asl_intrinsic.specs.Calls.{is_context}
 use Rattle.asl_intrinsic.specs.Values.{ev}
@@ -20,10 +21,6 @@ abbrev pub Outcome : Type 0 → Type 0
 Outcome A = Result A FillFault
 
 -- go on with what was found
-abbrev pub and_then : {A : Type 0} {B : Type 0} → Outcome A → (A → Outcome B) → Outcome B
-and_then (Ok a) f = f a
-and_then (Err e) f = Err e
-
 -- what begins with `$` is to be a path, anything else a call
 abbrev pub is_path : List ℕ → Bool
 is_path [] = false
@@ -68,16 +65,23 @@ abbrev mutual
   fill (boolean b) x c = Ok (boolean b)
   fill (number n) x c = Ok (number n)
   fill (text t) x c = Ok (text t)
-  fill (list ds) x c = and_then (fill_items ds x c) (λ es. Ok (list es))
-  fill (dict ms) x c = and_then (fill_members ms x c) (λ ns. Ok (dict ns))
+  fill (list ds) x c = do
+    es ← fill_items ds x c
+    Ok (list es)
+  fill (dict ms) x c = do
+    ns ← fill_members ms x c
+    Ok (dict ns)
 
   pub fill_items : Chain → Data → Data → Outcome Chain
   fill_items no_items x c = Ok no_items
-  fill_items (item d ds) x c =
-      and_then (fill d x c) (λ e. and_then (fill_items ds x c) (λ es. Ok (item e es)))
+  fill_items (item d ds) x c = do
+    e ← fill d x c
+    es ← fill_items ds x c
+    Ok (item e es)
 
   pub fill_members : Pairs → Data → Data → Outcome Pairs
   fill_members no_members x c = Ok no_members
-  fill_members (member k d ms) x c =
-      and_then (chosen (name_before k) (computed k d x c) (fill d x c))
-      (λ e. and_then (fill_members ms x c) (λ ns. Ok (member (name_of k) e ns)))
+  fill_members (member k d ms) x c = do
+    e ← chosen (name_before k) (computed k d x c) (fill d x c)
+    ns ← fill_members ms x c
+    Ok (member (name_of k) e ns)

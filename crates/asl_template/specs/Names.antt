@@ -1,7 +1,7 @@
 -- Keys of a template's members. (Amazon States Language, "Payload Template".)
 use Rattle.std.specs.Prelude.{ℕ, List, [], ◌∷◌, ◌++◌, Bool, false, ◌||◌, Option, Some, None, if◌then◌else◌, map, option_map, codes}
-use Rattle.asl_json.specs.Data.{Data}
-use Rattle.asl_json.specs.Distinct.{Members, has_key}
+use Rattle.asl_json_data.specs.Data.{Data}
+use Rattle.asl_json_data.specs.Distinct.{Members, has_key}
 use Rattle.asl_json.specs.Same.{bytes_eq}
 
 -- ".$", in which the key of a computed member ends

@@ -1,7 +1,7 @@
 -- The text of a place: a JSON Pointer (RFC 6901, sections 3 and 4).
 use Rattle.std.specs.Prelude.{ℕ, List}
 use Rattle.std.specs.List.{flat_map}
-use Rattle.asl_json.specs.Pointers.{name_part, index_part}
+use Rattle.asl_json_write.specs.Pointers.{name_part, index_part}
 use Rattle.asl_path.specs.declared.step.Step.{Step}
 use Rattle.asl_path.specs.declared.step.Step.TheVariants.{Name, Index}
 

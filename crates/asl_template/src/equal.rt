@@ -1,7 +1,7 @@
 // Whether two templates are equal: whether they were read from equal values, spelling included.
 ghost use Rattle.std.specs.Prelude.{◌≡◌, ◌&&◌, ◌++◌};
-ghost use Rattle.asl_json.specs.Data.{chain, pairs};
-ghost use Rattle.asl_json.specs.Data as Data;
+ghost use Rattle.asl_json_data.specs.Data.{chain, pairs};
+ghost use Rattle.asl_json_data.specs.Data as Data;
 ghost use Rattle.asl_json.specs.Same.{equal, equal_items, equal_members, bytes_eq};
 ghost use Rattle.asl_template.specs.Names.{mark};
 ghost use Rattle.asl_template.specs.private.View.{part_data, field_data, Fits};

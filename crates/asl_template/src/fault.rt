@@ -6,7 +6,8 @@ ghost use Rattle.asl_template.specs.Places.{pointer_text, step_part};
 ghost use Rattle.asl_template.specs.Answer.{Carries};
 
 use asl_intrinsic::CallFault;
-use asl_json::{Pointer, Txt};
+use asl_json::Txt;
+use asl_json_write::Pointer;
 use asl_path::Step;
 use std::alloc::{AllocError, Global};
 use std::marker::Model;

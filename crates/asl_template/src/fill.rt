@@ -1,7 +1,7 @@
 // The value that a template gives.
 ghost use Rattle.std.specs.Prelude.{◌≡◌, ◌++◌, Ok};
 ghost use Rattle.asl_json.specs.View.{data_of};
-ghost use Rattle.asl_json.specs.Data.{chain, pairs};
+ghost use Rattle.asl_json_data.specs.Data.{chain, pairs};
 ghost use Rattle.asl_path.specs.Paths.{part_at};
 ghost use Rattle.asl_intrinsic.specs.Calls.{is_context};
 ghost use Rattle.asl_intrinsic.specs.Values.{ev};

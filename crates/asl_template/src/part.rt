@@ -49,7 +49,7 @@ pub(crate) enum Field {
 
 impl Model for Parts {
     ghost use Rattle.std.specs.Prelude.{List};
-    ghost use Rattle.asl_json.specs.Data.{Data, items_size};
+    ghost use Rattle.asl_json_data.specs.Data.{Data, items_size};
     ghost use Rattle.asl_json.specs.private.Code.{coded_items};
 
     ghost Value = { List Data };
@@ -69,7 +69,7 @@ impl Model for Parts {
 
 impl Model for Fields {
     ghost use Rattle.std.specs.Prelude.{List, ℕ};
-    ghost use Rattle.asl_json.specs.Data.{Data, members_size};
+    ghost use Rattle.asl_json_data.specs.Data.{Data, members_size};
     ghost use Rattle.asl_json.specs.private.Code.{coded_members};
 
     ghost Value = { List (List ℕ × Data) };

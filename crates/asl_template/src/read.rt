@@ -1,8 +1,8 @@
 // Reading a template.
 ghost use Rattle.std.specs.Prelude.{◌≡◌, ◌∷◌, ◌++◌, [], true, false, IfOk};
-ghost use Rattle.asl_json.specs.Data.{chain, pairs};
-ghost use Rattle.asl_json.specs.Data as Data;
-ghost use Rattle.asl_json.specs.Distinct.{Members};
+ghost use Rattle.asl_json_data.specs.Data.{chain, pairs};
+ghost use Rattle.asl_json_data.specs.Data as Data;
+ghost use Rattle.asl_json_data.specs.Distinct.{Members};
 ghost use Rattle.asl_json.specs.View.{data_of, items_of, member_of, members_of};
 ghost use Rattle.asl_json.specs.Keys.{Knows};
 ghost use Rattle.asl_template.specs.Names.{mark, name_before, is_double};

@@ -37,7 +37,7 @@ impl Drop for Template {
 }
 
 impl Model for Template {
-    ghost use Rattle.asl_json.specs.Data.{Data};
+    ghost use Rattle.asl_json_data.specs.Data.{Data};
     ghost use Rattle.asl_template.specs.private.View.{part_data};
     ghost use Rattle.asl_template.specs.Faults.{IsTemplate};
     ghost use Rattle.asl_json.specs.private.Code.{coded_data};

@@ -2,25 +2,25 @@
 use denote.Param.Send.{IsSend, IsSync, sendable}
 use Rattle.std.proofs.Crossing.{crosses}
 use Rattle.asl_json.proofs.value.Items.TheLaws.TheKnot as values
-use Rattle.asl_threads_crossing.proofs.Values as crossing
-use Rattle.asl_threads_crossing.proofs.Cases as cases
-use Rattle.asl_threads_crossing.proofs.Machines as machines
+use Rattle.asl_threads_base.proofs.Values as crossing
+use Rattle.asl_threads_base.proofs.Cases as cases
+use Rattle.asl_threads_base.proofs.Machines as machines
 use Rattle.asl_time.proofs.moment.Moment.TheSendSync as moment
 use Rattle.asl_history.proofs.place.Place.TheSendSync as place
-use Rattle.asl_step_rows.proofs.record.ErrorOut.TheSendSync as error
-use Rattle.asl_step_rows.proofs.record.Uses.TheSendSync as uses
-use Rattle.asl_run_frames.proofs.frame.Frame.TheLaws.TheKnot as frames
-use Rattle.asl_run_world.proofs.refusal.Refusal.TheSendSync as refusal
+use Rattle.asl_step.proofs.record.ErrorOut.TheSendSync as error
+use Rattle.asl_step.proofs.record.Uses.TheSendSync as uses
+use Rattle.asl_run_branches.proofs.frame.Frame.TheLaws.TheKnot as frames
+use Rattle.asl_run_state.proofs.refusal.Refusal.TheSendSync as refusal
 use Rattle.asl_history.specs.contracts.event.Event.{the_row as event_row}
 use Rattle.asl_history.specs.contracts.history.History.{the_row as history_row}
-use Rattle.asl_step_rows.specs.contracts.record.Record.{the_row as record_row, the_field as record_field}
-use Rattle.asl_step_rows.specs.contracts.context.Context.{the_row as context_row}
-use Rattle.asl_run_frames.specs.contracts.frame.Frame.{the_row as frame_row}
-use Rattle.asl_run_world.specs.contracts.outcome.Outcome.{the_field as outcome_field}
-use Rattle.asl_run_world.specs.contracts.world.World.{the_row as world_row}
-use Rattle.asl_run_world.specs.contracts.checkpoint.Checkpoint.{the_row as checkpoint_row}
-use Rattle.asl_run_setup.specs.contracts.setup.Setup.{the_field as setup_field}
-use Rattle.asl_run_setup.specs.contracts.step_at.StepAt.{the_row as step_row}
+use Rattle.asl_step.specs.contracts.record.Record.{the_row as record_row, the_field as record_field}
+use Rattle.asl_step.specs.contracts.context.Context.{the_row as context_row}
+use Rattle.asl_run_branches.specs.contracts.frame.Frame.{the_row as frame_row}
+use Rattle.asl_run_state.specs.contracts.outcome.Outcome.{the_field as outcome_field}
+use Rattle.asl_run_state.specs.contracts.world.World.{the_row as world_row}
+use Rattle.asl_run_state.specs.contracts.checkpoint.Checkpoint.{the_row as checkpoint_row}
+use Rattle.asl_run_input.specs.contracts.setup.Setup.{the_field as setup_field}
+use Rattle.asl_run_input.specs.contracts.step_at.StepAt.{the_row as step_row}
 use Rattle.asl_exec.specs.contracts.execution.Execution.{the_field as execution_field}
 use Rattle.asl_session.specs.contracts.reply.Reply.{the_field as reply_field}
 use Rattle.asl_session.specs.contracts.command.Command.{the_field as command_field}
@@ -29,7 +29,8 @@ use Rattle.asl_threads.specs.contracts.seat.Entry.{the_row as entry_row}
 use Rattle.asl_threads.specs.contracts.seat.Seat.{the_row as seat_row}
 use Rattle.asl_threads.specs.contracts.row.Row.{the_row as row_row}
 use Rattle.asl_threads.specs.contracts.shared.Shared.{the_row as shared_row}
-use Rattle.asl_threads.specs.contracts.run.SharedRun.{the_row as run_row}
+use Rattle.core.specs.contracts.sync.Mutex.{the_row as lock_row}
+use Rattle.asl_threads.specs.contracts.run.Run.{the_row as run_row, the_field as run_field}
 use Rattle.asl_threads.specs.contracts.closing.RunRecord.{the_row as closed_row}
 use Rattle.asl_threads.specs.contracts.closing.CloseFault.{the_row as fault_row}
 
@@ -107,14 +108,17 @@ seat_send = search (entry_send, crosses, sendable) depth 60 fits 20000
 pub shared_send : IsSend shared_row
 shared_send = search (session_send, row_send, crosses, sendable) depth 60 fits 20000
 
-pub run_send : IsSend run_row
+pub run_send : IsSend (run_row (lock_row shared_row))
 run_send = search (shared_send, setup_field_send, crosses, sendable) depth 60 fits 20000
 
-pub run_sync : IsSync run_row
+run_field_send : IsSend (run_field (lock_row shared_row)).row
+run_field_send = search (shared_send, setup_field_send, crosses, sendable) depth 60 fits 20000
+
+pub run_sync : IsSync (run_row (lock_row shared_row))
 run_sync = search (shared_send, setup_field_sync, crosses, sendable) depth 60 fits 20000
 
 pub closed_send : IsSend closed_row
 closed_send = search (row_send, session_send, crosses, sendable) depth 60 fits 20000
 
-pub fault_send : IsSend fault_row
-fault_send = search (run_send, seat_send, crosses, sendable) depth 60 fits 20000
+pub fault_send : IsSend (fault_row (lock_row shared_row))
+fault_send = search (run_field_send, seat_send, crosses, sendable) depth 60 fits 20000

@@ -1,10 +1,10 @@
 -- What is due is what the session's execution picks.
 use Rattle.std.proofs.Common.{◌≡◌, ◌∙◌, ◌<◌, ◌≤◌, ℕ, List, [], ◌∷◌, Option, refl, ap}
 use Rattle.std.proofs.lemmas.Bool.{lt-ltb, le-ltb}
-use Rattle.asl_run_frames.specs.Turns.{Limits}
-use Rattle.asl_run_world.specs.World.{World}
-use Rattle.asl_run_world.specs.Picking.{Pick, Moment, pick, first_at}
-use Rattle.asl_run_setup.specs.declared.setup.Setup.{Setup}
+use Rattle.asl_run_branches.specs.Turns.{Limits}
+use Rattle.asl_run_state.specs.World.{World}
+use Rattle.asl_run_state.specs.Picking.{Pick, Moment, pick, first_at}
+use Rattle.asl_run_input.specs.declared.setup.Setup.{Setup}
 use Rattle.asl_exec.specs.Steps.{limits_in}
 use Rattle.asl_session.specs.Sessions.{Session, opened, world_in, next_session, session_after}
 use Rattle.asl_threads.specs.declared.row.Row.{Row}

@@ -6,12 +6,12 @@ use Rattle.std.specs.Cmp.{unsigned_Decides}
 use Rattle.std.specs.Cmp.Lexicographic.{bytes_decides}
 use Rattle.std.proofs.lemmas.Bool.Decides.{Decides-and}
 use Rattle.asl_json.specs.Same.{bytes_eq}
-use Rattle.asl_step_rows.proofs.Equalities.{record_decides}
-use Rattle.asl_run_setup.specs.declared.step_at.StepAt.{StepAt}
-use Rattle.asl_run_setup.specs.contracts.step_at.StepAtPartialEq.TheImpl as steps
-use Rattle.asl_run_world.specs.declared.refusal.Refusal.{Refusal}
-use Rattle.asl_run_world.specs.declared.refusal.Refusal.TheVariants.{Over, NoSuchPlace as NoPlace, Stopped, Finished, Busy, Slots, NotYet, HistoryFull, OutOfMemory}
-use Rattle.asl_run_world.specs.contracts.refusal.RefusalPartialEq.TheImpl as refusals
+use Rattle.asl_step.proofs.Equalities.{record_decides}
+use Rattle.asl_run_input.specs.declared.step_at.StepAt.{StepAt}
+use Rattle.asl_run_input.specs.contracts.step_at.StepAtPartialEq.TheImpl as steps
+use Rattle.asl_run_state.specs.declared.refusal.Refusal.{Refusal}
+use Rattle.asl_run_state.specs.declared.refusal.Refusal.TheVariants.{Over, NoSuchPlace as NoPlace, Stopped, Finished, Busy, Slots, NotYet, HistoryFull, OutOfMemory}
+use Rattle.asl_run_state.specs.contracts.refusal.RefusalPartialEq.TheImpl as refusals
 use Rattle.asl_session.specs.declared.command.Command.{Command}
 use Rattle.asl_session.specs.declared.command.Command.TheVariants.{Step, Break, Clear, Resume, Show, Back}
 use Rattle.asl_session.specs.declared.reply.Reply.{Reply}

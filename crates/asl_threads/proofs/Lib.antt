@@ -3,4 +3,5 @@ pub mod Dues
 pub mod Least
 pub mod Equalities
 pub mod OneList
+pub mod Served
 pub mod Crossing

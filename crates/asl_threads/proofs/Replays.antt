@@ -1,6 +1,6 @@
 -- A history goes on by one row.
 use Rattle.std.proofs.Common.{◌≡◌, List, [], ◌∷◌, ◌++◌, false, refl, ◌∙◌, sym, ap, subst}
-use Rattle.asl_run_setup.specs.declared.setup.Setup.{Setup}
+use Rattle.asl_run_input.specs.declared.setup.Setup.{Setup}
 use Rattle.asl_session.specs.Replies.{is_plain}
 use Rattle.asl_session.proofs.Plain.{unplain-stays}
 use Rattle.asl_session.specs.Sessions.{Session, opened, changed, reply_to, next_session, session_after}

@@ -1,6 +1,6 @@
 -- When a run is closed, and why it isn't.
 use Rattle.std.specs.Prelude.{ℕ, ◌≡◌, ◌<◌, ◌==◌, List, All, Any, count_by}
-use Rattle.asl_run_setup.specs.declared.setup.Setup.{Setup}
+use Rattle.asl_run_input.specs.declared.setup.Setup.{Setup}
 use Rattle.asl_threads.specs.declared.row.Row.{Row}
 use Rattle.asl_threads.specs.declared.closing.Cause.{Cause}
 use Rattle.asl_threads.specs.declared.closing.Cause.TheVariants.{OtherSetup, Foreign, SeatMissing, Mismatch}

@@ -1,6 +1,6 @@
 -- Runs that threads share: the rows, one for each command, and which lists of rows are legal.
 use Rattle.std.specs.Prelude.{◌≡◌, ℕ, List, [], ◌∷◌, ◌++◌, ◌==◌, ⊤, map, if◌then◌else◌}
-use Rattle.asl_run_setup.specs.declared.setup.Setup.{Setup}
+use Rattle.asl_run_input.specs.declared.setup.Setup.{Setup}
 use Rattle.asl_session.specs.Sessions.{Session, opened, reply_to, next_session, session_after}
 use Rattle.asl_session.specs.declared.command.Command.{Command}
 use Rattle.asl_session.specs.declared.reply.Reply.{Reply}

@@ -1,10 +1,10 @@
 -- What a worker does in a turn, and what it adds to a seat.
 use Rattle.std.specs.Prelude.{ℕ, ◌≡◌, ◌≤◌, ◌⊎◌, List, ◌++◌, length, Bool, true, false, nat_lt, if◌then◌else◌, Option, Some, None}
 use Rattle.std.specs.List.{AllPass, AllZip}
-use Rattle.asl_run_frames.specs.Turns.{Limits}
-use Rattle.asl_run_world.specs.World.{World}
-use Rattle.asl_run_world.specs.Picking.{Pick, Ended, Filled, Place, Moment, pick, first_at}
-use Rattle.asl_run_setup.specs.declared.setup.Setup.{Setup}
+use Rattle.asl_run_branches.specs.Turns.{Limits}
+use Rattle.asl_run_state.specs.World.{World}
+use Rattle.asl_run_state.specs.Picking.{Pick, Ended, Filled, Place, Moment, pick, first_at}
+use Rattle.asl_run_input.specs.declared.setup.Setup.{Setup}
 use Rattle.asl_exec.specs.Steps.{limits_in}
 use Rattle.asl_session.specs.Sessions.{world_in, reply_to}
 use Rattle.asl_session.specs.Laws.{is_step}
@@ -51,8 +51,10 @@ pub record Stay (old new : SharedView) (seat seat' : SeatView) : Type 0 where
   pub shared_stays : new ≡ old
   pub seat_stays : seat' ≡ seat
 
--- the command was carried out once: a row more, and a command more in the seat's list
+-- the command was carried out once, for a seat of this run: a row more, and a command more in the
+-- seat's list
 pub record Tells (c : Command) (old new : SharedView) (seat seat' : SeatView) : Type 0 where
+  pub own : old.label ≡ seat.label
   pub row : new ≡ with_row old seat.number c (reply_to (session_of old) c)
   pub entry : seat' ≡ with_entry seat c (reply_to (session_of old) c)
 
@@ -72,6 +74,11 @@ TurnsBy (Now p) now old new seat seat' last =
 abbrev pub IsTurn : ℕ → SharedView → SeatView → SharedView → SeatView → Bool → Type 0
 IsTurn now old seat new seat' last =
     TurnsBy (due_in old.setup (world_in (session_of old)) now) now old new seat seat' last
+
+-- such a turn of a seat at a moment that the clock says, on what then lies behind the lock
+abbrev pub Turned : (ℕ → Type 0) → SeatView → SeatView → Bool → Type 0
+Turned says seat seat' last =
+    (now : ℕ) × says now × (old : SharedView) × (new : SharedView) × IsTurn now old seat new seat' last
 
 -- ---- what turns add to seats
 

@@ -8,7 +8,7 @@ use crate::closing::Cause;
 use crate::row::Row;
 use crate::seat::{Entry, Seat};
 use crate::shared::Shared;
-use asl_run_setup::Setup;
+use asl_run_input::Setup;
 
 /// Why a run with this behind its lock isn't closed with these seats. Takes no memory.
 pub(crate) fn refusal(

@@ -1,8 +1,10 @@
 // Workers that take turns at one run.
 ghost use Rattle.std.specs.Prelude.{◌≡◌};
+ghost use Rattle.std.specs.List.{AllZip};
 ghost use Rattle.asl_session.specs.Sessions.{world_in};
 ghost use Rattle.asl_threads.specs.Runs.{session_of};
-ghost use Rattle.asl_threads.specs.Turns.{due_of, due_in, IsTurn, Grows, AllGrow};
+ghost use Rattle.asl_threads.specs.Workers.{IsTold, Serves};
+ghost use Rattle.asl_threads.specs.Turns.{due_of, due_in, IsTurn, Turned, AllGrow};
 
 use crate::clock::Clock;
 use crate::run::SharedRun;
@@ -10,14 +12,13 @@ use crate::seat::Seat;
 use crate::serving::{Served, drive_from};
 use crate::shared::Shared;
 use asl_history::Place;
-use asl_run_setup::StepAt;
-use asl_run_world::Next;
+use asl_run_input::StepAt;
+use asl_run_state::Next;
 use asl_session::Command;
-use asl_threads_gate::Gate;
+use asl_threads_base::Gate;
 use asl_time::Moment;
 use std::alloc::Global;
-use std::sync::Wait;
-use std::sync::atomic::{AtomicUsize, Ordering};
+use std::sync::{Mutex, Wait};
 use std::thread;
 use std::thread::Threads;
 
@@ -58,8 +59,7 @@ impl Shared {
     /// One turn of a seat: the step that is due is applied at this moment. A turn that finds no memory or has another run's seat is spent.
     /// Says whether no step is ever due again.
     fn turn(&mut self, seat: &mut Seat, now: Moment) -> bool
-        ensures turn { IsTurn now self.old seat.old self.new seat.new result }
-        ensures grows { Grows 1 seat.old seat.new }
+        ensures { IsTurn now self.old seat.old self.new seat.new result }
     {
         let place = match self.due(now) {
             Due::Never => return true,
@@ -73,76 +73,27 @@ impl Shared {
     }
 }
 
-/// The turns of a worker.
-fn work<R: Wait, G: Gate, C: Clock>(
-    rt: &R,
-    run: &SharedRun,
-    clock: &C,
-    gate: &G,
-    turns: usize,
-    worker: usize,
-    seat: &mut Seat,
-)
-    ensures { Grows turns seat.old seat.new }
-{
-    for turn in 0..turns {
-        gate.before(worker, turn);
-        let now = clock.now();
-        let is_last = run.state().lock(rt).turn(seat, now);
-        gate.after(worker, turn);
-        if is_last {
-            break;
-        }
-    }
-}
-
-/// The turns of a worker, or none where it is the idle one.
-fn serve<R: Wait, G: Gate, C: Clock>(
-    rt: &R,
-    run: &SharedRun,
-    clock: &C,
-    gate: &G,
-    turns: usize,
-    worker: usize,
-    idle: &AtomicUsize,
-    mut seat: Seat,
-) -> Seat
-    ensures { Grows turns seat result }
-{
-    if idle.load(Ordering::SeqCst) != worker {
-        work(rt, run, clock, gate, turns, worker, &mut seat);
-    }
-    seat
-}
-
 impl Served<Seat> for SharedRun {
-    ghost use Rattle.asl_threads.specs.Turns.{Grows};
+    ghost use Rattle.asl_threads.specs.Turns.{Turned};
 
-    ghost grows = { Grows };
+    ghost turned = { Turned };
 
     fn stand_in(&self, alloc: Global) -> Seat {
         Seat::new(alloc, 0, 0)
     }
 
-    fn serve<R: Wait, G: Gate, C: Clock>(
-        &self,
-        rt: &R,
-        clock: &C,
-        gate: &G,
-        turns: usize,
-        worker: usize,
-        idle: &AtomicUsize,
-        seat: Seat,
-    ) -> Seat {
-        serve(rt, self, clock, gate, turns, worker, idle, seat)
+    fn turn<R: Wait, C: Clock>(&self, rt: &R, clock: &C, seat: &mut Seat) -> bool {
+        let now = clock.now();
+        self.state().lock(rt).turn(seat, now)
     }
 }
 
 /// Steps a run by one worker for each seat, which takes at most so many turns. In a turn a worker asks what comes next, and applies a
 /// step at the clock's moment: at the place that comes next, or, where a moment is awaited that the clock has reached, at the first
 /// place that isn't refused then. Where the clock says less, the turn is spent; so is one that finds no memory or has another run's seat.
-/// A worker ends where the execution is over or its history full. One that can't be started takes no turn. The gate and the clock are
+/// A worker ends where the execution is over or its history full, and else takes all its turns. One that can't be started takes none. The gate and the clock are
 /// called with no lock held; a gate's piece is the number of the worker's turn, from 0. The seats come back in their order.
+#[tactic(auto, using(crate::proofs::Served::all_grow))]
 pub fn drive_shared<R: Threads + Wait + Sync, G: Gate + Sync, C: Clock + Sync>(
     rt: &R,
     alloc: Global,
@@ -152,15 +103,18 @@ pub fn drive_shared<R: Threads + Wait + Sync, G: Gate + Sync, C: Clock + Sync>(
     gate: &G,
     turns: usize,
 ) -> Vec<Seat>
-    ensures { AllGrow turns seats.items result.items }
+    // Each worker takes its turns, each told at the gate.
+    ensures turns { AllZip (Serves turns (IsTold G.began G.ended (Turned C.says))) seats.items result.items }
+    // So each seat's list has at most so many steps more.
+    ensures grows { AllGrow turns seats.items result.items }
 {
-    let no_worker = AtomicUsize::new(usize::MAX);
-    let idle = &no_worker;
+    let nobody = Mutex::new(None);
+    let idle = &nobody;
     thread::scope(
         thread::scope_env(),
         rt,
         move |scope| -> Vec<Seat>
-            ensures { AllGrow turns seats.items result.items }
+            ensures { AllZip (Serves turns (IsTold G.began G.ended (Turned C.says))) seats.items result.items }
         {
             let mut seats = seats;
             drive_from(

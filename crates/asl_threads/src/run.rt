@@ -2,28 +2,29 @@
 ghost use Rattle.std.specs.Prelude.{◌≡◌, ℕ, ◌<◌, ◌≤◌, Some, IfOk, vec_len, slice_get};
 ghost use Rattle.asl_threads.specs.Runs.{fresh};
 ghost use Rattle.asl_threads.specs.Closing.{run_view};
+ghost use Rattle.asl_threads.specs.Answer.{opened_with};
 
-use crate::closing::Ended;
 use crate::seat::Seat;
 use crate::shared::Shared;
-use asl_run_setup::Setup;
+use asl_run_input::Setup;
 use std::alloc::{AllocError, Global};
-use std::marker::Model;
 use std::sync::Mutex;
 
-/// A run that threads share. Contracts see the setup, the label and the number of seats that were given to `open`; of what lies behind
-/// the lock they see nothing until the run is closed.
-pub struct SharedRun {
-    pub(crate) state: Mutex<Shared>,
+/// A run that threads share: what it was opened with, and what lies in its lock. Contracts see of the latter what the lock's type says.
+pub struct Run<L> {
+    pub(crate) state: L,
     pub(crate) setup: Setup,
     pub(crate) label: u64,
     pub(crate) seats: usize,
 }
 
+/// A run in std's lock, which threads take in turn.
+pub type SharedRun = Run<Mutex<Shared>>;
+
 // Written out, so that a caller's proof sees one call and not the drop of each part.
-impl Drop for SharedRun {
+impl<L: Drop> Drop for Run<L> {
     fn drop(self) {
-        let SharedRun {
+        let Run {
             state: _state,
             setup: _setup,
             label: _label,
@@ -32,17 +33,20 @@ impl Drop for SharedRun {
     }
 }
 
-impl Model for SharedRun {
-    ghost use Rattle.asl_threads.specs.Closing.{RunView};
-
-    ghost Value = { RunView };
-
-    ghost use Rattle.std.specs.Coded.{codes};
-    ghost use Rattle.asl_run_setup.specs.contracts.setup.Setup as setup_row;
-
-    ghost coded = { Prim.hlevel (codes, setup_row.the_row.coded) };
-
-    ghost view = { λ r. record { setup = r.setup; label = r.label; seats = r.seats } };
+impl<L> Run<L> {
+    /// Its lock, and what it was opened with.
+    pub(crate) fn into_parts(self) -> (L, Setup, u64, usize)
+        ensures lock { result.0 ≡ self.state }
+        ensures opened { run_view result.1 result.2 result.3 ≡ opened_with self }
+    {
+        let Run {
+            state,
+            setup,
+            label,
+            seats,
+        } = self;
+        (state, setup, label, seats)
+    }
 }
 
 /// The seats of these numbers from 0, from which no command was given. The error is that memory ran out.
@@ -68,7 +72,7 @@ impl SharedRun {
         label: u64,
     ) -> Result<(SharedRun, Vec<Seat>), AllocError>
         requires { (1 ≤ seats) × (seats ≤ 64) }
-        ensures run { IfOk result (λ r. r.0 ≡ run_view setup label seats) }
+        ensures run { IfOk result (λ r. opened_with r.0 ≡ run_view setup label seats) }
         ensures count { IfOk result (λ r. vec_len r.1 ≡ seats) }
         ensures fresh { IfOk result (λ r. (k : ℕ) → k < seats
             → slice_get r.1.items k ≡ Some (fresh label k)) }
@@ -76,7 +80,7 @@ impl SharedRun {
         let fresh = fresh_seats(alloc, label, seats)?;
         let copy = setup.try_clone(alloc)?;
         let shared = Shared::open(alloc, setup, label)?;
-        let run = SharedRun {
+        let run = Run {
             state: Mutex::new(shared),
             setup: copy,
             label,
@@ -88,23 +92,5 @@ impl SharedRun {
     /// The run's one lock. It knows no seat, so that no seat has a session of its own.
     pub fn state(&self) -> &Mutex<Shared> {
         &self.state
-    }
-
-    /// The run without its lock, which nobody else can hold. Takes no lock and no memory.
-    pub fn end(self) -> Ended
-        ensures { run_view result.setup result.label result.seats ≡ self }
-    {
-        let SharedRun {
-            state,
-            setup,
-            label,
-            seats,
-        } = self;
-        Ended {
-            shared: state.into_inner(),
-            setup,
-            label,
-            seats,
-        }
     }
 }

@@ -4,15 +4,17 @@ ghost use Rattle.asl_session.specs.Sessions.{reply_to};
 
 use crate::row::Row;
 use crate::seat::{Entry, Seat};
-use asl_run_setup::Setup;
+use asl_run_input::Setup;
 use asl_session::{Command, Reply, Session};
 use std::alloc::{AllocError, Global};
+use std::error::Error;
+use std::fmt;
 use std::marker::Model;
 
 /// Why a command wasn't carried out. Nothing changed.
 #[derive(Debug, Clone, Copy, PartialEq, Eq)]
 pub enum ApplyFault {
-    /// The seat has another run's label.
+    /// H3: the seat has another run's label.
     Foreign,
     /// Memory ran out.
     OutOfMemory,
@@ -29,6 +31,22 @@ impl From<AllocError> for ApplyFault {
         ApplyFault::OutOfMemory
     }
 }
+
+impl fmt::Display for ApplyFault {
+    ghost use Rattle.std.specs.Prelude.{Some};
+    ghost use Rattle.asl_threads.specs.Lines.{apply_line};
+
+    ghost output = { λ e. Some (apply_line e) };
+
+    fn fmt<W: fmt::Write>(&self, f: &mut fmt::Formatter<W>) -> fmt::Result {
+        match self {
+            ApplyFault::Foreign => f.write_str("H3 Foreign"),
+            ApplyFault::OutOfMemory => f.write_str("OutOfMemory"),
+        }
+    }
+}
+
+impl Error for ApplyFault {}
 
 /// What lies behind a run's lock: the run's label, its session, and a row for each command. Contracts see the label, the session's setup
 /// and the rows, which are legal; the session is the one after their commands. It keeps the allocator that it was opened with.
@@ -58,7 +76,7 @@ impl Model for Shared {
     ghost Value = { SharedView };
 
     ghost use Rattle.std.specs.Coded.{codes};
-    ghost use Rattle.asl_run_setup.specs.contracts.setup.Setup as setup_row;
+    ghost use Rattle.asl_run_input.specs.contracts.setup.Setup as setup_row;
     ghost use Rattle.asl_threads.specs.contracts.row.Row as row_row;
 
     ghost coded = { Prim.hlevel (codes, setup_row.the_row.coded, row_row.the_row.coded) };
@@ -135,6 +153,7 @@ impl Shared {
         ensures row { IfOk result (λ r. self.new
             ≡ with_row self.old seat.old.number command r) }
         ensures entry { IfOk result (λ r. seat.new ≡ with_entry seat.old command r) }
+        ensures own { IfOk result (λ _. self.old.label ≡ seat.old.label) }
         ensures foreign { (result ≡ Err ApplyFault.Foreign) ↔ (self.old.label ≢ seat.old.label) }
         ensures err { OnErr result ((self.new ≡ self.old) × (seat.new ≡ seat.old)) }
     {

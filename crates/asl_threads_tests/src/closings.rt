@@ -1,9 +1,9 @@
 // Runs that are closed, and runs that aren't.
 use crate::told::{
-    BRANCHES, LOOP, closed, command, ended, opened, put_behind, refused, row_is, taken, told, with,
+    BRANCHES, LOOP, closed, command, opened, refused, row_is, swap_behind, taken, told, with,
 };
 use asl_session::Command;
-use asl_threads::{Cause, Seat, SharedRun};
+use asl_threads::{ApplyFault, Cause, Seat, SharedRun};
 use std::alloc::Global;
 use std::sync::Wait;
 use std::test::Fail;
@@ -134,7 +134,7 @@ fn a_seat_of_another_label_is_foreign(rt: HostRuntime) -> Result<(), Fail> {
         &mut foreign,
         "step / 2024-01-01T00:00:00Z",
     )?;
-    assert_eq!(rt; reply.as_str(), "foreign\n");
+    assert_eq!(rt; reply.as_str(), "H3 Foreign");
     assert!(rt; foreign.list().is_empty());
     let (cause, run, mut seats) = refused(run, with(seats, foreign)?)?;
     assert_eq!(rt; cause, Cause::Foreign);
@@ -192,9 +192,47 @@ fn another_run_behind_the_lock_is_found_out(rt: HostRuntime) -> Result<(), Fail>
     ] {
         let (run, seats) = opened(rt.alloc(), BRANCHES, 1, 7)?;
         let (other, _others) = opened(rt.alloc(), definition, 1, label)?;
-        put_behind(&rt, &run, ended(other));
+        swap_behind(&rt, &run, &other);
         let answer = run.close(seats).err().map(|fault| fault.cause);
         assert_eq!(rt; answer, cause);
     }
+    Ok(())
+}
+
+#[test]
+fn a_run_that_is_not_closed_keeps_its_session(rt: HostRuntime) -> Result<(), Fail> {
+    let (run, mut seats) = opened(rt.alloc(), BRANCHES, 2, 7)?;
+    let mut one = taken(&mut seats)?;
+    let mut zero = taken(&mut seats)?;
+    tell_all(&rt, rt.alloc(), &run, &mut zero, &mut one)?;
+    let (cause, run, seats) = refused(run, with(seats, zero)?)?;
+    assert_eq!(rt; cause, Cause::SeatMissing(1));
+    assert_eq!(rt; run.state().lock(&rt).rows().len(), 10);
+    let record = closed(run, with(seats, one)?)?;
+    assert_eq!(rt; record.rows.len(), 10);
+    Ok(())
+}
+
+#[test]
+fn each_fault_has_its_number(rt: HostRuntime) -> Result<(), Fail> {
+    for (cause, text) in [
+        (Cause::OtherSetup, "H6 OtherSetup"),
+        (Cause::Foreign, "H3 Foreign"),
+        (Cause::SeatMissing(10), "H1 SeatMissing 10"),
+        (Cause::Mismatch(0), "H2 Mismatch 0"),
+    ] {
+        let told = cause.to_string(rt.alloc())?;
+        assert_eq!(rt; told.as_str(), text);
+    }
+    let memory = ApplyFault::OutOfMemory.to_string(rt.alloc())?;
+    assert_eq!(rt; memory.as_str(), "OutOfMemory");
+    let (run, _seats) = opened(rt.alloc(), BRANCHES, 2, 7)?;
+    let fault = run.close(Vec::new(rt.alloc())).err().ok_or("closed")?;
+    let (told, shown) = (
+        fault.to_string(rt.alloc())?,
+        format!(in rt.alloc(); "{fault:?}")?,
+    );
+    assert_eq!(rt; told.as_str(), "H1 SeatMissing 0");
+    assert_eq!(rt; shown.as_str(), "CloseFault(SeatMissing(0))");
     Ok(())
 }

@@ -1,16 +1,16 @@
 // Workers that take turns at a run.
 use crate::told::{BRANCHES, LOOP, WAIT, closed, command, opened, taken};
 use crate::workers::{Counting, Looking, Meeting, Still};
-use asl_json::write;
-use asl_run_world::Outcome;
+use asl_json_write::write;
+use asl_run_state::Outcome;
 use asl_threads::{Clock, RunRecord, Seat, SharedRun, drive_shared};
-use asl_threads_gate::Gate;
+use asl_threads_base::Gate;
 use asl_time::Moment;
 use std::alloc::Global;
 use std::sync::Wait;
 use std::sync::atomic::Ordering;
 use std::test::Fail;
-use std::thread::Threads;
+use std::thread::{Builder, Threads};
 
 /// Drives a run.
 fn drive<R: Threads + Wait + Sync, G: Gate + Sync, C: Clock + Sync>(
@@ -136,5 +136,30 @@ fn two_workers_run_at_the_same_time(rt: HostRuntime) -> Result<(), Fail> {
     assert!(rt; gate.have_met());
     let record = closed(run, seats)?;
     assert_eq!(rt; record.rows.len(), 7);
+    Ok(())
+}
+
+/// Whether the system starts a thread with a stack as large as a worker's.
+fn can_start<R: Threads>(rt: &R) -> bool {
+    match Builder::new().stack_size(1 << 30).spawn(rt, || ()) {
+        Ok(child) => {
+            child.join(rt);
+            true
+        }
+        Err(_) => false,
+    }
+}
+
+// Also run where no such thread can be started, by tests/unstarted.
+#[test]
+fn a_worker_that_is_not_started_takes_no_turn(rt: HostRuntime) -> Result<(), Fail> {
+    let (run, seats) = opened(rt.alloc(), WAIT, 3, 7)?;
+    let gate = Counting::new();
+    let seats = drive(&rt, rt.alloc(), &run, seats, &at(0)?, &gate, 4);
+    let turns = if can_start(&rt) { 12 } else { 0 };
+    assert_eq!(rt; gate.begun.load(Ordering::SeqCst), turns);
+    assert_eq!(rt; gate.done.load(Ordering::SeqCst), turns);
+    let record = closed(run, seats)?;
+    assert_eq!(rt; record.rows.is_empty(), turns == 0);
     Ok(())
 }

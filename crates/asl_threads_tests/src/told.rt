@@ -1,10 +1,11 @@
 // Runs and commands of texts, and texts of replies.
 ghost use Rattle.std.specs.Prelude.{◌≤◌};
 
-use asl_run_setup::Setup;
+use asl_run_input::Setup;
 use asl_session::{Command, put_answer, read_command};
-use asl_threads::{ApplyFault, Cause, CloseFault, Ended, RunRecord, Seat, Shared, SharedRun};
+use asl_threads::{ApplyFault, Cause, CloseFault, RunRecord, Seat, SharedRun};
 use std::alloc::Global;
+use std::mem;
 use std::sync::Wait;
 use std::test::Fail;
 
@@ -50,8 +51,7 @@ pub(crate) fn told<R: Wait>(
     let mut text = String::new(alloc);
     match run.state().lock(rt).apply(seat, command) {
         Ok(reply) => put_answer(alloc, &mut text, &reply)?,
-        Err(ApplyFault::Foreign) => text.push_str("foreign\n")?,
-        Err(ApplyFault::OutOfMemory) => text.push_str("no memory\n")?,
+        Err(fault) => text.push_str(fault.to_string(alloc)?.as_str())?,
     }
     Ok(text)
 }
@@ -68,20 +68,11 @@ pub(crate) fn with(seats: Vec<Seat>, seat: Seat) -> Result<Vec<Seat>, Fail> {
     Ok(seats)
 }
 
-/// What is behind the lock of a run, which ends.
-pub(crate) fn ended(run: SharedRun) -> Shared {
-    let Ended {
-        shared,
-        setup: _setup,
-        label: _label,
-        seats: _seats,
-    } = run.end();
-    shared
-}
-
-/// Puts this behind the lock of a run.
-pub(crate) fn put_behind<R: Wait>(rt: &R, run: &SharedRun, shared: Shared) {
-    *run.state().lock(rt) = shared;
+/// Swaps what lies behind the locks of two runs.
+pub(crate) fn swap_behind<R: Wait>(rt: &R, one: &SharedRun, other: &SharedRun) {
+    let mut mine = one.state().lock(rt);
+    let mut theirs = other.state().lock(rt);
+    mem::swap(&mut *mine, &mut *theirs);
 }
 
 /// What a run leaves that is closed with these seats.

@@ -1,6 +1,6 @@
 // Gates and clocks.
 use asl_threads::{Clock, SharedRun};
-use asl_threads_gate::Gate;
+use asl_threads_base::Gate;
 use asl_time::Moment;
 use std::sync::atomic::{AtomicBool, AtomicUsize, Ordering};
 use std::thread;

@@ -13,7 +13,7 @@ pub record Day : Type 0 where
 abbrev pub next_day : Day → Day
 next_day d =
     if nat_lt d.day (days_in_month (pos d.year) d.month)
-    then record { year = d.year; month = d.month; day = d.day + 1 }
+    then record d { day = d.day + 1 }
     else (if nat_lt d.month 12 then record { year = d.year; month = d.month + 1; day = 1 }
     else record { year = d.year + 1; month = 1; day = 1 })
 

@@ -1,5 +1,5 @@
 // Texts in the manner of the public test suites for JSON readers (RFC 8259), for our reader and for another one.
-use asl_json::{JsonFault, read};
+use asl_json_read::{JsonFault, read};
 use serde_json::Value;
 use std::alloc::Global;
 use std::test::Fail;

@@ -1,6 +1,10 @@
 // Values far deeper than any that is read, as runs make them: with room on the stack they are measured, written, cloned, compared
 // and dropped, and go through templates and functions.
-use asl_json::{Items, Json, Members, Shared, Txt, read, same, write};
+use asl_json::{Items, Json, Members, Txt};
+use asl_json_read::read;
+use asl_json_same::same;
+use asl_json_shared::Shared;
+use asl_json_write::{text_within, write};
 use asl_template::Template;
 use std::alloc::Global;
 use std::test::Fail;
@@ -36,7 +40,7 @@ fn are_right(alloc: Global) -> Option<bool> {
     let value = nested(alloc)?;
     let copy = value.try_clone(alloc).ok()?;
     let len = write(alloc, &copy).ok()?.len();
-    let measured = value.text_within(len) && !value.text_within(len - 1);
+    let measured = text_within(&value, len) && !text_within(&value, len - 1);
     Some(len == 4 * LEVELS + 4 && measured && same(&value, &copy) && value == copy)
 }
 

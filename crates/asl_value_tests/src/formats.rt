@@ -1,7 +1,7 @@
 // `serde_json` as the program that reads the formats for other programs.
 use crate::history::add;
 use asl_history::{Event, EventKind, History};
-use asl_history_formats::{aws_json, lines_of_json};
+use asl_history_formats::{Resources, aws_json, lines_of_json};
 use serde_json::Value;
 use std::alloc::Global;
 use std::test::Fail;
@@ -152,15 +152,15 @@ const ROWS: &[Row] = &[
         name: "T",
         body: "{\"p\":\"\\\\\"}",
         member: "taskScheduledEventDetails",
-        details: "{\"parameters\":\"{\\\"p\\\":\\\"\\\\\\\\\\\"}\"}",
+        details: "{\"resourceType\":\"lambda\",\"resource\":\"invoke\",\"region\":\"us-east-1\",\"parameters\":\"{\\\"p\\\":\\\"\\\\\\\\\\\"}\"}",
     },
     Row {
         kind: EventKind::TaskStarted,
         place: "/0",
         name: "T",
         body: "{}",
-        member: "",
-        details: "",
+        member: "taskStartedEventDetails",
+        details: "{\"resourceType\":\"lambda\",\"resource\":\"invoke\"}",
     },
     Row {
         kind: EventKind::TaskSucceeded,
@@ -168,7 +168,7 @@ const ROWS: &[Row] = &[
         name: "T",
         body: "\"r\"",
         member: "taskSucceededEventDetails",
-        details: "{\"output\":\"\\\"r\\\"\",\"outputDetails\":{\"truncated\":false}}",
+        details: "{\"resourceType\":\"lambda\",\"resource\":\"invoke\",\"output\":\"\\\"r\\\"\",\"outputDetails\":{\"truncated\":false}}",
     },
     Row {
         kind: EventKind::TaskFailed,
@@ -176,7 +176,7 @@ const ROWS: &[Row] = &[
         name: "T",
         body: "{\"Error\":\"E\",\"Cause\":\"no \\\"answer\\\"\\n\"}",
         member: "taskFailedEventDetails",
-        details: "{\"error\":\"E\",\"cause\":\"no \\\"answer\\\"\\n\"}",
+        details: "{\"resourceType\":\"lambda\",\"resource\":\"invoke\",\"error\":\"E\",\"cause\":\"no \\\"answer\\\"\\n\"}",
     },
     Row {
         kind: EventKind::TaskFailed,
@@ -184,7 +184,7 @@ const ROWS: &[Row] = &[
         name: "T",
         body: "{\"Cause\":\"c\"}",
         member: "taskFailedEventDetails",
-        details: "{\"cause\":\"c\"}",
+        details: "{\"resourceType\":\"lambda\",\"resource\":\"invoke\",\"cause\":\"c\"}",
     },
     Row {
         kind: EventKind::TaskFailed,
@@ -192,7 +192,7 @@ const ROWS: &[Row] = &[
         name: "T",
         body: "{}",
         member: "taskFailedEventDetails",
-        details: "{}",
+        details: "{\"resourceType\":\"lambda\",\"resource\":\"invoke\"}",
     },
     Row {
         kind: EventKind::ParallelStateStarted,
@@ -297,6 +297,19 @@ const HEAD: usize = 4;
 
 const LINE: usize = 7;
 
+/// Tasks that all invoke a function of Lambda.
+struct Invoke;
+
+impl Resources for Invoke {
+    ghost use Rattle.std.specs.Prelude.{codes};
+
+    ghost resources = { λ x n. codes "arn:aws:states:::lambda:invoke" };
+
+    fn resource(&self, _name: &str) -> &str {
+        "arn:aws:states:::lambda:invoke"
+    }
+}
+
 fn told(alloc: Global) -> Option<History> {
     let mut history = History::new(alloc);
     for row in ROWS {
@@ -397,7 +410,7 @@ fn each_line_is_read_as_its_event(rt: HostRuntime) -> Result<(), Fail> {
 #[test]
 fn each_event_is_read_in_the_shape_of_the_service(rt: HostRuntime) -> Result<(), Fail> {
     let history = told(rt.alloc()).ok_or("no history")?;
-    let text = aws_json(rt.alloc(), history.events())?;
+    let text = aws_json(rt.alloc(), &Invoke, history.events())?;
     let value = value_of(rt.alloc(), text.as_str()).ok_or("not read")?;
     assert!(rt; has_members(&value, 1));
     let events = value.get("events").ok_or("no events")?;
@@ -410,5 +423,30 @@ fn each_event_is_read_in_the_shape_of_the_service(rt: HostRuntime) -> Result<(),
             "{line}"
         );
     }
+    Ok(())
+}
+
+#[test]
+fn a_task_that_took_too_long_is_an_event_of_its_own(rt: HostRuntime) -> Result<(), Fail> {
+    let mut history = History::new(rt.alloc());
+    let body = "{\"Error\":\"States.Timeout\"}";
+    add(
+        rt.alloc(),
+        &mut history,
+        "/0",
+        EventKind::TaskFailed,
+        "T",
+        body,
+    )
+    .ok_or("not added")?;
+    let text = aws_json(rt.alloc(), &Invoke, history.events())?;
+    let value = value_of(rt.alloc(), text.as_str()).ok_or("not read")?;
+    let events = value.get("events").ok_or("no events")?;
+    let events = events.as_array().ok_or("no list")?;
+    let event = events.first().ok_or("no event")?;
+    assert!(rt; has_text(event, "type", "TaskTimedOut"));
+    let details = event.get("taskTimedOutEventDetails").ok_or("no details")?;
+    assert!(rt; has_text(details, "error", "States.Timeout"));
+    assert!(rt; has_text(details, "resource", "invoke"));
     Ok(())
 }

@@ -1,7 +1,9 @@
 // What no clause says of calls: values of outside vectors and of worked examples, and that each function succeeds with ample memory.
 use asl_intrinsic::{CallFault, Expr};
 use asl_intrinsic_functions::{EvalFault, Reason};
-use asl_json::{Json, read, write};
+use asl_json::Json;
+use asl_json_read::read;
+use asl_json_write::write;
 use std::alloc::Global;
 use std::test::Fail;
 

@@ -1,6 +1,8 @@
 // What no clause says: lines and links from worked examples, and that calls succeed with ample memory.
 use asl_history::{Event, EventKind, History, Memory, Place, Sink, SinkFault, WriteFault, line};
-use asl_json::{Json, Name, Shared, read};
+use asl_json::Json;
+use asl_json_read::read;
+use asl_json_shared::{Name, Shared};
 use asl_time::{Moment, read_stamp};
 use std::alloc::Global;
 use std::test::Fail;

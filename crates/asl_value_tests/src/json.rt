@@ -1,7 +1,9 @@
 // What no clause says: which values and faults texts from outside give, and that calls succeed with ample memory.
-use asl_json::{
-    Dec, Items, Json, JsonFault, Members, Name, Shared, put, put_quoted, read, same, write,
-};
+use asl_json::{Dec, Items, Json, Members};
+use asl_json_read::{JsonFault, read};
+use asl_json_same::same;
+use asl_json_shared::{Name, Shared};
+use asl_json_write::{put, put_quoted, text_within, write};
 use std::alloc::Global;
 use std::test::Fail;
 
@@ -80,8 +82,8 @@ fn written_behind(alloc: Global, held: &str, value: &str, name: &str) -> Option<
 fn is_measured(alloc: Global, text: &str) -> Option<bool> {
     let value = value_of(alloc, text)?;
     let len = write(alloc, &value).ok()?.len();
-    let shorter = (0..len).any(|limit| value.text_within(limit));
-    Some(value.text_within(len) && value.text_within(usize::MAX) && !shorter)
+    let shorter = (0..len).any(|limit| text_within(&value, limit));
+    Some(text_within(&value, len) && text_within(&value, usize::MAX) && !shorter)
 }
 
 fn repeated(alloc: Global, piece: &[u8], count: usize) -> Option<Vec<u8>> {

@@ -1,6 +1,6 @@
 // Where values stand in texts, and the lines and columns of bytes.
-use asl_json::read;
-use asl_json_outline::{Node, Position, Span, outline};
+use asl_json_read::read;
+use asl_json_spans::{Node, Position, Span, outline};
 use std::alloc::Global;
 use std::test::Fail;
 

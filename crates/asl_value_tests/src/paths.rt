@@ -1,5 +1,7 @@
 // What no clause says: outside rows, and each call once with ample memory.
-use asl_json::{Items, Json, read, write};
+use asl_json::{Items, Json};
+use asl_json_read::read;
+use asl_json_write::write;
 use asl_path::{PathFault, PutFault, RefPath, Root};
 use std::alloc::Global;
 use std::mem;

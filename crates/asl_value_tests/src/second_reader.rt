@@ -1,5 +1,6 @@
 // `serde_json` as a second reader of JSON texts.
-use asl_json::{Items, Json, read};
+use asl_json::{Items, Json};
+use asl_json_read::read;
 use serde_json::Value;
 use std::alloc::Global;
 use std::test::Fail;

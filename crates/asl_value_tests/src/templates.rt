@@ -1,6 +1,8 @@
 // What no clause says of templates: worked examples, and each call once with ample memory.
 use asl_intrinsic::CallFault;
-use asl_json::{Json, read, write};
+use asl_json::Json;
+use asl_json_read::read;
+use asl_json_write::write;
 use asl_template::{FillFault, Template, TemplateFault, Word};
 use std::alloc::Global;
 use std::test::Fail;

@@ -1,6 +1,6 @@
 use Rattle.std.proofs.Common.{◌≡◌, ◌+◌, ◌*◌, drop}
 use Rattle.std.specs.Prelude.{map}
-use Rattle.asl_json.specs.Data.{chain, items_depth, members_size}
+use Rattle.asl_json_data.specs.Data.{chain, items_depth, members_size}
 use Rattle.asl_json.specs.View.{data_of}
 use Rattle.asl_choice.specs.Rules.{rule_object, rule_list, condition_named}
 use Rattle.asl_choice.specs.Truth.{each, each_holds, any, any_holds}

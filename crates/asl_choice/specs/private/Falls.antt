@@ -2,8 +2,8 @@
 use Rattle.std.specs.Prelude.{◌≤◌, ◌+◌, ℕ, max, List, [], ◌∷◌, Option, Some, None, map}
 use Rattle.std.proofs.Common.{arith}
 use denote.Param.Weighed.{most}
-use Rattle.asl_json.specs.Data.{chain, items_depth, members_size}
-use Rattle.asl_def_table.specs.Canon.{Named}
+use Rattle.asl_json_data.specs.Data.{chain, items_depth, members_size}
+use Rattle.asl_def_schema.specs.Canon.{Named}
 use Rattle.asl_choice.specs.Rules.{rule_object, condition_named, rule_named}
 use Rattle.asl_choice.specs.declared.rule.Condition.{Condition}
 use Rattle.asl_choice.specs.declared.rule.Condition.TheVariants.{And, Or, Not, Test}

@@ -1,16 +1,16 @@
 -- What is built of a definition without faults.
 use Rattle.std.specs.Prelude.{◌≡◌, ◌+◌, ◌≤◌, ℕ, List, [], ◌∷◌, ◌++◌, length, map, Some, option_map, codes, if◌then◌else◌, take, drop, string_bytes}
-use Rattle.asl_json.specs.Data.{Data, Pairs, text, dict, pairs}
+use Rattle.asl_json_data.specs.Data.{Data, Pairs, text, dict, pairs}
 use Rattle.asl_json.specs.Same.{bytes_eq}
 use Rattle.asl_json.specs.Meaning.{value_at}
-use Rattle.asl_def_table.specs.declared.sort.Sort.{Sort}
-use Rattle.asl_def_table.specs.declared.sort.Sort.TheVariants.{State as state_sort, Machine, States, Text, Target}
-use Rattle.asl_def_table.specs.States.{states_in}
-use Rattle.asl_def_table.specs.Canon.{Named, canon, kept_at}
-use Rattle.asl_def_table.specs.Clean.{Fits, IsThere}
-use Rattle.asl_def_parts.specs.declared.body.Body.{Body}
+use Rattle.asl_def_schema.specs.declared.sort.Sort.{Sort}
+use Rattle.asl_def_schema.specs.declared.sort.Sort.TheVariants.{State as state_sort, Machine, States, Text, Target}
+use Rattle.asl_def_schema.specs.States.{states_in}
+use Rattle.asl_def_schema.specs.Canon.{Named, canon, kept_at}
+use Rattle.asl_def_schema.specs.Clean.{Fits, IsThere}
+use Rattle.asl_def_shared.specs.declared.body.Body.{Body}
 use Rattle.asl_def_states.specs.declared.state.State.{State}
-use Rattle.asl_def_parts.specs.Bodies.{body_of, bodies_of, IsWithin, AreWithin}
+use Rattle.asl_def_shared.specs.Bodies.{body_of, bodies_of, IsWithin, AreWithin}
 use Rattle.asl_def_states.specs.Show.{state_of, StateIsWithin}
 use Rattle.asl_def.specs.declared.build.Own.{Own}
 use Rattle.asl_def.specs.declared.build.Span.{Span}

@@ -1,6 +1,6 @@
 -- A table of states as a clause sees it: names and canonical objects.
 use Rattle.std.specs.Prelude.{List, [], map, String}
-use Rattle.asl_def_table.specs.Canon.{Named}
+use Rattle.asl_def_schema.specs.Canon.{Named}
 use Rattle.asl_def_states.specs.declared.state.State.{State}
 use Rattle.asl_def_states.specs.Newer.{newer_state}
 use Rattle.asl_def_states.specs.Show.{shown, AreInOrder}

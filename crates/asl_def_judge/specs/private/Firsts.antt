@@ -1,10 +1,10 @@
 -- What a walk makes of the first faults that it meets.
 use Rattle.std.specs.Prelude.{List, [], ◌∷◌, Option, Some, None, Bool, nat_lt, option_map, if◌then◌else◌}
-use Rattle.asl_def_table.specs.declared.fault.FaultKind.{FaultKind}
-use Rattle.asl_def_table.specs.declared.fault.Step.{Step}
-use Rattle.asl_def_table.specs.Demands.{Demand, number_of}
-use Rattle.asl_def_table.specs.Claims.{heres}
-use Rattle.asl_def_table.specs.First.{Found, Answers}
+use Rattle.asl_def_schema.specs.declared.fault.FaultKind.{FaultKind}
+use Rattle.asl_def_schema.specs.declared.fault.Step.{Step}
+use Rattle.asl_def_schema.specs.Demands.{Demand, number_of}
+use Rattle.asl_def_schema.specs.Claims.{heres}
+use Rattle.asl_def_schema.specs.First.{Found, Answers}
 
 abbrev pub under_step : Step → Found → Found
 under_step s f = (f.0, s ∷ f.1)

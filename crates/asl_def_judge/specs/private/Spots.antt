@@ -1,6 +1,6 @@
 -- Where a value stands, as the code has it.
 use Rattle.std.specs.HashSet.{contains_text}
-use Rattle.asl_def_table.specs.Claims.{Spot}
+use Rattle.asl_def_schema.specs.Claims.{Spot}
 use Rattle.asl_def_judge.specs.declared.spot.Spot.{Spot as CodeSpot}
 
 abbrev pub spot_of : CodeSpot → Spot

@@ -4,12 +4,12 @@ use Rattle.std.specs.Prelude.{◌↔◌, IsTrue}
 use Rattle.std.specs.Option.{option_eq}
 use Rattle.std.specs.Cmp.{IsPartialEquivalence, IsEquivalence, decided, partial_equiv_from_equiv}
 use Rattle.asl_json.specs.Same.{json_equal}
-use Rattle.asl_def_members.specs.Equal.{IsExact}
-use Rattle.asl_def_members.specs.private.EqualLaws.{split, exact, options_exact, texts_exact, data_exact, items_exact, jsons_exact}
-use Rattle.asl_def_members.proofs.Exact.{path_exact, path_or_call_exact, config_exact}
-use Rattle.asl_def_members.specs.Laws.{config_eq}
-use Rattle.asl_def_parts.specs.Laws.{target_eq}
-use Rattle.asl_def_parts.proofs.Exact.{texts_decide, data_decide, target_exact, transition_exact, common_exact, limits_exact, completion_exact, body_exact, bodies_exact}
+use Rattle.asl_def_fields.specs.Equal.{IsExact}
+use Rattle.asl_def_fields.specs.private.EqualLaws.{split, exact, options_exact, texts_exact, data_exact, items_exact, jsons_exact}
+use Rattle.asl_def_fields.proofs.Exact.{path_exact, path_or_call_exact, config_exact}
+use Rattle.asl_def_fields.specs.Laws.{config_eq}
+use Rattle.asl_def_shared.specs.Laws.{target_eq}
+use Rattle.asl_def_shared.proofs.Exact.{texts_decide, data_decide, target_exact, transition_exact, common_exact, limits_exact, completion_exact, body_exact, bodies_exact}
 use Rattle.asl_choice.proofs.Exact.{rule_exact}
 use Rattle.asl_def_states.specs.declared.task.Task.{Task as TaskState}
 use Rattle.asl_def_states.specs.declared.pass.Pass.{Pass as PassState}

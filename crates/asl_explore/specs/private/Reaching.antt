@@ -1,8 +1,8 @@
 -- Which worlds reach an end, as far as it is known.
 use Rattle.std.specs.Prelude.{ℕ, ◌≡◌, ◌≤◌, ◌<◌, ⊤, Bool, true, false, get_or, List, Option, Some}
 use Rattle.std.specs.List.{All}
-use Rattle.asl_run_world.specs.World.{World}
-use Rattle.asl_run_setup.specs.declared.setup.Setup.{Setup}
+use Rattle.asl_run_state.specs.World.{World}
+use Rattle.asl_run_input.specs.declared.setup.Setup.{Setup}
 use Rattle.asl_explore.specs.declared.orders.Orders.{Orders}
 use Rattle.asl_explore.specs.declared.orders.Orders.TheVariants.{Prompt}
 use Rattle.asl_explore.specs.declared.endless.Lead.{Lead}
@@ -48,6 +48,10 @@ AllBefore known n = (i : ℕ) → i < n → is_known known i ≡ true
 -- no branch may step earlier than at this moment
 abbrev pub IsLeast : Setup → World → ℕ → Type 0
 IsLeast s w m = (q : List ℕ) → MayStep s w q → m ≤ due w q
+
+-- no branch may step
+abbrev pub NoneMayStep : Setup → World → Type 0
+NoneMayStep s w = (q : List ℕ) → MayStep s w q → ⊥
 
 -- where no branch is to be late, this is the least moment
 abbrev pub IsSoon : Orders → Option ℕ → ℕ → Type 0

@@ -1,6 +1,6 @@
 -- The arguments of a call with its closing bracket, by names.
 use Rattle.std.specs.Prelude.{ℕ, List}
-use Rattle.asl_json.specs.Parts.{MoreParts, Parts}
+use Rattle.asl_json_data.specs.Parts.{MoreParts, Parts}
 use Rattle.asl_intrinsic.specs.Tree.{Arguments}
 use Rattle.asl_intrinsic.specs.Grammar.{AreSpaces, close_bracket, argument_parts}
 

@@ -3,10 +3,10 @@
 -- (What it answers is what the grammar says: the law of one tree, and what `Expr::read` promises.)
 -- Numbers go on as far as asl_json's do, and paths as far as asl_path's.
 use Rattle.std.specs.Prelude.{ℕ, suc, ◌+◌, ◌==◌, ◌&&◌, Bool, true, false, List, [], ◌∷◌, ◌++◌, length, if◌then◌else◌, Result, Ok, Err}
-use Rattle.asl_json.specs.Data.{Data, null, boolean, number}
-use Rattle.asl_json.specs.Number.{is_over}
-use Rattle.asl_json.specs.Grammar.{null_word, true_word, false_word}
-use Rattle.asl_json.specs.private.Machine.{is_number_front, is_number}
+use Rattle.asl_json_data.specs.Data.{Data, null, boolean, number}
+use Rattle.asl_json_data.specs.Number.{is_over}
+use Rattle.asl_json_data.specs.Grammar.{null_word, true_word, false_word}
+use Rattle.asl_json_data.specs.private.NumberParts.{is_number_front, is_number}
 use Rattle.asl_path.specs.declared.step.Root.{Root}
 use Rattle.asl_path.specs.declared.step.Step.{Step}
 use Rattle.asl_path.specs.private.Steps.{steps}
@@ -156,20 +156,13 @@ whole a [] = Ok a
 whole a (f ∷ st) = Err 0
 
 abbrev pub finish_by : Bool → Mode → List Frame → Result Argument ℕ
-finish_by lim (prefix ws) st = Err 0
-finish_by lim (naming n) st = Err 0
-finish_by lim (named n) st = Err 0
-finish_by lim opening st = Err 0
-finish_by lim wanting st = Err 0
-finish_by lim (word ws d) st = Err 0
-finish_by lim (chars s) st = Err 0
-finish_by lim (escape s) st = Err 0
 finish_by lim (figure s) st =
     if is_number s
     then (if lim && is_over s then Err (length s) else whole (constant (number s)) st)
     else Err 0
 finish_by lim (along s) st = if is_path s then whole (path s) st else Err 0
 finish_by lim (ended a) st = whole a st
+finish_by lim _ st = Err 0
 
 abbrev pub onward : Next → ℕ → (Mode → List Frame → Result Argument ℕ) → Result Argument ℕ
 onward (go m st) left f = f m st

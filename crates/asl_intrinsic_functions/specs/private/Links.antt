@@ -1,7 +1,7 @@
 -- Items linked by their marks, as code keeps them: all those of one mark are met from the latest
 -- one backwards.
 use Rattle.std.specs.Prelude.{◌≡◌, ℕ, suc, ◌==◌, List, [], ◌∷◌, ◌++◌, Option, Some, None, if◌then◌else◌}
-use Rattle.asl_json.specs.Data.{Data, chain}
+use Rattle.asl_json_data.specs.Data.{Data, chain}
 use Rattle.asl_intrinsic_functions.specs.private.Marks.{mark, AreApart}
 
 -- the number of the later of two: one behind the first item, or the first item

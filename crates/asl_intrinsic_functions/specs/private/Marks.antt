@@ -1,9 +1,9 @@
 -- The mark of a value. Values that are the same have one mark; others mostly have another.
 use Rattle.std.specs.Prelude.{◌≡◌, ℕ, ◌+◌, ◌*◌, ◌%◌, List, [], ◌∷◌, cond, None}
 use Rattle.std.specs.Int.RustNames.{unsigned_abs}
-use Rattle.asl_json.specs.Data.{Data, null, boolean, number, text, list, dict, Chain, no_items, item, Pairs, no_members, member}
+use Rattle.asl_json_data.specs.Data.{Data, null, boolean, number, text, list, dict, Chain, no_items, item, Pairs, no_members, member}
 use Rattle.asl_json.specs.Meaning.{value_at}
-use Rattle.asl_json.specs.Number.{units_of}
+use Rattle.asl_json_data.specs.Number.{units_of}
 use Rattle.asl_intrinsic_functions.specs.declared.mark.TheConstants.{MODULUS, FACTOR, NULL, TRUE, FALSE, TEXT, LIST, DICT}
 
 -- of parts in order: of those so far and the next

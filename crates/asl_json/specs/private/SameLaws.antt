@@ -4,7 +4,7 @@ use Rattle.std.proofs.Common.{sym, ap, subst, eq-eqb}
 use Rattle.std.specs.Bool.{Decides}
 use Rattle.std.specs.Cmp.{IsPartialEquivalence, IsEquivalence, equiv, decided, partial_equiv_from_equiv}
 use Rattle.std.specs.Cmp.Lexicographic.{same_text, pointwise, pointwise_decides}
-use Rattle.asl_json.specs.Data.{Data, null, boolean, number, text, list, dict, Chain, no_items, item, Pairs, no_members, member}
+use Rattle.asl_json_data.specs.Data.{Data, null, boolean, number, text, list, dict, Chain, no_items, item, Pairs, no_members, member}
 use Rattle.asl_json.specs.Same.{bool_eq, bytes_eq, equal, equal_items, equal_members, json_equal, items_equal}
 use Rattle.asl_json.specs.View.{data_of}
 use Rattle.asl_json.specs.declared.value.Json.{Json}

@@ -1,24 +1,24 @@
 -- The laws that each kind keeps.
-use Rattle.std.specs.Prelude.{ℕ, Bool, true, false, ◌<◌, ◌≤◌, List, [], ◌∷◌, map, length, ◌≡◌, Option, Some, None, if◌then◌else◌, Result, Ok, Err, IfOk, codes, refl}
+use Rattle.std.specs.Prelude.{ℕ, Bool, true, false, ◌<◌, ◌≤◌, List, [], ◌∷◌, map, length, ◌≡◌, Option, Some, None, if◌then◌else◌, Result, Ok, Err, IfOk, codes, refl, unwrap_or}
 use Rattle.std.proofs.Common.{arith, ap, subst, sym, ◌∙◌, length-append}
 use Rattle.std.specs.Option.{option_or}
 use Rattle.std.specs.Str.{bytes_eq}
-use Rattle.asl_json.specs.Data.{Data, text, list, chain}
+use Rattle.asl_json_data.specs.Data.{Data, text, list, chain}
 use Rattle.asl_json.specs.View.{data_of}
 use Rattle.asl_json.specs.Meaning.{value_in}
 use Rattle.asl_json.specs.declared.value.Json.{Json}
 use Rattle.asl_json.specs.declared.value.Json.TheVariants.{Dict, List as ListOf}
 use Rattle.asl_intrinsic_functions.proofs.Converting.{list_back}
-use Rattle.asl_def_table.specs.Canon.{Named}
-use Rattle.asl_def_table.specs.Members.{is_among}
+use Rattle.asl_def_schema.specs.Canon.{Named}
+use Rattle.asl_def_schema.specs.Members.{is_among}
 use Rattle.asl_history.specs.declared.kind.EventKind.{EventKind}
 use Rattle.asl_history.specs.declared.kind.EventKind.TheVariants.{PassStateEntered, PassStateExited, SucceedStateEntered, SucceedStateExited, FailStateEntered, ChoiceStateEntered, ChoiceStateExited, WaitStateEntered, WaitStateExited, TaskStateEntered, TaskStateExited, TaskSucceeded, TaskFailed, ParallelStateEntered, ParallelStateExited, ParallelStateStarted, ParallelStateSucceeded, ParallelStateFailed, MapStateEntered, MapStateStarted, MapStateSucceeded, MapStateFailed, MapStateExited}
-use Rattle.asl_def_parts.specs.Texts.{text_in}
-use Rattle.asl_def_parts.specs.declared.body.Body.{Body}
-use Rattle.asl_def_parts.specs.Bodies.{body_members, body_of, bodies_of}
-use Rattle.asl_def_parts.specs.Member.{completion_names}
-use Rattle.asl_def_parts.proofs.Names.{named}
-use Rattle.asl_def_parts.proofs.Owning.{tied}
+use Rattle.asl_def_shared.specs.Texts.{text_in}
+use Rattle.asl_def_shared.specs.declared.body.Body.{Body}
+use Rattle.asl_def_shared.specs.Bodies.{body_members, body_of, bodies_of}
+use Rattle.asl_def_shared.specs.Member.{completion_names}
+use Rattle.asl_def_shared.proofs.Names.{named}
+use Rattle.asl_def_shared.proofs.Owning.{tied}
 use Rattle.asl_def_states.specs.declared.state.State.{State}
 use Rattle.asl_def_states.specs.declared.state.State.TheVariants as state
 use Rattle.asl_def_states.specs.declared.parallel.Parallel.{Parallel}
@@ -26,28 +26,28 @@ use Rattle.asl_def_states.specs.declared.map.Map.{Map}
 use Rattle.asl_def_states.specs.Items.{processor_in}
 use Rattle.asl_def_states.specs.Show.{parallel_members, parallel_object, map_members, map_object, body_in, state_of}
 use Rattle.asl_def_states.proofs.Items.{machine_of}
-use Rattle.asl_step_rows.specs.declared.effect.Effect.{Effect}
-use Rattle.asl_step_rows.specs.declared.effect.Progress.{Progress}
-use Rattle.asl_step_rows.specs.declared.facts.Facts.{Facts}
-use Rattle.asl_step_rows.specs.declared.effect.Draft.{Draft}
-use Rattle.asl_step_rows.specs.declared.record.ErrorOut.{ErrorOut}
-use Rattle.asl_step_rows.specs.declared.record.Record.{Record}
-use Rattle.asl_step_rows.specs.declared.record.Record.TheVariants.{New, Ready, Pausing, Again, Forked, Done, Failed}
-use Rattle.asl_step_rows.specs.Records.{name_or_none, name_in, uses_in, entering_with, beginning_with, pausing_with}
-use Rattle.asl_step_rows.specs.Seen.{Seen}
-use Rattle.asl_step_rows.specs.Context.{context_of}
-use Rattle.asl_step_rows.specs.Bounds.{is_forked, AreFew, IsBounded}
-use Rattle.asl_step_rows.specs.Rows.{forking, idle, leaving, failing, pausing, retrying, entering, beginning_by, beginning, telling, unstarted, error_output, is_within_limit, over_limit}
-use Rattle.asl_step_rows.specs.private.Laws.{IsSoFar, chosen-bounded, leaving-bounded, failing-bounded, pausing-bounded, retrying-bounded, entering-so-far, unstarted-so-far, beginning-so-far, beginning-short, beginning-kept, idle-bounded, few-unforked}
-use Rattle.asl_def_table.specs.Claims.{item_count}
+use Rattle.asl_step.specs.declared.effect.Effect.{Effect}
+use Rattle.asl_step.specs.declared.effect.Progress.{Progress}
+use Rattle.asl_step.specs.declared.facts.Facts.{Facts}
+use Rattle.asl_step.specs.declared.effect.Draft.{Draft}
+use Rattle.asl_step.specs.declared.record.ErrorOut.{ErrorOut}
+use Rattle.asl_step.specs.declared.record.Record.{Record}
+use Rattle.asl_step.specs.declared.record.Record.TheVariants.{New, Ready, Pausing, Again, Forked, Done, Failed}
+use Rattle.asl_step.specs.Records.{name_in, uses_in, entering_with, beginning_with, pausing_with, error_name}
+use Rattle.asl_step.specs.Seen.{Seen}
+use Rattle.asl_step.specs.Context.{context_of}
+use Rattle.asl_step.specs.Bounds.{is_forked, AreFew, IsBounded}
+use Rattle.asl_step.specs.Rows.{forking, idle, leaving, failing, pausing, retrying, entering, beginning_by, beginning, telling, unstarted, error_output, is_within_limit, over_limit}
+use Rattle.asl_step.specs.private.Laws.{IsSoFar, chosen-bounded, leaving-bounded, failing-bounded, pausing-bounded, retrying-bounded, entering-so-far, unstarted-so-far, beginning-so-far, beginning-short, beginning-kept, idle-bounded, few-unforked}
+use Rattle.asl_def_schema.specs.Claims.{item_count}
 use Rattle.asl_mock.specs.Answers.{answer_to}
 use Rattle.asl_mock.specs.declared.response.Answer.{Answer}
 use Rattle.asl_mock.specs.declared.response.Answer.TheVariants.{Returns, Throws}
 use Rattle.asl_handle.specs.Decisions.{Handling, again, caught, unhandled, handlers_in, decision}
-use Rattle.asl_step_data.specs.Paths.{Given, put_into}
+use Rattle.asl_step_io.specs.Paths.{Given, put_into}
 use Rattle.asl_kinds.specs.Members.{next_in, effective_by, effective, pass_output, passed_on, selected_by, selected, no_answer, fail_error, GivenTarget, choice_output, GivenMoment, wait_until}
 use Rattle.asl_kinds.specs.Forks.{start_in, GivenFork, starts_in, ready_at, forked_with, first_error, outputs, gathered}
-use Rattle.asl_kinds.specs.Table.{length_body, iteration_start, fork_with, fork_of, map_forks, map_joins, map_with, map_effect, limit_in, slots, passed, in_one, pass_effect, succeed_effect, fail_effect, begun, decided, choice_effect, waits, wait_over, wait_with, wait_effect, error_name, handled, settled, invoked, task_fails, task_returns, task_answered, task_with, task_effect, fork_settled, joined_by, joined, parallel_forks, parallel_joins, parallel_with, parallel_effect, effect_by_type, state_effect, is_invoking_type, invokes}
+use Rattle.asl_kinds.specs.Table.{length_body, iteration_start, fork_with, fork_of, map_forks, map_joins, map_with, map_effect, limit_in, slots, passed, in_one, pass_effect, succeed_effect, fail_effect, begun, decided, choice_effect, waits, wait_over, wait_with, wait_effect, handled, settled, invoked, task_fails, task_returns, task_answered, task_with, task_effect, fork_settled, joined_by, joined, parallel_forks, parallel_joins, parallel_with, parallel_effect, effect_by_type, state_effect, is_invoking_type, invokes}
 
 -- the bounds of an effect, and that it doesn't make too many children
 pub record IsLawful (v : Seen) (invoking : Bool) (e : Effect) : Type 0 where
@@ -472,7 +472,7 @@ joined-alike succeeded failed exited d e c v x same =
 -- the states that machines start at don't depend on it
 start-is : (t : List Named) (b : Body) → start_in (body_of t b) ≡ b.start.name
 start-is t b =
-    ap (λ (o : Option Data). name_or_none (text_in o))
+    ap (λ (o : Option Data). unwrap_or (text_in o) [])
     (sym (named (codes "StartAt") (Some (text b.start.name)) (body_members t b) refl))
 
 starts-are : (t : List Named) (bs : List Body)
@@ -545,7 +545,7 @@ parallel-alike t u p f v =
 map_start : (t : List Named) (m : Map)
     → iteration_start (processor_in (map_object t m)) ≡ (body_in m.processor).start.name
 map_start t m =
-    ap (λ (o : Option Data). name_or_none (text_in o))
+    ap (λ (o : Option Data). unwrap_or (text_in o) [])
     (sym (machine_of t m (body_in m.processor) (codes "StartAt") refl refl))
     ∙ start-is t (body_in m.processor)
 

@@ -1,7 +1,7 @@
 -- A state that is entered tells of it, whatever its kind.
 use Rattle.std.specs.Prelude.{ℕ, Bool, true, false, ◌<◌, List, [], ◌∷◌, ◌++◌, length, ◌≡◌, Option, Some, None, if◌then◌else◌, Result, Ok, Err, codes, refl, IsSome}
 use Rattle.std.proofs.Common.{arith, ap, sym, ◌∙◌, length-append}
-use Rattle.asl_json.specs.Data.{Data}
+use Rattle.asl_json_data.specs.Data.{Data}
 use Rattle.asl_json.specs.Meaning.{value_in}
 use Rattle.asl_json.specs.declared.value.Json.{Json}
 use Rattle.asl_json.specs.declared.value.Json.TheVariants.{Dict}
@@ -10,27 +10,27 @@ use Rattle.asl_history.specs.declared.kind.EventKind.TheVariants.{PassStateEnter
 use Rattle.asl_def_states.specs.declared.state.State.{State}
 use Rattle.asl_def_states.specs.declared.state.State.TheVariants as state
 use Rattle.asl_def_states.specs.Show.{state_of}
-use Rattle.asl_step_rows.specs.declared.effect.Effect.{Effect}
-use Rattle.asl_step_rows.specs.declared.effect.Progress.{Progress}
-use Rattle.asl_step_rows.specs.declared.effect.Draft.{Draft}
-use Rattle.asl_step_rows.specs.declared.facts.Facts.{Facts}
-use Rattle.asl_step_rows.specs.declared.record.ErrorOut.{ErrorOut}
-use Rattle.asl_step_rows.specs.declared.record.Record.{Record}
-use Rattle.asl_step_rows.specs.declared.record.Record.TheVariants.{New, Ready, Pausing, Again, Forked, Done, Failed}
-use Rattle.asl_step_rows.specs.Records.{name_in, uses_in, entering_with, beginning_with}
-use Rattle.asl_step_rows.specs.Seen.{Seen}
-use Rattle.asl_step_rows.specs.Context.{context_of}
-use Rattle.asl_step_rows.specs.Rows.{leaving, left, failing, entering, beginning, beginning_by, telling, is_within_limit, over_limit, error_output}
+use Rattle.asl_step.specs.declared.effect.Effect.{Effect}
+use Rattle.asl_step.specs.declared.effect.Progress.{Progress}
+use Rattle.asl_step.specs.declared.effect.Draft.{Draft}
+use Rattle.asl_step.specs.declared.facts.Facts.{Facts}
+use Rattle.asl_step.specs.declared.record.ErrorOut.{ErrorOut}
+use Rattle.asl_step.specs.declared.record.Record.{Record}
+use Rattle.asl_step.specs.declared.record.Record.TheVariants.{New, Ready, Pausing, Again, Forked, Done, Failed}
+use Rattle.asl_step.specs.Records.{name_in, uses_in, entering_with, beginning_with, error_name}
+use Rattle.asl_step.specs.Seen.{Seen}
+use Rattle.asl_step.specs.Context.{context_of}
+use Rattle.asl_step.specs.Rows.{leaving, left, failing, entering, beginning, beginning_by, telling, is_within_limit, over_limit, error_output}
 use Rattle.asl_mock.specs.Answers.{answer_to}
 use Rattle.asl_mock.specs.declared.response.Answer.{Answer}
 use Rattle.asl_mock.specs.declared.response.Answer.TheVariants.{Returns, Throws}
 use Rattle.asl_handle.specs.Decisions.{Handling, again, caught, unhandled, decision}
-use Rattle.asl_step_data.specs.Paths.{Given, put_into}
+use Rattle.asl_step_io.specs.Paths.{Given, put_into}
 use Rattle.asl_kinds.specs.Members.{next_in, effective, pass_output, passed_on, selected, no_answer, fail_error, GivenTarget, choice_output, GivenMoment, wait_until}
 use Rattle.asl_kinds.specs.Forks.{GivenFork}
 use Rattle.asl_json.specs.View.{data_of}
 use Rattle.asl_kinds.specs.Entering.{IsTold, IsEntering}
-use Rattle.asl_kinds.specs.Table.{begun, wait_with, parallel_with, map_with, length_body, map_forks, map_effect, fork_of, passed, in_one, pass_effect, succeed_effect, fail_effect, decided, choice_effect, waits, wait_effect, error_name, handled, settled, invoked, task_returns, task_fails, task_answered, task_with, task_effect, parallel_forks, parallel_effect, state_effect}
+use Rattle.asl_kinds.specs.Table.{begun, wait_with, parallel_with, map_with, length_body, map_forks, map_effect, fork_of, passed, in_one, pass_effect, succeed_effect, fail_effect, decided, choice_effect, waits, wait_effect, handled, settled, invoked, task_returns, task_fails, task_answered, task_with, task_effect, parallel_forks, parallel_effect, state_effect}
 
 -- something was told before
 abbrev pub HasTold : Progress → Type 0

@@ -1,10 +1,10 @@
 -- Findings while they are made.
 use Rattle.std.specs.Prelude.{ℕ, List, [], ◌∷◌, ◌++◌, ◌≡◌, Option, None, map}
 use Rattle.std.specs.HashSet.{contains_text}
-use Rattle.asl_json.specs.Distinct.{Members}
-use Rattle.asl_json_outline.specs.declared.span.Node.{Node}
+use Rattle.asl_json_data.specs.Distinct.{Members}
+use Rattle.asl_json_spans.specs.declared.span.Node.{Node}
 use Rattle.asl_lint_mocks.specs.declared.beside.Known.{Known}
-use Rattle.asl_lint_words.specs.States.{Stated}
+use Rattle.asl_lint_messages.specs.States.{Stated}
 use Rattle.asl_lint.specs.declared.finding.Found.{Found}
 use Rattle.asl_lint.specs.declared.placing.Spanned.{Spanned}
 use Rattle.asl_lint.specs.Findings.{Noted, part_of}

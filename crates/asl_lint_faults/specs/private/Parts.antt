@@ -1,12 +1,12 @@
 -- The demands on a list, one by one.
 use Rattle.std.specs.Prelude.{List, [], ◌∷◌, ◌&&◌, nat_le, Option, Some, None}
-use Rattle.asl_json.specs.Data.{Chain}
-use Rattle.asl_def_table.specs.declared.fault.FaultKind.{FaultKind}
-use Rattle.asl_def_table.specs.declared.sort.Sort.{Sort}
-use Rattle.asl_def_table.specs.declared.sort.Sort.TheVariants as sort
-use Rattle.asl_def_table.specs.Demands.{Demand, in_range, last}
-use Rattle.asl_def_table.specs.Claims.{Spot, is_nonempty, item_count, is_last}
-use Rattle.asl_def_table.specs.First.{Found}
+use Rattle.asl_json_data.specs.Data.{Chain}
+use Rattle.asl_def_schema.specs.declared.fault.FaultKind.{FaultKind}
+use Rattle.asl_def_schema.specs.declared.sort.Sort.{Sort}
+use Rattle.asl_def_schema.specs.declared.sort.Sort.TheVariants as sort
+use Rattle.asl_def_schema.specs.Demands.{Demand, in_range, last}
+use Rattle.asl_def_schema.specs.Claims.{Spot, is_nonempty, item_count, is_last}
+use Rattle.asl_def_schema.specs.First.{Found}
 
 abbrev pub count_demands : Sort → Chain → List Demand
 count_demands sort.Machines ds = in_range (is_nonempty ds && nat_le (item_count ds) 999999999) ∷ []

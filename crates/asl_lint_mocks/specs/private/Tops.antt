@@ -1,6 +1,6 @@
 -- The highest number of some answers, and how far they reach without a gap.
 use Rattle.std.specs.Prelude.{◌≤◌, ℕ, ◌+◌, [], ◌∷◌, ◌&&◌, nat_le, nat_lt, Option, Some, None, if◌then◌else◌}
-use Rattle.asl_json.specs.Distinct.{Members}
+use Rattle.asl_json_data.specs.Distinct.{Members}
 use Rattle.asl_mock.specs.Key.{span_in}
 use Rattle.asl_mock.specs.declared.key.Span.{Span}
 

@@ -1,8 +1,8 @@
 -- The steps to a value as the walk keeps them.
 use Rattle.std.specs.Prelude.{List, [], ◌∷◌}
 use Rattle.std.specs.Fmt.{decimal}
-use Rattle.asl_def_table.specs.declared.fault.Step.{Step}
-use Rattle.asl_def_table.specs.Claims.{step}
+use Rattle.asl_def_schema.specs.declared.fault.Step.{Step}
+use Rattle.asl_def_schema.specs.Claims.{step}
 use Rattle.asl_lint_warnings.specs.declared.trail.Trail.{Trail, Root, Member', Item'}
 
 abbrev pub steps_of : Trail → List Step

@@ -1,7 +1,7 @@
 -- Answers in the order of their numbers, none of them for a number of another.
 use Rattle.std.specs.Prelude.{◌≡◌, ◌≤◌, ◌<◌, ℕ, List, [], ◌∷◌, Bool, true, false, Option, Some, None, slice_index_or, length}
 use Rattle.std.specs.List.{list_any}
-use Rattle.asl_json.specs.Data.{Data}
+use Rattle.asl_json_data.specs.Data.{Data}
 use Rattle.asl_mock.specs.Answers.{with_answer}
 use Rattle.asl_mock.specs.Faults.{have_a_number}
 use Rattle.asl_mock.specs.declared.key.Span.{Span}

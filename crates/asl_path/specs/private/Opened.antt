@@ -1,7 +1,7 @@
 -- A value that is taken apart along steps: from the outermost in, each list or object with null
 -- where the next part stood.
 use Rattle.std.specs.Prelude.{◌≡◌, ◌<◌, ℕ, List, [], ◌∷◌, length, slice_set, Option, None, Some, option_map, Result, Ok, Err}
-use Rattle.asl_json.specs.Data.{Data, list, dict, chain, pairs}
+use Rattle.asl_json_data.specs.Data.{Data, list, dict, chain, pairs}
 use Rattle.asl_json.specs.View.{data_of}
 use Rattle.asl_json.specs.Access.{key_index, with_value}
 use Rattle.asl_json.specs.declared.value.Json.{Json}

@@ -1,10 +1,10 @@
 -- Which checkpoints are kept.
 use Rattle.std.specs.Prelude.{ℕ, ◌≡◌, ◌≤◌, ◌*◌, List, length, take, slice_get, Some}
-use Rattle.asl_run_world.specs.World.{World}
-use Rattle.asl_run_world.specs.Checkpoints.{IsCheckpointOf}
-use Rattle.asl_run_world.specs.declared.checkpoint.Checkpoint.{Checkpoint}
-use Rattle.asl_run_setup.specs.declared.setup.Setup.{Setup}
-use Rattle.asl_run_setup.specs.declared.step_at.StepAt.{StepAt}
+use Rattle.asl_run_state.specs.World.{World}
+use Rattle.asl_run_state.specs.Checkpoints.{IsCheckpointOf}
+use Rattle.asl_run_state.specs.declared.checkpoint.Checkpoint.{Checkpoint}
+use Rattle.asl_run_input.specs.declared.setup.Setup.{Setup}
+use Rattle.asl_run_input.specs.declared.step_at.StepAt.{StepAt}
 use Rattle.asl_exec.specs.Steps.{opening, world_after}
 
 -- an execution as contracts see it that keeps its steps

@@ -1,7 +1,7 @@
 -- What always holds of an execution that keeps its steps.
 use Rattle.std.specs.Prelude.{◌≡◌, List}
-use Rattle.asl_run_world.specs.declared.checkpoint.Checkpoint.{Checkpoint}
-use Rattle.asl_run_setup.specs.declared.step_at.StepAt.{StepAt}
+use Rattle.asl_run_state.specs.declared.checkpoint.Checkpoint.{Checkpoint}
+use Rattle.asl_run_input.specs.declared.step_at.StepAt.{StepAt}
 use Rattle.asl_exec.specs.declared.execution.Execution.{Execution}
 use Rattle.asl_exec.specs.Steps.{opening, world_after}
 use Rattle.asl_exec.specs.Views.{setup_of, world_of}

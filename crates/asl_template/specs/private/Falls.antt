@@ -2,7 +2,7 @@
 use Rattle.std.specs.Prelude.{◌≤◌, max, List, [], ◌∷◌}
 use Rattle.std.proofs.Common.{arith}
 use denote.Param.Weighed.{most}
-use Rattle.asl_json.specs.Data.{depth, items_size, members_size}
+use Rattle.asl_json_data.specs.Data.{depth, items_size, members_size}
 use Rattle.asl_template.specs.private.View.{part_data, parts_data, field_data, fields_data}
 use Rattle.asl_template.specs.declared.part.Part.{Part}
 use Rattle.asl_template.specs.declared.part.Part.TheVariants.{Null, Bool as Truth, Num, Text, List as PartList, Dict}

@@ -2,7 +2,7 @@
 use Rattle.std.specs.Prelude.{◌≡◌, Bool, true, false, refl}
 use Rattle.std.proofs.Common.{sym, subst}
 use Rattle.std.specs.Cmp.{IsPartialEquivalence, IsEquivalence, equiv}
-use Rattle.asl_json.specs.Data.{Data}
+use Rattle.asl_json_data.specs.Data.{Data}
 use Rattle.asl_json.specs.Same.{equal}
 use Rattle.asl_json.specs.private.SameLaws.{equal_true, equal_refl}
 

@@ -1,8 +1,8 @@
 -- What a clause sees of a template that was read: the value that it was read from, one level.
 use Rattle.std.specs.Prelude.{◌≡◌, ℕ, List, [], ◌∷◌, ◌++◌, true, false, None, map}
-use Rattle.asl_json.specs.Data as spec
-use Rattle.asl_json.specs.Data.{Data, chain, pairs}
-use Rattle.asl_json.specs.Distinct.{AreDistinct}
+use Rattle.asl_json_data.specs.Data as spec
+use Rattle.asl_json_data.specs.Data.{Data, chain, pairs}
+use Rattle.asl_json_data.specs.Distinct.{AreDistinct}
 use Rattle.asl_template.specs.Names.{mark, name_before, named}
 use Rattle.asl_template.specs.Filling.{is_path}
 use Rattle.asl_template.specs.declared.part.Part.{Part}

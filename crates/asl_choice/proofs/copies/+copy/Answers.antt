@@ -1,7 +1,7 @@
 use Rattle.std.proofs.Common.{◌≤◌, List, suc, subst, arith}
 use Rattle.std.specs.Prelude.{map}
-use Rattle.asl_json.specs.Data.{chain, items_depth, members_size}
-use Rattle.asl_def_table.specs.Canon.{Named}
+use Rattle.asl_json_data.specs.Data.{chain, items_depth, members_size}
+use Rattle.asl_def_schema.specs.Canon.{Named}
 use Rattle.asl_choice.specs.Rules.{rule_object}
 use Rattle.asl_choice.proofs.Within.{item_within}
 use Rattle.asl_choice.proofs.copies.+copy.Goals as goal

@@ -1,6 +1,6 @@
 use Rattle.std.proofs.Common.{◌≡◌, ◌+◌, ◌*◌, take}
 use Rattle.std.specs.Prelude.{map}
-use Rattle.asl_json.specs.Data.{chain, items_depth, members_size}
+use Rattle.asl_json_data.specs.Data.{chain, items_depth, members_size}
 use Rattle.asl_choice.specs.Rules.{rule_object, condition_named}
 use Rattle.asl_choice.proofs.copies.+copy.Given as goal
 

@@ -1,8 +1,8 @@
 use Rattle.std.proofs.Common.{◌∙◌, ◌≤◌, ◌<◌, suc, length, sym, arith}
 use Rattle.std.specs.Prelude.{map}
-use Rattle.asl_json.specs.Data.{pairs, chain, items_depth, members_size}
+use Rattle.asl_json_data.specs.Data.{pairs, chain, items_depth, members_size}
 use Rattle.asl_json.specs.Same.{equal_members}
-use Rattle.asl_def_members.proofs.Lists.{other_length, over, stops, goes_on}
+use Rattle.asl_def_fields.proofs.Lists.{other_length, over, stops, goes_on}
 use Rattle.asl_choice.specs.Rules.{condition_named, rule_object}
 use Rattle.asl_choice.proofs.Within.{item_within}
 use Rattle.asl_choice.proofs.Alike.{test_alike}

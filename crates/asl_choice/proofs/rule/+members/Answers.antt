@@ -1,9 +1,9 @@
 use Rattle.std.proofs.Common.{◌≡◌, ◌≤◌, List, suc, false, refl, sym, subst, ap, ◌∙◌, arith}
 use Rattle.std.specs.Prelude.{codes, map}
-use Rattle.asl_json.specs.Data.{chain, items_depth, members_size}
+use Rattle.asl_json_data.specs.Data.{chain, items_depth, members_size}
 use Rattle.asl_json.specs.View.{data_of}
-use Rattle.asl_json.specs.Distinct.{Members, has_key}
-use Rattle.asl_def_table.specs.Canon.{Named}
+use Rattle.asl_json_data.specs.Distinct.{Members, has_key}
+use Rattle.asl_def_schema.specs.Canon.{Named}
 use Rattle.asl_choice.proofs.Within.{item_within}
 use Rattle.asl_choice.specs.Rules.{rule_object, rule_list, condition_named, rule_named}
 use Rattle.asl_choice.proofs.Apart.{no_next, shown_ok, connective_shown, named_apart}

@@ -1,12 +1,12 @@
 use Rattle.std.proofs.Common.{◌≡◌, ◌≤◌, suc, List, [], ◌∷◌, ◌++◌, refl, sym, subst, ap, ◌∙◌, arith}
 use Rattle.std.specs.Prelude.{codes, Option, IfSome, option_map}
-use Rattle.asl_json.specs.Data.{Data, pairs, chain, depth, items_depth, members_depth}
+use Rattle.asl_json_data.specs.Data.{Data, pairs, chain, depth, items_depth, members_depth}
 use Rattle.asl_json.specs.View.{data_of, items_of, members_of}
-use Rattle.asl_def_table.specs.declared.sort.Sort.TheVariants.{Text}
-use Rattle.asl_def_table.specs.Canon.{Named, canon, opt}
-use Rattle.asl_def_table.specs.Clean.{Fits}
-use Rattle.asl_def_members.specs.Readable.{IsText}
-use Rattle.asl_def_members.proofs.Fitting.{fit, text_fits}
+use Rattle.asl_def_schema.specs.declared.sort.Sort.TheVariants.{Text}
+use Rattle.asl_def_schema.specs.Canon.{Named, canon, opt}
+use Rattle.asl_def_schema.specs.Clean.{Fits}
+use Rattle.asl_def_fields.specs.Readable.{IsText}
+use Rattle.asl_def_fields.proofs.Fitting.{fit, text_fits}
 use Rattle.asl_choice.proofs.Within.{item_within}
 use Rattle.asl_choice.specs.declared.operator.RuleKind.{RuleKind}
 use Rattle.asl_choice.specs.declared.operator.RuleKind.TheVariants as kind

@@ -1,6 +1,6 @@
 use Rattle.std.proofs.Common.{◌≡◌, ◌+◌, ◌*◌, take}
 use Rattle.std.specs.Prelude.{map}
-use Rattle.asl_json.specs.Data.{pairs, depth, members_depth}
+use Rattle.asl_json_data.specs.Data.{pairs, depth, members_depth}
 use Rattle.asl_json.specs.View.{data_of, members_of}
 use Rattle.asl_choice.specs.Rules.{rule_object}
 use Rattle.asl_choice.proofs.Shows.{canonical_rules}

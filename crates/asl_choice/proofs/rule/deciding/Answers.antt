@@ -1,5 +1,5 @@
 use Rattle.std.proofs.Common.{◌∙◌, refl, subst, List, ℕ, ◌≡◌, false}
-use Rattle.asl_def_table.specs.Members.{is_among}
+use Rattle.asl_def_schema.specs.Members.{is_among}
 use Rattle.asl_choice.specs.Rules.{kind_names}
 use Rattle.asl_choice.proofs.Decided.{skips_none, skips_more, decided_here}
 use Rattle.asl_choice.proofs.rule.deciding.Goals as goal

@@ -1,7 +1,7 @@
 use Rattle.std.proofs.Common.{◌∙◌, sym, subst, ap}
 use Rattle.std.specs.Prelude.{string_bytes}
 use Rattle.std.proofs.lemmas.Result.{err_from_is_err_and}
-use Rattle.asl_run_setup.specs.Views.{texts_of}
+use Rattle.asl_run_input.specs.Views.{texts_of}
 use Rattle.asl_cli.specs.Faults.{most_steps, read_texts}
 use Rattle.asl_cli.specs.Formats.{format_of, IsRunIn}
 use Rattle.asl_exec.specs.declared.emulation.Emulated.{Emulated}

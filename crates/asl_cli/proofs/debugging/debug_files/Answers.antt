@@ -10,7 +10,7 @@ returns-in-Ok-clause-text g c = record {
     given = c.in_ok-texts.ensures.given;
     accepted = c.in_ok-setup.ensures.found;
   };
-  bytes = c.in_ok-script.script.items;
-  given = c.in_ok-texts.ensures.kept _ _ c.in_ok-script.ensures.given;
+  bytes = c.in_ok-commands.commands.items;
+  given = c.in_ok-texts.ensures.kept _ _ c.in_ok-commands.ensures.given;
   is_run = rw c.as_slice.ensures.value at c.in-Ok.ensures.run;
 }

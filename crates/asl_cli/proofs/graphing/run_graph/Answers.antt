@@ -1,5 +1,5 @@
 use Rattle.std.specs.Prelude.{None}
-use Rattle.asl_run_setup.specs.Views.{texts_of}
+use Rattle.asl_run_input.specs.Views.{texts_of}
 use Rattle.asl_cli.proofs.Given.{given-run, refused-run}
 use Rattle.asl_cli.proofs.graphing.run_graph.Goals as goal
 

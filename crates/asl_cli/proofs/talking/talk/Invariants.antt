@@ -1,5 +1,7 @@
+use Rattle.asl_host.specs.Outcomes.{sink_use}
+use Rattle.asl_cli.specs.Streams.{input_use}
 use Rattle.asl_cli.specs.Talking.{AreAnswered}
 use Rattle.asl_cli.proofs.talking.talk.Given as goal
 
 abbrev pub invariant-loop : goal.invariant-loop
-invariant-loop g l = AreAnswered g.I.Input.given g.O.Sink.taken g.O.Sink.failures l.look l.fn.console l.console l.fn.input l.input l.fn.out l.out
+invariant-loop g l = AreAnswered (input_use g.I.Input.given l.fn.input l.input) (sink_use g.O.Sink.taken g.O.Sink.failures l.fn.out l.out) l.look l.fn.console l.console

@@ -1,21 +1,21 @@
 use Rattle.std.proofs.Common.{◌∙◌, arith, refl, sym, subst, ap, List}
 use Rattle.std.specs.Prelude.{Option, Some, IfSome, is_some, codes, option_map}
-use Rattle.asl_json.specs.Data.{Data, dict, list, pairs, chain, depth, members_depth, items_depth}
+use Rattle.asl_json_data.specs.Data.{Data, dict, list, pairs, chain, depth, members_depth, items_depth}
 use Rattle.asl_json.specs.View.{data_of}
-use Rattle.asl_def_table.specs.declared.sort.Sort.TheVariants as sort
-use Rattle.asl_def_table.specs.declared.sort.Kind.TheVariants as kind
-use Rattle.asl_def_table.specs.Canon.{Named}
-use Rattle.asl_def_table.specs.Clean.{IsClean, IsThere, AreItemsClean, AreStatesClean}
-use Rattle.asl_def_table.proofs.Kept.{form_fits}
-use Rattle.asl_def_table.proofs.Inside.{clean}
-use Rattle.asl_def_table.proofs.Parts.{items_clean, item_clean, states_clean, state_clean}
-use Rattle.asl_def_table.proofs.Required.{parallel_branches, map_iterator}
+use Rattle.asl_def_schema.specs.declared.sort.Sort.TheVariants as sort
+use Rattle.asl_def_schema.specs.declared.sort.Kind.TheVariants as kind
+use Rattle.asl_def_schema.specs.Canon.{Named}
+use Rattle.asl_def_schema.specs.Clean.{IsClean, IsThere, AreItemsClean, AreStatesClean}
+use Rattle.asl_def_schema.proofs.Kept.{form_fits}
+use Rattle.asl_def_schema.proofs.Inside.{clean}
+use Rattle.asl_def_schema.proofs.Parts.{items_clean, item_clean, states_clean, state_clean}
+use Rattle.asl_def_schema.proofs.Required.{parallel_branches, map_iterator}
 use Rattle.asl_json.proofs.Sounding.{item_depth, member_depth}
-use Rattle.asl_def_members.specs.Readable.{IsText, IsProcessorConfig}
-use Rattle.asl_def_members.proofs.Fitting.{fit, text_fits}
-use Rattle.asl_def_members.proofs.Retrying.{not_none, value_there}
+use Rattle.asl_def_fields.specs.Readable.{IsText, IsProcessorConfig}
+use Rattle.asl_def_fields.proofs.Fitting.{fit, text_fits}
+use Rattle.asl_def_fields.proofs.Retrying.{not_none, value_there}
 use Rattle.asl_def.specs.private.Built.{HasRoom, Grows, IsBody}
-use Rattle.asl_def_parts.proofs.Fits.{none_there, some_there, of_kind, of_none}
+use Rattle.asl_def_shared.proofs.Fits.{none_there, some_there, of_kind, of_none}
 use Rattle.asl_def.proofs.Builds.{on_ok, machine_clean, processor_clean, config_fits, machine_room, grows_inside, machine_grows, compiled, body_shows, value_depth, branches_room, iterator_room, item_processor_room, parallel_grows, iterator_grows, item_processor_grows, parallel_is, iterator_clean, item_processor_clean, iterator_stands, item_processor_stands, leaf_grows, room_as, grows_as, state_as, own_room, own_step, own_all, own_fit, states_grow, states_stand, body_room, bodies_few, bodies_step, bodies_all, bodies_grow}
 use Rattle.asl_def.proofs.build.+build.Goals as goal
 

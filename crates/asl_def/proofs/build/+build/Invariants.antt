@@ -1,5 +1,5 @@
 use Rattle.std.proofs.Common.{◌+◌, ◌*◌, take}
-use Rattle.asl_json.specs.Data.{pairs, chain, depth, items_depth, members_depth}
+use Rattle.asl_json_data.specs.Data.{pairs, chain, depth, items_depth, members_depth}
 use Rattle.asl_json.specs.View.{data_of, members_of, items_of}
 use Rattle.asl_def.proofs.Builds.{IsOnTheWay, AreBuilt}
 use Rattle.asl_def.proofs.build.+build.Given as goal

@@ -1,8 +1,8 @@
 use Rattle.std.proofs.Common.{◌∙◌, sym, arith}
-use Rattle.asl_json.specs.Data.{list, chain}
+use Rattle.asl_json_data.specs.Data.{list, chain}
 use Rattle.asl_json.specs.Same.{equal}
-use Rattle.asl_def_members.proofs.Lists.{other_length}
-use Rattle.asl_def_parts.specs.Bodies.{bodies_of, body_of, processor_of}
+use Rattle.asl_def_fields.proofs.Lists.{other_length}
+use Rattle.asl_def_shared.specs.Bodies.{bodies_of, body_of, processor_of}
 use Rattle.asl_def.proofs.Walks.{body_within}
 use Rattle.asl_def.proofs.Alike.{other_count, other_name, other_state, goes_on, not_same, same_parallel, same_map, same_alone}
 use Rattle.asl_def.proofs.equal.+equal.Goals as goal

@@ -1,6 +1,6 @@
 use Rattle.std.proofs.Common.{◌≡◌, ◌+◌, ◌*◌}
-use Rattle.asl_def_parts.specs.Bodies.{body_of}
-use Rattle.asl_def_members.proofs.Lists.{rest_equal as bodies_rest}
+use Rattle.asl_def_shared.specs.Bodies.{body_of}
+use Rattle.asl_def_fields.proofs.Lists.{rest_equal as bodies_rest}
 use Rattle.asl_def.proofs.Alike.{rows, rest_equal}
 use Rattle.asl_def.proofs.equal.+equal.Given as goal
 

@@ -1,6 +1,6 @@
 use Rattle.std.proofs.Common.{◌≡◌, ◌+◌, ◌*◌, ◌≤◌, take}
 use Rattle.asl_json.specs.View.{items_of}
-use Rattle.asl_def_parts.specs.Bodies.{bodies_of}
+use Rattle.asl_def_shared.specs.Bodies.{bodies_of}
 use Rattle.asl_def.proofs.Walks.{HasWalked}
 use Rattle.asl_def.proofs.json.+json.Given as goal
 

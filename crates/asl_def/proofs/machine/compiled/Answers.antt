@@ -1,17 +1,17 @@
 use Rattle.std.proofs.Common.{◌∙◌, ap, sym, subst, refl}
 use Rattle.std.specs.Prelude.{List, Option, Some, IfSome}
-use Rattle.asl_json.specs.Data.{Data, dict, pairs}
+use Rattle.asl_json_data.specs.Data.{Data, dict, pairs}
 use Rattle.asl_json.specs.View.{data_of}
-use Rattle.asl_def_table.specs.declared.sort.Sort.TheVariants.{Text, Target, States}
-use Rattle.asl_def_table.specs.Clean.{IsClean, IsThere}
-use Rattle.asl_def_table.proofs.Accepting.{accepted_object}
-use Rattle.asl_def_table.proofs.Kept.{form_fits}
-use Rattle.asl_def_members.specs.Readable.{IsText}
-use Rattle.asl_def_members.proofs.Fitting.{fit, text_fits}
-use Rattle.asl_def_members.proofs.Retrying.{not_none, value_there}
+use Rattle.asl_def_schema.specs.declared.sort.Sort.TheVariants.{Text, Target, States}
+use Rattle.asl_def_schema.specs.Clean.{IsClean, IsThere}
+use Rattle.asl_def_schema.proofs.Accepting.{accepted_object}
+use Rattle.asl_def_schema.proofs.Kept.{form_fits}
+use Rattle.asl_def_fields.specs.Readable.{IsText}
+use Rattle.asl_def_fields.proofs.Fitting.{fit, text_fits}
+use Rattle.asl_def_fields.proofs.Retrying.{not_none, value_there}
 use Rattle.asl_def.specs.private.Built.{Grows}
-use Rattle.asl_def_table.specs.Canon.{Named}
-use Rattle.asl_def_parts.proofs.Heads.{comment_fits}
+use Rattle.asl_def_schema.specs.Canon.{Named}
+use Rattle.asl_def_shared.proofs.Heads.{comment_fits}
 use Rattle.asl_def.proofs.Wholes.{members_clean, start_is_there, states_are_there, empty_room, definition_shows, whole}
 use Rattle.asl_def.proofs.machine.compiled.Goals as goal
 

@@ -1,7 +1,7 @@
 use Rattle.std.proofs.Common.{subst, []}
 use Rattle.asl_json.specs.View.{data_of}
-use Rattle.asl_def_table.specs.declared.sort.Sort.TheVariants.{Definition}
-use Rattle.asl_def_table.specs.States.{Finds, states_in}
+use Rattle.asl_def_schema.specs.declared.sort.Sort.TheVariants.{Definition}
+use Rattle.asl_def_schema.specs.States.{Finds, states_in}
 use Rattle.asl_def_judge.proofs.definition.doubled.Goals as goal
 
 pub returns-in-Ok : goal.returns-in-Ok

@@ -1,11 +1,11 @@
 use Rattle.std.proofs.Common.{◌≡◌, subst, sym, [], List, ℕ, Bool, false, true}
 use Rattle.std.specs.HashSet.{contains_text}
 use Rattle.asl_json.specs.View.{data_of}
-use Rattle.asl_def_table.specs.declared.sort.Sort.TheVariants.{Definition}
-use Rattle.asl_def_table.specs.Claims.{claims, outside}
-use Rattle.asl_def_table.specs.First.{Answers}
-use Rattle.asl_def_table.specs.Faults.{claims_of}
-use Rattle.asl_def_table.specs.States.{states_in, unique_claims}
+use Rattle.asl_def_schema.specs.declared.sort.Sort.TheVariants.{Definition}
+use Rattle.asl_def_schema.specs.Claims.{claims, outside}
+use Rattle.asl_def_schema.specs.First.{Answers}
+use Rattle.asl_def_schema.specs.Faults.{claims_of}
+use Rattle.asl_def_schema.specs.States.{states_in, unique_claims}
 use Rattle.asl_def_judge.proofs.Answering.{answers-append}
 use Rattle.asl_def_judge.proofs.definition.first_fault.Goals as goal
 

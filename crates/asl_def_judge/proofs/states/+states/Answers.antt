@@ -1,12 +1,12 @@
 use Rattle.std.proofs.Common.{◌≡◌, ◌∙◌, ◌++◌, ap, subst, arith, List, ℕ, ◌∷◌}
 use Rattle.std.specs.Prelude.{IfOk}
-use Rattle.asl_json.specs.Data.{Data, pairs, chain, members_depth, items_depth}
+use Rattle.asl_json_data.specs.Data.{Data, pairs, chain, members_depth, items_depth}
 use Rattle.asl_json.specs.View.{data_of}
-use Rattle.asl_def_table.specs.private.Code.{shape_seen}
-use Rattle.asl_def_table.specs.Claims.{step}
-use Rattle.asl_def_table.specs.First.{IsFirst}
-use Rattle.asl_def_table.specs.Members.{sort_at}
-use Rattle.asl_def_table.specs.States.{Named, Finds, own_name, states_in, item_states, member_states, unique_claims}
+use Rattle.asl_def_schema.specs.private.Code.{shape_seen}
+use Rattle.asl_def_schema.specs.Claims.{step}
+use Rattle.asl_def_schema.specs.First.{IsFirst}
+use Rattle.asl_def_schema.specs.Members.{sort_at}
+use Rattle.asl_def_schema.specs.States.{Named, Finds, own_name, states_in, item_states, member_states, unique_claims}
 use Rattle.asl_json.proofs.Sounding.{item_depth, member_depth}
 use Rattle.asl_def_judge.proofs.Doubles.{continues-start, stopped, went_on, items_done, members_done, name_then, name_again, items_split, members_split}
 use Rattle.asl_def_judge.proofs.states.+states.Goals as goal

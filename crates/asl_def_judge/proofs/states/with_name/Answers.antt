@@ -1,7 +1,7 @@
 use Rattle.std.proofs.Common.{sym, subst}
 use Rattle.std.specs.Prelude.{Ok}
-use Rattle.asl_def_table.specs.First.{IsFirst}
-use Rattle.asl_def_table.specs.States.{Finds, own_name, unique_claims}
+use Rattle.asl_def_schema.specs.First.{IsFirst}
+use Rattle.asl_def_schema.specs.States.{Finds, own_name, unique_claims}
 use Rattle.asl_def_judge.proofs.Doubles.{old_name, new_name}
 use Rattle.asl_def_judge.proofs.states.with_name.Goals as goal
 

@@ -1,5 +1,5 @@
 use Rattle.std.proofs.Common.{refl}
-use Rattle.asl_def_table.specs.Demands.{call}
+use Rattle.asl_def_schema.specs.Demands.{call}
 use Rattle.asl_def_judge.proofs.Answering.{judges_broken}
 use Rattle.asl_def_judge.proofs.value.call_fault.Goals as goal
 

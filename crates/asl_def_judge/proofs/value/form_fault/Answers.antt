@@ -1,9 +1,9 @@
 use Rattle.std.proofs.Common.{◌∷◌, [], refl, sym, ap, ◌∙◌, subst}
 use Rattle.asl_json.specs.View.{data_of}
-use Rattle.asl_def_table.specs.Demands.{form_of, is_of, typed, object}
-use Rattle.asl_def_table.specs.Claims.{form_demand}
+use Rattle.asl_def_schema.specs.Demands.{form_of, is_of, typed, object}
+use Rattle.asl_def_schema.specs.Claims.{form_demand}
 use Rattle.asl_def_judge.specs.private.Firsts.{Judges}
-use Rattle.asl_def_table.specs.declared.fault.FaultKind.TheVariants as kind
+use Rattle.asl_def_schema.specs.declared.fault.FaultKind.TheVariants as kind
 use Rattle.asl_def_judge.proofs.Answering.{judged}
 use Rattle.asl_def_judge.proofs.Forms.{typed_form}
 use Rattle.asl_def_judge.proofs.value.form_fault.Goals as goal

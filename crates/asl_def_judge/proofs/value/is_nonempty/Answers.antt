@@ -1,6 +1,6 @@
 use Rattle.std.proofs.Common.{ap, ◌∙◌, not}
-use Rattle.asl_json.specs.Data.{chain}
-use Rattle.asl_def_table.specs.Claims.{is_nonempty}
+use Rattle.asl_json_data.specs.Data.{chain}
+use Rattle.asl_def_schema.specs.Claims.{is_nonempty}
 use Rattle.asl_def_judge.proofs.Counting.{items_nonempty}
 use Rattle.asl_def_judge.proofs.value.is_nonempty.Goals as goal
 

@@ -1,7 +1,7 @@
 use Rattle.std.proofs.Common.{ap, ◌∙◌}
 use Rattle.std.specs.Prelude.{nat_le}
-use Rattle.asl_json.specs.Data.{chain}
-use Rattle.asl_def_table.specs.Claims.{item_count}
+use Rattle.asl_json_data.specs.Data.{chain}
+use Rattle.asl_def_schema.specs.Claims.{item_count}
 use Rattle.asl_def_judge.proofs.Counting.{items_counted}
 use Rattle.asl_def_judge.proofs.value.is_short.Goals as goal
 

@@ -1,8 +1,8 @@
 use Rattle.std.proofs.Common.{sym, subst, ◌∷◌, []}
-use Rattle.asl_json.specs.Data.{chain}
+use Rattle.asl_json_data.specs.Data.{chain}
 use Rattle.asl_def_judge.specs.private.Spots.{spot_of}
-use Rattle.asl_def_table.specs.Demands.{in_range, last}
-use Rattle.asl_def_table.specs.Claims.{list_demands, is_nonempty, is_last}
+use Rattle.asl_def_schema.specs.Demands.{in_range, last}
+use Rattle.asl_def_schema.specs.Claims.{list_demands, is_nonempty, is_last}
 use Rattle.asl_def_judge.specs.private.Firsts.{Judges}
 use Rattle.asl_def_judge.proofs.Answering.{in_range_judged, last_judged, judges-append}
 use Rattle.asl_def_judge.proofs.value.list_fault.Goals as goal

@@ -1,5 +1,5 @@
 use Rattle.std.proofs.Common.{sym, subst}
-use Rattle.asl_def_table.specs.Claims.{number_demands}
+use Rattle.asl_def_schema.specs.Claims.{number_demands}
 use Rattle.asl_def_judge.specs.private.Firsts.{Judges}
 use Rattle.asl_def_judge.proofs.Answering.{in_range_judged}
 use Rattle.asl_def_judge.proofs.value.number_fault.Goals as goal

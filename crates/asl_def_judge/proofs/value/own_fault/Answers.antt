@@ -1,8 +1,8 @@
 use Rattle.std.proofs.Common.{sym, subst, ap, refl, ◌∙◌, ◌∷◌, [], not}
 use Rattle.asl_json.specs.View.{data_of}
 use Rattle.asl_def_judge.specs.private.Spots.{spot_of}
-use Rattle.asl_def_table.specs.Demands.{alone}
-use Rattle.asl_def_table.specs.Claims.{spot_demands, form_demand, value_demands, demands}
+use Rattle.asl_def_schema.specs.Demands.{alone}
+use Rattle.asl_def_schema.specs.Claims.{spot_demands, form_demand, value_demands, demands}
 use Rattle.asl_def_judge.specs.private.Firsts.{Judges, sooner}
 use Rattle.asl_def_judge.proofs.Answering.{alone_judged, judges-append}
 use Rattle.asl_def_judge.proofs.value.own_fault.Goals as goal

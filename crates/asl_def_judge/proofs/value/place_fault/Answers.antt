@@ -1,6 +1,6 @@
 use Rattle.std.proofs.Common.{refl}
-use Rattle.asl_def_table.specs.Demands.{place}
-use Rattle.asl_def_table.specs.declared.fault.FaultKind.TheVariants as kind
+use Rattle.asl_def_schema.specs.Demands.{place}
+use Rattle.asl_def_schema.specs.declared.fault.FaultKind.TheVariants as kind
 use Rattle.asl_def_judge.proofs.Answering.{judged}
 use Rattle.asl_def_judge.proofs.value.place_fault.Goals as goal
 

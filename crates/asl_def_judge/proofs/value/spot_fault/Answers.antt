@@ -1,8 +1,8 @@
 use Rattle.std.proofs.Common.{refl, sym, subst}
 use Rattle.std.specs.Prelude.{Some, false}
 use Rattle.asl_def_judge.specs.private.Spots.{spot_of}
-use Rattle.asl_def_table.specs.Claims.{spot_demands}
-use Rattle.asl_def_table.specs.Demands.{supported, known}
+use Rattle.asl_def_schema.specs.Claims.{spot_demands}
+use Rattle.asl_def_schema.specs.Demands.{supported, known}
 use Rattle.asl_def_judge.specs.private.Firsts.{Judges}
 use Rattle.asl_def_judge.proofs.Answering.{in_range_judged, within_judged, judges_broken}
 use Rattle.asl_def_judge.proofs.Machines.{machine_spot}

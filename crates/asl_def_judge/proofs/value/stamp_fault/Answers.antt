@@ -1,5 +1,5 @@
 use Rattle.std.proofs.Common.{refl, sym, ◌∙◌}
-use Rattle.asl_def_table.specs.Demands.{timestamp}
+use Rattle.asl_def_schema.specs.Demands.{timestamp}
 use Rattle.asl_def_judge.proofs.Answering.{judges_broken}
 use Rattle.asl_def_judge.proofs.value.stamp_fault.Goals as goal
 

@@ -1,7 +1,7 @@
 use Rattle.std.proofs.Common.{ap, sym, subst, ◌∙◌}
 use Rattle.std.specs.Prelude.{is_some}
 use Rattle.asl_def_judge.specs.private.Spots.{spot_of}
-use Rattle.asl_def_table.specs.Claims.{text_demands}
+use Rattle.asl_def_schema.specs.Claims.{text_demands}
 use Rattle.asl_def_judge.specs.private.Firsts.{Judges}
 use Rattle.asl_def_judge.proofs.Answering.{supported_judged, named_judged, in_range_judged}
 use Rattle.asl_def_judge.proofs.value.text_fault.Goals as goal

@@ -1,10 +1,10 @@
 use Rattle.std.proofs.Common.{◌+◌, ◌*◌, take, drop, []}
-use Rattle.asl_json.specs.Data.{pairs, chain, depth, members_depth, items_depth}
+use Rattle.asl_json_data.specs.Data.{pairs, chain, depth, members_depth, items_depth}
 use Rattle.asl_json.specs.View.{data_of, items_of, members_of}
 use Rattle.asl_json.specs.Keys.{Knows}
-use Rattle.asl_def_table.specs.private.Code.{shape_seen}
+use Rattle.asl_def_schema.specs.private.Code.{shape_seen}
 use Rattle.asl_def_judge.specs.private.Spots.{spot_of}
-use Rattle.asl_def_table.specs.Claims.{item_claims, member_claims}
+use Rattle.asl_def_schema.specs.Claims.{item_claims, member_claims}
 use Rattle.asl_def_judge.proofs.Walking.{Goes}
 use Rattle.asl_def_judge.proofs.walk.+walk.Given as goal
 

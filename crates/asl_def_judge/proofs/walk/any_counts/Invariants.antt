@@ -1,7 +1,7 @@
 use Rattle.std.proofs.Common.{◌≡◌, drop}
 use Rattle.asl_json.specs.View.{members_of}
-use Rattle.asl_def_table.specs.Claims.{any_counts}
-use Rattle.asl_def_table.specs.private.Code.{group_of}
+use Rattle.asl_def_schema.specs.Claims.{any_counts}
+use Rattle.asl_def_schema.specs.private.Code.{group_of}
 use Rattle.asl_def_judge.proofs.walk.any_counts.Given as goal
 
 abbrev pub invariant-loop-member : goal.invariant-loop-member

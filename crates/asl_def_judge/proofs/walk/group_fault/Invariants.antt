@@ -1,8 +1,8 @@
 use Rattle.std.proofs.Common.{drop}
-use Rattle.asl_json.specs.Data.{pairs}
+use Rattle.asl_json_data.specs.Data.{pairs}
 use Rattle.asl_json.specs.View.{members_of}
-use Rattle.asl_def_table.specs.Claims.{group_demands}
-use Rattle.asl_def_table.specs.private.Code.{groups_of}
+use Rattle.asl_def_schema.specs.Claims.{group_demands}
+use Rattle.asl_def_schema.specs.private.Code.{groups_of}
 use Rattle.asl_def_judge.proofs.Walking.{Decides}
 use Rattle.asl_def_judge.proofs.walk.group_fault.Given as goal
 

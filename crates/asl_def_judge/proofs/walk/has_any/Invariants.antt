@@ -1,8 +1,8 @@
 use Rattle.std.proofs.Common.{◌≡◌, drop}
 use Rattle.std.specs.Prelude.{map}
-use Rattle.asl_json.specs.Data.{pairs}
+use Rattle.asl_json_data.specs.Data.{pairs}
 use Rattle.asl_json.specs.View.{members_of}
-use Rattle.asl_def_table.specs.Claims.{has_any}
+use Rattle.asl_def_schema.specs.Claims.{has_any}
 use Rattle.asl_def_judge.proofs.walk.has_any.Given as goal
 
 abbrev pub invariant-loop-name : goal.invariant-loop-name

@@ -1,6 +1,6 @@
 use Rattle.std.proofs.Common.{◌||◌, ap, sym, ◌∙◌}
 use Rattle.std.specs.Prelude.{map}
-use Rattle.asl_def_table.specs.Members.{is_among}
+use Rattle.asl_def_schema.specs.Members.{is_among}
 use Rattle.asl_def_judge.proofs.Walking.{among_append}
 use Rattle.asl_def_judge.proofs.walk.is_in.Goals as goal
 

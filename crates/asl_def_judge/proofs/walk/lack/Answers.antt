@@ -1,8 +1,8 @@
 use Rattle.std.proofs.Common.{ap, sym, ◌∙◌, ◌∷◌}
-use Rattle.asl_json.specs.Data.{pairs}
+use Rattle.asl_json_data.specs.Data.{pairs}
 use Rattle.asl_json.specs.View.{data_of, members_of}
-use Rattle.asl_def_table.specs.private.Code.{row_of}
-use Rattle.asl_def_table.specs.Claims.{step}
+use Rattle.asl_def_schema.specs.private.Code.{row_of}
+use Rattle.asl_def_schema.specs.Claims.{step}
 use Rattle.asl_def_judge.proofs.Walking.{row_told, not_there}
 use Rattle.asl_def_judge.proofs.walk.lack.Goals as goal
 

@@ -1,4 +1,4 @@
-use Rattle.asl_json.specs.Data.{pairs}
+use Rattle.asl_json_data.specs.Data.{pairs}
 use Rattle.asl_json.specs.View.{members_of}
 use Rattle.asl_json.specs.Meaning.{count}
 use Rattle.asl_def_judge.proofs.Walking.{rows_more, rows_end}

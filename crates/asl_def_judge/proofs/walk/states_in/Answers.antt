@@ -1,5 +1,5 @@
 use Rattle.std.proofs.Common.{sym}
-use Rattle.asl_json.specs.Data.{pairs}
+use Rattle.asl_json_data.specs.Data.{pairs}
 use Rattle.asl_json.specs.View.{members_of}
 use Rattle.asl_def_judge.proofs.Naming.{states_are}
 use Rattle.asl_def_judge.proofs.walk.states_in.Goals as goal

@@ -1,4 +1,4 @@
-use Rattle.asl_def_members.specs.private.EqualLaws.{items_exact}
+use Rattle.asl_def_fields.specs.private.EqualLaws.{items_exact}
 use Rattle.asl_def_states.specs.private.Exact.{task_exact, pass_exact, choice_rule_exact, choice_exact, delay_exact, wait_exact, parallel_exact, processor_exact, selector_exact, map_exact, succeed_exact, fail_text_exact, fail_exact, state_exact}
 use Rattle.asl_def_states.proofs.laws.equal_states_are_one.Goals as goal
 

@@ -1,6 +1,6 @@
 use Rattle.std.proofs.Common.{◌≡◌, ◌∙◌, ◌++◌, ap, append_assoc, codes, string_bytes}
 use Rattle.std.proofs.lemmas.Result.{on_ok_weaker}
-use Rattle.asl_json.proofs.Buffers.{keeps_more, keeps_on}
+use Rattle.asl_json_write.proofs.Buffers.{keeps_more, keeps_on}
 use Rattle.asl_exec.specs.ObstacleText.{reason_text}
 use Rattle.asl_exec.proofs.obstacle.put_obstacle_parts.Goals as goal
 

@@ -1,7 +1,7 @@
 use Rattle.std.proofs.Common.{◌≡◌, ◌∙◌, ◌++◌, ap, append_assoc, codes, string_bytes, List, ℕ, Result, Ok, Err, cond}
 use Rattle.std.proofs.lemmas.Result.{on_ok_weaker}
 use Rattle.std.specs.Prelude.{OnOk, is_ok}
-use Rattle.asl_json.specs.Compact.{quoted}
+use Rattle.asl_json_data.specs.Compact.{quoted}
 use Rattle.asl_exec.proofs.obstacle.put_reason.Goals as goal
 
 pub returns-in_ok-push_str-in-OneTask-clause-ok : goal.returns-in_ok-push_str-in-OneTask-clause-ok

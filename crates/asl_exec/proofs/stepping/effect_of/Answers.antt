@@ -1,6 +1,6 @@
 use Rattle.std.proofs.Common.{[], ◌∙◌}
 use Rattle.std.proofs.lemmas.Result.{IfOk-weaker}
-use Rattle.asl_step_rows.specs.Seen.{seen}
+use Rattle.asl_step.specs.Seen.{seen}
 use Rattle.asl_kinds.specs.private.Laws.{any_table}
 use Rattle.asl_exec.proofs.stepping.effect_of.Goals as goal
 

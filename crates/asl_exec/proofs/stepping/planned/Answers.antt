@@ -1,7 +1,7 @@
 use Rattle.std.proofs.Common.{◌∙◌, ap, refl, map}
 use Rattle.asl_def.specs.Machines.{states_of}
 use Rattle.asl_exec.specs.Steps.{seen_at, invokes_by, object_in, number_in}
-use Rattle.asl_run_world.specs.World.{count_of}
+use Rattle.asl_run_state.specs.World.{count_of}
 use Rattle.asl_exec.proofs.Accepting.{seen-is, effect-is}
 use Rattle.asl_exec.proofs.stepping.planned.Goals as goal
 

@@ -1,8 +1,8 @@
 use Rattle.std.proofs.Common.{ap, ◌∙◌}
 use Rattle.std.proofs.lemmas.Result.{IfOk-weaker}
-use Rattle.asl_def_parts.specs.Texts.{text_in}
-use Rattle.asl_step_rows.specs.Records.{name_or_none}
+use Rattle.std.specs.Prelude.{[], unwrap_or}
+use Rattle.asl_def_shared.specs.Texts.{text_in}
 use Rattle.asl_exec.proofs.stepping.start_of.Goals as goal
 
 pub returns : goal.returns
-returns c = IfOk-weaker c.new.result _ _ (λ n e. e ∙ ap (λ v. name_or_none (text_in v)) c.start.ensures) c.new.ensures
+returns c = IfOk-weaker c.new.result _ _ (λ n e. e ∙ ap (λ v. unwrap_or (text_in v) []) c.start.ensures) c.new.ensures

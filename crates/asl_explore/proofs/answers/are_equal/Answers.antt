@@ -3,8 +3,11 @@ use Rattle.asl_mock.specs.private.EqualLaws.{answer_decides}
 use Rattle.asl_explore.proofs.answers.are_equal.Goals as goal
 
 pub returns-in-Some-Some : goal.returns-in-Some-Some
-returns-in-Some-Some c t =
+returns-in-Some-Some c =
     let one = c.in-Some-Some.one.now in
     let other = c.in-Some-Some.other.now in
-    let same : one ≡ other = (answer_decides one other).0 (sym c.eq.ensures ∙ t) in
-    rw (c.in-Some-Some.is-0, c.in-Some-Some.is-1) (ap Some same)
+    let d = answer_decides one other in
+    rw (c.in-Some-Some.is-0, c.in-Some-Some.is-1) (
+      λ t. ap Some (d.0 (sym c.eq.ensures ∙ t)),
+      λ e. c.eq.ensures ∙ d.1 (cc e),
+    )

@@ -1,6 +1,6 @@
 use Rattle.std.proofs.Common.{◌∙◌, arith, sym}
 use Rattle.std.proofs.lemmas.List.{length-map}
-use Rattle.asl_run_world.proofs.Bareness.{outcome-one}
+use Rattle.asl_run_state.proofs.Bareness.{outcome-one}
 use Rattle.asl_explore.specs.declared.found.Found.{Found}
 use Rattle.asl_explore.proofs.Finding.{at-map}
 use Rattle.asl_explore.proofs.calls.number_of.Goals as goal

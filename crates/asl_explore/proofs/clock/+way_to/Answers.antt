@@ -1,5 +1,5 @@
 use Rattle.std.proofs.Common.{ap, arith, List, ℕ}
-use Rattle.asl_json.specs.Data.{Data, chain, pairs, items_depth, members_depth}
+use Rattle.asl_json_data.specs.Data.{Data, chain, pairs, items_depth, members_depth}
 use Rattle.asl_json.proofs.Sounding.{item_depth, member_depth}
 use Rattle.asl_explore.proofs.clock.+way_to.Goals as goal
 

@@ -1,8 +1,8 @@
 use Rattle.std.proofs.Common.{◌≡◌, ◌+◌, ◌*◌, drop}
 use Rattle.std.specs.Prelude.{map}
-use Rattle.asl_json.specs.Data.{chain, pairs, depth, items_depth, members_depth}
+use Rattle.asl_json_data.specs.Data.{chain, pairs, depth, items_depth, members_depth}
 use Rattle.asl_json.specs.View.{data_of, items_of, members_of}
-use Rattle.asl_step_unread.specs.Mentions.{text_may_read}
+use Rattle.asl_step_reads.specs.Mentions.{text_may_read}
 use Rattle.asl_explore.specs.Clock.{way_among, way_in}
 use Rattle.asl_explore.proofs.clock.+way_to.Given as goal
 

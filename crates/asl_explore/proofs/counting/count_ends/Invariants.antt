@@ -1,16 +1,17 @@
 use Rattle.std.proofs.Common.{◌≡◌, true}
 use Rattle.std.specs.List.{AllWithin}
-use Rattle.asl_run_world.specs.Bare.{bare}
-use Rattle.asl_exec.specs.Views.{setup_of}
-use Rattle.asl_explore.specs.Searches.{outcomes_of}
-use Rattle.asl_explore.specs.Calls.{AreKept}
+use Rattle.asl_run_state.specs.Bare.{bare}
+use Rattle.asl_exec.specs.Probes.{setup_of}
+use Rattle.asl_explore.specs.Searches.{IsReached, outcomes_of}
+use Rattle.asl_explore.specs.Calls.{AreKept, AreMetSoFar}
 use Rattle.asl_explore.proofs.Tallies.{IsTurnCounted}
 use Rattle.asl_explore.proofs.counting.count_ends.Given as goal
 
 -- the worlds that the steps so far end in are counted, unless one was left out
 abbrev pub invariant-loop-turn : goal.invariant-loop-turn
 invariant-loop-turn l = record {
-  setup : setup_of l.execution ≡ setup_of l.fn.execution;
+  setup : setup_of l.probe ≡ setup_of l.fn.probe;
   keeps : AreKept l.fn.calls.items l.calls.items;
-  counted : l.whole ≡ true → AllWithin (IsTurnCounted (setup_of l.fn.execution) l.states (outcomes_of l.found) l.calls.items (bare l.world) l.bound) l.turn-items 0 l.turn-index;
+  met : IsReached l.fn.orders (setup_of l.fn.probe) (bare l.world) → AreMetSoFar l.fn.orders (setup_of l.fn.probe) (outcomes_of l.found) l.fn.calls.items → AreMetSoFar l.fn.orders (setup_of l.fn.probe) (outcomes_of l.found) l.calls.items;
+  counted : l.whole ≡ true → AllWithin (IsTurnCounted (setup_of l.fn.probe) l.states (outcomes_of l.found) l.calls.items (bare l.world) l.bound) l.turn-items 0 l.turn-index;
 }

@@ -1,6 +1,6 @@
 use Rattle.std.proofs.Common.{Some, ◌∙◌, ap, sym, arith}
-use Rattle.asl_run_frames.proofs.Counts.{get-at}
-use Rattle.asl_run_frames.proofs.Skipping.{below-child}
+use Rattle.asl_run_branches.proofs.Counts.{get-at}
+use Rattle.asl_run_branches.proofs.Skipping.{below-child}
 use Rattle.asl_explore.proofs.digest.+frames.Goals as goal
 
 pub with_frames-with_frame-digest-requires : goal.with_frames-with_frame-digest-requires

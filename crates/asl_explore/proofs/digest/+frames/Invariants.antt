@@ -1,5 +1,5 @@
 use Rattle.std.proofs.Common.{◌+◌, ◌*◌, length}
-use Rattle.asl_run_frames.specs.Trees.{below_of}
+use Rattle.asl_run_branches.specs.Trees.{below_of}
 use Rattle.asl_explore.proofs.digest.+frames.Given as goal
 
 -- the branches under a frame are fewer than those of all its siblings and under them

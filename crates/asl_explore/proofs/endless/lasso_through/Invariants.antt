@@ -1,7 +1,7 @@
 use Rattle.std.proofs.Common.{◌≡◌}
-use Rattle.asl_exec.specs.Views.{setup_of}
+use Rattle.asl_exec.specs.Probes.{setup_of}
 use Rattle.asl_explore.proofs.endless.lasso_through.Given as goal
 
 -- the setup stays
 abbrev pub invariant-loop : goal.invariant-loop
-invariant-loop l = setup_of l.execution ≡ setup_of l.fn.execution
+invariant-loop l = setup_of l.probe ≡ setup_of l.fn.probe

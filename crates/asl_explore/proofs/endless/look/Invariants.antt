@@ -1,5 +1,5 @@
 use Rattle.std.proofs.Common.{◌≡◌}
-use Rattle.asl_exec.specs.Views.{setup_of}
+use Rattle.asl_exec.specs.Probes.{setup_of}
 use Rattle.asl_explore.specs.private.Reaching.{AreReaching}
 use Rattle.asl_explore.specs.Searches.{worlds_of}
 use Rattle.asl_explore.proofs.endless.look.Given as goal
@@ -7,6 +7,6 @@ use Rattle.asl_explore.proofs.endless.look.Given as goal
 -- what is known is so
 abbrev pub invariant-loop-turn : goal.invariant-loop-turn
 invariant-loop-turn l = record {
-  setup : setup_of l.execution ≡ setup_of l.fn.execution;
-  kept : AreReaching l.orders (setup_of l.fn.execution) (worlds_of l.met.nodes.items) l.fn.reaching.known.items l.fn.reaching.links.items → AreReaching l.orders (setup_of l.fn.execution) (worlds_of l.met.nodes.items) l.reaching.known.items l.reaching.links.items;
+  setup : setup_of l.probe ≡ setup_of l.fn.probe;
+  kept : AreReaching l.orders (setup_of l.fn.probe) (worlds_of l.met.nodes.items) l.fn.reaching.known.items l.fn.reaching.links.items → AreReaching l.orders (setup_of l.fn.probe) (worlds_of l.met.nodes.items) l.reaching.known.items l.reaching.links.items;
 }

@@ -1,6 +1,6 @@
 use Rattle.std.proofs.Common.{◌∙◌, ◌-◌, subst}
-use Rattle.asl_run_setup.specs.declared.setup.Setup.{Setup}
-use Rattle.asl_exec.specs.Views.{setup_of}
+use Rattle.asl_run_input.specs.declared.setup.Setup.{Setup}
+use Rattle.asl_exec.specs.Probes.{setup_of}
 use Rattle.asl_explore.specs.Searches.{worlds_of}
 use Rattle.asl_explore.specs.private.Reaching.{AreReaching, Reaches}
 use Rattle.asl_explore.proofs.endless.reaching_in.Goals as goal
@@ -9,7 +9,7 @@ use Rattle.asl_explore.proofs.endless.reaching_in.Goals.{then-branch+in_ok-note,
 pub loop-index-preserved : goal.loop-index-preserved
 loop-index-preserved c =
     let o = c.args.orders in
-    let s = setup_of c.args.execution.now in
+    let s = setup_of c.args.probe.now in
     let ws = worlds_of c.args.met.now.nodes.items in
     let a = c.loop-index.reaching in
     let b = c.look.new.reaching in

@@ -1,6 +1,6 @@
 use Rattle.std.proofs.Common.{arith}
 use Rattle.std.proofs.lemmas.List.{length-map}
-use Rattle.asl_run_world.specs.Bare.{bare}
+use Rattle.asl_run_state.specs.Bare.{bare}
 use Rattle.asl_explore.specs.declared.met.Node.{Node}
 use Rattle.asl_explore.proofs.Resting.{none-more}
 use Rattle.asl_explore.proofs.late.any_waits.Goals as goal

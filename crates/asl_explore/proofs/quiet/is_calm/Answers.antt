@@ -1,6 +1,6 @@
 use Rattle.std.proofs.Common.{◌∙◌, inl, sym, ap}
 use Rattle.asl_def.specs.Machines.{states_of}
-use Rattle.asl_run_setup.specs.declared.setup.Setup.{Setup}
+use Rattle.asl_run_input.specs.declared.setup.Setup.{Setup}
 use Rattle.asl_exec.specs.Steps.{object_in, invokes_by}
 use Rattle.asl_explore.proofs.quiet.is_calm.Goals as goal
 

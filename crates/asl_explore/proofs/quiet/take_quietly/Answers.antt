@@ -1,15 +1,17 @@
 use Rattle.std.proofs.Common.{[], sym, subst, arith}
 use Rattle.std.proofs.lemmas.Bool.Decides.{nat_tests}
 use Rattle.std.proofs.lemmas.List.{length-map}
-use Rattle.asl_run_world.specs.Bare.{bare}
-use Rattle.asl_exec.specs.Views.{setup_of, world_of}
-use Rattle.asl_run_setup.specs.declared.setup.Setup.{Setup}
+use Rattle.asl_run_state.specs.Bare.{bare}
+use Rattle.asl_exec.specs.Probes.{setup_of, world_of}
+use Rattle.asl_run_input.specs.declared.setup.Setup.{Setup}
+use Rattle.asl_explore.specs.declared.orders.Orders.TheVariants.{Prompt}
 use Rattle.asl_explore.specs.Settled.{AreSettledFrom}
 use Rattle.asl_explore.specs.declared.met.Node.{Node}
 use Rattle.asl_explore.specs.Searches.{worlds_of}
 use Rattle.asl_explore.proofs.Expanding.{node-at}
 use Rattle.asl_explore.proofs.Growing.{later-same}
 use Rattle.asl_explore.proofs.Quieting.{reduced-is}
+use Rattle.asl_explore.proofs.Reached.{quiet-put}
 use Rattle.asl_explore.proofs.quiet.take_quietly.Goals as goal
 
 pub returns-in_err-try_clone-clause-later : goal.returns-in_err-try_clone-clause-later
@@ -39,10 +41,23 @@ returns-in_default-clause-later c os = later-same (worlds_of c.args.met.now.node
 pub returns-clause-reduced : goal.returns-clause-reduced
 returns-clause-reduced c t =
     let ns = c.args.met.now.nodes.items in
-    reduced-is (setup_of c.args.execution.now) (setup_of c.enter.new.execution) (worlds_of ns) (worlds_of c.put.new.self.nodes.items) [] c.args.number c.in_ok-index.index c.index-node.result.now.world
-    (world_of c.enter.new.execution) (world_of c.step_quietly.new.execution) c.in-Some.next _
+    reduced-is (setup_of c.args.probe.now) (setup_of c.enter.new.probe) (worlds_of ns) (worlds_of c.put.new.self.nodes.items) [] c.args.number c.in_ok-index.index c.index-node.result.now.world
+    (world_of c.enter.new.probe) (world_of c.step_quietly.new.probe) c.in-Some.next _
     c.enter.ensures.setup (c.in_ok-enter.ensures.world c.if-not-branch.false) (c.put.ensures.later [])
     (omega (arith, c.requires.there, length-map ns (λ (n : Node). bare n.world)))
     (λ e. node-at ns c.args.number c.index-node.result.now e c.requires.there c.index-node.ensures)
     (c.in_ok-step_quietly.ensures.quiet c.if-not-branch-2.false) (c.in_ok-step_quietly.ensures.world c.if-not-branch-2.false)
     (rw c.world.ensures at (rw c.in-Some.is at c.in_ok-next.ensures)) c.in_ok-index.ensures.at (grind (arith, nat_tests, t))
+
+pub returns-clause-reached : goal.returns-clause-reached
+returns-clause-reached c all =
+    let s = setup_of c.args.probe.now in
+    let ns = c.args.met.now.nodes.items in
+    c.in_ok-index.ensures.reached Prompt s all
+    (quiet-put s (setup_of c.enter.new.probe) (worlds_of ns) c.args.number c.index-node.result.now.world
+    (world_of c.enter.new.probe) (world_of c.step_quietly.new.probe) c.in-Some.next _
+    c.enter.ensures.setup (c.in_ok-enter.ensures.world c.if-not-branch.false)
+    (omega (arith, c.requires.there, length-map ns (λ (n : Node). bare n.world)))
+    (λ e. node-at ns c.args.number c.index-node.result.now e c.requires.there c.index-node.ensures)
+    (c.in_ok-step_quietly.ensures.quiet c.if-not-branch-2.false) (c.in_ok-step_quietly.ensures.world c.if-not-branch-2.false)
+    (rw c.world.ensures at (rw c.in-Some.is at c.in_ok-next.ensures)) all)

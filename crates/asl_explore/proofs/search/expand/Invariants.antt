@@ -1,7 +1,7 @@
 use Rattle.std.proofs.Common.{◌≡◌, true}
 use Rattle.std.specs.List.{All}
-use Rattle.asl_exec.specs.Views.{setup_of}
-use Rattle.asl_explore.specs.Searches.{IsLater, Shows, AreDistinct, worlds_of, outcomes_of}
+use Rattle.asl_exec.specs.Probes.{setup_of}
+use Rattle.asl_explore.specs.Searches.{IsLater, IsReached, Shows, AreDistinct, worlds_of, outcomes_of}
 use Rattle.asl_explore.proofs.Expanding.{AreMet}
 use Rattle.asl_explore.proofs.search.expand.Given as goal
 
@@ -9,8 +9,9 @@ use Rattle.asl_explore.proofs.search.expand.Given as goal
 abbrev pub invariant-loop-index : goal.invariant-loop-index
 invariant-loop-index l = record {
   later : IsLater (worlds_of l.fn.met.nodes.items) (outcomes_of l.fn.found.items) (worlds_of l.met.nodes.items) (outcomes_of l.found.items);
-  setup : setup_of l.execution ≡ setup_of l.fn.execution;
-  shown : All (Shows l.orders (setup_of l.fn.execution)) l.fn.found.items → All (Shows l.orders (setup_of l.fn.execution)) l.found.items;
+  setup : setup_of l.probe ≡ setup_of l.fn.probe;
+  shown : All (Shows l.orders (setup_of l.fn.probe)) l.fn.found.items → All (Shows l.orders (setup_of l.fn.probe)) l.found.items;
   once : AreDistinct (outcomes_of l.fn.found.items) → AreDistinct (outcomes_of l.found.items);
-  met : l.whole ≡ true → AreMet (setup_of l.fn.execution) (worlds_of l.fn.met.nodes.items) l.number (worlds_of l.met.nodes.items) (outcomes_of l.found.items) l.bound l.turns.items l.index;
+  reached : All (IsReached l.orders (setup_of l.fn.probe)) (worlds_of l.fn.met.nodes.items) → All (IsReached l.orders (setup_of l.fn.probe)) (worlds_of l.met.nodes.items);
+  met : l.whole ≡ true → AreMet (setup_of l.fn.probe) (worlds_of l.fn.met.nodes.items) l.number (worlds_of l.met.nodes.items) (outcomes_of l.found.items) l.bound l.turns.items l.index;
 }

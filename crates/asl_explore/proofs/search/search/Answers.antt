@@ -1,16 +1,19 @@
 use Rattle.std.proofs.Common.{rules, ap, [], ◌∷◌, inl, refl, ◌<◌, ◌≤◌, ◌≡◌, ◌+◌, true, false, sym, ◌∙◌, subst, arith, length}
+use Rattle.std.specs.List.{All}
 use Rattle.std.proofs.lemmas.List.{length-map}
-use Rattle.asl_run_world.specs.Bare.{bare}
-use Rattle.asl_run_world.specs.World.{World}
+use Rattle.asl_run_state.specs.Bare.{bare}
+use Rattle.asl_run_state.specs.World.{World}
 use Rattle.asl_exec.specs.Steps.{opening}
-use Rattle.asl_exec.specs.Views.{setup_of}
-use Rattle.asl_run_setup.specs.declared.setup.Setup.{Setup}
+use Rattle.asl_exec.specs.Probes.{setup_of}
+use Rattle.asl_run_input.specs.declared.setup.Setup.{Setup}
 use Rattle.asl_explore.specs.Settled.{AreSettledFrom}
 use Rattle.asl_explore.specs.declared.met.Node.{Node}
-use Rattle.asl_explore.specs.Searches.{IsMet, worlds_of, outcomes_of}
+use Rattle.asl_explore.specs.Searches.{IsMet, IsReached, worlds_of, outcomes_of}
 use Rattle.asl_explore.proofs.Growing.{met-later, later-length}
 use Rattle.asl_explore.proofs.Expanding.{shown-as, met-first}
 use Rattle.asl_explore.proofs.Ending.{searched-ends}
+use Rattle.asl_explore.proofs.Filling.{searched-fills}
+use Rattle.asl_explore.proofs.Reached.{first-reached}
 use Rattle.asl_explore.proofs.Levels.{level-more, level-first, level-depth, level-end, depth-told}
 use Rattle.asl_explore.proofs.Taking.{taken-more, expanded-more, all-whole}
 use Rattle.asl_explore.proofs.search.search.Goals as goal
@@ -38,7 +41,7 @@ returns-clause-whole g c t =
     let inv = c.loop-number.invariant in
     let all = c.is_complete-complete.ensures.yes t in
     let le : length (worlds_of ns) ≤ c.loop-number.number = omega (arith, length-map ns (λ (n : Node). bare n.world), c.loop-number.met.nodes.ok.0, all.1, c.len-2.ensures) in
-    all-whole c.args.orders (setup_of c.args.execution.now) (worlds_of ns) (outcomes_of c.loop-number.found.items) c.loop-number.number le inv.begins (inv.taken all.0)
+    all-whole c.args.orders (setup_of c.args.probe.now) (worlds_of ns) (outcomes_of c.loop-number.found.items) c.loop-number.number le inv.begins (inv.taken all.0)
 
 pub returns-clause-ending : goal.returns-clause-ending
 returns-clause-ending g c r t ends =
@@ -46,12 +49,20 @@ returns-clause-ending g c r t ends =
     let inv = c.loop-number.invariant in
     let all = c.is_complete-complete.ensures.yes t in
     let le : length (worlds_of ns) ≤ c.loop-number.number = omega (arith, length-map ns (λ (n : Node). bare n.world), c.loop-number.met.nodes.ok.0, all.1, c.len-2.ensures) in
-    searched-ends c.args.orders (setup_of c.args.execution.now) (worlds_of ns) (outcomes_of c.loop-number.found.items) c.args.alone inv.begins (c.is_reduced.ensures.other r)
+    searched-ends c.args.orders (setup_of c.args.probe.now) (worlds_of ns) (outcomes_of c.loop-number.found.items) c.args.alone inv.begins (c.is_reduced.ensures.other r)
     (λ plain i d l. inv.expanded plain all.0 i d (omega arith) (omega (arith, l, le))) (λ i l d. inv.taken all.0 i (omega (arith, l, le)) d) ends
+
+pub returns-clause-filling : goal.returns-clause-filling
+returns-clause-filling g c t ends =
+    let ns = c.loop-number.met.nodes.items in
+    let inv = c.loop-number.invariant in
+    let all = c.is_complete-complete.ensures.yes t in
+    let le : length (worlds_of ns) ≤ c.loop-number.number = omega (arith, length-map ns (λ (n : Node). bare n.world), c.loop-number.met.nodes.ok.0, all.1, c.len-2.ensures) in
+    searched-fills c.args.orders (setup_of c.args.probe.now) (worlds_of ns) (outcomes_of c.loop-number.found.items) inv.begins (λ i l d. inv.taken all.0 i (omega (arith, l, le)) d) ends
 
 pub returns-clause-depth : goal.returns-clause-depth
 returns-clause-depth g c =
-    depth-told c.args.orders (setup_of c.args.execution.now) (worlds_of c.loop-number.met.nodes.items) (outcomes_of c.loop-number.found.items) c.loop-number.level c.loop-number.whole c.depth_of.result c.loop-number.invariant.deep c.depth_of.ensures
+    depth-told c.args.orders (setup_of c.args.probe.now) (worlds_of c.loop-number.met.nodes.items) (outcomes_of c.loop-number.found.items) c.loop-number.level c.loop-number.whole c.depth_of.result c.loop-number.invariant.deep c.depth_of.ensures
 
 pub returns-clause-tried : goal.returns-clause-tried
 returns-clause-tried g c = inl refl
@@ -61,7 +72,7 @@ go_on-requires-clause-settled g c = subst (λ (s : Setup). AreSettledFrom s c.in
 
 pub loop-number-init : goal.loop-number-init
 loop-number-init g c =
-    let s = setup_of c.args.execution.now in
+    let s = setup_of c.args.probe.now in
     let ws = worlds_of c.in-Some.met.nodes.items in
     let os = outcomes_of c.new-found.result.items in
     let first : ws ≡ bare (opening s) ∷ [] = rw c.in-Some.is at c.in_ok-met.ensures in
@@ -71,6 +82,7 @@ loop-number-init g c =
       shown = search rules;
       once = search rules;
       begins = begins;
+      reached = first-reached c.args.orders s ws first;
       within = search rules;
       taken = search rules;
       depth = search rules;
@@ -81,8 +93,8 @@ loop-number-init g c =
 
 pub loop-number-preserved : goal.loop-number-preserved
 loop-number-preserved g c =
-    let s = setup_of c.args.execution.now in
-    let z = setup_of c.loop-number.execution in
+    let s = setup_of c.args.probe.now in
+    let z = setup_of c.loop-number.probe in
     let ns = c.loop-number.met.nodes.items in
     let ms = c.go_on.new.met.nodes.items in
     let os = outcomes_of c.loop-number.found.items in
@@ -96,6 +108,7 @@ loop-number-preserved g c =
       shown = shown-as c.args.orders z s c.loop-number.found.items c.go_on.new.found.items inv.setup c.go_on.ensures.shown inv.shown;
       once = c.go_on.ensures.once inv.once;
       begins = met-later (worlds_of ns) (worlds_of ms) os us (opening s) c.go_on.ensures.later inv.begins;
+      reached = subst (λ (x : Setup). All (IsReached c.args.orders x) (worlds_of ns) → All (IsReached c.args.orders x) (worlds_of ms)) inv.setup c.in_ok-is_enough.ensures.reached inv.reached;
       within = omega (arith, lt, more);
       depth = level-depth (i + 1) c.loop-number.level c.level_after-level.result c.len-in-loop-number.result (omega (arith, inv.depth)) c.level_after-level.ensures.same c.level_after-level.ensures.next;
       end = level-end (i + 1) (length (worlds_of ms)) c.loop-number.level c.level_after-level.result c.len-in-loop-number.result (omega (arith, inv.end, more)) (omega (arith, length-map ms (λ (n : Node). bare n.world), c.go_on.new.met.nodes.ok.0, c.len-in-loop-number.ensures)) c.level_after-level.ensures.same c.level_after-level.ensures.next;
@@ -112,3 +125,6 @@ loop-number-preserved g c =
           let both : (c.loop-number.whole ≡ true) × (c.in_ok-is_enough.is_enough ≡ true) = elim c.if-whole.branch [ then-whole b ↦ (b.if-whole.true, sym b.whole-is ∙ w) | else-whole b ↦ let e : true ≡ false = sym w ∙ b.whole-is ∙ b.if-whole.false in absurd (cc) ] in
           expanded-more c.args.orders s z (worlds_of ns) (worlds_of ms) os us i inv.setup c.go_on.ensures.later inv.within (inv.expanded plain both.0) (c.in_ok-is_enough.ensures.expanded plain both.1);
     }
+
+pub returns-clause-reached : goal.returns-clause-reached
+returns-clause-reached g c = c.loop-number.invariant.reached

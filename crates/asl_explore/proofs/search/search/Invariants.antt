@@ -1,8 +1,8 @@
 use Rattle.std.proofs.Common.{◌≡◌, ◌≤◌, ◌-◌, true, false, length}
 use Rattle.std.specs.List.{All, AllWithin}
 use Rattle.asl_exec.specs.Steps.{opening}
-use Rattle.asl_exec.specs.Views.{setup_of}
-use Rattle.asl_explore.specs.Searches.{IsMet, IsExpanded, AreTakenOn, Shows, AreDistinct, worlds_of, outcomes_of}
+use Rattle.asl_exec.specs.Probes.{setup_of}
+use Rattle.asl_explore.specs.Searches.{IsReached, IsMet, IsExpanded, AreTakenOn, Shows, AreDistinct, worlds_of, outcomes_of}
 use Rattle.asl_explore.specs.declared.orders.Orders.TheVariants.{Every}
 use Rattle.asl_explore.proofs.Levels.{IsDeep}
 use Rattle.asl_explore.proofs.search.search.Given as goal
@@ -10,16 +10,17 @@ use Rattle.asl_explore.proofs.search.search.Given as goal
 -- of the first worlds enough steps were taken, unless one was left out
 abbrev pub invariant-loop-number : goal.invariant-loop-number
 invariant-loop-number g l = record {
-  setup : setup_of l.execution ≡ setup_of l.fn.execution;
-  shown : All (Shows l.orders (setup_of l.fn.execution)) l.found.items;
+  setup : setup_of l.probe ≡ setup_of l.fn.probe;
+  shown : All (Shows l.orders (setup_of l.fn.probe)) l.found.items;
   once : AreDistinct (outcomes_of l.found.items);
-  begins : IsMet (worlds_of l.met.nodes.items) (outcomes_of l.found.items) (opening (setup_of l.fn.execution));
+  begins : IsMet (worlds_of l.met.nodes.items) (outcomes_of l.found.items) (opening (setup_of l.fn.probe));
+  reached : All (IsReached l.orders (setup_of l.fn.probe)) (worlds_of l.met.nodes.items);
   within : l.number ≤ length (worlds_of l.met.nodes.items);
-  taken : l.whole ≡ true → AreTakenOn l.orders (setup_of l.fn.execution) (worlds_of l.met.nodes.items) (outcomes_of l.found.items) l.number;
+  taken : l.whole ≡ true → AreTakenOn l.orders (setup_of l.fn.probe) (worlds_of l.met.nodes.items) (outcomes_of l.found.items) l.number;
   depth : l.level.depth ≤ l.number;
   end : l.level.end ≤ length (worlds_of l.met.nodes.items);
-  deep : l.orders ≡ Every → l.whole ≡ true → IsDeep l.orders (setup_of l.fn.execution) (worlds_of l.met.nodes.items) (outcomes_of l.found.items) l.level;
-  expanded : l.alone ≡ false → l.whole ≡ true → AllWithin (IsExpanded l.orders (setup_of l.fn.execution) (worlds_of l.met.nodes.items) (outcomes_of l.found.items)) (worlds_of l.met.nodes.items) 0 l.number;
+  deep : l.orders ≡ Every → l.whole ≡ true → IsDeep l.orders (setup_of l.fn.probe) (worlds_of l.met.nodes.items) (outcomes_of l.found.items) l.level;
+  expanded : l.alone ≡ false → l.whole ≡ true → AllWithin (IsExpanded l.orders (setup_of l.fn.probe) (worlds_of l.met.nodes.items) (outcomes_of l.found.items)) (worlds_of l.met.nodes.items) 0 l.number;
 }
 
 abbrev pub decreases-loop-number : goal.decreases-loop-number

@@ -1,11 +1,13 @@
-use Rattle.std.proofs.Common.{[], inl, arith, subst, get_or}
+use Rattle.std.proofs.Common.{[], inl, arith, sym, subst, get_or}
+use Rattle.std.specs.List.{All}
 use Rattle.std.proofs.lemmas.List.{length-map}
 use Rattle.std.proofs.lemmas.Result.{IfOk-weaker}
-use Rattle.asl_run_world.specs.Bare.{bare}
-use Rattle.asl_run_setup.specs.declared.setup.Setup.{Setup}
-use Rattle.asl_exec.specs.Views.{setup_of}
+use Rattle.asl_run_state.specs.Bare.{bare}
+use Rattle.asl_run_input.specs.declared.setup.Setup.{Setup}
+use Rattle.asl_exec.specs.Probes.{setup_of}
 use Rattle.asl_explore.specs.declared.met.Node.{Node}
-use Rattle.asl_explore.specs.Searches.{IsTakenOn, worlds_of, outcomes_of}
+use Rattle.asl_explore.specs.declared.orders.Orders.{Orders}
+use Rattle.asl_explore.specs.Searches.{IsReached, IsTakenOn, worlds_of, outcomes_of}
 use Rattle.asl_explore.proofs.Expanding.{shown-as}
 use Rattle.asl_explore.proofs.Growing.{later-length, later-then}
 use Rattle.asl_explore.proofs.search.take_on.Goals as goal
@@ -31,4 +33,18 @@ returns-else-branch-clause-later c =
 
 pub returns-else-branch-clause-shown : goal.returns-else-branch-clause-shown
 returns-else-branch-clause-shown c h =
-    shown-as c.args.orders (setup_of c.quietly.new.execution) (setup_of c.args.execution.now) c.args.found.now.items c.expand-in-Prompt.new.found.items c.quietly.ensures.setup c.expand-in-Prompt.ensures.shown h
+    shown-as c.args.orders (setup_of c.quietly.new.probe) (setup_of c.args.probe.now) c.args.found.now.items c.expand-in-Prompt.new.found.items c.quietly.ensures.setup c.expand-in-Prompt.ensures.shown h
+
+pub returns-then-branch-clause-reached : goal.returns-then-branch-clause-reached
+returns-then-branch-clause-reached c =
+    subst (λ (o : Orders). All (IsReached o (setup_of c.args.probe.now)) (worlds_of c.args.met.now.nodes.items) → All (IsReached o (setup_of c.args.probe.now)) (worlds_of c.quietly.new.met.nodes.items)) (sym c.in-Prompt.is) c.in_ok-quietly-in-Prompt.ensures.reached
+
+pub returns-else-branch-clause-reached : goal.returns-else-branch-clause-reached
+returns-else-branch-clause-reached c =
+    let s = setup_of c.args.probe.now in
+    let vs = worlds_of c.quietly.new.met.nodes.items in
+    let xs = worlds_of c.expand-in-Prompt.new.met.nodes.items in
+    let first = subst (λ (o : Orders). All (IsReached o s) (worlds_of c.args.met.now.nodes.items) → All (IsReached o s) vs) (sym c.in-Prompt.is) c.in_ok-quietly-in-Prompt.ensures.reached in
+    IfOk-weaker c.expand-in-Prompt.result _ _
+    (λ b h all. subst (λ (z : Setup). All (IsReached c.args.orders z) vs → All (IsReached c.args.orders z) xs) c.quietly.ensures.setup h (first all))
+    c.expand-in-Prompt.ensures.reached

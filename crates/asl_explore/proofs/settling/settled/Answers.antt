@@ -1,5 +1,5 @@
 use Rattle.std.proofs.Common.{◌≡◌, ◌∙◌, sym, ap, Some}
-use Rattle.asl_json.specs.Data.{Data}
+use Rattle.asl_json_data.specs.Data.{Data}
 use Rattle.asl_json.specs.View.{data_of}
 use Rattle.asl_def.specs.Machines.{state_object, states_of}
 use Rattle.asl_def_states.specs.Show.{state_of}

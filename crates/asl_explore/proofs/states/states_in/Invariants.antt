@@ -1,7 +1,12 @@
+use Rattle.std.proofs.Common.{◌≡◌, take}
+use Rattle.std.specs.Prelude.{map}
 use Rattle.std.specs.List.{All}
-use Rattle.asl_explore.specs.Calls.{IsStated}
+use Rattle.asl_explore.specs.States.{IsStated, names_told}
 use Rattle.asl_explore.proofs.states.states_in.Given as goal
 
--- those so far are states of the definition
-abbrev pub invariant-loop-named : goal.invariant-loop-named
-invariant-loop-named l = All (IsStated l.machine) l.states.items
+-- those of the names so far are told
+abbrev pub invariant-loop-member : goal.invariant-loop-member
+invariant-loop-member l = record {
+  each : All (IsStated l.machine) l.states.items;
+  named : names_told l.states.items ≡ map (λ m. m.now.key) (take l.member-index l.member-items);
+}

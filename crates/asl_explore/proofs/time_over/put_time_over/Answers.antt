@@ -1,6 +1,6 @@
 use Rattle.std.proofs.Common.{List, subst, sym, refl}
 use Rattle.std.specs.List.{All}
-use Rattle.asl_run_world.specs.declared.outcome.Outcome.TheVariants.{TimedOut}
+use Rattle.asl_run_state.specs.declared.outcome.Outcome.TheVariants.{TimedOut}
 use Rattle.asl_explore.specs.declared.found.Found.{Found}
 use Rattle.asl_explore.specs.Searches.{outcomes_of, IsLater}
 use Rattle.asl_explore.proofs.Growing.{later-same}

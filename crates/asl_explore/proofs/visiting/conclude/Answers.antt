@@ -1,10 +1,10 @@
 use Rattle.std.proofs.Common.{List, ◌≡◌, ◌∙◌, subst, sym, ap, refl}
 use Rattle.std.specs.List.{All}
-use Rattle.asl_run_setup.specs.declared.step_at.StepAt.{StepAt}
-use Rattle.asl_run_frames.proofs.Sameness.{unless}
-use Rattle.asl_run_world.proofs.Bareness.{outcome_eq, outcome-one}
+use Rattle.asl_run_input.specs.declared.step_at.StepAt.{StepAt}
+use Rattle.asl_run_branches.proofs.Sameness.{unless}
+use Rattle.asl_run_state.proofs.Bareness.{outcome_eq, outcome-one}
 use Rattle.asl_exec.specs.Steps.{opening, world_after}
-use Rattle.asl_exec.specs.Views.{setup_of, world_of}
+use Rattle.asl_exec.specs.Probes.{setup_of, world_of}
 use Rattle.asl_explore.specs.declared.found.Found.{Found}
 use Rattle.asl_explore.specs.Searches.{outcomes_of, IsLater}
 use Rattle.asl_explore.specs.Orders.{timed, places_of, AreTried}
@@ -38,8 +38,8 @@ returns-clause-later c ws = later-found ws c.args.found.now.items c.push.new.sel
 
 pub returns-clause-shown : goal.returns-clause-shown
 returns-clause-shown c =
-    let s = setup_of c.args.execution.now in
-    shown-more c.args.orders s c.args.found.now.items c.push.new.self.items (record { outcome = c.in_ok-outcome.outcome; steps = c.in_ok-steps.steps }) c.args.outcome.now c.outcome.result.now (world_of c.replay.new.execution) c.in_ok-push.ensures.items c.in_ok-outcome.ensures c.requires
+    let s = setup_of c.args.probe.now in
+    shown-more c.args.orders s c.args.found.now.items c.push.new.self.items (record { outcome = c.in_ok-outcome.outcome; steps = c.in_ok-steps.steps }) c.args.outcome.now c.outcome.result.now (world_of c.replay.new.probe) c.in_ok-push.ensures.items c.in_ok-outcome.ensures c.requires
     (c.in_ok-replay.ensures.world c.if-not-branch.false ∙ ap (λ (xs : List StepAt). world_after s (opening s) xs) c.deref-2.ensures.value) c.outcome.ensures (outcome-one c.outcome.result.now c.args.outcome.now (unless (outcome_eq c.outcome.result.now c.args.outcome.now) (sym c.if-ne.false ∙ c.ne.ensures)))
     (subst (λ (xs : List StepAt). xs ≡ timed s (opening s) (places_of xs)) c.deref-2.ensures.value (c.in_ok-replay.ensures.timed c.if-not-branch.false))
     (subst (λ (xs : List StepAt). AreTried c.args.orders s (opening s) (places_of xs)) c.deref-2.ensures.value (c.in_ok-replay.ensures.tried c.if-not-branch.false))

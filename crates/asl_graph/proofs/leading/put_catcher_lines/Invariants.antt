@@ -1,6 +1,6 @@
 use Rattle.std.proofs.Common.{◌≡◌, ◌++◌, drop}
 use Rattle.std.specs.Prelude.{string_bytes}
-use Rattle.asl_json.specs.Data.{chain}
+use Rattle.asl_json_data.specs.Data.{chain}
 use Rattle.asl_json.specs.View.{items_of}
 use Rattle.asl_graph.specs.Graphs.{catcher_lines}
 use Rattle.asl_graph.proofs.leading.put_catcher_lines.Given as goal

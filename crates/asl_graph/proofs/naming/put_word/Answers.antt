@@ -3,7 +3,7 @@ use Rattle.std.proofs.lemmas.Iterator.{YieldsList-from_chars}
 use Rattle.std.proofs.lemmas.Iterator.Consumers.{YieldsList-end}
 use Rattle.std.specs.Str.{chars}
 use Rattle.asl_graph.specs.Names.{word_char}
-use Rattle.asl_terminal.proofs.Letters.{end}
+use Rattle.asl_text.proofs.Letters.{end}
 use Rattle.asl_graph.proofs.naming.put_word.Goals as goal
 
 pub returns : goal.returns

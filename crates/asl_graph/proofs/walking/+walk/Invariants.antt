@@ -1,6 +1,6 @@
 use Rattle.std.proofs.Common.{◌≡◌, ◌+◌, ◌*◌, ◌++◌, drop}
 use Rattle.std.specs.Prelude.{string_bytes}
-use Rattle.asl_json.specs.Data.{chain, pairs, depth}
+use Rattle.asl_json_data.specs.Data.{chain, pairs, depth}
 use Rattle.asl_json.specs.View.{data_of, items_of, members_of}
 use Rattle.asl_graph.specs.Graphs.{in_machine, in_states, in_state, in_branches}
 use Rattle.asl_graph.proofs.walking.+walk.Given as goal

@@ -1,6 +1,6 @@
 use Rattle.std.proofs.Common.{◌≡◌, drop}
 use Rattle.std.specs.Prelude.{map}
-use Rattle.asl_json.specs.Data.{chain}
+use Rattle.asl_json_data.specs.Data.{chain}
 use Rattle.asl_handle.specs.Decisions.{first_for as spec_first_for}
 use Rattle.asl_handle.proofs.first.first_for.Given as goal
 

@@ -1,6 +1,6 @@
 use Rattle.std.proofs.Common.{◌≡◌, drop}
 use Rattle.std.specs.Prelude.{map}
-use Rattle.asl_json.specs.Data.{text, chain}
+use Rattle.asl_json_data.specs.Data.{text, chain}
 use Rattle.asl_handle.specs.Names.{has_name_for}
 use Rattle.asl_handle.proofs.names.are_for.Given as goal
 

@@ -1,6 +1,6 @@
 use Rattle.std.proofs.Common.{◌≡◌, ◌++◌, drop}
 use Rattle.std.specs.Prelude.{string_bytes}
-use Rattle.asl_json.specs.Buffers.{Keeps}
+use Rattle.asl_json_write.specs.Buffers.{Keeps}
 use Rattle.asl_history.specs.Places.{steps_text}
 use Rattle.asl_history.proofs.place.put_steps.Given as goal
 

@@ -1,5 +1,5 @@
 use Rattle.std.proofs.Common.{[], ◌∷◌, ◌++◌, codes}
-use Rattle.asl_host.specs.Outcomes.{IsBroken}
+use Rattle.asl_host.specs.Outcomes.{sink_use, IsBroken}
 use Rattle.asl_host.proofs.Breaking.{broken_first, broken_rest, when_err, map_err}
 use Rattle.asl_host.proofs.telling.write_fault.Goals as goal
 
@@ -16,8 +16,8 @@ returns-in_err-write_piece-2-clause-err g c =
 pub returns-clause-err : goal.returns-clause-err
 returns-clause-err g c =
     map_err c.write_piece-3.result
-    (IsBroken g.E.Sink.taken g.E.Sink.failures c.write_piece-2.new.sink c.write_piece-3.new.sink (10 ∷ []))
-    (IsBroken g.E.Sink.taken g.E.Sink.failures c.args.err.now c.write_piece-3.new.sink (codes "fault: " ++ (c.args.text.now ++ 10 ∷ [])))
+    (IsBroken (sink_use g.E.Sink.taken g.E.Sink.failures c.write_piece-2.new.sink c.write_piece-3.new.sink) (10 ∷ []))
+    (IsBroken (sink_use g.E.Sink.taken g.E.Sink.failures c.args.err.now c.write_piece-3.new.sink) (codes "fault: " ++ (c.args.text.now ++ 10 ∷ [])))
     (λ broken. broken_rest g.E.Sink.taken g.E.Sink.failures _ _ _ (codes "fault: ") (c.args.text.now ++ 10 ∷ [])
     c.in_ok-write_piece.ensures.ok
     (broken_rest g.E.Sink.taken g.E.Sink.failures _ _ _ c.args.text.now (10 ∷ []) c.in_ok-write_piece-2.ensures.ok broken))

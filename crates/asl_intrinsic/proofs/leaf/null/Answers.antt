@@ -1,5 +1,5 @@
 use Rattle.std.proofs.lemmas.Result.{err_from_is_err_and}
-use Rattle.asl_json.specs.Data.{null}
+use Rattle.asl_json_data.specs.Data.{null}
 use Rattle.asl_intrinsic.proofs.Stretches.{word_pass, word_fails}
 use Rattle.std.proofs.Common.{◌∷◌, []}
 use Rattle.asl_intrinsic.proofs.leaf.null.Goals as goal

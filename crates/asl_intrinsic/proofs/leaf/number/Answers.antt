@@ -1,5 +1,5 @@
 use Rattle.std.proofs.Common.{subst, sym}
-use Rattle.asl_json.specs.Number.{IsNumeral}
+use Rattle.asl_json_data.specs.Number.{IsNumeral}
 use Rattle.asl_intrinsic.proofs.Leaves.{longest_of, number_broken, numeral_over, numeral_reads, number_boundary}
 use Rattle.asl_intrinsic.proofs.leaf.number.Goals as goal
 

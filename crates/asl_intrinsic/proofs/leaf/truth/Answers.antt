@@ -1,5 +1,5 @@
 use Rattle.std.proofs.lemmas.Result.{err_from_is_err_and}
-use Rattle.asl_json.specs.Data.{boolean}
+use Rattle.asl_json_data.specs.Data.{boolean}
 use Rattle.asl_intrinsic.proofs.Stretches.{letters_pass, letters_fail}
 use Rattle.asl_intrinsic.proofs.leaf.truth.Goals as goal
 

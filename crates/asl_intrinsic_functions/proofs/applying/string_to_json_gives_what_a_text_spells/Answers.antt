@@ -1,6 +1,6 @@
 use Rattle.std.proofs.Common.{◌≡◌, Option, Some, None, Ok, refl, ap}
-use Rattle.asl_json.specs.Data.{Data}
-use Rattle.asl_json.specs.Reading.{value_read}
+use Rattle.asl_json_data.specs.Data.{Data}
+use Rattle.asl_json_read.specs.Reading.{value_read}
 use Rattle.asl_intrinsic_functions.specs.Outcome.{fails, or_fails}
 use Rattle.asl_intrinsic_functions.specs.declared.fault.Reason.TheVariants.{Undecoded}
 use Rattle.asl_intrinsic_functions.proofs.applying.string_to_json_gives_what_a_text_spells.Goals as goal

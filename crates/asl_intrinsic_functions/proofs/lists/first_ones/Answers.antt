@@ -1,5 +1,5 @@
 use Rattle.std.proofs.Common.{◌∙◌, ap, List}
-use Rattle.asl_json.specs.Data.{Data}
+use Rattle.asl_json_data.specs.Data.{Data}
 use Rattle.asl_json.specs.View.{items_of}
 use Rattle.asl_intrinsic_functions.specs.private.Loops.{kept_of}
 use Rattle.asl_intrinsic_functions.proofs.Firsts.{first_kept}

@@ -1,5 +1,5 @@
 use Rattle.std.proofs.Common.{◌≡◌, [], ◌∙◌, ap, sym, List, ℕ, Ok}
-use Rattle.asl_json.specs.Data.{Data}
+use Rattle.asl_json_data.specs.Data.{Data}
 use Rattle.asl_json.specs.View.{members_of}
 use Rattle.asl_intrinsic_functions.specs.Merge.{merged}
 use Rattle.asl_intrinsic_functions.specs.private.Loops.{put_in}

@@ -2,10 +2,10 @@ use Rattle.std.proofs.Common.{◌≡◌, ◌++◌, ◌∷◌, [], ◌∙◌, sym
 use Rattle.std.specs.Str.{bytes_eq}
 use Rattle.std.specs.HashMap.{get_by}
 use Rattle.std.proofs.lemmas.Map.Text.{hash_map_updates_str}
-use Rattle.asl_json.specs.Data.{Data}
+use Rattle.asl_json_data.specs.Data.{Data}
 use Rattle.asl_json.specs.View.{data_of}
 use Rattle.asl_json.specs.Access.{key_index}
-use Rattle.asl_json.specs.Distinct.{has_key}
+use Rattle.asl_json_data.specs.Distinct.{has_key}
 use Rattle.asl_json.specs.declared.value.Json.{Json}
 use Rattle.asl_intrinsic_functions.specs.private.Loops.{with_member}
 use Rattle.asl_intrinsic_functions.proofs.Merging.{place_within, place_set, index_set, no_place_key, no_place_push, index_push}

@@ -2,7 +2,7 @@ use Rattle.std.proofs.Common.{rules, arith, ◌≡◌, ◌∙◌, ap, sym, false
 use mir.Syntax.{w128}
 use mir.Val.{to_z}
 use Rattle.std.proofs.lemmas.Int.{to_z-of_z, ints}
-use Rattle.asl_json.specs.Data.{Data}
+use Rattle.asl_json_data.specs.Data.{Data}
 use Rattle.asl_json.specs.View.{data_of, items_of}
 use Rattle.asl_intrinsic_functions.specs.Converting.{whole_number}
 use Rattle.asl_intrinsic_functions.specs.Lists.{counted, is_passed}

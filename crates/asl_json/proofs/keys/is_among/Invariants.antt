@@ -1,6 +1,6 @@
 use Rattle.std.proofs.Common.{◌≡◌, drop}
 use Rattle.asl_json.specs.View.{members_of}
-use Rattle.asl_json.specs.Distinct.{has_key}
+use Rattle.asl_json_data.specs.Distinct.{has_key}
 use Rattle.asl_json.proofs.keys.is_among.Given as goal
 
 abbrev pub invariant-loop-member : goal.invariant-loop-member

@@ -1,5 +1,5 @@
 use Rattle.std.proofs.Common.{ap, subst, arith, List, ℕ}
-use Rattle.asl_json.specs.Data.{Data, chain, pairs, items_depth, members_depth}
+use Rattle.asl_json_data.specs.Data.{Data, chain, pairs, items_depth, members_depth}
 use Rattle.asl_json.specs.View.{data_of}
 use Rattle.asl_json.specs.Sound.{KeysDifferInItems, KeysDifferInMembers, AreSoundItems, AreSoundMembers}
 use Rattle.asl_json.proofs.Sounding.{items_go, items_gone, members_go, members_gone, object_differs, item_depth, member_depth}

@@ -1,6 +1,6 @@
 use Rattle.std.proofs.Common.{◌+◌, ◌*◌, drop}
 use Rattle.asl_json.specs.View.{data_of}
-use Rattle.asl_json.specs.Data.{chain, pairs, depth, items_depth, members_depth}
+use Rattle.asl_json_data.specs.Data.{chain, pairs, depth, items_depth, members_depth}
 use Rattle.asl_json.proofs.Sounding.{ItemsGo, MembersGo}
 use Rattle.asl_json.proofs.sound.+sound.Given as goal
 

@@ -1,8 +1,8 @@
 use Rattle.std.proofs.Common.{◌≡◌, ◌≤◌, ◌++◌, ℕ, List, ap, subst, ◌∙◌, arith, string_bytes}
 use Rattle.std.specs.Prelude.{Option, option_map, slice_get}
-use Rattle.asl_json.specs.Pointers.{index_part}
-use Rattle.asl_json.specs.Data.{Data, depth, items_depth, members_depth, chain, pairs}
-use Rattle.asl_json.specs.Distinct.{Members}
+use Rattle.asl_json_write.specs.Pointers.{index_part}
+use Rattle.asl_json_data.specs.Data.{Data, depth, items_depth, members_depth, chain, pairs}
+use Rattle.asl_json_data.specs.Distinct.{Members}
 use Rattle.asl_json.specs.View.{data_of, items_of}
 use Rattle.asl_json.proofs.Sounding.{item_depth, member_depth}
 use Rattle.asl_json_diff.specs.Changes.{part_change}

@@ -1,5 +1,5 @@
 use Rattle.std.proofs.Common.{◌≡◌, ◌++◌, drop, string_bytes}
-use Rattle.asl_json.specs.Data.{chain}
+use Rattle.asl_json_data.specs.Data.{chain}
 use Rattle.asl_json.specs.View.{items_of}
 use Rattle.asl_json_diff.specs.Changes.{items_added}
 use Rattle.asl_json_diff.proofs.changes.put_items_added.Given as goal

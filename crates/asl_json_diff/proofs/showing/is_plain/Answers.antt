@@ -5,7 +5,7 @@ use Rattle.std.specs.Prelude.{not}
 use Rattle.std.specs.List.{list_any}
 use Rattle.std.specs.Str.{chars}
 use Rattle.asl_json_diff.specs.Shown.{is_out_of_place}
-use Rattle.asl_terminal.proofs.Letters.{whole}
+use Rattle.asl_text.proofs.Letters.{whole}
 use Rattle.asl_json_diff.proofs.showing.is_plain.Goals as goal
 
 pub returns : goal.returns

@@ -4,9 +4,9 @@ use Rattle.std.proofs.lemmas.Iterator.{YieldsList-from_chars}
 use Rattle.std.proofs.lemmas.Iterator.Consumers.{YieldsList-end}
 use Rattle.std.specs.Prelude.{codes}
 use Rattle.std.specs.Str.{chars}
-use Rattle.asl_terminal.specs.Shown.{shown_char}
+use Rattle.asl_text.specs.Shown.{shown_char}
 use Rattle.asl_json_diff.specs.Shown.{first_chars}
-use Rattle.asl_terminal.proofs.Letters.{whole}
+use Rattle.asl_text.proofs.Letters.{whole}
 use Rattle.asl_json_diff.proofs.Letters.{within, at_end, beyond, longer, not_yet, by_now}
 use Rattle.asl_json_diff.proofs.showing.put_first.Goals as goal
 

@@ -1,12 +1,12 @@
 use Rattle.std.proofs.Common.{ap, subst, sym, ◌∙◌}
-use Rattle.asl_json.specs.Data.{Data}
+use Rattle.asl_json_data.specs.Data.{Data}
 use Rattle.asl_json.specs.View.{data_of}
 use Rattle.asl_def_states.specs.Choosing.{chosen_next}
 use Rattle.asl_def_states.specs.Show.{choice_object}
-use Rattle.asl_step_rows.specs.Context.{context_of}
-use Rattle.asl_step_rows.specs.Seen.{seen}
-use Rattle.asl_step_data.specs.Gives.{GivesSeen}
-use Rattle.asl_step_data.specs.Reason.{GivenText}
+use Rattle.asl_step.specs.Context.{context_of}
+use Rattle.asl_step.specs.Seen.{seen}
+use Rattle.asl_step_io.specs.Gives.{GivesSeen}
+use Rattle.asl_step_io.specs.Reason.{GivenText}
 use Rattle.asl_kinds.proofs.Choosing.{decided_by}
 use Rattle.asl_kinds.proofs.choice.target.Goals as goal
 

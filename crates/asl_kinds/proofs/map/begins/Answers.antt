@@ -1,9 +1,9 @@
 use Rattle.std.proofs.Common.{[], codes, refl, false}
 use Rattle.std.specs.Prelude.{Err}
 use Rattle.asl_history.specs.declared.kind.EventKind.TheVariants.{MapStateEntered, MapStateExited}
-use Rattle.asl_def_parts.specs.Member.{completion_object}
-use Rattle.asl_step_rows.specs.private.Laws.{IsSoFar, beginning-so-far}
-use Rattle.asl_step_rows.specs.Seen.{seen}
+use Rattle.asl_def_shared.specs.Member.{completion_object}
+use Rattle.asl_step.specs.private.Laws.{IsSoFar, beginning-so-far}
+use Rattle.asl_step.specs.Seen.{seen}
 use Rattle.asl_kinds.specs.private.Laws.{fits_as, fork_settled-lawful}
 use Rattle.asl_kinds.proofs.map.begins.Goals as goal
 

@@ -3,10 +3,10 @@ use Rattle.std.specs.Prelude.{option_map, Err}
 use Rattle.std.proofs.lemmas.List.{length_push}
 use Rattle.std.proofs.lemmas.Result.{err_from_is_err_and}
 use Rattle.asl_json.specs.View.{data_of}
-use Rattle.asl_step_rows.specs.declared.record.Record.TheVariants.{New}
-use Rattle.asl_step_rows.specs.Seen.{seen}
-use Rattle.asl_step_rows.specs.declared.facts.Facts.{Facts}
-use Rattle.asl_step_data.specs.Gives.{Gives}
+use Rattle.asl_step.specs.declared.record.Record.TheVariants.{New}
+use Rattle.asl_step.specs.Seen.{seen}
+use Rattle.asl_step.specs.declared.facts.Facts.{Facts}
+use Rattle.asl_step_io.specs.Gives.{Gives}
 use Rattle.asl_kinds.specs.Forks.{item_input, iterations}
 use Rattle.asl_kinds.proofs.Mapping.{made-from, fails-from, fault_told}
 use Rattle.asl_kinds.proofs.map.iterations.Goals as goal

@@ -1,6 +1,6 @@
 use Rattle.std.proofs.Common.{◌≡◌, drop, length}
 use Rattle.std.specs.Prelude.{option_map}
-use Rattle.asl_step_rows.specs.Seen.{seen}
+use Rattle.asl_step.specs.Seen.{seen}
 use Rattle.asl_kinds.specs.Forks.{iterations}
 use Rattle.asl_kinds.proofs.Mapping.{behind}
 use Rattle.asl_kinds.proofs.map.iterations.Given as goal

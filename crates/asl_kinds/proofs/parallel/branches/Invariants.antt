@@ -1,5 +1,5 @@
 use Rattle.std.proofs.Common.{◌≡◌, take, map}
-use Rattle.asl_step_rows.specs.declared.record.Record.TheVariants.{Ready}
+use Rattle.asl_step.specs.declared.record.Record.TheVariants.{Ready}
 use Rattle.asl_kinds.proofs.parallel.branches.Given as goal
 
 abbrev pub invariant-loop-body : goal.invariant-loop-body

@@ -1,10 +1,10 @@
 use Rattle.std.proofs.Common.{[], codes, refl, subst, ap, ◌∙◌, ◌≡◌}
 use Rattle.std.specs.Prelude.{IfOk}
 use Rattle.asl_handle.specs.Decisions.{handlers_in}
-use Rattle.asl_def_table.specs.Claims.{item_count}
+use Rattle.asl_def_schema.specs.Claims.{item_count}
 use Rattle.asl_def_states.specs.Show.{parallel_object}
-use Rattle.asl_step_rows.specs.declared.effect.Effect.{Effect}
-use Rattle.asl_step_rows.specs.Seen.{seen}
+use Rattle.asl_step.specs.declared.effect.Effect.{Effect}
+use Rattle.asl_step.specs.Seen.{seen}
 use Rattle.asl_kinds.specs.private.Laws.{starts_of}
 use Rattle.asl_kinds.proofs.Branching.{forked_as}
 use Rattle.asl_kinds.proofs.parallel.forks.Goals as goal

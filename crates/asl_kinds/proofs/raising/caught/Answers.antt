@@ -1,6 +1,6 @@
 use Rattle.std.proofs.Common.{sym}
-use Rattle.asl_def_members.specs.Shown.{path_shown}
-use Rattle.asl_step_data.specs.Paths.{put_into}
+use Rattle.asl_def_fields.specs.Shown.{path_shown}
+use Rattle.asl_step_io.specs.Paths.{put_into}
 use Rattle.asl_kinds.proofs.raising.caught.Goals as goal
 
 pub returns : goal.returns

@@ -1,8 +1,8 @@
 use Rattle.std.proofs.Common.{codes, refl}
 use Rattle.asl_json.specs.Meaning.{value_in}
-use Rattle.asl_def_parts.specs.Member.{completion_object}
-use Rattle.asl_step_rows.specs.Context.{context_of}
-use Rattle.asl_step_rows.specs.Seen.{seen}
+use Rattle.asl_def_shared.specs.Member.{completion_object}
+use Rattle.asl_step.specs.Context.{context_of}
+use Rattle.asl_step.specs.Seen.{seen}
 use Rattle.asl_kinds.specs.Members.{selected_by}
 use Rattle.asl_kinds.proofs.task.returns.Goals as goal
 

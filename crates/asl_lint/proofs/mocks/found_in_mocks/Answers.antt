@@ -2,8 +2,8 @@ use Rattle.std.proofs.Common.{List, [], ◌++◌, subst, ap, sym, ◌∙◌, Opt
 use Rattle.std.specs.Prelude.{map, option_map}
 use Rattle.asl_json.specs.View.{data_of}
 use Rattle.asl_mock.specs.Tables.{members_in}
-use Rattle.asl_lint_words.specs.States.{Stated}
-use Rattle.asl_lint_words.specs.declared.states.States.{States}
+use Rattle.asl_lint_messages.specs.States.{Stated}
+use Rattle.asl_lint_messages.specs.declared.states.States.{States}
 use Rattle.asl_lint.specs.declared.finding.Found.{Found}
 use Rattle.asl_lint.specs.Mocks.{Keyed, keyed, mocks_told, own_told, beside_told}
 use Rattle.asl_lint.specs.private.Founds.{Grows, noted}

@@ -2,7 +2,7 @@ use Rattle.std.proofs.Common.{◌≡◌, ◌++◌, take}
 use Rattle.std.specs.Prelude.{map}
 use Rattle.std.specs.List.{All}
 use Rattle.std.specs.Vec.Iter.{into_iter_items}
-use Rattle.asl_json_outline.specs.Position.{IsPosition}
+use Rattle.asl_json_spans.specs.Position.{IsPosition}
 use Rattle.asl_lint.specs.Places.{IsAt, ruled}
 use Rattle.asl_lint.specs.private.Founds.{spanned}
 use Rattle.asl_lint.proofs.placing.positioned.Given as goal

@@ -1,6 +1,6 @@
 use Rattle.std.proofs.Common.{◌∙◌, ap, sym, subst, List}
 use Rattle.std.specs.Prelude.{map}
-use Rattle.asl_json_outline.specs.Standing.{AllFind}
+use Rattle.asl_json_spans.specs.Standing.{AllFind}
 use Rattle.asl_lint.specs.declared.finding.Found.{Found}
 use Rattle.asl_lint.specs.Findings.{pointed}
 use Rattle.asl_lint.specs.Places.{AllPoint}

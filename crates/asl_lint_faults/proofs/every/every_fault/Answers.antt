@@ -1,10 +1,10 @@
 use Rattle.std.proofs.Common.{◌≡◌, subst, sym, [], List, ℕ, Bool, false, true}
 use Rattle.std.specs.HashSet.{contains_text}
 use Rattle.asl_json.specs.View.{data_of}
-use Rattle.asl_def_table.specs.declared.sort.Sort.TheVariants.{Definition}
-use Rattle.asl_def_table.specs.Claims.{claims, outside}
-use Rattle.asl_def_table.specs.Faults.{claims_of}
-use Rattle.asl_def_table.specs.States.{Named, states_in, unique_claims}
+use Rattle.asl_def_schema.specs.declared.sort.Sort.TheVariants.{Definition}
+use Rattle.asl_def_schema.specs.Claims.{claims, outside}
+use Rattle.asl_def_schema.specs.Faults.{claims_of}
+use Rattle.asl_def_schema.specs.States.{Named, states_in, unique_claims}
 use Rattle.asl_lint_faults.specs.Told.{AreTold}
 use Rattle.asl_lint_faults.proofs.Telling.{told_append}
 use Rattle.asl_lint_faults.proofs.every.every_fault.Goals as goal

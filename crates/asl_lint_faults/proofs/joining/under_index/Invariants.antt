@@ -2,7 +2,7 @@ use Rattle.std.proofs.Common.{◌≡◌, ◌++◌}
 use Rattle.std.specs.Prelude.{map}
 use Rattle.std.specs.Vec.Iter.{into_iter_items}
 use Rattle.std.specs.Fmt.{decimal}
-use Rattle.asl_def_table.specs.Claims.{step}
+use Rattle.asl_def_schema.specs.Claims.{step}
 use Rattle.asl_def_judge.specs.private.Firsts.{under_step}
 use Rattle.asl_lint_faults.proofs.joining.under_index.Given as goal
 

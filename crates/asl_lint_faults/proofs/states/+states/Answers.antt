@@ -1,7 +1,7 @@
 use Rattle.std.proofs.Common.{◌∙◌, ◌++◌, ap, arith, List, ℕ}
-use Rattle.asl_json.specs.Data.{Data, pairs, chain, members_depth, items_depth}
+use Rattle.asl_json_data.specs.Data.{Data, pairs, chain, members_depth, items_depth}
 use Rattle.asl_json.proofs.Sounding.{item_depth, member_depth}
-use Rattle.asl_def_table.specs.States.{Named}
+use Rattle.asl_def_schema.specs.States.{Named}
 use Rattle.asl_lint_faults.proofs.Names.{items_gathered}
 use Rattle.asl_lint_faults.proofs.states.+states.Goals as goal
 

@@ -1,8 +1,8 @@
 use Rattle.std.proofs.Common.{◌≡◌, ◌+◌, ◌*◌, ◌++◌, drop}
-use Rattle.asl_json.specs.Data.{pairs, chain, depth, members_depth, items_depth}
+use Rattle.asl_json_data.specs.Data.{pairs, chain, depth, members_depth, items_depth}
 use Rattle.asl_json.specs.View.{data_of, items_of, members_of}
-use Rattle.asl_def_table.specs.private.Code.{shape_seen}
-use Rattle.asl_def_table.specs.States.{item_states, member_states}
+use Rattle.asl_def_schema.specs.private.Code.{shape_seen}
+use Rattle.asl_def_schema.specs.States.{item_states, member_states}
 use Rattle.asl_lint_faults.proofs.states.+states.Given as goal
 
 abbrev pub decreases-states_in : goal.decreases-states_in

@@ -2,8 +2,8 @@ use Rattle.std.proofs.Common.{◌∙◌, ap, sym}
 use Rattle.std.specs.Prelude.{Some, None, if◌then◌else◌}
 use Rattle.std.specs.HashSet.{contains_text}
 use Rattle.std.specs.Vec.Iter.{into_iter_items}
-use Rattle.asl_def_table.specs.declared.fault.FaultKind.TheVariants.{DuplicateState}
-use Rattle.asl_def_table.specs.States.{Named}
+use Rattle.asl_def_schema.specs.declared.fault.FaultKind.TheVariants.{DuplicateState}
+use Rattle.asl_def_schema.specs.States.{Named}
 use Rattle.asl_lint_faults.proofs.Names.{continues-start, continues-end, name_passed}
 use Rattle.asl_lint_faults.proofs.states.doubled.Goals as goal
 

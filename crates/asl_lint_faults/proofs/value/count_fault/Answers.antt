@@ -1,5 +1,5 @@
 use Rattle.std.proofs.Common.{sym, subst}
-use Rattle.asl_json.specs.Data.{chain}
+use Rattle.asl_json_data.specs.Data.{chain}
 use Rattle.asl_def_judge.specs.private.Firsts.{Judges}
 use Rattle.asl_def_judge.proofs.Answering.{in_range_judged}
 use Rattle.asl_lint_faults.specs.private.Parts.{count_demands}

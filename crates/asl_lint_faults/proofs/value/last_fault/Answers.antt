@@ -1,5 +1,5 @@
 use Rattle.std.proofs.Common.{sym, subst}
-use Rattle.asl_json.specs.Data.{chain}
+use Rattle.asl_json_data.specs.Data.{chain}
 use Rattle.asl_def_judge.specs.private.Spots.{spot_of}
 use Rattle.asl_def_judge.specs.private.Firsts.{Judges}
 use Rattle.asl_def_judge.proofs.Answering.{last_judged}

@@ -1,6 +1,6 @@
 use Rattle.std.proofs.Common.{refl, not}
 use Rattle.asl_json.specs.View.{data_of}
-use Rattle.asl_def_table.specs.Demands.{alone}
+use Rattle.asl_def_schema.specs.Demands.{alone}
 use Rattle.asl_def_judge.proofs.Answering.{alone_judged}
 use Rattle.asl_def_judge.specs.private.Spots.{spot_of}
 use Rattle.asl_lint_faults.proofs.Telling.{own_told}

@@ -1,5 +1,5 @@
 use Rattle.std.proofs.Common.{ap, sym, ◌∙◌}
-use Rattle.asl_json.specs.Data.{chain, text}
+use Rattle.asl_json_data.specs.Data.{chain, text}
 use Rattle.asl_json.specs.View.{data_of}
 use Rattle.asl_def_judge.specs.private.Spots.{spot_of}
 use Rattle.asl_lint_faults.proofs.Telling.{text_told, number_told, list_told}

@@ -2,12 +2,12 @@ use Rattle.std.proofs.Common.{◌+◌, ◌∙◌, ◌∷◌, ◌++◌, ap, sym, 
 use Rattle.std.specs.Prelude.{nat_eq, map}
 use Rattle.std.specs.HashSet.{contains_text}
 use Rattle.asl_json.specs.Keys.{Knows}
-use Rattle.asl_json.specs.Data.{Data, pairs, chain, members_depth, items_depth}
+use Rattle.asl_json_data.specs.Data.{Data, pairs, chain, members_depth, items_depth}
 use Rattle.asl_json.specs.View.{data_of, members_of}
 use Rattle.asl_json.proofs.Sounding.{item_depth, member_depth}
-use Rattle.asl_def_table.specs.private.Code.{shape_seen}
-use Rattle.asl_def_table.specs.Claims.{claims, item_claims, member_claims, step}
-use Rattle.asl_def_table.specs.First.{Found}
+use Rattle.asl_def_schema.specs.private.Code.{shape_seen}
+use Rattle.asl_def_schema.specs.Claims.{claims, item_claims, member_claims, step}
+use Rattle.asl_def_schema.specs.First.{Found}
 use Rattle.asl_def_judge.specs.private.Firsts.{under_step}
 use Rattle.asl_def_judge.proofs.Walking.{last_item, members_more}
 use Rattle.asl_lint_faults.specs.Told.{AreTold}

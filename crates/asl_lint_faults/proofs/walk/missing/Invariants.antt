@@ -1,9 +1,9 @@
 use Rattle.std.proofs.Common.{◌+◌, drop}
-use Rattle.asl_json.specs.Data.{pairs}
+use Rattle.asl_json_data.specs.Data.{pairs}
 use Rattle.asl_json.specs.View.{members_of}
 use Rattle.asl_json.specs.Meaning.{count}
-use Rattle.asl_def_table.specs.Claims.{row_claims}
-use Rattle.asl_def_table.specs.private.Code.{rows_of}
+use Rattle.asl_def_schema.specs.Claims.{row_claims}
+use Rattle.asl_def_schema.specs.private.Code.{rows_of}
 use Rattle.asl_lint_faults.proofs.Going.{Goes}
 use Rattle.asl_lint_faults.proofs.walk.missing.Given as goal
 

@@ -1,6 +1,6 @@
 use Rattle.std.proofs.Common.{◌≡◌, ◌||◌, drop, List, ℕ}
 use Rattle.std.specs.HashSet.{contains_text}
-use Rattle.asl_json.specs.Distinct.{has_key}
+use Rattle.asl_json_data.specs.Distinct.{has_key}
 use Rattle.asl_json.specs.View.{members_of}
 use Rattle.asl_lint_mocks.proofs.beside.answer_states.Given as goal
 

@@ -1,8 +1,8 @@
 use Rattle.std.proofs.Common.{◌≡◌, subst, sym, refl, Bool}
 use Rattle.std.specs.Prelude.{codes, not, true, false}
 use Rattle.std.proofs.lemmas.Result.{IfOk-weaker}
-use Rattle.asl_json.specs.Data.{Data}
-use Rattle.asl_json.specs.Distinct.{Members}
+use Rattle.asl_json_data.specs.Data.{Data}
+use Rattle.asl_json_data.specs.Distinct.{Members}
 use Rattle.asl_json.specs.View.{data_of}
 use Rattle.asl_mock.specs.Places.{in_each}
 use Rattle.asl_mock.specs.Tables.{members_in, members_at}

@@ -1,8 +1,8 @@
 use Rattle.std.proofs.Common.{subst, List, ℕ}
 use Rattle.std.specs.Prelude.{option_map}
 use Rattle.std.proofs.lemmas.Result.{IfOk-weaker}
-use Rattle.asl_json.specs.Data.{Data}
-use Rattle.asl_json.specs.Distinct.{Members}
+use Rattle.asl_json_data.specs.Data.{Data}
+use Rattle.asl_json_data.specs.Distinct.{Members}
 use Rattle.asl_json.specs.View.{data_of}
 use Rattle.asl_mock.specs.Places.{Place, in_each}
 use Rattle.asl_lint_mocks.specs.Beside.{in_machine, is_meant, machines_in}

@@ -1,6 +1,6 @@
 use Rattle.std.proofs.Common.{◌∙◌, ap, subst}
 use Rattle.std.specs.Prelude.{codes, is_some}
-use Rattle.asl_json.specs.Distinct.{Members}
+use Rattle.asl_json_data.specs.Distinct.{Members}
 use Rattle.asl_json.specs.View.{data_of, members_of}
 use Rattle.asl_mock.specs.Answers.{responses_of}
 use Rattle.asl_lint_mocks.specs.Lost.{lost_in_machine}

@@ -1,5 +1,5 @@
 use Rattle.std.proofs.Common.{subst}
-use Rattle.asl_json.specs.Distinct.{Members}
+use Rattle.asl_json_data.specs.Distinct.{Members}
 use Rattle.asl_mock.specs.Places.{in_each}
 use Rattle.asl_lint_mocks.specs.Places.{AreAt, numbers_of}
 use Rattle.asl_lint_mocks.specs.Warnings.{gap_in}

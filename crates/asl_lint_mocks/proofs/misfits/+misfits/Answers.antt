@@ -1,8 +1,8 @@
 use Rattle.std.proofs.Common.{◌≤◌, ◌∙◌, ap, subst, arith}
 use Rattle.std.proofs.lemmas.List.{map-append}
-use Rattle.asl_json.specs.Data.{depth, members_depth, pairs}
+use Rattle.asl_json_data.specs.Data.{depth, members_depth, pairs}
 use Rattle.asl_json.specs.View.{data_of}
-use Rattle.asl_json.specs.Distinct.{Members}
+use Rattle.asl_json_data.specs.Distinct.{Members}
 use Rattle.asl_mock.specs.Form.{part_shape, misfits}
 use Rattle.asl_mock.specs.declared.shape.Shape.{Shape}
 use Rattle.asl_lint_mocks.specs.Places.{numbers_of}

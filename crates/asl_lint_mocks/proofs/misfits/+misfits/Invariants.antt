@@ -1,5 +1,5 @@
 use Rattle.std.proofs.Common.{◌+◌, ◌*◌, take}
-use Rattle.asl_json.specs.Data.{depth, members_depth, pairs}
+use Rattle.asl_json_data.specs.Data.{depth, members_depth, pairs}
 use Rattle.asl_json.specs.View.{data_of, members_of}
 use Rattle.asl_mock.specs.Places.{in_each}
 use Rattle.asl_lint_mocks.specs.Places.{AreAt, numbers_of}

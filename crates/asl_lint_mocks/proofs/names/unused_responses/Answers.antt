@@ -3,8 +3,8 @@ use Rattle.std.specs.Prelude.{codes}
 use Rattle.std.specs.HashSet.{contains_text}
 use Rattle.std.specs.List.{list_any}
 use Rattle.std.proofs.lemmas.Result.{IfOk-weaker}
-use Rattle.asl_json.specs.Data.{Data}
-use Rattle.asl_json.specs.Distinct.{Members}
+use Rattle.asl_json_data.specs.Data.{Data}
+use Rattle.asl_json_data.specs.Distinct.{Members}
 use Rattle.asl_json.specs.View.{data_of}
 use Rattle.asl_mock.specs.Form.{unless}
 use Rattle.asl_mock.specs.Places.{Place, in_each}

@@ -1,6 +1,6 @@
 use Rattle.std.proofs.Common.{◌≡◌, ◌||◌, drop, List, ℕ}
 use Rattle.std.specs.HashSet.{contains_text}
-use Rattle.asl_json.specs.Data.{chain}
+use Rattle.asl_json_data.specs.Data.{chain}
 use Rattle.asl_json.specs.View.{items_of}
 use Rattle.asl_lint_warnings.specs.Handlers.{has_text}
 use Rattle.asl_lint_warnings.proofs.handling.list_names.Given as goal

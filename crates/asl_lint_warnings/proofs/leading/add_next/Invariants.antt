@@ -1,6 +1,6 @@
 use Rattle.std.proofs.Common.{◌≡◌, ◌++◌, drop}
 use Rattle.std.specs.Prelude.{map}
-use Rattle.asl_json.specs.Data.{chain}
+use Rattle.asl_json_data.specs.Data.{chain}
 use Rattle.asl_json.specs.View.{items_of}
 use Rattle.asl_lint_warnings.specs.Graphs.{next_of}
 use Rattle.asl_lint_warnings.proofs.leading.add_next.Given as goal

@@ -1,5 +1,5 @@
 use Rattle.std.proofs.Common.{◌≡◌, drop, List, ℕ}
-use Rattle.asl_json.specs.Data.{pairs}
+use Rattle.asl_json_data.specs.Data.{pairs}
 use Rattle.asl_json.specs.View.{members_of}
 use Rattle.asl_lint_warnings.specs.Graphs.{place_from, place_of}
 use Rattle.asl_lint_warnings.specs.private.Places.{place_by}

@@ -1,7 +1,7 @@
 use Rattle.std.proofs.Common.{◌∙◌, map, List, ℕ, Vec, Global, ap, sym, subst, length}
 use Rattle.std.specs.Prelude.{option_map}
 use Rattle.std.proofs.lemmas.List.{length-map}
-use Rattle.asl_json.specs.Data.{pairs}
+use Rattle.asl_json_data.specs.Data.{pairs}
 use Rattle.asl_json.specs.View.{data_of, members_of}
 use Rattle.asl_lint_warnings.specs.private.Places.{place_by, AreTurned}
 use Rattle.asl_lint_warnings.proofs.Marking.{many_members, standing_reached, standing_ending}

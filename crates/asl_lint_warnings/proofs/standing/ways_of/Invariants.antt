@@ -1,6 +1,6 @@
 use Rattle.std.proofs.Common.{◌≡◌, ◌++◌, drop}
 use Rattle.std.specs.Prelude.{map}
-use Rattle.asl_json.specs.Data.{pairs}
+use Rattle.asl_json_data.specs.Data.{pairs}
 use Rattle.asl_json.specs.View.{members_of}
 use Rattle.asl_lint_warnings.specs.Graphs.{edges_from, ends_from}
 use Rattle.asl_lint_warnings.specs.private.Places.{place_by}

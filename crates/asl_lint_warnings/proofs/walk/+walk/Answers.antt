@@ -1,13 +1,13 @@
 use Rattle.std.proofs.Common.{◌++◌, ◌∷◌, ◌∙◌, ap, List, ℕ, arith}
 use Rattle.std.specs.Fmt.{decimal}
 use Rattle.std.specs.HashSet.{contains_text}
-use Rattle.asl_json.specs.Data.{Data, pairs, chain, members_depth, items_depth}
+use Rattle.asl_json_data.specs.Data.{Data, pairs, chain, members_depth, items_depth}
 use Rattle.asl_json.specs.View.{data_of, members_of}
 use Rattle.asl_json.proofs.Sounding.{item_depth, member_depth}
-use Rattle.asl_def_table.specs.declared.sort.Sort.{Sort}
-use Rattle.asl_def_table.specs.Members.{sort_at}
-use Rattle.asl_def_table.specs.private.Code.{shape_seen}
-use Rattle.asl_def_table.specs.Claims.{step}
+use Rattle.asl_def_schema.specs.declared.sort.Sort.{Sort}
+use Rattle.asl_def_schema.specs.Members.{sort_at}
+use Rattle.asl_def_schema.specs.private.Code.{shape_seen}
+use Rattle.asl_def_schema.specs.Claims.{step}
 use Rattle.asl_lint_warnings.specs.Kinds.{noted}
 use Rattle.asl_lint_warnings.specs.Warnings.{further, warnings}
 use Rattle.asl_lint_warnings.specs.private.Spots.{spot_of}

@@ -1,8 +1,8 @@
 use Rattle.std.proofs.Common.{◌≡◌, ◌+◌, ◌*◌, ◌++◌, drop}
 use Rattle.std.specs.HashSet.{contains_text}
-use Rattle.asl_json.specs.Data.{pairs, chain, depth, members_depth, items_depth}
+use Rattle.asl_json_data.specs.Data.{pairs, chain, depth, members_depth, items_depth}
 use Rattle.asl_json.specs.View.{data_of, items_of, members_of}
-use Rattle.asl_def_table.specs.private.Code.{shape_seen}
+use Rattle.asl_def_schema.specs.private.Code.{shape_seen}
 use Rattle.asl_lint_warnings.specs.Warnings.{item_warnings, member_warnings}
 use Rattle.asl_lint_warnings.specs.private.Spots.{spot_of}
 use Rattle.asl_lint_warnings.proofs.walk.+walk.Given as goal

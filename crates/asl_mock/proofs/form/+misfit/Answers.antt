@@ -1,7 +1,7 @@
 use Rattle.std.proofs.Common.{◌≤◌, subst, arith}
-use Rattle.asl_json.specs.Data.{depth, members_depth, pairs}
+use Rattle.asl_json_data.specs.Data.{depth, members_depth, pairs}
 use Rattle.asl_json.specs.View.{member_of}
-use Rattle.asl_json.specs.Distinct.{Members}
+use Rattle.asl_json_data.specs.Distinct.{Members}
 use Rattle.asl_mock.proofs.Below.{member_within, found_below, none_below, all_below}
 use Rattle.asl_mock.proofs.form.+misfit.Goals as goal
 

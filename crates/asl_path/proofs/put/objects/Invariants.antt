@@ -1,5 +1,5 @@
 use Rattle.std.proofs.Common.{length}
-use Rattle.asl_json.specs.Data.{dict, no_members}
+use Rattle.asl_json_data.specs.Data.{dict, no_members}
 use Rattle.asl_path.specs.private.Opened.{Reaches}
 use Rattle.asl_path.proofs.put.objects.Given as goal
 

@@ -1,4 +1,4 @@
-use Rattle.asl_json.proofs.Buffers.{can_cut}
+use Rattle.asl_json_write.proofs.Buffers.{can_cut}
 use Rattle.asl_session.proofs.answers.put_answer.Goals as goal
 
 pub whole_or_none-requires : goal.whole_or_none-requires

@@ -1,6 +1,6 @@
 use Rattle.std.proofs.Common.{◌≡◌, ◌<◌, ◌^◌, drop}
 use Rattle.std.specs.List.{list_all}
-use Rattle.asl_json.specs.Number.{digits_value}
+use Rattle.asl_json_data.specs.Number.{digits_value}
 use Rattle.asl_session.specs.Scripts.{is_digit}
 use Rattle.asl_session.proofs.script_file.read_count.Given as goal
 

@@ -1,4 +1,4 @@
-use Rattle.asl_json.specs.Data.{text}
+use Rattle.asl_json_data.specs.Data.{text}
 use Rattle.asl_session.proofs.Commanding.{if-ok-map, not-read}
 use Rattle.asl_session.proofs.script_file.read_name.Goals as goal
 

@@ -1,6 +1,6 @@
 use Rattle.std.proofs.Common.{rules, ◌+◌}
 use Rattle.asl_history.proofs.Steps.{empty}
-use Rattle.asl_run_setup.proofs.LinesRead.{begun, read_on, stuck, no_values, whole, ended}
+use Rattle.asl_run_input.proofs.LinesRead.{begun, read_on, stuck, no_values, whole, ended}
 use Rattle.asl_session.specs.Scripts.{IsCommandLine}
 use Rattle.asl_session.proofs.script_file.read_script.Goals as goal
 

@@ -1,5 +1,5 @@
 use Rattle.std.proofs.Common.{length}
-use Rattle.asl_run_setup.proofs.LinesRead.{AreRead}
+use Rattle.asl_run_input.proofs.LinesRead.{AreRead}
 use Rattle.asl_session.specs.Scripts.{IsCommandLine}
 use Rattle.asl_session.proofs.script_file.read_script.Given as goal
 

@@ -1,7 +1,7 @@
 use Rattle.std.proofs.Common.{◌≢◌, ◌<◌, ◌≤◌, ℕ, length, subst, ap, arith}
 use Rattle.std.specs.Prelude.{List}
 use Rattle.std.proofs.lemmas.List.{length-map}
-use Rattle.asl_json.specs.Data.{Data, pairs, depth, members_depth}
+use Rattle.asl_json_data.specs.Data.{Data, pairs, depth, members_depth}
 use Rattle.asl_json.proofs.Equality.{unequal_items, unequal_members}
 use Rattle.asl_template.specs.private.View.{part_data, parts_data, field_data, fields_data}
 use Rattle.asl_template.proofs.Within.{member_within}

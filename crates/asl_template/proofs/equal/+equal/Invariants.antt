@@ -1,5 +1,5 @@
 use Rattle.std.proofs.Common.{◌≡◌, ◌+◌, ◌*◌, drop}
-use Rattle.asl_json.specs.Data.{chain, pairs, depth, items_depth, members_depth}
+use Rattle.asl_json_data.specs.Data.{chain, pairs, depth, items_depth, members_depth}
 use Rattle.asl_json.specs.Same.{equal_items, equal_members}
 use Rattle.asl_template.specs.private.View.{part_data, parts_data, field_data, fields_data}
 use Rattle.asl_template.proofs.equal.+equal.Given as goal

@@ -1,8 +1,8 @@
 use Rattle.std.proofs.Common.{◌≡◌, ◌≤◌, ℕ, [], true, false, subst, sym, ap, ◌∙◌, arith}
 use Rattle.std.specs.Prelude.{List, Ok}
-use Rattle.asl_json.specs.Data.{Data, pairs, chain, depth, items_depth, members_depth}
+use Rattle.asl_json_data.specs.Data.{Data, pairs, chain, depth, items_depth, members_depth}
 use Rattle.asl_json.specs.View.{data_of}
-use Rattle.asl_json.specs.Distinct.{AreDistinct, has_key}
+use Rattle.asl_json_data.specs.Distinct.{AreDistinct, has_key}
 use Rattle.asl_template.specs.Names.{named}
 use Rattle.asl_template.specs.private.View.{AllFit, part_data, parts_data, field_data, fields_data}
 use Rattle.asl_intrinsic.specs.Calls.{is_context}

@@ -1,5 +1,5 @@
 use Rattle.std.proofs.Common.{◌≡◌, ◌+◌, ◌*◌, take}
-use Rattle.asl_json.specs.Data.{chain, pairs, depth, items_depth, members_depth}
+use Rattle.asl_json_data.specs.Data.{chain, pairs, depth, items_depth, members_depth}
 use Rattle.asl_json.specs.View.{data_of, items_of}
 use Rattle.asl_template.specs.private.View.{part_data, parts_data, field_data, fields_data}
 use Rattle.asl_template.specs.Names.{named}

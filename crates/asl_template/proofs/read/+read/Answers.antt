@@ -1,8 +1,8 @@
 use Rattle.std.proofs.Common.{◌≡◌, ◌≤◌, ℕ, [], ◌∷◌, ◌++◌, take, subst, sym, ap, ◌∙◌, arith}
 use Rattle.std.specs.Prelude.{List, Some, option_map}
-use Rattle.asl_json.specs.Data.{Data, pairs, chain, depth, items_depth, members_depth}
+use Rattle.asl_json_data.specs.Data.{Data, pairs, chain, depth, items_depth, members_depth}
 use Rattle.asl_json.specs.View.{data_of, member_of, members_of}
-use Rattle.asl_json.specs.Distinct.{AreDistinct}
+use Rattle.asl_json_data.specs.Distinct.{AreDistinct}
 use Rattle.asl_path.specs.declared.step.Step.TheVariants.{Name}
 use Rattle.asl_template.specs.Names.{name_before, is_double}
 use Rattle.asl_template.specs.Faults.{claims}

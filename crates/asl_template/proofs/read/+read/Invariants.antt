@@ -1,6 +1,6 @@
 use Rattle.std.proofs.Common.{◌+◌, ◌*◌, take, []}
 use Rattle.std.specs.Prelude.{map, IfOk}
-use Rattle.asl_json.specs.Data.{chain, pairs, depth, items_depth, members_depth}
+use Rattle.asl_json_data.specs.Data.{chain, pairs, depth, items_depth, members_depth}
 use Rattle.asl_json.specs.View.{data_of, items_of, members_of}
 use Rattle.asl_template.specs.private.View.{part_data, field_data, AllFit}
 use Rattle.asl_template.specs.Faults.{item_claims, member_claims}

@@ -1,6 +1,6 @@
 use Rattle.std.proofs.Common.{[], take, subst, sym, ap, ◌∙◌}
 use Rattle.std.specs.Prelude.{List}
-use Rattle.asl_json.specs.Distinct.{AreDistinct, has_key}
+use Rattle.asl_json_data.specs.Distinct.{AreDistinct, has_key}
 use Rattle.asl_template.specs.private.View.{fields_data}
 use Rattle.asl_template.specs.declared.part.Field.{Field}
 use Rattle.asl_template.proofs.Apart.{fresh}

@@ -1,4 +1,4 @@
-use Rattle.asl_step_rows.proofs.Equalities.{record_decides}
+use Rattle.asl_step.proofs.Equalities.{record_decides}
 use Rattle.asl_threads.proofs.Equalities.{command_decides, reply_decides}
 use Rattle.asl_threads.proofs.laws.commands_and_replies_are_compared_as_data.Goals as goal
 

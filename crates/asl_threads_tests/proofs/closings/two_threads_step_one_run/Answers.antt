@@ -1,5 +1,5 @@
 use denote.Param.Send.{sendable}
-use Rattle.asl_threads_crossing.proofs.Values as crossing
+use Rattle.asl_threads_base.proofs.Values as crossing
 use Rattle.asl_time.proofs.moment.Moment.TheSendSync as moment
 use Rattle.asl_history.proofs.place.Place.TheSendSync as place
 use Rattle.asl_threads.proofs.Crossing.{run_sync, seat_send}

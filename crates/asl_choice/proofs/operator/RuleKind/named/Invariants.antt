@@ -1,5 +1,5 @@
 use Rattle.std.proofs.Common.{◌≡◌, drop}
-use Rattle.asl_def_table.specs.Members.{is_among}
+use Rattle.asl_def_schema.specs.Members.{is_among}
 use Rattle.asl_choice.specs.Rules.{written}
 use Rattle.asl_choice.proofs.operator.RuleKind.named.Given as goal
 

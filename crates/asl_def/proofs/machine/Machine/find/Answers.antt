@@ -1,4 +1,4 @@
-use Rattle.asl_def_parts.specs.Bodies.{machine_of}
+use Rattle.asl_def_shared.specs.Bodies.{machine_of}
 use Rattle.asl_def.proofs.Wholes.{state_named, state_numbered, found_within}
 use Rattle.asl_def.proofs.machine.Machine.find.Goals as goal
 

@@ -1,9 +1,9 @@
 use Rattle.std.proofs.Common.{[], List, refl, ap}
 use Rattle.std.specs.Prelude.{Some}
-use Rattle.asl_json.specs.Data.{dict, pairs}
-use Rattle.asl_def_table.specs.Canon.{Named}
-use Rattle.asl_def_members.specs.Entries.{entries_of}
-use Rattle.asl_def_parts.proofs.Slots.{more}
+use Rattle.asl_json_data.specs.Data.{dict, pairs}
+use Rattle.asl_def_schema.specs.Canon.{Named}
+use Rattle.asl_def_fields.specs.Entries.{entries_of}
+use Rattle.asl_def_shared.proofs.Slots.{more}
 use Rattle.asl_def.proofs.machine.Machine.json.Goals as goal
 
 pub returns : goal.returns

@@ -1,9 +1,9 @@
 use Rattle.std.proofs.Common.{◌≡◌, ◌+◌, ℕ, List, refl, sym, ap, ◌∙◌}
 use Rattle.std.specs.Prelude.{Some, slice_get}
-use Rattle.asl_json.specs.Data.{Data}
-use Rattle.asl_def_table.specs.Canon.{Named}
+use Rattle.asl_json_data.specs.Data.{Data}
+use Rattle.asl_def_schema.specs.Canon.{Named}
 use Rattle.asl_def_states.specs.Show.{state_of}
-use Rattle.asl_def_parts.specs.Bodies.{machine_of}
+use Rattle.asl_def_shared.specs.Bodies.{machine_of}
 use Rattle.asl_def.specs.Own.{own_states_in}
 use Rattle.asl_def.proofs.Outermost.{own_at, own_past}
 use Rattle.asl_def.proofs.Wholes.{among_all}

@@ -1,7 +1,7 @@
 use Rattle.std.proofs.Common.{◌∙◌, ap, List, ℕ}
 use Rattle.std.specs.Prelude.{Some}
-use Rattle.asl_json.specs.Data.{text}
-use Rattle.asl_def_parts.proofs.Names.{start_named}
+use Rattle.asl_json_data.specs.Data.{text}
+use Rattle.asl_def_shared.proofs.Names.{start_named}
 use Rattle.asl_def.proofs.machine.Machine.start.Goals as goal
 
 pub returns : goal.returns

@@ -1,9 +1,9 @@
 use Rattle.std.proofs.Common.{◌∙◌, ◌≡◌, ap, sym}
 use Rattle.std.specs.Prelude.{Some, codes, option_map}
-use Rattle.asl_json.specs.Data.{Data, number}
+use Rattle.asl_json_data.specs.Data.{Data, number}
 use Rattle.asl_json.specs.Meaning.{value_in}
-use Rattle.asl_def_members.specs.Retries.{whole_in, whole}
-use Rattle.asl_def_parts.proofs.Names.{timeout_named}
+use Rattle.asl_def_fields.specs.Retries.{whole_in, whole}
+use Rattle.asl_def_shared.proofs.Names.{timeout_named}
 use Rattle.asl_def.proofs.machine.Machine.timeout.Goals as goal
 
 pub returns-in-Some : goal.returns-in-Some

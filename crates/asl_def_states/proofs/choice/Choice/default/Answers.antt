@@ -1,8 +1,8 @@
 use Rattle.std.proofs.Common.{refl, ◌∙◌}
 use Rattle.std.specs.Prelude.{codes, option_map}
-use Rattle.asl_def_parts.proofs.Names.{named, lent}
-use Rattle.asl_def_parts.specs.declared.target.Target.{Target}
-use Rattle.asl_json.specs.Data.{text}
+use Rattle.asl_def_shared.proofs.Names.{named, lent}
+use Rattle.asl_def_shared.specs.declared.target.Target.{Target}
+use Rattle.asl_json_data.specs.Data.{text}
 use Rattle.asl_def_states.specs.Show.{choice_members}
 use Rattle.asl_def_states.proofs.choice.Choice.default.Goals as goal
 

@@ -1,9 +1,9 @@
 use Rattle.std.proofs.Common.{refl, [], ◌∷◌}
 use Rattle.std.specs.Prelude.{codes}
-use Rattle.asl_def_members.specs.Shown.{path_shown}
+use Rattle.asl_def_fields.specs.Shown.{path_shown}
 use Rattle.asl_def_states.specs.Show.{choice_members}
-use Rattle.asl_def_parts.specs.Member.{path_names, path_of}
-use Rattle.asl_def_parts.proofs.Owning.{own, not_own}
+use Rattle.asl_def_shared.specs.Member.{path_names, path_of}
+use Rattle.asl_def_shared.proofs.Owning.{own, not_own}
 use Rattle.asl_def_states.proofs.choice.Choice.path.Goals as goal
 
 pub returns-in-InputPath : goal.returns-in-InputPath

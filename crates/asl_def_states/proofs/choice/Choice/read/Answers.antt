@@ -1,19 +1,19 @@
 use Rattle.std.proofs.Common.{◌∙◌, refl, ap}
 use Rattle.std.specs.Prelude.{codes}
-use Rattle.asl_def_table.specs.declared.sort.Sort.TheVariants.{PathOrNull}
-use Rattle.asl_def_table.specs.declared.sort.Kind.TheVariants.{Choice as ChoiceKind}
-use Rattle.asl_def_table.specs.Members.{choice_rows}
-use Rattle.asl_def_members.specs.Readable.{IsPathOrNull}
-use Rattle.asl_def_members.proofs.Fitting.{path_or_null_fits}
-use Rattle.asl_def_parts.specs.Built.{of_any_type}
+use Rattle.asl_def_schema.specs.declared.sort.Sort.TheVariants.{PathOrNull}
+use Rattle.asl_def_schema.specs.declared.sort.Kind.TheVariants.{Choice as ChoiceKind}
+use Rattle.asl_def_schema.specs.Members.{choice_rows}
+use Rattle.asl_def_fields.specs.Readable.{IsPathOrNull}
+use Rattle.asl_def_fields.proofs.Fitting.{path_or_null_fits}
+use Rattle.asl_def_shared.specs.Built.{of_any_type}
 use Rattle.asl_def_states.proofs.Canonical.{choice_shows}
-use Rattle.asl_def_parts.proofs.Fits.{of_any, member_fits}
+use Rattle.asl_def_shared.proofs.Fits.{of_any, member_fits}
 use Rattle.std.specs.Prelude.{option_map}
-use Rattle.asl_json.specs.Data.{pairs}
+use Rattle.asl_json_data.specs.Data.{pairs}
 use Rattle.asl_json.specs.View.{data_of}
-use Rattle.asl_def_table.specs.declared.sort.Sort.TheVariants.{Rules, Target}
-use Rattle.asl_def_table.proofs.Required.{choice_rules}
-use Rattle.asl_def_parts.proofs.Fits.{none_there, some_there, found_fits}
+use Rattle.asl_def_schema.specs.declared.sort.Sort.TheVariants.{Rules, Target}
+use Rattle.asl_def_schema.proofs.Required.{choice_rules}
+use Rattle.asl_def_shared.proofs.Fits.{none_there, some_there, found_fits}
 use Rattle.asl_def_states.proofs.choice.Choice.read.Goals as goal
 
 pub unreachable-requires : goal.unreachable-requires

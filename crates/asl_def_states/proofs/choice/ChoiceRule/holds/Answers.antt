@@ -1,5 +1,5 @@
 use Rattle.std.proofs.Common.{sym, ◌∙◌}
-use Rattle.asl_json.specs.Data.{text}
+use Rattle.asl_json_data.specs.Data.{text}
 use Rattle.asl_json.specs.View.{data_of}
 use Rattle.asl_def_states.proofs.Nexts.{next_at_end, holds_with_next}
 use Rattle.asl_def_states.proofs.choice.ChoiceRule.holds.Goals as goal

@@ -1,9 +1,9 @@
 use Rattle.std.proofs.Common.{◌∙◌, sym, subst, ap}
-use Rattle.asl_json.specs.Data.{pairs}
+use Rattle.asl_json_data.specs.Data.{pairs}
 use Rattle.asl_json.specs.View.{data_of}
-use Rattle.asl_def_table.specs.declared.sort.Sort.TheVariants.{Target}
-use Rattle.asl_def_table.specs.Canon.{Named}
-use Rattle.asl_def_table.specs.Clean.{IsThere}
+use Rattle.asl_def_schema.specs.declared.sort.Sort.TheVariants.{Target}
+use Rattle.asl_def_schema.specs.Canon.{Named}
+use Rattle.asl_def_schema.specs.Clean.{IsThere}
 use Rattle.asl_choice.specs.Rules.{IsRule, canonical_rule}
 use Rattle.std.specs.Prelude.{List}
 use Rattle.asl_def_states.proofs.Ruling.{rule_shows, is_rule, next_is_there}

@@ -1,9 +1,9 @@
 use Rattle.std.proofs.Common.{ap, refl}
 use Rattle.asl_json.specs.View.{data_of}
-use Rattle.asl_def_table.specs.declared.sort.Sort.TheVariants.{Rules}
-use Rattle.asl_def_members.proofs.Items.{clean_item}
+use Rattle.asl_def_schema.specs.declared.sort.Sort.TheVariants.{Rules}
+use Rattle.asl_def_fields.proofs.Items.{clean_item}
 use Rattle.asl_def_states.specs.Show.{choice_rule_objects}
-use Rattle.asl_def_parts.proofs.Catching.{list_shows}
+use Rattle.asl_def_shared.proofs.Catching.{list_shows}
 use Rattle.asl_def_states.proofs.choice.ChoiceRules.read.Goals as goal
 
 pub read-requires : goal.read-requires

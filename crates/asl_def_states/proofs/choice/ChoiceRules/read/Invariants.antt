@@ -1,8 +1,8 @@
 use Rattle.std.proofs.Common.{◌≡◌, take}
 use Rattle.std.specs.Prelude.{map}
 use Rattle.asl_json.specs.View.{items_of}
-use Rattle.asl_def_table.specs.declared.sort.Sort.TheVariants.{Rule}
-use Rattle.asl_def_table.specs.Canon.{canon}
+use Rattle.asl_def_schema.specs.declared.sort.Sort.TheVariants.{Rule}
+use Rattle.asl_def_schema.specs.Canon.{canon}
 use Rattle.asl_def_states.specs.Show.{choice_rule_objects}
 use Rattle.asl_def_states.proofs.choice.ChoiceRules.read.Given as goal
 

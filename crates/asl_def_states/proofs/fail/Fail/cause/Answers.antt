@@ -1,7 +1,7 @@
 use Rattle.std.proofs.Common.{refl, ◌∙◌, ap}
 use Rattle.std.specs.Prelude.{codes}
-use Rattle.asl_def_parts.proofs.Names.{named}
-use Rattle.asl_def_parts.proofs.Owning.{copied}
+use Rattle.asl_def_shared.proofs.Names.{named}
+use Rattle.asl_def_shared.proofs.Owning.{copied}
 use Rattle.asl_def_states.specs.Show.{told, fail_members, told_at}
 use Rattle.asl_def_states.proofs.fail.Fail.cause.Goals as goal
 

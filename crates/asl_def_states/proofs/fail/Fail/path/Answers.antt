@@ -1,8 +1,8 @@
 use Rattle.std.proofs.Common.{refl, [], ◌∷◌}
 use Rattle.std.specs.Prelude.{codes}
 use Rattle.asl_def_states.specs.Show.{told_at, fail_members}
-use Rattle.asl_def_parts.specs.Member.{path_names, path_of}
-use Rattle.asl_def_parts.proofs.Owning.{own, not_own}
+use Rattle.asl_def_shared.specs.Member.{path_names, path_of}
+use Rattle.asl_def_shared.proofs.Owning.{own, not_own}
 use Rattle.asl_def_states.proofs.fail.Fail.path.Goals as goal
 
 pub returns-in-ErrorPath : goal.returns-in-ErrorPath

@@ -1,12 +1,12 @@
 use Rattle.std.proofs.Common.{◌∙◌, refl}
 use Rattle.std.specs.Prelude.{codes}
 use Rattle.asl_json.specs.View.{data_of}
-use Rattle.asl_def_table.specs.declared.sort.Sort.TheVariants.{Text, PathOrCall}
-use Rattle.asl_def_table.specs.declared.sort.Kind.TheVariants.{Fail as FailKind}
-use Rattle.asl_def_table.specs.Members.{fail_rows}
-use Rattle.asl_def_parts.specs.Built.{of_any_type}
+use Rattle.asl_def_schema.specs.declared.sort.Sort.TheVariants.{Text, PathOrCall}
+use Rattle.asl_def_schema.specs.declared.sort.Kind.TheVariants.{Fail as FailKind}
+use Rattle.asl_def_schema.specs.Members.{fail_rows}
+use Rattle.asl_def_shared.specs.Built.{of_any_type}
 use Rattle.asl_def_states.proofs.Canonical.{fail_shows}
-use Rattle.asl_def_parts.proofs.Fits.{of_any, found_fits, error_at_most, cause_at_most}
+use Rattle.asl_def_shared.proofs.Fits.{of_any, found_fits, error_at_most, cause_at_most}
 use Rattle.asl_def_states.proofs.fail.Fail.read.Goals as goal
 
 pub read-requires : goal.read-requires

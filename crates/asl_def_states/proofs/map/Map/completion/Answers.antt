@@ -1,8 +1,8 @@
 use Rattle.std.proofs.Common.{refl}
-use Rattle.asl_def_parts.specs.Parts.{completion_members}
+use Rattle.asl_def_shared.specs.Parts.{completion_members}
 use Rattle.asl_def_states.specs.Show.{map_members}
-use Rattle.asl_def_parts.specs.Member.{completion_names}
-use Rattle.asl_def_parts.proofs.Owning.{tied}
+use Rattle.asl_def_shared.specs.Member.{completion_names}
+use Rattle.asl_def_shared.proofs.Owning.{tied}
 use Rattle.asl_def_states.proofs.map.Map.completion.Goals as goal
 
 pub returns : goal.returns

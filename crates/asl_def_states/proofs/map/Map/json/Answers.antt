@@ -1,8 +1,8 @@
 use Rattle.std.proofs.Common.{[], ◌++◌, ◌∙◌, refl, ap}
 use Rattle.std.specs.Prelude.{codes}
-use Rattle.asl_def_members.specs.Entries.{entries_of}
-use Rattle.asl_def_parts.specs.Parts.{Slots, object, common_members, completion_members}
-use Rattle.asl_def_parts.proofs.Slots.{more, if_ok}
+use Rattle.asl_def_fields.specs.Entries.{entries_of}
+use Rattle.asl_def_shared.specs.Parts.{Slots, object, common_members, completion_members}
+use Rattle.asl_def_shared.proofs.Slots.{more, if_ok}
 use Rattle.asl_def_states.specs.Show.{as_iterator, as_item_processor}
 use Rattle.asl_def_states.proofs.map.Map.json.Goals as goal
 

@@ -1,14 +1,14 @@
 use Rattle.std.proofs.Common.{◌∙◌, refl}
 use Rattle.std.specs.Prelude.{codes}
 use Rattle.asl_json.specs.View.{data_of}
-use Rattle.asl_def_table.specs.declared.sort.Sort.TheVariants.{FromZero, Path, PathOrNull, Template}
-use Rattle.asl_def_table.specs.declared.sort.Kind.TheVariants.{Map as MapKind}
-use Rattle.asl_def_table.specs.Members.{map_rows}
-use Rattle.asl_def_members.specs.Readable.{IsCount, IsPathOrNull, IsPathText}
-use Rattle.asl_def_members.proofs.Fitting.{from_zero_fits, path_fits, path_or_null_fits}
-use Rattle.asl_def_parts.specs.Built.{of_any_type, has_completion}
+use Rattle.asl_def_schema.specs.declared.sort.Sort.TheVariants.{FromZero, Path, PathOrNull, Template}
+use Rattle.asl_def_schema.specs.declared.sort.Kind.TheVariants.{Map as MapKind}
+use Rattle.asl_def_schema.specs.Members.{map_rows}
+use Rattle.asl_def_fields.specs.Readable.{IsCount, IsPathOrNull, IsPathText}
+use Rattle.asl_def_fields.proofs.Fitting.{from_zero_fits, path_fits, path_or_null_fits}
+use Rattle.asl_def_shared.specs.Built.{of_any_type, has_completion}
 use Rattle.asl_def_states.proofs.Canonical.{map_shows}
-use Rattle.asl_def_parts.proofs.Fits.{of_any, member_fits, found_fits, selector_at_most}
+use Rattle.asl_def_shared.proofs.Fits.{of_any, member_fits, found_fits, selector_at_most}
 use Rattle.asl_def_states.proofs.map.Map.read.Goals as goal
 
 pub read-requires : goal.read-requires

@@ -1,9 +1,9 @@
 use Rattle.std.proofs.Common.{refl, [], ◌∷◌}
 use Rattle.std.specs.Prelude.{codes, Option}
-use Rattle.asl_json.specs.Data.{Data}
+use Rattle.asl_json_data.specs.Data.{Data}
 use Rattle.asl_def_states.specs.Show.{map_members, parameters_shown, item_selector_shown}
-use Rattle.asl_def_parts.specs.Member.{template_names}
-use Rattle.asl_def_parts.proofs.Owning.{own, not_own}
+use Rattle.asl_def_shared.specs.Member.{template_names}
+use Rattle.asl_def_shared.proofs.Owning.{own, not_own}
 use Rattle.asl_def_states.proofs.map.Map.template.Goals as goal
 
 pub returns-in-Parameters : goal.returns-in-Parameters

@@ -1,10 +1,10 @@
 use Rattle.std.proofs.Common.{[], ◌++◌, ◌∙◌, refl, sym, ap}
 use Rattle.std.specs.Prelude.{Some, codes}
-use Rattle.asl_json.specs.Data.{list, chain}
-use Rattle.asl_def_members.specs.Entries.{entries_of}
-use Rattle.asl_def_parts.specs.Parts.{Slots, object, common_members, completion_members}
-use Rattle.asl_def_parts.proofs.Fits.{map_same}
-use Rattle.asl_def_parts.proofs.Slots.{more, if_ok}
+use Rattle.asl_json_data.specs.Data.{list, chain}
+use Rattle.asl_def_fields.specs.Entries.{entries_of}
+use Rattle.asl_def_shared.specs.Parts.{Slots, object, common_members, completion_members}
+use Rattle.asl_def_shared.proofs.Fits.{map_same}
+use Rattle.asl_def_shared.proofs.Slots.{more, if_ok}
 use Rattle.asl_def_states.proofs.parallel.Parallel.json.Goals as goal
 
 pub returns : goal.returns

@@ -1,8 +1,8 @@
 use Rattle.std.proofs.Common.{◌∙◌, refl}
 use Rattle.std.specs.Prelude.{codes, option_map}
-use Rattle.asl_json.specs.Data.{text}
+use Rattle.asl_json_data.specs.Data.{text}
 use Rattle.asl_def_states.specs.Show.{pass_members}
-use Rattle.asl_def_parts.proofs.Names.{lent, named}
+use Rattle.asl_def_shared.proofs.Names.{lent, named}
 use Rattle.asl_def_states.proofs.pass.Pass.comment.Goals as goal
 
 pub returns : goal.returns

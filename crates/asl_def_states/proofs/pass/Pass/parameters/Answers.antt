@@ -1,9 +1,9 @@
 use Rattle.std.proofs.Common.{◌∙◌, refl, sym}
 use Rattle.std.specs.Prelude.{codes}
-use Rattle.asl_json.specs.Data.{Data}
-use Rattle.asl_def_parts.proofs.Fits.{map_same}
+use Rattle.asl_json_data.specs.Data.{Data}
+use Rattle.asl_def_shared.proofs.Fits.{map_same}
 use Rattle.asl_def_states.specs.Show.{pass_members}
-use Rattle.asl_def_parts.proofs.Names.{lent, named}
+use Rattle.asl_def_shared.proofs.Names.{lent, named}
 use Rattle.asl_def_states.proofs.pass.Pass.parameters.Goals as goal
 
 pub returns : goal.returns

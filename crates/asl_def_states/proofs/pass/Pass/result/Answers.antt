@@ -2,7 +2,7 @@ use Rattle.std.proofs.Common.{◌∙◌, refl}
 use Rattle.std.specs.Prelude.{codes, option_map}
 use Rattle.asl_json.specs.View.{data_of}
 use Rattle.asl_def_states.specs.Show.{pass_members}
-use Rattle.asl_def_parts.proofs.Names.{lent, named}
+use Rattle.asl_def_shared.proofs.Names.{lent, named}
 use Rattle.asl_def_states.proofs.pass.Pass.result.Goals as goal
 
 pub returns : goal.returns

@@ -1,5 +1,5 @@
 use Rattle.asl_json.specs.View.{data_of}
-use Rattle.asl_def_table.proofs.Templates.{is_template}
+use Rattle.asl_def_schema.proofs.Templates.{is_template}
 use Rattle.asl_def_states.proofs.processor.Selector.read.Goals as goal
 
 pub read-requires : goal.read-requires

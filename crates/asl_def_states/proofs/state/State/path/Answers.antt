@@ -1,7 +1,7 @@
 use Rattle.std.proofs.Common.{◌∙◌, ap, sym}
 use Rattle.asl_def_states.specs.declared.state.State.{State}
 use Rattle.asl_def_states.specs.Show.{state_of}
-use Rattle.asl_def_parts.specs.Member.{path_member}
+use Rattle.asl_def_shared.specs.Member.{path_member}
 use Rattle.asl_def_states.proofs.state.State.path.Goals as goal
 
 pub returns-in-Map : goal.returns-in-Map

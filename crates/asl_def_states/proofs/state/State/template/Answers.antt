@@ -1,7 +1,7 @@
 use Rattle.std.proofs.Common.{◌≡◌, ℕ, List, [], true, ◌∙◌, ap, sym, refl, ◌⊎◌, inl, inr}
 use Rattle.std.specs.Prelude.{Option, None}
-use Rattle.asl_json.specs.Data.{Data}
-use Rattle.asl_def_table.specs.Canon.{Named}
+use Rattle.asl_json_data.specs.Data.{Data}
+use Rattle.asl_def_schema.specs.Canon.{Named}
 use Rattle.asl_def_states.specs.declared.choice.Choice.{Choice as ChoiceState}
 use Rattle.asl_def_states.specs.declared.wait.Wait.{Wait as WaitState}
 use Rattle.asl_def_states.specs.declared.succeed.Succeed.{Succeed as SucceedState}
@@ -9,8 +9,8 @@ use Rattle.asl_def_states.specs.declared.fail.Fail.{Fail as FailState}
 use Rattle.asl_def_states.specs.declared.state.State.{State}
 use Rattle.asl_def_states.specs.declared.state.State.TheVariants.{Choice, Wait, Succeed, Fail}
 use Rattle.asl_def_states.specs.Show.{state_members, state_of}
-use Rattle.asl_def_parts.specs.Member.{template_names, template_member}
-use Rattle.asl_def_parts.proofs.Owning.{lacks, not_own}
+use Rattle.asl_def_shared.specs.Member.{template_names, template_member}
+use Rattle.asl_def_shared.proofs.Owning.{lacks, not_own}
 use Rattle.asl_def_states.proofs.state.State.template.Goals as goal
 
 pub returns-in-Map : goal.returns-in-Map

@@ -1,8 +1,8 @@
 use Rattle.std.proofs.Common.{[], ◌++◌, ◌∙◌, refl, sym, ap}
-use Rattle.asl_def_members.specs.Entries.{entries_of}
-use Rattle.asl_def_parts.specs.Parts.{Slots, limits_members, completion_members}
-use Rattle.asl_def_parts.proofs.Fits.{map_same}
-use Rattle.asl_def_parts.proofs.Slots.{more}
+use Rattle.asl_def_fields.specs.Entries.{entries_of}
+use Rattle.asl_def_shared.specs.Parts.{Slots, limits_members, completion_members}
+use Rattle.asl_def_shared.proofs.Fits.{map_same}
+use Rattle.asl_def_shared.proofs.Slots.{more}
 use Rattle.asl_def_states.proofs.task.Task.json.Goals as goal
 
 pub returns : goal.returns

@@ -1,20 +1,20 @@
 use Rattle.std.proofs.Common.{◌∙◌, refl, ap}
 use Rattle.std.specs.Prelude.{codes}
-use Rattle.asl_def_table.specs.declared.sort.Sort.TheVariants.{PathOrNull, Template, Text}
-use Rattle.asl_def_table.specs.declared.sort.Kind.TheVariants.{Task as TaskKind}
-use Rattle.asl_def_table.specs.Members.{task_rows}
-use Rattle.asl_def_table.proofs.Templates.{is_template}
+use Rattle.asl_def_schema.specs.declared.sort.Sort.TheVariants.{PathOrNull, Template, Text}
+use Rattle.asl_def_schema.specs.declared.sort.Kind.TheVariants.{Task as TaskKind}
+use Rattle.asl_def_schema.specs.Members.{task_rows}
+use Rattle.asl_def_schema.proofs.Templates.{is_template}
 use Rattle.asl_template.specs.Faults.{IsTemplate}
-use Rattle.asl_def_members.specs.Readable.{IsPathOrNull}
-use Rattle.asl_def_members.proofs.Fitting.{path_or_null_fits, text_fits}
-use Rattle.asl_def_parts.specs.Built.{of_any_type, has_completion}
+use Rattle.asl_def_fields.specs.Readable.{IsPathOrNull}
+use Rattle.asl_def_fields.proofs.Fitting.{path_or_null_fits, text_fits}
+use Rattle.asl_def_shared.specs.Built.{of_any_type, has_completion}
 use Rattle.asl_def_states.proofs.Canonical.{task_shows}
-use Rattle.asl_def_parts.proofs.Fits.{of_any, member_fits}
+use Rattle.asl_def_shared.proofs.Fits.{of_any, member_fits}
 use Rattle.std.specs.Prelude.{Some, option_map}
-use Rattle.asl_json.specs.Data.{pairs}
+use Rattle.asl_json_data.specs.Data.{pairs}
 use Rattle.asl_json.specs.View.{data_of}
-use Rattle.asl_def_table.proofs.Required.{task_resource}
-use Rattle.asl_def_parts.proofs.Fits.{none_there, some_there}
+use Rattle.asl_def_schema.proofs.Required.{task_resource}
+use Rattle.asl_def_shared.proofs.Fits.{none_there, some_there}
 use Rattle.asl_def_states.proofs.task.Task.read.Goals as goal
 
 pub unreachable-requires : goal.unreachable-requires

@@ -1,7 +1,7 @@
 use Rattle.std.proofs.Common.{refl, ◌∙◌}
 use Rattle.std.specs.Prelude.{codes, option_map}
-use Rattle.asl_def_parts.proofs.Names.{named, lent}
-use Rattle.asl_json.specs.Data.{text}
+use Rattle.asl_def_shared.proofs.Names.{named, lent}
+use Rattle.asl_json_data.specs.Data.{text}
 use Rattle.asl_def_states.specs.Show.{task_members}
 use Rattle.asl_def_states.proofs.task.Task.timeout_path.Goals as goal
 

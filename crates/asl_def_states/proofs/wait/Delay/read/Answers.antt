@@ -1,11 +1,11 @@
 use Rattle.std.proofs.Common.{refl}
 use Rattle.std.specs.Prelude.{codes}
 use Rattle.asl_json.specs.View.{data_of}
-use Rattle.asl_def_table.specs.declared.sort.Sort.TheVariants.{FromZero, Path, Timestamp as Stamped}
-use Rattle.asl_def_table.specs.declared.sort.Kind.TheVariants.{Wait}
-use Rattle.asl_def_table.specs.Members.{wait_rows}
-use Rattle.asl_def_members.proofs.Fitting.{from_zero_fits, path_fits, stamp_fits}
-use Rattle.asl_def_parts.proofs.Fits.{wait_none, wait_nothing, clean_in}
+use Rattle.asl_def_schema.specs.declared.sort.Sort.TheVariants.{FromZero, Path, Timestamp as Stamped}
+use Rattle.asl_def_schema.specs.declared.sort.Kind.TheVariants.{Wait}
+use Rattle.asl_def_schema.specs.Members.{wait_rows}
+use Rattle.asl_def_fields.proofs.Fitting.{from_zero_fits, path_fits, stamp_fits}
+use Rattle.asl_def_shared.proofs.Fits.{wait_none, wait_nothing, clean_in}
 use Rattle.asl_def_states.proofs.wait.Delay.read.Goals as goal
 
 pub read-requires : goal.read-requires

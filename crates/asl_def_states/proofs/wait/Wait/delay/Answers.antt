@@ -1,6 +1,6 @@
 use Rattle.std.proofs.Common.{refl}
 use Rattle.std.specs.Prelude.{codes}
-use Rattle.asl_def_parts.proofs.Names.{named}
+use Rattle.asl_def_shared.proofs.Names.{named}
 use Rattle.asl_def_states.specs.Show.{seconds_shown, wait_members, seconds_path_shown, timestamp_shown, timestamp_path_shown}
 use Rattle.asl_def_states.proofs.wait.Wait.delay.Goals as goal
 

@@ -1,7 +1,7 @@
 use Rattle.std.proofs.Common.{[], ◌++◌, ◌∙◌, refl, ap}
-use Rattle.asl_def_members.specs.Entries.{entries_of}
-use Rattle.asl_def_parts.specs.Parts.{Slots, next_members}
-use Rattle.asl_def_parts.proofs.Slots.{more}
+use Rattle.asl_def_fields.specs.Entries.{entries_of}
+use Rattle.asl_def_shared.specs.Parts.{Slots, next_members}
+use Rattle.asl_def_shared.proofs.Slots.{more}
 use Rattle.asl_def_states.proofs.wait.Wait.json.Goals as goal
 
 pub returns : goal.returns

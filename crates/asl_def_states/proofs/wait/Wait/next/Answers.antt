@@ -1,7 +1,7 @@
 use Rattle.std.proofs.Common.{refl}
 use Rattle.std.specs.Prelude.{codes}
-use Rattle.asl_def_parts.proofs.Names.{named}
-use Rattle.asl_def_parts.specs.Parts.{next_shown, end_shown}
+use Rattle.asl_def_shared.proofs.Names.{named}
+use Rattle.asl_def_shared.specs.Parts.{next_shown, end_shown}
 use Rattle.asl_def_states.specs.Show.{wait_members}
 use Rattle.asl_def_states.proofs.wait.Wait.next.Goals as goal
 

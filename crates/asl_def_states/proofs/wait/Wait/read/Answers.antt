@@ -1,14 +1,14 @@
 use Rattle.std.proofs.Common.{◌∙◌, refl}
 use Rattle.std.specs.Prelude.{codes}
-use Rattle.asl_def_table.specs.declared.sort.Sort.TheVariants.{PathOrNull}
-use Rattle.asl_def_table.specs.declared.sort.Kind.TheVariants.{Wait as WaitKind}
-use Rattle.asl_def_table.specs.Members.{wait_rows}
-use Rattle.asl_def_table.specs.Clean.{goes_on}
-use Rattle.asl_def_members.specs.Readable.{IsPathOrNull}
-use Rattle.asl_def_members.proofs.Fitting.{path_or_null_fits}
-use Rattle.asl_def_parts.specs.Built.{of_any_type}
+use Rattle.asl_def_schema.specs.declared.sort.Sort.TheVariants.{PathOrNull}
+use Rattle.asl_def_schema.specs.declared.sort.Kind.TheVariants.{Wait as WaitKind}
+use Rattle.asl_def_schema.specs.Members.{wait_rows}
+use Rattle.asl_def_schema.specs.Clean.{goes_on}
+use Rattle.asl_def_fields.specs.Readable.{IsPathOrNull}
+use Rattle.asl_def_fields.proofs.Fitting.{path_or_null_fits}
+use Rattle.asl_def_shared.specs.Built.{of_any_type}
 use Rattle.asl_def_states.proofs.Canonical.{wait_shows}
-use Rattle.asl_def_parts.proofs.Fits.{of_any, member_fits}
+use Rattle.asl_def_shared.proofs.Fits.{of_any, member_fits}
 use Rattle.asl_def_states.proofs.wait.Wait.read.Goals as goal
 
 pub read-requires : goal.read-requires

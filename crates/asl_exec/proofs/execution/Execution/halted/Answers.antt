@@ -1,9 +1,9 @@
 use Rattle.std.proofs.Common.{◌≡◌, ◌∙◌, true, false, refl, sym, max}
 use Rattle.std.proofs.lemmas.Result.{IfOk-weaker}
-use Rattle.asl_run_frames.specs.Branches.{forker_at}
-use Rattle.asl_run_frames.specs.Turns.{limit_of}
-use Rattle.asl_run_world.specs.World.{World, is_late}
-use Rattle.asl_run_world.proofs.Accepting.{has_place}
+use Rattle.asl_run_branches.specs.Branches.{forker_at}
+use Rattle.asl_run_branches.specs.Turns.{limit_of}
+use Rattle.asl_run_state.specs.World.{World, is_late}
+use Rattle.asl_run_state.proofs.Accepting.{has_place}
 use Rattle.asl_exec.specs.Steps.{limits_in}
 use Rattle.asl_exec.proofs.Going.{halted-late, halted-is}
 use Rattle.asl_exec.proofs.execution.Execution.halted.Goals as goal

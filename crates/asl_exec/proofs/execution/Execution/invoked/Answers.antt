@@ -1,6 +1,6 @@
 use Rattle.std.proofs.Common.{◌≡◌, ◌∙◌, true, false, sym, ap, Some}
 use Rattle.asl_def.specs.Machines.{states_of}
-use Rattle.asl_run_frames.specs.Branches.{record_at}
+use Rattle.asl_run_branches.specs.Branches.{record_at}
 use Rattle.asl_exec.specs.Steps.{invokes_by, object_in}
 use Rattle.asl_exec.proofs.Going.{invoked-if}
 use Rattle.asl_exec.proofs.execution.Execution.invoked.Goals as goal

@@ -1,9 +1,9 @@
 use Rattle.std.proofs.Common.{◌≡◌, false, true, sym, ◌∙◌, ap, subst, max, ℕ}
 use Rattle.std.specs.Prelude.{OnOk}
-use Rattle.asl_run_frames.specs.Branches.{forker_at}
-use Rattle.asl_run_frames.specs.Turns.{limit_of}
-use Rattle.asl_run_world.specs.World.{World, is_late, timed_out, world_with}
-use Rattle.asl_run_world.proofs.Accepting.{accepted-room, has_place, goes_there}
+use Rattle.asl_run_branches.specs.Branches.{forker_at}
+use Rattle.asl_run_branches.specs.Turns.{limit_of}
+use Rattle.asl_run_state.specs.World.{World, is_late, timed_out, world_with}
+use Rattle.asl_run_state.proofs.Accepting.{accepted-room, has_place, goes_there}
 use Rattle.asl_exec.specs.Steps.{limits_in, step, seen_at}
 use Rattle.asl_exec.proofs.Accepting.{effect-bounded, step_taken, step_late, applied}
 use Rattle.asl_exec.proofs.execution.Execution.take.Goals as goal

@@ -1,6 +1,6 @@
 use Rattle.std.specs.Prelude.{List}
-use Rattle.asl_run_world.specs.World.{World}
-use Rattle.asl_run_setup.specs.declared.setup.Setup.{Setup}
+use Rattle.asl_run_state.specs.World.{World}
+use Rattle.asl_run_input.specs.declared.setup.Setup.{Setup}
 use Rattle.asl_explore.specs.private.Reaching.{AreReaching}
 use Rattle.asl_explore.specs.declared.orders.Orders.{Orders}
 use Rattle.asl_explore.proofs.endless.Reaching.go_back_from.Given as goal

@@ -1,4 +1,4 @@
-use Rattle.asl_json.proofs.Buffers.{can_cut}
+use Rattle.asl_json_write.proofs.Buffers.{can_cut}
 use Rattle.asl_history.proofs.place.Place.put.Goals as goal
 
 pub whole_or_none-requires : goal.whole_or_none-requires

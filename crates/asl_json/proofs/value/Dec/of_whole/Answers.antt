@@ -2,7 +2,7 @@ use Rattle.std.proofs.Common.{subst, sym, ap, ◌∙◌}
 use mir.Syntax.{w128}
 use Rattle.std.proofs.lemmas.Int.{to_z-of_z}
 use Rattle.std.specs.Fmt.{signed_decimal}
-use Rattle.asl_json.specs.Number.{IsNumber}
+use Rattle.asl_json_data.specs.Number.{IsNumber}
 use Rattle.asl_json.proofs.Wholes.{decimal_number, amount_fits}
 use Rattle.asl_json.proofs.value.Dec.of_whole.Goals as goal
 

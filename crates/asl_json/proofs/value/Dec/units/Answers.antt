@@ -1,5 +1,5 @@
 use Rattle.std.proofs.Common.{◌≡◌, false, subst, sym, ap, ◌∙◌}
-use Rattle.asl_json.specs.Number.{IsNumeral, is_over}
+use Rattle.asl_json_data.specs.Number.{IsNumeral, is_over}
 use Rattle.asl_json.proofs.value.Dec.units.Goals as goal
 
 pub units-requires : goal.units-requires

@@ -2,7 +2,7 @@ use Rattle.std.proofs.Common.{rules, subst, sym, pos, ◌<◌, unsigned_abs}
 use Rattle.std.specs.Prelude.{int_div, ℤ}
 use mir.Syntax.{w128}
 use Rattle.std.proofs.lemmas.Int.{to_z-of_z}
-use Rattle.asl_json.specs.Number.{amount_limit}
+use Rattle.asl_json_data.specs.Number.{amount_limit}
 use Rattle.asl_json.proofs.Wholes.{units_below, quotient_below, amount_fits}
 use Rattle.asl_json.proofs.value.Dec.whole.Goals as goal
 

@@ -1,8 +1,8 @@
-use Rattle.asl_json.proofs.Turns.{still_distinct}
+use Rattle.asl_json.proofs.Pushing.{still_distinct}
 use Rattle.std.proofs.Common.{◌≡◌, false, subst, sym, refl}
 use Rattle.std.specs.Prelude.{List, ℕ}
-use Rattle.asl_json.specs.Data.{Data}
-use Rattle.asl_json.specs.Distinct.{has_key}
+use Rattle.asl_json_data.specs.Data.{Data}
+use Rattle.asl_json_data.specs.Distinct.{has_key}
 use Rattle.asl_json.proofs.value.Members.push.Goals as goal
 
 pub invariant_of-self-2 : goal.invariant_of-self-2

@@ -1,11 +1,11 @@
 use Rattle.std.proofs.Common.{[], ◌≡◌, subst, sym}
 use Rattle.std.specs.Prelude.{IfOk}
 use Rattle.asl_history.specs.declared.kind.EventKind.TheVariants.{MapStateSucceeded, MapStateFailed, MapStateExited}
-use Rattle.asl_def_parts.specs.Member.{completion_object}
+use Rattle.asl_def_shared.specs.Member.{completion_object}
 use Rattle.asl_def_states.specs.Show.{map_object}
-use Rattle.asl_step_rows.specs.Context.{context_of}
-use Rattle.asl_step_rows.specs.declared.effect.Effect.{Effect}
-use Rattle.asl_step_rows.specs.Seen.{seen}
+use Rattle.asl_step.specs.Context.{context_of}
+use Rattle.asl_step.specs.declared.effect.Effect.{Effect}
+use Rattle.asl_step.specs.Seen.{seen}
 use Rattle.asl_kinds.specs.private.Laws.{joined-lawful, joined-alike, fits_as}
 use Rattle.asl_kinds.proofs.map.MapStateKind.visit.Goals as goal
 

@@ -1,7 +1,7 @@
 use Rattle.std.proofs.Common.{sym}
 use Rattle.asl_def_states.specs.Show.{succeed_object}
-use Rattle.asl_step_rows.specs.Context.{context_of}
-use Rattle.asl_step_rows.specs.Seen.{seen}
+use Rattle.asl_step.specs.Context.{context_of}
+use Rattle.asl_step.specs.Seen.{seen}
 use Rattle.asl_kinds.specs.Members.{passed_on}
 use Rattle.asl_kinds.specs.private.Laws.{succeed-lawful, fits_as}
 use Rattle.asl_kinds.proofs.succeed.SucceedStateKind.visit.Goals as goal

@@ -1,7 +1,7 @@
 use Rattle.std.specs.Prelude.{option_map}
 use Rattle.asl_def_states.specs.Show.{task_object}
-use Rattle.asl_step_rows.specs.Context.{context_of}
-use Rattle.asl_step_rows.specs.Seen.{seen}
+use Rattle.asl_step.specs.Context.{context_of}
+use Rattle.asl_step.specs.Seen.{seen}
 use Rattle.asl_kinds.specs.private.Laws.{IsInvoked, invoked-is, answered-lawful, fits_as}
 use Rattle.asl_kinds.proofs.task.TaskStateKind.visit.Goals as goal
 

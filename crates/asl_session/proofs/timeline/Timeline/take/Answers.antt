@@ -1,7 +1,7 @@
 use Rattle.std.proofs.Common.{◌≡◌, ◌∙◌, ◌++◌, ◌∷◌, [], ap, sym, refl}
-use Rattle.asl_run_setup.specs.declared.setup.Setup.{Setup}
-use Rattle.asl_run_setup.specs.declared.step_at.StepAt.{StepAt}
-use Rattle.asl_run_world.specs.World.{World}
+use Rattle.asl_run_input.specs.declared.setup.Setup.{Setup}
+use Rattle.asl_run_input.specs.declared.step_at.StepAt.{StepAt}
+use Rattle.asl_run_state.specs.World.{World}
 use Rattle.asl_exec.specs.Steps.{opening, world_after, step}
 use Rattle.asl_exec.specs.Views.{setup_of, world_of}
 use Rattle.asl_exec.proofs.Growing.{after-append}

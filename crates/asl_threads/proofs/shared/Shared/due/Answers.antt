@@ -2,7 +2,7 @@ use Rattle.std.proofs.Common.{◌<◌, ◌≤◌, ◌∙◌, ℕ, subst}
 use Rattle.std.specs.Prelude.{Some, None}
 use Rattle.asl_exec.specs.Steps.{limits_in}
 use Rattle.asl_exec.specs.Views.{setup_of, world_of}
-use Rattle.asl_run_world.specs.Picking.{Place, Moment}
+use Rattle.asl_run_state.specs.Picking.{Place, Moment}
 use Rattle.asl_threads.proofs.Dues.{due-is, not-yet, has-come}
 use Rattle.asl_threads.proofs.shared.Shared.due.Goals as goal
 

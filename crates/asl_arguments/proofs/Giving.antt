@@ -1,0 +1,65 @@
+-- What is read off clap's matches is what its grammar gives.
+use Rattle.std.proofs.Common.{◌≡◌, ◌≢◌, ◌∙◌, inl, inr, ℕ, List, [], true, ap, subst, codes}
+use Rattle.std.specs.Prelude.{Option, Result, Err, IfOk}
+use Rattle.clap.specs.Words.{App, HasKind, HasMatchesOf, IsAmong, Kinds, built, first_of, first_value, found_of, is_simple, is_simple_and_free, kind_of}
+use Rattle.clap.specs.Faults.{fault_of, is_free_app}
+use Rattle.clap.specs.declared.ArgMatches.{ArgMatches}
+use Rattle.clap.specs.declared.Error.{Error}
+use Rattle.clap.specs.declared.error.ErrorKind.TheVariants.{OutOfMemory}
+use Rattle.clap.proofs.WalkLemmas.{both, first_value-rows}
+use Rattle.asl_arguments.specs.Given.{IsGiven, is_set, values_of}
+use Rattle.asl_words.specs.declared.given.Given.{Given}
+use Rattle.asl_arguments.specs.declared.found.Ungiven.{Ungiven}
+use Rattle.asl_arguments.specs.declared.found.Ungiven.TheVariants.{Refused}
+
+given_too : (v w : List ℕ → Option (List ℕ)) (g : Given) → ((n : List ℕ) → v n ≡ w n) → IsGiven v g → IsGiven w g
+given_too v w g same h = record {
+  definition = h.definition ∙ same (codes "DEF");
+  mocks = h.mocks ∙ same (codes "MOCKS");
+  chosen = h.chosen ∙ same (codes "CHOSEN");
+  input = h.input ∙ same (codes "INPUT");
+  script = h.script ∙ same (codes "SCRIPT");
+  machine = h.machine ∙ same (codes "MACHINE");
+  expectations = h.expectations ∙ same (codes "EXPECT");
+  code = h.code ∙ same (codes "CODE");
+  mocks_option = h.mocks_option ∙ same (codes "mocks");
+  case_option = h.case_option ∙ same (codes "case");
+  input_option = h.input_option ∙ same (codes "input");
+  script_option = h.script_option ∙ same (codes "script");
+  steps = h.steps ∙ same (codes "steps");
+  format = h.format ∙ same (codes "format");
+  shard = h.shard ∙ same (codes "shard");
+  filter = h.filter ∙ same (codes "filter");
+  workers = h.workers ∙ same (codes "workers");
+  least = h.least ∙ same (codes "min");
+  limit = h.limit ∙ same (codes "limit");
+  witness = h.witness ∙ same (codes "witness");
+  strict = h.strict ∙ ap is_set (same (codes "strict"));
+  run = h.run ∙ ap is_set (same (codes "run"));
+  coverage = h.coverage ∙ ap is_set (same (codes "coverage"));
+  prompt = h.prompt ∙ ap is_set (same (codes "prompt"));
+  calls = h.calls ∙ ap is_set (same (codes "calls"));
+  list = h.list ∙ ap is_set (same (codes "list"));
+  pretty = h.pretty ∙ ap is_set (same (codes "pretty"));
+}
+
+pub found_given : (app : App) (words : List (List ℕ)) (m : ArgMatches) (g : Given) → is_simple_and_free app ≡ true → HasMatchesOf app words m
+    → IsGiven (first_value (found_of m)) g → IsGiven (values_of app words) g
+found_given app words m g plain has =
+    let simple = (both (is_simple app) (is_free_app (built app)) plain).0 in
+    given_too _ _ g (λ n. first_value-rows (found_of m) n ∙ ap (first_of n) (has simple).0)
+
+-- an error that isn't want of memory is a reason
+pub refused : (kinds : Kinds) (e : Error) → HasKind kinds e → kind_of e ≢ OutOfMemory → kinds ≢ []
+refused kinds e has not none = elim has [
+  | inl memory ↦ not memory
+  | inr among ↦ subst (λ ks. IsAmong (kind_of e) ks) none among
+]
+
+-- what is said of a command's line is said of each that is the same to clap
+module _ (app same : App) (words : List (List ℕ)) (r : Result Given Ungiven) (is : app ≡ same) where
+  pub given_of_same : IfOk r (λ g. (fault_of app words ≡ []) × IsGiven (values_of app words) g) → IfOk r (λ g. (fault_of same words ≡ []) × IsGiven (values_of same words) g)
+  given_of_same = subst (λ (a : App). IfOk r (λ g. (fault_of a words ≡ []) × IsGiven (values_of a words) g)) is
+
+  pub refused_of_same : (r ≡ Err Refused → fault_of app words ≢ []) → r ≡ Err Refused → fault_of same words ≢ []
+  refused_of_same = subst (λ (a : App). r ≡ Err Refused → fault_of a words ≢ []) is

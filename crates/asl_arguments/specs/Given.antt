@@ -1,0 +1,53 @@
+-- What is given for each argument of a command.
+use Rattle.std.specs.Prelude.{Bool, false, List, ℕ, Option, Some, None, ◌≡◌, option_map, codes}
+use Rattle.std.specs.Borrow.{Bor}
+use Rattle.std.specs.Str.{bytes_eq}
+use Rattle.clap.specs.Words.{App, first_of, matches_of}
+use Rattle.asl_arguments.specs.Grammar.{app_for}
+use Rattle.asl_arguments.specs.declared.arguments.CommandRow.{CommandRow}
+use Rattle.asl_words.specs.declared.given.Given.{Given}
+
+abbrev pub said : Option (Bor (List ℕ)) → Option (List ℕ)
+said = option_map (λ s. s.now)
+
+-- whether a flag is there
+abbrev pub is_set : Option (List ℕ) → Bool
+is_set None = false
+is_set (Some value) = bytes_eq value (codes "true")
+
+-- each is the value of its own argument, where these are the values by the arguments' names
+pub record IsGiven (value : List ℕ → Option (List ℕ)) (g : Given) : Type 0 where
+  pub definition : said g.definition ≡ value (codes "DEF")
+  pub mocks : said g.mocks ≡ value (codes "MOCKS")
+  pub chosen : said g.chosen ≡ value (codes "CHOSEN")
+  pub input : said g.input ≡ value (codes "INPUT")
+  pub script : said g.script ≡ value (codes "SCRIPT")
+  pub machine : said g.machine ≡ value (codes "MACHINE")
+  pub expectations : said g.expectations ≡ value (codes "EXPECT")
+  pub code : said g.code ≡ value (codes "CODE")
+  pub mocks_option : said g.mocks_option ≡ value (codes "mocks")
+  pub case_option : said g.case_option ≡ value (codes "case")
+  pub input_option : said g.input_option ≡ value (codes "input")
+  pub script_option : said g.script_option ≡ value (codes "script")
+  pub steps : said g.steps ≡ value (codes "steps")
+  pub format : said g.format ≡ value (codes "format")
+  pub shard : said g.shard ≡ value (codes "shard")
+  pub filter : said g.filter ≡ value (codes "filter")
+  pub workers : said g.workers ≡ value (codes "workers")
+  pub least : said g.least ≡ value (codes "min")
+  pub limit : said g.limit ≡ value (codes "limit")
+  pub witness : said g.witness ≡ value (codes "witness")
+  pub strict : g.strict ≡ is_set (value (codes "strict"))
+  pub run : g.run ≡ is_set (value (codes "run"))
+  pub coverage : g.coverage ≡ is_set (value (codes "coverage"))
+  pub prompt : g.prompt ≡ is_set (value (codes "prompt"))
+  pub calls : g.calls ≡ is_set (value (codes "calls"))
+  pub list : g.list ≡ is_set (value (codes "list"))
+  pub pretty : g.pretty ≡ is_set (value (codes "pretty"))
+
+-- the values by the arguments' names that clap's grammar gives words, of which the first is the command's name
+abbrev pub values_of : App → List (List ℕ) → List ℕ → Option (List ℕ)
+values_of app words n = first_of n (matches_of app words)
+
+abbrev pub values_in : CommandRow → List (List ℕ) → List ℕ → Option (List ℕ)
+values_in c = values_of (app_for c)

@@ -1,0 +1,104 @@
+// What is given for each argument of a command, as clap finds it.
+ghost use Rattle.std.specs.Prelude.{◌≡◌, ◌≢◌, [], true, Err, IfOk, map};
+ghost use Rattle.clap.specs.Words.{app_of, kind_of, fault_of, first_value, found_of, is_simple_and_free};
+ghost use Rattle.asl_arguments.specs.Grammar.{app_for};
+ghost use Rattle.asl_arguments.specs.Given.{IsGiven, is_set, values_in, values_of};
+
+use crate::arguments::CommandRow;
+use crate::lines::command_of;
+use asl_words::Given;
+use clap::error::ErrorKind;
+use clap::{ArgMatches, Command, Error};
+use std::alloc::Global;
+use std::convert::AsStr;
+
+/// Why nothing is given.
+#[derive(Clone, Copy)]
+pub enum Ungiven {
+    /// clap refuses the words, or answers them with help.
+    Refused,
+    OutOfMemory,
+}
+
+/// What is given in words, of which the first is the command's name.
+pub fn given_in<'a, S: AsStr>(
+    alloc: Global,
+    row: &CommandRow,
+    words: &'a [S],
+) -> Result<Given<'a>, Ungiven>
+    requires { is_simple_and_free (app_for row.now) ≡ true }
+    ensures ok { IfOk result (λ g. (fault_of (app_for row.now) (map S.text words.entry.now) ≡ [])
+        × IsGiven (values_in row.now (map S.text words.entry.now)) g) }
+    ensures err { result ≡ Err Ungiven.Refused
+        → fault_of (app_for row.now) (map S.text words.entry.now) ≢ [] }
+{
+    match command_of(alloc, row) {
+        Ok(command) => given_to(command, words),
+        Err(_) => Err(Ungiven::OutOfMemory),
+    }
+}
+
+fn given_to<'a, S: AsStr>(command: Command<'a>, words: &'a [S]) -> Result<Given<'a>, Ungiven>
+    requires { is_simple_and_free (app_of command) ≡ true }
+    ensures ok { IfOk result (λ g. (fault_of (app_of command.entry) (map S.text words.entry.now) ≡ [])
+        × IsGiven (values_of (app_of command.entry) (map S.text words.entry.now)) g) }
+    ensures err { result ≡ Err Ungiven.Refused
+        → fault_of (app_of command.entry) (map S.text words.entry.now) ≢ [] }
+{
+    match command.try_get_matches_from(words) {
+        Ok(matches) => Ok(given_by(&matches)),
+        Err(error) => Err(ungiven_by(&error)),
+    }
+}
+
+fn ungiven_by(error: &Error) -> Ungiven
+    ensures { result ≡ Ungiven.Refused → kind_of error.now ≢ ErrorKind.OutOfMemory }
+{
+    match error.kind() {
+        ErrorKind::OutOfMemory => Ungiven::OutOfMemory,
+        _ => Ungiven::Refused,
+    }
+}
+
+fn given_by<'a>(matches: &ArgMatches<'a>) -> Given<'a>
+    ensures { IsGiven (first_value (found_of matches.now)) result }
+{
+    Given {
+        definition: matches.get_str("DEF"),
+        mocks: matches.get_str("MOCKS"),
+        chosen: matches.get_str("CHOSEN"),
+        input: matches.get_str("INPUT"),
+        script: matches.get_str("SCRIPT"),
+        machine: matches.get_str("MACHINE"),
+        expectations: matches.get_str("EXPECT"),
+        code: matches.get_str("CODE"),
+        mocks_option: matches.get_str("mocks"),
+        case_option: matches.get_str("case"),
+        input_option: matches.get_str("input"),
+        script_option: matches.get_str("script"),
+        steps: matches.get_str("steps"),
+        format: matches.get_str("format"),
+        shard: matches.get_str("shard"),
+        filter: matches.get_str("filter"),
+        workers: matches.get_str("workers"),
+        least: matches.get_str("min"),
+        limit: matches.get_str("limit"),
+        witness: matches.get_str("witness"),
+        strict: is_set(matches, "strict"),
+        run: is_set(matches, "run"),
+        coverage: is_set(matches, "coverage"),
+        prompt: is_set(matches, "prompt"),
+        calls: is_set(matches, "calls"),
+        list: is_set(matches, "list"),
+        pretty: is_set(matches, "pretty"),
+    }
+}
+
+fn is_set(matches: &ArgMatches<'_>, name: &str) -> bool
+    ensures { result ≡ is_set (first_value (found_of matches.now) name.now) }
+{
+    match matches.get_str(name) {
+        Some(value) => value == "true",
+        None => false,
+    }
+}

@@ -1,0 +1,98 @@
+// What help tells of arguments. These texts stand apart from the table of arguments, since a proof unfolds that wherever it is named.
+
+/// What help tells of an argument.
+#[derive(Clone, Copy)]
+pub enum Help {
+    LintMocks,
+    LintMachine,
+    LintFormat,
+    LintStrict,
+    GraphRun,
+    GraphFormat,
+    MocksMachine,
+    RunSteps,
+    RunFormat,
+    DebugScript,
+    ScriptOption,
+    DebugFormat,
+    Mocks,
+    TestExpectations,
+    TestWorkers,
+    TestFormat,
+    TestShard,
+    TestFilter,
+    TestList,
+    TestCoverage,
+    TestMin,
+    TestStrict,
+    ExploreLimit,
+    ExplorePrompt,
+    ExploreCalls,
+    ExploreWitness,
+    ExplainCode,
+    Definition,
+    Pretty,
+    Chosen,
+    Input,
+    MocksOption,
+    CaseOption,
+    InputOption,
+}
+
+impl Help {
+    /// Its text.
+    pub(crate) fn text(self) -> &'static str {
+        match self {
+            Help::LintMocks => "The file of the mocked tasks, to be judged beside it",
+            Help::LintMachine =>
+                "The machine's name in the mock file, where that has more than one",
+            Help::LintFormat => "How the findings are printed",
+            Help::LintStrict => "Counts warnings as errors",
+            Help::GraphRun => "Marks the states that a run of MOCKS, CHOSEN and INPUT enters",
+            Help::GraphFormat => "The language of the graph",
+            Help::MocksMachine => "The machine's name in the mock file",
+            Help::RunSteps =>
+                "The file of the steps to take; without it, each step is the one that comes next",
+            Help::RunFormat => "How the run is printed",
+            Help::DebugScript =>
+                "The file of the commands to carry out; without it, lines are read from standard input and answered at once",
+            Help::ScriptOption => "Stands for the word SCRIPT",
+            Help::DebugFormat =>
+                "How the steps of a line are told: by their replies, or by what happened at each state, which is the default at a terminal",
+            Help::Mocks => "The file of the mocked tasks",
+            Help::TestExpectations => "The file of the tests: what each runs, and how it is to end",
+            Help::TestWorkers => "How many workers run the tests side by side, from 1 to 64",
+            Help::TestFormat => "How the reports are printed",
+            Help::TestShard => "Only the tests I, I+N, .. of the file, counted from 1",
+            Help::TestFilter => {
+                "Only the tests of which the machine and the case, as Machine#Case, or the name contain WORD"
+            }
+            Help::TestList => "Lists the tests that would be run, and runs none",
+            Help::TestCoverage => "Tells on standard error how much the tests cover",
+            Help::TestMin =>
+                "The least that the tests are to cover, from 0 to 100; it implies --coverage",
+            Help::TestStrict =>
+                "Fails a test that is ok though its run lacked an answer, or failed by accident",
+            Help::ExploreLimit => "How many worlds are tried at most, from 1 to 1000000",
+            Help::ExplorePrompt =>
+                "Tries only orders in which no branch is late: one steps only where none may step earlier",
+            Help::ExploreCalls =>
+                "Tells how often each Task is invoked in the orders that end in each outcome",
+            Help::ExploreWitness =>
+                "Prints the steps of the outcome of this number alone, as a steps file",
+            Help::ExplainCode =>
+                "A code that a command told, as F10, no-default or States.Timeout; without it, all codes are listed",
+            Help::Definition =>
+                "The file of the state machine's definition; - is standard input, as for each file",
+            Help::Pretty => "Prints a line for each member and item, with spaces in front",
+            Help::Chosen =>
+                "The machine's name, the machine's and a case's as Machine#Case, or the case's alone where the mock file has one machine",
+            Help::Input => {
+                "The file of the execution's input, or the input itself, as '{\"id\":17}'"
+            }
+            Help::MocksOption => "Stands for the word MOCKS",
+            Help::CaseOption => "Stands for the word CHOSEN",
+            Help::InputOption => "Stands for the word INPUT",
+        }
+    }
+}

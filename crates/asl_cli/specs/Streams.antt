@@ -1,0 +1,35 @@
+-- What a command meets and leaves: the files that it may read, the lines that it is given, the two sinks
+-- that it writes to, and its status.
+use Rattle.std.specs.Prelude.{ℕ, List}
+use Rattle.asl_host.specs.Reading.{Lacks}
+use Rattle.asl_host.specs.Outcomes.{SinkUse, IsPrinted}
+
+-- what each file may give, and why it may be lacking
+pub record FileSystem : Type 1 where
+  pub gives : List ℕ → List ℕ → Type 0
+  pub lacks : Lacks
+
+abbrev pub file_system : (List ℕ → List ℕ → Type 0) → Lacks → FileSystem
+file_system gives lacks = record { gives = gives; lacks = lacks }
+
+-- the use of an input, by what it has given, before and after
+pub record InputUse (I : Type 0) : Type 0 where
+  pub given : I → List ℕ
+  pub before : I
+  pub after : I
+
+abbrev pub input_use : {I : Type 0} → (I → List ℕ) → I → I → InputUse I
+input_use given before after = record { given = given; before = before; after = after }
+
+-- the use of standard output and of standard error, and the status
+pub record Io (O E : Type 0) : Type 0 where
+  pub out : SinkUse O
+  pub err : SinkUse E
+  pub status : ℕ
+
+abbrev pub io : {O E : Type 0} → SinkUse O → SinkUse E → ℕ → Io O E
+io out err status = record { out = out; err = err; status = status }
+
+-- a text was printed and has this status, or its sink failed and the status is 2
+abbrev pub Prints : {O E : Type 0} → Io O E → List ℕ → ℕ → Type 0
+Prints x text wanted = IsPrinted x.out text wanted x.status

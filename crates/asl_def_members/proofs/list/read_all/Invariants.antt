@@ -1,7 +1,0 @@
-use Rattle.std.proofs.Common.{◌≡◌, take}
-use Rattle.std.specs.Prelude.{map}
-use Rattle.asl_json.specs.View.{items_of}
-use Rattle.asl_def_members.proofs.list.read_all.Given as goal
-
-abbrev pub invariant-loop-value : goal.invariant-loop-value
-invariant-loop-value g l = map g.T.Compiled.shown l.compiled.items ≡ items_of (take l.value-index l.values)

@@ -1,9 +1,0 @@
-use Rattle.std.proofs.Common.{refl}
-use Rattle.std.specs.Prelude.{codes, Some}
-use Rattle.asl_def_parts.proofs.Names.{named}
-use Rattle.asl_def_members.specs.Shown.{names_shown}
-use Rattle.asl_def_parts.specs.Parts.{catcher_members}
-use Rattle.asl_def_parts.proofs.catcher.Catcher.errors.Goals as goal
-
-pub returns : goal.returns
-returns c = named (codes "ErrorEquals") (Some (names_shown c.args.self.now.errors)) (catcher_members c.args.self.now) refl

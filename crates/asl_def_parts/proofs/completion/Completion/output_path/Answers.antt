@@ -1,9 +1,0 @@
-use Rattle.std.proofs.Common.{refl}
-use Rattle.std.specs.Prelude.{codes}
-use Rattle.asl_def_parts.proofs.Names.{named}
-use Rattle.asl_def_members.specs.Shown.{path_shown}
-use Rattle.asl_def_parts.specs.Parts.{completion_members}
-use Rattle.asl_def_parts.proofs.completion.Completion.output_path.Goals as goal
-
-pub returns : goal.returns
-returns c = named (codes "OutputPath") (path_shown c.args.self.now.output_path) (completion_members c.args.self.now) refl

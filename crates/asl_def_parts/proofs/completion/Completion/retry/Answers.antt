@@ -1,9 +1,0 @@
-use Rattle.std.proofs.Common.{refl, ◌∙◌}
-use Rattle.std.specs.Prelude.{codes, option_map, List}
-use Rattle.asl_def_parts.proofs.Names.{named, lent}
-use Rattle.asl_json.specs.Data.{Data, list, chain}
-use Rattle.asl_def_parts.specs.Parts.{completion_members}
-use Rattle.asl_def_parts.proofs.completion.Completion.retry.Goals as goal
-
-pub returns : goal.returns
-returns c = lent (λ (xs : List Data). list (chain xs)) c.as_ref.result _ c.as_ref.ensures.value ∙ named (codes "Retry") (option_map (λ (xs : List Data). list (chain xs)) c.args.self.now.retry) (completion_members c.args.self.now) refl

@@ -1,6 +1,0 @@
-use Rattle.std.proofs.Common.{◌≡◌, ◌-◌, drop, reverse}
-use Rattle.asl_def_table.specs.Pointers.{pointer_text}
-use Rattle.asl_def_table.proofs.fault.pointer_of.Given as goal
-
-abbrev pub invariant-loop-i : goal.invariant-loop-i
-invariant-loop-i l = l.place ≡ pointer_text (reverse (drop (l.count - l.i) l.steps))

@@ -1,0 +1,266 @@
+// Warnings on definitions, and what is wrong with a mock file beside one.
+ghost use Rattle.std.specs.Prelude.{◌≡◌, map};
+ghost use Rattle.asl_explain.specs.Codes.{warning_codes, code_of};
+
+use crate::saying::Explanation;
+
+const ALL: &[Explanation] = &[
+    Explanation {
+        code: "unreachable-state",
+        name: None,
+        sentence: "no way leads to a state from StartAt",
+        text: r#"No Next, Default, rule or catcher that can be reached leads to this state, so it is never entered.
+(Amazon States Language, "Transitions".) Lead to it, or take it out.
+
+Wrong:
+    {"StartAt": "A", "States": {"A": {"Type": "Succeed"}, "Ship": {"Type": "Succeed"}}}
+Right:
+    {"StartAt": "A", "States": {"A": {"Type": "Pass", "Next": "Ship"}, "Ship": {"Type": "Succeed"}}}
+
+Told by lint.
+"#,
+    },
+    Explanation {
+        code: "no-end",
+        name: None,
+        sentence: "from a state no end can be reached",
+        text: r#"Whichever way is taken, the execution never comes to a Succeed, a Fail or a state with "End":
+true: it goes on until its history has 25,000 events. Give the loop a way out, as a Choice that
+counts.
+
+Wrong:
+    {"StartAt": "A", "States": {"A": {"Type": "Wait", "Seconds": 1, "Next": "B"},
+      "B": {"Type": "Wait", "Seconds": 2, "Next": "A"}}}
+Right:
+    {"StartAt": "A", "States": {"A": {"Type": "Wait", "Seconds": 1, "Next": "B"},
+      "B": {"Type": "Wait", "Seconds": 2, "End": true}}}
+
+Told by lint.
+"#,
+    },
+    Explanation {
+        code: "no-default",
+        name: None,
+        sentence: "a Choice has no Default",
+        text: r#"Where no rule holds and there is no Default, the execution fails with States.NoChoiceMatched,
+which a Choice can neither retry nor catch. (Amazon States Language, "Choice State".) Add a
+Default, if only to a Fail that says what was unexpected.
+
+Wrong:
+    {"StartAt": "A", "States": {"A": {"Type": "Choice", "Choices":
+      [{"Variable": "$.n", "NumericEquals": 1, "Next": "B"}]}, "B": {"Type": "Succeed"}}}
+Right:
+    {"StartAt": "A", "States": {"A": {"Type": "Choice", "Default": "C", "Choices":
+      [{"Variable": "$.n", "NumericEquals": 1, "Next": "B"}]},
+      "B": {"Type": "Succeed"}, "C": {"Type": "Fail"}}}
+
+Told by lint.
+"#,
+    },
+    Explanation {
+        code: "endless-wait",
+        name: None,
+        sentence: "a Task that waits for a token has no time limit",
+        text: r#"A Resource that ends in .waitForTaskToken waits until somebody sends the token back, for up to a
+year. (Developer Guide, "Wait for a Callback with Task Token".) Add TimeoutSeconds or
+HeartbeatSeconds, so that a lost token raises States.Timeout.
+
+Wrong:
+    {"StartAt": "A", "States": {"A": {"Type": "Task", "End": true,
+      "Resource": "arn:aws:states:::sqs:sendMessage.waitForTaskToken"}}}
+Right:
+    {"StartAt": "A", "States": {"A": {"Type": "Task", "End": true, "TimeoutSeconds": 3600,
+      "Resource": "arn:aws:states:::sqs:sendMessage.waitForTaskToken"}}}
+
+Told by lint.
+"#,
+    },
+    Explanation {
+        code: "heartbeat-not-shorter",
+        name: None,
+        sentence: "HeartbeatSeconds isn't below TimeoutSeconds",
+        text: r#"A heartbeat that is as long as the time limit can never be missed before the limit is over.
+(Amazon States Language, "Task State": HeartbeatSeconds is smaller than TimeoutSeconds.) Make it
+shorter, or take it out.
+
+Wrong:
+    {"StartAt": "A", "States": {"A": {"Type": "Task", "Resource": "r", "End": true,
+      "TimeoutSeconds": 60, "HeartbeatSeconds": 60}}}
+Right:
+    {"StartAt": "A", "States": {"A": {"Type": "Task", "Resource": "r", "End": true,
+      "TimeoutSeconds": 60, "HeartbeatSeconds": 20}}}
+
+Told by lint.
+"#,
+    },
+    Explanation {
+        code: "unasked-handler",
+        name: None,
+        sentence: "a retrier or catcher is never asked",
+        text: r#"Retriers and catchers are asked in their order, and the first that names the error decides. All
+that this one names, earlier ones name too. (Amazon States Language, "Retrying after error",
+"Fallback States".) Put it before them, or take it out. No list is ever asked for States.Runtime
+and States.DataLimitExceeded.
+
+Wrong:
+    {"StartAt": "A", "States": {"A": {"Type": "Task", "Resource": "r", "End": true,
+      "Retry": [{"ErrorEquals": ["States.TaskFailed"]}, {"ErrorEquals": ["Busy"]}]}}}
+Right:
+    {"StartAt": "A", "States": {"A": {"Type": "Task", "Resource": "r", "End": true,
+      "Retry": [{"ErrorEquals": ["Busy"]}, {"ErrorEquals": ["States.TaskFailed"]}]}}}
+
+Told by lint.
+"#,
+    },
+    Explanation {
+        code: "unknown-error",
+        name: None,
+        sentence: "a name that begins with States. is no error of the language",
+        text: r#"Names that begin with States. are reserved, so this one is never raised. (Amazon States Language,
+"Error representation" and appendix A.) Correct it, as States.Timeout or States.TaskFailed; names
+of your own begin otherwise.
+
+Wrong:
+    {"StartAt": "A", "States": {"A": {"Type": "Task", "Resource": "r", "End": true,
+      "Retry": [{"ErrorEquals": ["States.Timout"]}]}}}
+Right:
+    {"StartAt": "A", "States": {"A": {"Type": "Task", "Resource": "r", "End": true,
+      "Retry": [{"ErrorEquals": ["States.Timeout"]}]}}}
+
+Told by lint.
+"#,
+    },
+    Explanation {
+        code: "forgotten-dollar",
+        name: None,
+        sentence: "a text of a template looks like a path and stays a plain text",
+        text: r#"Only a member whose name ends in .$ is replaced by what its path names. (Amazon States Language,
+"Payload Template".) Add .$ to the name.
+
+Wrong:
+    {"StartAt": "A",
+      "States": {"A": {"Type": "Pass", "Parameters": {"id": "$.order.id"}, "End": true}}}
+Right:
+    {"StartAt": "A",
+      "States": {"A": {"Type": "Pass", "Parameters": {"id.$": "$.order.id"}, "End": true}}}
+
+Told by lint.
+"#,
+    },
+    Explanation {
+        code: "unknown-context-member",
+        name: None,
+        sentence: "a path names a part that the Context Object never has",
+        text: r#"$$ is the Context Object: Execution (Id, Name, Input, StartTime), State (Name, EnteredTime,
+RetryCount), StateMachine (Id, Name), in a Task also Task.Token, in an iteration of a Map Map.Item
+(Index, Value). (Developer Guide, "Accessing execution data from the Context object".) Correct the
+name; a path on the input begins with one $.
+
+Wrong:
+    {"StartAt": "A",
+      "States": {"A": {"Type": "Pass", "Parameters": {"id.$": "$$.Execution.Nme"}, "End": true}}}
+Right:
+    {"StartAt": "A",
+      "States": {"A": {"Type": "Pass", "Parameters": {"id.$": "$$.Execution.Name"}, "End": true}}}
+
+Told by lint.
+"#,
+    },
+    Explanation {
+        code: "unknown-state",
+        name: None,
+        sentence: "a test case has an answer for a name that no state has",
+        text: r#"The members of a test case are names of states of the definition, compared letter by letter.
+Correct the name: so far nothing asks for this answer, and the Task that you mean has none. The
+examples stand beside a definition with the Task Charge and the Succeed Paid.
+
+Wrong:
+    {"StateMachines": {"Orders": {"TestCases": {
+      "paid": {"Charge": "Charged", "Chrge": "Charged"}}}},
+     "MockedResponses": {"Charged": {"0": {"Return": {}}}}}
+Right:
+    {"StateMachines": {"Orders": {"TestCases": {"paid": {"Charge": "Charged"}}}},
+     "MockedResponses": {"Charged": {"0": {"Return": {}}}}}
+
+Told by lint, where a mock file is named.
+"#,
+    },
+    Explanation {
+        code: "not-a-task",
+        name: None,
+        sentence: "a test case has an answer for a state that is no Task",
+        text: r#"Only Tasks invoke a service and ask for an answer. Leave the answer out, or name the Task. The
+examples stand beside a definition with the Task Charge and the Succeed Paid.
+
+Wrong:
+    {"StateMachines": {"Orders": {"TestCases": {"paid": {"Charge": "Charged", "Paid": "Charged"}}}},
+     "MockedResponses": {"Charged": {"0": {"Return": {}}}}}
+Right:
+    {"StateMachines": {"Orders": {"TestCases": {"paid": {"Charge": "Charged"}}}},
+     "MockedResponses": {"Charged": {"0": {"Return": {}}}}}
+
+Told by lint, where a mock file is named.
+"#,
+    },
+    Explanation {
+        code: "unanswered-task",
+        name: None,
+        sentence: "no test case has an answer for a Task",
+        text: r#"A run that comes to this Task fails with States.Runtime, no mocked answer. Give it a response in
+each case that reaches it; asl mocks DEF prints a file with an answer for each. The examples stand
+beside a definition with the Task Charge and the Succeed Paid.
+
+Wrong:
+    {"StateMachines": {"Orders": {"TestCases": {"paid": {}}}},
+     "MockedResponses": {}}
+Right:
+    {"StateMachines": {"Orders": {"TestCases": {"paid": {"Charge": "Charged"}}}},
+     "MockedResponses": {"Charged": {"0": {"Return": {}}}}}
+
+Told by lint, where a mock file is named.
+"#,
+    },
+    Explanation {
+        code: "unused-response",
+        name: None,
+        sentence: "no test case names a response",
+        text: r#"Name the response in a case, or leave it out: perhaps a case has its name misspelt. The examples
+stand beside a definition with the Task Charge and the Succeed Paid.
+
+Wrong:
+    {"StateMachines": {"Orders": {"TestCases": {"paid": {"Charge": "Charged"}}}},
+     "MockedResponses": {"Charged": {"0": {"Return": {}}},
+      "Refused": {"0": {"Throw": {"Error": "Refused"}}}}}
+Right:
+    {"StateMachines": {"Orders": {"TestCases": {"paid": {"Charge": "Charged"}}}},
+     "MockedResponses": {"Charged": {"0": {"Return": {}}}}}
+
+Told by lint, where a mock file is named.
+"#,
+    },
+    Explanation {
+        code: "missing-answer",
+        name: None,
+        sentence: "a response leaves out a number below its last one",
+        text: r#"Answers are numbered by the invocations of a state, from 0, retries included. An invocation
+without an answer fails with States.Runtime, so a gap is hardly meant. The examples stand beside a
+definition with the Task Charge and the Succeed Paid.
+
+Wrong:
+    {"StateMachines": {"Orders": {"TestCases": {"paid": {"Charge": "Charged"}}}},
+     "MockedResponses": {"Charged": {"1": {"Return": {}}}}}
+Right:
+    {"StateMachines": {"Orders": {"TestCases": {"paid": {"Charge": "Charged"}}}},
+     "MockedResponses": {"Charged": {"0-1": {"Return": {}}}}}
+
+Told by lint, where a mock file is named.
+"#,
+    },
+];
+
+/// The codes of findings beside faults, in order.
+pub(crate) fn all() -> &'static [Explanation]
+    ensures { map code_of result.now ≡ warning_codes }
+{
+    ALL
+}

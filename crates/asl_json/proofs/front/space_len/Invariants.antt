@@ -1,9 +1,0 @@
-use Rattle.std.proofs.Common.{length, take, ◌-◌, ◌≤◌}
-use Rattle.asl_json.specs.Grammar.{AreSpaces}
-use Rattle.asl_json.proofs.front.space_len.Given as goal
-
-abbrev pub invariant-loop-end : goal.invariant-loop-end
-invariant-loop-end l = AreSpaces (take l.end l.bytes) × (l.end ≤ length l.bytes)
-
-abbrev pub decreases-loop-end : goal.decreases-loop-end
-decreases-loop-end l = length l.bytes - l.end

@@ -1,5 +1,0 @@
-use Rattle.asl_json.proofs.Buffers.{can_cut}
-use Rattle.asl_json.proofs.writing.put_quoted.Goals as goal
-
-pub whole_or_none-requires : goal.whole_or_none-requires
-whole_or_none-requires c = can_cut c.args.out.now c.put_text-appended.new.out c.as_str-len.result.now c.as_str-len.ensures.value c.put_text-appended.ensures.kept

@@ -1,0 +1,4 @@
+pub mod Amounts
+pub mod Figures
+pub mod Numerals
+pub mod Plainly

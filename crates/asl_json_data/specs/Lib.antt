@@ -1,0 +1,11 @@
+pub mod Compact
+pub mod Data
+pub mod Distinct
+pub mod Grammar
+pub mod Limits
+pub mod Number
+pub mod Parts
+pub mod Reads
+pub mod Results
+pub mod Text
+pub mod private

@@ -1,0 +1,4 @@
+-- Words that only proofs need.
+pub mod Lists
+pub mod Places
+pub mod NumberParts

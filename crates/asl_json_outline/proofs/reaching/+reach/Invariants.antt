@@ -1,5 +1,0 @@
-use Rattle.std.proofs.Common.{length}
-use Rattle.asl_json_outline.proofs.reaching.+reach.Given as goal
-
-abbrev pub decreases-reach : goal.decreases-reach
-decreases-reach l = length l.place.now

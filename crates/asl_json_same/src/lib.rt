@@ -1,0 +1,6 @@
+//! Whether two JSON values mean the same.
+#![tactic(auto)]
+
+mod sameness;
+
+pub use sameness::same;

@@ -1,0 +1,13 @@
+pub mod Arriving
+pub mod Documents
+pub mod Escapes
+pub mod Fronts
+pub mod JudgingLemmas
+pub mod Keeping
+pub mod Leasting
+pub mod Numbers
+pub mod Passing
+pub mod Reaching
+pub mod Smalls
+pub mod Stretches
+pub mod Texts

@@ -1,0 +1,4 @@
+-- Words that only proofs need.
+pub mod Chars
+pub mod Leads
+pub mod Machine

@@ -1,0 +1,6 @@
+pub mod Buffers
+pub mod Parts
+pub mod Pointing
+pub mod Quoting
+pub mod Rooms
+pub mod Round

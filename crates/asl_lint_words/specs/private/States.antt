@@ -1,7 +1,0 @@
--- States as the code has them.
-use Rattle.std.specs.Prelude.{reverse}
-use Rattle.asl_lint_words.specs.States.{Stated}
-use Rattle.asl_lint_words.specs.declared.states.State.TheInside.{Inside}
-
-abbrev pub stated : Inside → Stated
-stated a = record { name = a.name.now; kind = a.kind; place = reverse a.back.items }

@@ -1,0 +1,7 @@
+pub mod Taken
+pub mod Trees
+pub mod Invoked
+pub mod Told
+pub mod Entered
+pub mod Edges
+pub mod Marked

@@ -1,0 +1,61 @@
+// A whole run, from texts to text.
+ghost use Rattle.std.specs.Prelude.{◌≡◌, IfOk, IfErr, string_bytes};
+ghost use Rattle.asl_run_input.specs.Emulations.{IsRefused};
+ghost use Rattle.asl_run_input.specs.Texts.{Unless};
+ghost use Rattle.asl_run_input.specs.Views.{texts_of, steps_in};
+ghost use Rattle.asl_run_state.specs.Lines.{is_success};
+ghost use Rattle.asl_exec.specs.Lacking.{unanswered_in, IsLackingIn};
+ghost use Rattle.asl_exec.specs.RunText.{world_by};
+ghost use Rattle.asl_exec.specs.Steps.{opening};
+ghost use Rattle.asl_run_formats.specs.Taken.{taken_by};
+ghost use Rattle.asl_run_formats.specs.Told.{told, IsToldRunOf};
+
+use crate::format::{Format, printed};
+use asl_exec::{Emulated, Execution};
+use asl_run_input::{EmulateFault, Emulation, RunTexts, Setup, StepAt};
+use asl_run_state::is_success;
+use std::alloc::{AllocError, Global};
+
+/// The run of these steps, printed in a format, or, without a list, that of those that come next, at most so many. The error is that memory
+/// ran out.
+fn run_as(
+    alloc: Global,
+    format: Format,
+    setup: Setup,
+    steps: Option<Vec<StepAt>>,
+    limit: u32,
+) -> Result<Emulated, AllocError>
+    ensures text { IfOk result (λ e. string_bytes e.text ≡ told format setup (opening setup)
+        (taken_by limit setup (opening setup) (steps_in steps))
+        (world_by limit setup (opening setup) (steps_in steps))) }
+    ensures good { IfOk result (λ e. e.good
+        ≡ is_success (world_by limit setup (opening setup) (steps_in steps)).outcome) }
+    ensures lacking { IfOk result (λ e. e.lacking
+        ≡ unanswered_in setup.case (world_by limit setup (opening setup) (steps_in steps))) }
+{
+    let mut execution = Execution::open(alloc, setup)?;
+    let text = printed(alloc, format, &mut execution, steps, limit)?;
+    let lacking = execution.lacking()?;
+    Ok(Emulated {
+        text,
+        good: is_success(execution.outcome()),
+        lacking,
+    })
+}
+
+/// Runs an execution as `asl_exec::emulate_texts` does, with its faults, and prints it in a format.
+pub fn emulate_as(
+    alloc: Global,
+    format: Format,
+    texts: &RunTexts<'_>,
+    limit: u32,
+) -> Result<Emulated, EmulateFault>
+    ensures run { IfOk result
+        (λ e. IsToldRunOf format (texts_of texts.now) limit (string_bytes e.text) e.good) }
+    ensures lacking { IfOk result (λ e. IsLackingIn (texts_of texts.now) limit e.lacking) }
+    ensures fault { IfErr result (Unless (IsRefused (texts_of texts.now))) }
+{
+    let emulation = Emulation::read(alloc, texts)?;
+    let emulated = run_as(alloc, format, emulation.setup, emulation.steps, limit)?;
+    Ok(emulated)
+}

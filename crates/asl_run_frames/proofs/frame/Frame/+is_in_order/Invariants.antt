@@ -1,7 +1,0 @@
-use Rattle.std.proofs.Common.{take}
-use Rattle.asl_run_frames.proofs.Ordering.{AreFamiliesInOrder}
-use Rattle.asl_run_frames.proofs.frame.Frame.+is_in_order.Given as goal
-
--- the branches of each child so far are in order
-abbrev pub invariant-loop-child : goal.invariant-loop-child
-invariant-loop-child l = AreFamiliesInOrder (take l.child-index l.child-items)

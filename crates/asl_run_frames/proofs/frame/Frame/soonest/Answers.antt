@@ -1,7 +1,0 @@
-use Rattle.std.proofs.Common.{◌∙◌, ap, sym}
-use Rattle.asl_run_frames.specs.Turns.{soonest}
-use Rattle.asl_run_frames.proofs.Turning.{from-root}
-use Rattle.asl_run_frames.proofs.frame.Frame.soonest.Goals as goal
-
-pub returns-clause-turn : goal.returns-clause-turn
-returns-clause-turn g c = c.seek.ensures.turn ∙ ap (soonest c.args.now) (sym (from-root (g.L.Limits.limits c.args.limits.now) c.args.self.now))

@@ -1,6 +1,0 @@
-use Rattle.std.proofs.Common.{◌≡◌, ◌+◌, drop}
-use Rattle.asl_run_frames.specs.Trees.{count_undone}
-use Rattle.asl_run_frames.proofs.offspring.undone_of.Given as goal
-
-abbrev pub invariant-loop-frame : goal.invariant-loop-frame
-invariant-loop-frame l = l.undone + count_undone (drop l.frame-index l.frames) ≡ count_undone l.frames

@@ -1,5 +1,0 @@
-use Rattle.asl_run_frames.proofs.Keeping.{known-over}
-use Rattle.asl_run_frames.proofs.resting.Resting.before.Goals as goal
-
-pub returns-then-number-self-2-clause-known : goal.returns-then-number-self-2-clause-known
-returns-then-number-self-2-clause-known c = λ kids known. known-over c.args.self _ kids known

@@ -1,5 +1,0 @@
-use Rattle.asl_run_outputs.proofs.Taking.{leads}
-use Rattle.asl_run_outputs.proofs.laws.taken_steps_lead_to_the_same_world.Goals as goal
-
-pub returns : goal.returns
-returns c = leads

@@ -1,6 +1,0 @@
-pub mod Taken
-pub mod Trees
-pub mod Told
-pub mod Entered
-pub mod Edges
-pub mod Marked

@@ -1,7 +1,0 @@
-mod FileLines
-pub mod StepLines
-pub mod LinesRead
-pub mod OneReading
-pub mod Refusing
-pub mod OneRun
-mod Alike

@@ -1,4 +1,0 @@
-use Rattle.asl_run_world.proofs.lines.put_failure.Goals as goal
-
-pub returns-clause-ok : goal.returns-clause-ok
-returns-clause-ok c = rw c.in_ok-output.ensures at c.put_data.ensures.ok

@@ -1,0 +1,5 @@
+use Rattle.asl_session_repl.proofs.Answering.{obeyed}
+use Rattle.asl_session_repl.proofs.console.Console.answer.Goals as goal
+
+pub returns-in-Some : goal.returns-in-Some
+returns-in-Some c = obeyed c.carry_out.result c.args.self.now c.carry_out.new.self c.args.line.now c.in-Some.request (rw c.in-Some.is at c.in_ok-request.ensures.found) c.carry_out.ensures.text c.carry_out.ensures.quits c.carry_out.ensures.next

@@ -1,0 +1,12 @@
+pub mod Words
+pub mod Moments
+pub mod Requests
+pub mod Dated
+pub mod Failing
+pub mod Onward
+pub mod Views
+pub mod Answers
+pub mod Telling
+pub mod Talks
+pub mod Laws
+pub mod private

@@ -1,0 +1,40 @@
+-- A talk: lines that were answered one after another, their steps told in a look.
+use Rattle.std.specs.Prelude.{ℕ, ◌≡◌, ◌⊎◌, true, false, List, [], ◌∷◌, ◌++◌, codes}
+use Rattle.std.specs.List.{flat_map}
+use Rattle.asl_session_repl.specs.declared.telling.Look.{Look}
+use Rattle.asl_session_repl.specs.Answers.{Console}
+use Rattle.asl_session_repl.specs.Telling.{Answers}
+
+-- the lines as they were given, each with a line feed behind it
+abbrev pub given_lines : List (List ℕ) → List ℕ
+given_lines lines = flat_map (λ line. line ++ 10 ∷ []) lines
+
+-- a line was answered and ends nothing, or memory ran out and that was told
+abbrev pub IsReplied : Look → Console → List ℕ → List ℕ → Console → Type 0
+IsReplied look c line text d =
+    Answers look c line text false d ⊎ (text ≡ codes "OutOfMemory" ++ 10 ∷ [])
+
+-- these lines were answered in order
+abbrev pub AreReplied : Look → Console → List (List ℕ) → List ℕ → Console → Type 0
+AreReplied look c [] text d = (text ≡ []) × (d ≡ c)
+AreReplied look c (line ∷ lines) text d =
+    (first : List ℕ) × (rest : List ℕ) × (e : Console) × IsReplied look c line first e
+    × (text ≡ first ++ rest) × AreReplied look e lines rest d
+
+-- a line that ends the talk came behind these
+pub record IsQuit (look : Look) (c : Console) (lines : List (List ℕ)) (text : List ℕ)
+    (d : Console) : Type 0
+  where
+    pub before : List (List ℕ)
+    pub told : List ℕ
+    pub here : Console
+    pub line : List ℕ
+    pub answer : List ℕ
+    pub replied : AreReplied look c before told here
+    pub quits : Answers look here line answer true d
+    pub lines_are : lines ≡ before ++ line ∷ []
+    pub text_is : text ≡ told ++ answer
+
+-- a whole talk: all lines were answered, up to one that ends it
+abbrev pub IsTalk : Look → Console → List (List ℕ) → List ℕ → Console → Type 0
+IsTalk look c lines text d = AreReplied look c lines text d ⊎ IsQuit look c lines text d

@@ -1,8 +1,0 @@
-use Rattle.asl_step_unread.proofs.Tokens.{counts, others}
-use Rattle.asl_step_unread.proofs.laws.a_step_counts_where_it_reads_the_count.Goals as goal
-
-pub returns-clause-counts : goal.returns-clause-counts
-returns-clause-counts c = counts
-
-pub returns-clause-others : goal.returns-clause-others
-returns-clause-others c = others

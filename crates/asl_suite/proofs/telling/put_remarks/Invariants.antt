@@ -1,0 +1,9 @@
+use Rattle.std.proofs.Common.{◌≡◌, ◌++◌, drop}
+use Rattle.std.specs.Prelude.{string_bytes}
+use Rattle.std.specs.List.{flat_map}
+use Rattle.asl_suite.specs.Remarks.{maybe_remark}
+use Rattle.asl_suite.proofs.telling.put_remarks.Given as goal
+
+-- what was appended and what is left are that of all
+abbrev pub invariant-loop-finding : goal.invariant-loop-finding
+invariant-loop-finding l = string_bytes l.out ++ flat_map maybe_remark (drop l.finding-index l.findings) ≡ string_bytes l.fn.out ++ flat_map maybe_remark l.findings

@@ -1,0 +1,101 @@
+// What is told of a test.
+ghost use Rattle.std.specs.Prelude.{◌≡◌, ◌<◌, length};
+ghost use Rattle.asl_suite.specs.Findings.{is_good};
+
+use crate::alone::put_alone;
+use crate::case_report::{CaseReport, Verdict};
+use crate::difference::put_difference;
+use crate::explaining::explain;
+use crate::reporting::is_passed;
+use crate::suite::Suite;
+use crate::telling::put_doubt;
+use std::alloc::{AllocError, Global};
+
+/// Where the tests of a suite come from: the names of its files, and which tests of the file of expectations it has: that of the number `first`,
+/// from 1, and each that stands `apart` behind one of them.
+#[derive(Clone, Copy)]
+pub struct Source<'a> {
+    pub definition: &'a str,
+    pub mocks: &'a str,
+    pub first: usize,
+    pub apart: usize,
+}
+
+/// What is told of a test: its report and, where it isn't `ok`, why, and how it is run alone.
+#[derive(Drop)]
+pub struct Finding<'a> {
+    /// The number of the test in its file, from 1.
+    pub number: usize,
+    /// What is reported of it.
+    pub report: &'a CaseReport,
+    /// The first difference between what was wanted and what came; empty where the test is `ok`.
+    pub difference: String,
+    /// A command line that runs the test by itself; empty where the test is `ok`.
+    pub alone: String,
+}
+
+/// Whether the test is `ok`.
+pub(crate) fn is_good(finding: &Finding<'_>) -> bool
+    ensures { result ≡ is_good finding.now }
+{
+    is_passed(finding.report)
+}
+
+/// What is told of each test of a suite, of which these are the reports. Each test that isn't `ok` is run once more. The error is that memory ran
+/// out.
+pub fn findings<'a>(
+    alloc: Global,
+    source: &Source<'_>,
+    suite: &Suite,
+    reports: &'a [CaseReport],
+) -> Result<Vec<Finding<'a>>, AllocError> {
+    let mut findings = Vec::with_capacity(alloc, reports.len())?;
+    for (place, report) in reports.iter().enumerate() {
+        findings.push(finding_of(alloc, source, suite, place, report)?)?;
+    }
+    Ok(findings)
+}
+
+/// Appends why the test at a place of the suite isn't `ok`, behind the verdict that is reported of it.
+fn put_why(
+    alloc: Global,
+    out: &mut String,
+    suite: &Suite,
+    place: usize,
+    report: &CaseReport,
+) -> Result<(), AllocError>
+    requires { place < length suite.now.tests.list.items }
+{
+    out.push_str(report.verdict.word())?;
+    out.push_str(": ")?;
+    let test = &suite.tests.list[place];
+    match report.verdict {
+        Verdict::Unanswered | Verdict::Accident => put_doubt(out, &report.doubt),
+        _ => put_difference(alloc, out, test, report, &explain(alloc, suite, place)?),
+    }
+}
+
+/// What is told of the test at a place of the suite.
+fn finding_of<'a>(
+    alloc: Global,
+    source: &Source<'_>,
+    suite: &Suite,
+    place: usize,
+    report: &'a CaseReport,
+) -> Result<Finding<'a>, AllocError> {
+    let number = source
+        .first
+        .saturating_add(source.apart.saturating_mul(place));
+    let mut difference = String::new(alloc);
+    let mut alone = String::new(alloc);
+    if !is_passed(report) && place < suite.tests.list.len() {
+        put_why(alloc, &mut difference, suite, place, report)?;
+        put_alone(alloc, &mut alone, source, &suite.tests.list[place])?;
+    }
+    Ok(Finding {
+        number,
+        report,
+        difference,
+        alone,
+    })
+}

@@ -1,9 +1,0 @@
-use Rattle.std.proofs.Common.{◌≡◌, ◌++◌, drop}
-use Rattle.asl_json.specs.Data.{chain}
-use Rattle.asl_json.specs.View.{items_of}
-use Rattle.asl_suite_expect.specs.Spelled.{tests_in}
-use Rattle.asl_suite_expect.proofs.spelled.tests_of.Given as goal
-
--- those so far and those of what is left are those of all
-abbrev pub invariant-loop-item : goal.invariant-loop-item
-invariant-loop-item l = l.tests.items ++ tests_in (chain (items_of (drop l.item-index l.items))) ≡ tests_in (chain (items_of l.items))

@@ -1,6 +1,0 @@
-pub mod Form
-pub mod Spelled
-pub mod Told
-pub mod Lines
-pub mod Differences
-pub mod Shards

@@ -1,5 +1,0 @@
-use Rattle.asl_view_stages.proofs.Ends.{ends_there}
-use Rattle.asl_view_stages.proofs.laws.stages_end_with_what_states_give.Goals as goal
-
-pub returns : goal.returns
-returns c = ends_there

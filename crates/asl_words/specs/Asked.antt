@@ -1,0 +1,231 @@
+-- What is asked for by what is given for the arguments of a command.
+use Rattle.std.specs.Prelude.{ℕ, ◌==◌, ◌&&◌, ◌||◌, Bool, true, false, not, List, [], ◌∷◌, Option, Some, None}
+use Rattle.std.specs.Prelude.{◌^◌, is_some, option_map, option_and_then, if◌then◌else◌, length, nat_le, nat_lt, codes}
+use Rattle.std.specs.Borrow.{Bor}
+use Rattle.std.specs.Option.{option_xor, option_or}
+use Rattle.std.specs.Char.{digit_value}
+use Rattle.std.specs.List.{list_all, list_any, before_first, after_first}
+use Rattle.std.specs.Str.{all_ascii_digits, bytes_eq}
+use Rattle.std.specs.Str.Parse.{digits_value, without_leading_plus}
+use Rattle.asl_words.specs.declared.verbs.Verb.{Verb}
+use Rattle.asl_words.specs.declared.verbs.Verb.TheVariants as verb
+use Rattle.asl_words.specs.declared.given.Given.{Given}
+use Rattle.asl_words.specs.declared.screen.Screen.{Screen}
+use Rattle.asl_words.specs.declared.words.Words.{Words}
+use Rattle.asl_words.specs.declared.words.Words.TheVariants as words
+use Rattle.asl_words.specs.declared.words.DefinitionWords.{DefinitionWords}
+use Rattle.asl_words.specs.declared.words.PrintWords.{PrintWords}
+use Rattle.asl_words.specs.declared.words.SetupWords.{SetupWords}
+use Rattle.asl_words.specs.declared.words.Shard.{Shard}
+use Rattle.asl_words.specs.declared.words.LintFormat.{LintFormat}
+use Rattle.asl_words.specs.declared.words.LintFormat.TheVariants as lint
+use Rattle.asl_words.specs.declared.words.GraphFormat.{GraphFormat}
+use Rattle.asl_words.specs.declared.words.GraphFormat.TheVariants as graph
+use Rattle.asl_words.specs.declared.words.RunFormat.{RunFormat}
+use Rattle.asl_words.specs.declared.words.RunFormat.TheVariants as run
+use Rattle.asl_words.specs.declared.words.DebugFormat.{DebugFormat}
+use Rattle.asl_words.specs.declared.words.DebugFormat.TheVariants as debug
+use Rattle.asl_words.specs.declared.words.ReportFormat.{ReportFormat}
+use Rattle.asl_words.specs.declared.words.ReportFormat.TheVariants as report
+
+abbrev pub Word : Type 0
+Word = Option (Bor (List ℕ))
+
+-- ---- formats, numbers and parts of suites
+
+-- what a text names
+abbrev pub named : {T : Type 0} → List (List ℕ × T) → List ℕ → Option T
+named [] text = None
+named (row ∷ rows) text = if bytes_eq text row.0 then Some row.1 else named rows text
+
+abbrev pub format_asked : {T : Type 0} → List (List ℕ × T) → Word → Option T
+format_asked rows = option_and_then (λ w. named rows w.now)
+
+abbrev pub lint_formats : List (List ℕ × LintFormat)
+lint_formats = (codes "text", lint.Text) ∷ (codes "json", lint.Json) ∷ (codes "sarif", lint.Sarif) ∷ []
+
+abbrev pub graph_formats : List (List ℕ × GraphFormat)
+graph_formats = (codes "mermaid", graph.Mermaid) ∷ (codes "dot", graph.Dot) ∷ []
+
+abbrev pub run_formats : List (List ℕ × RunFormat)
+run_formats =
+    (codes "text", run.Text) ∷ (codes "json", run.Json) ∷ (codes "aws", run.Aws)
+    ∷ (codes "steps", run.Steps) ∷ (codes "tree", run.Tree) ∷ (codes "data", run.Data) ∷ []
+
+abbrev pub report_formats : List (List ℕ × ReportFormat)
+report_formats =
+    (codes "text", report.Text) ∷ (codes "junit", report.JUnit) ∷ (codes "json", report.Json) ∷ []
+
+-- decimal digits, one at least
+abbrev pub is_numeral : List ℕ → Bool
+is_numeral ds = nat_lt 0 (length ds) && list_all (λ d. nat_lt (digit_value d) 10) ds
+
+-- decimal digits, of which a plus may stand in front, of a number of 64 bits from a least to a greatest
+abbrev pub is_unsigned_in : ℕ → ℕ → List ℕ → Bool
+is_unsigned_in least greatest text =
+    let n = digits_value 10 (without_leading_plus text) in
+    is_numeral (without_leading_plus text) && (nat_lt n (2 ^ 64) && (nat_le least n && nat_le n greatest))
+
+-- a number from a least to a greatest, in decimal digits
+unfoldable pub number_in : ℕ → ℕ → List ℕ → Option ℕ
+number_in least greatest text =
+    if is_unsigned_in least greatest text then Some (digits_value 10 (without_leading_plus text)) else None
+
+abbrev pub number_asked : ℕ → ℕ → Word → Option ℕ
+number_asked least greatest = option_and_then (λ w. number_in least greatest w.now)
+
+-- a number where there is a word for one
+abbrev pub number_if_asked : ℕ → ℕ → Word → Option (Option ℕ)
+number_if_asked least greatest None = Some None
+number_if_asked least greatest (Some w) = option_map Some (number_in least greatest w.now)
+
+-- a number of 64 bits, in decimal digits alone
+abbrev pub digits_in : List ℕ → Option ℕ
+digits_in text =
+    if all_ascii_digits text then number_in 0 18446744073709551615 text else None
+
+abbrev pub shard_between : ℕ → ℕ → Option Shard
+shard_between first apart =
+    if nat_le 1 first && nat_le first apart then Some (record { first = first; apart = apart }) else None
+
+abbrev pub is_slash : ℕ → Bool
+is_slash c = c == 47
+
+-- the part that two numbers of 64 bits name
+abbrev pub shard_by : List ℕ → List ℕ → Option Shard
+shard_by first apart = option_and_then (λ f. option_and_then (shard_between f) (digits_in apart)) (digits_in first)
+
+-- `I/N`, two numbers with a slash (47) between them, the first from 1 to the second
+abbrev pub shard_in : List ℕ → Option Shard
+shard_in text =
+    if list_any is_slash text then shard_by (before_first is_slash text) (after_first is_slash text) else None
+
+-- the whole where there is no word
+abbrev pub shard_asked : Word → Option Shard
+shard_asked None = Some (record { first = 1; apart = 1 })
+shard_asked (Some w) = shard_in w.now
+
+-- ---- what is asked of each command
+
+abbrev pub definition_asked : Given → Option DefinitionWords
+definition_asked g = option_map (λ d. record { definition = d }) g.definition
+
+abbrev pub print_asked : Given → Option PrintWords
+print_asked g = option_map (λ d. record { definition = d; pretty = g.pretty }) (definition_asked g)
+
+-- of a word and the option that may stand for it one is there, and not both
+abbrev pub setup_asked : Given → Option SetupWords
+setup_asked g = option_and_then (λ definition. option_and_then (λ mocks.
+    option_and_then (λ chosen. option_map (λ input. record {
+      definition = definition;
+      mocks = mocks;
+      chosen = chosen;
+      input = input;
+    }) (option_xor g.input g.input_option)) (option_xor g.chosen g.case_option))
+    (option_xor g.mocks g.mocks_option)) g.definition
+
+abbrev pub lint_asked : Given → Option Words
+lint_asked g = option_and_then (λ definition. option_map (λ format. words.Lint (record {
+  definition = definition;
+  mocks = g.mocks;
+  machine = g.machine;
+  format = format;
+  strict = g.strict;
+})) (format_asked lint_formats g.format)) g.definition
+
+-- something is named that only a run needs
+abbrev pub names_run : Given → Bool
+names_run g = is_some g.mocks || (is_some g.chosen || (is_some g.input
+    || (is_some g.mocks_option || (is_some g.case_option || is_some g.input_option))))
+
+abbrev pub marked_run : Given → Option (Option SetupWords)
+marked_run g = if g.run then option_map Some (setup_asked g) else (if names_run g then None else Some None)
+
+abbrev pub graph_asked : Given → Option Words
+graph_asked g = option_and_then (λ definition. option_and_then (λ format. option_map (λ run.
+    words.Graph (record { definition = definition; format = format; run = run })) (marked_run g))
+    (format_asked graph_formats g.format)) (definition_asked g)
+
+abbrev pub mocks_asked : Given → Option Words
+mocks_asked g = option_and_then (λ definition. option_map (λ machine.
+    words.Mocks (record { definition = definition; machine = machine; pretty = g.pretty })) g.machine)
+    (definition_asked g)
+
+-- a run is printed by what happened at each state, which may have colours
+abbrev pub tells_of_states : RunFormat → Bool
+tells_of_states run.Tree = true
+tells_of_states run.Data = true
+tells_of_states _ = false
+
+abbrev pub run_asked : Given → Screen → Option Words
+run_asked g s = option_and_then (λ setup. option_map (λ format. words.Run (record {
+  setup = setup;
+  steps = g.steps;
+  format = format;
+  coloured = s.coloured && tells_of_states format;
+})) (format_asked run_formats g.format)) (setup_asked g)
+
+-- the word or the option, and not both
+abbrev pub script_asked : Word → Word → Option Word
+script_asked (Some word) (Some option) = None
+script_asked word option = Some (option_or word option)
+
+-- a script is told as text; without one it is the tree where a person types and reads, and nothing
+-- else is named
+abbrev pub debug_format : Word → Bool → Bool → Option DebugFormat
+debug_format None typed has_script = Some (if typed && not has_script then debug.Tree else debug.Text)
+debug_format (Some w) typed has_script =
+    if bytes_eq w.now (codes "text") then Some debug.Text
+    else (if bytes_eq w.now (codes "tree") && not has_script then Some debug.Tree else None)
+
+abbrev pub debug_asked : Given → Screen → Option Words
+debug_asked g s = option_and_then (λ setup. option_and_then (λ script. option_map (λ format.
+    words.Debug (record { setup = setup; script = script; format = format; coloured = s.coloured }))
+    (debug_format g.format s.typed (is_some script))) (script_asked g.script g.script_option)) (setup_asked g)
+
+-- the least percent that is to be covered; 0 where only the flag is there
+abbrev pub coverage_asked : Word → Bool → Option (Option ℕ)
+coverage_asked (Some w) flag = option_map Some (number_in 0 100 w.now)
+coverage_asked None flag = Some (if flag then Some 0 else None)
+
+abbrev pub test_asked : Given → Option Words
+test_asked g = option_and_then (λ definition. option_and_then (λ mocks. option_and_then (λ expectations.
+    option_and_then (λ workers. option_and_then (λ format. option_and_then (λ shard. option_map (λ coverage.
+    words.Test (record {
+      definition = definition;
+      mocks = mocks;
+      expectations = expectations;
+      workers = workers;
+      format = format;
+      shard = shard;
+      filter = g.filter;
+      list = g.list;
+      coverage = coverage;
+      strict = g.strict;
+    })) (coverage_asked g.least g.coverage)) (shard_asked g.shard)) (format_asked report_formats g.format))
+    (number_asked 1 64 g.workers)) g.expectations) g.mocks) g.definition
+
+abbrev pub explore_asked : Given → Option Words
+explore_asked g = option_and_then (λ setup. option_and_then (λ limit. option_map (λ witness.
+    words.Explore (record {
+      setup = setup;
+      limit = limit;
+      prompt = g.prompt;
+      calls = g.calls;
+      witness = witness;
+    })) (number_if_asked 1 1000000 g.witness)) (number_asked 1 1000000 g.limit)) (setup_asked g)
+
+-- what a command asks for, where answers are read on this screen; nothing where what is given doesn't
+-- fit together
+abbrev pub asked : Verb → Given → Screen → Option Words
+asked verb.Check g s = option_map words.Check (definition_asked g)
+asked verb.Lint g s = lint_asked g
+asked verb.Print g s = option_map words.Print (print_asked g)
+asked verb.Upgrade g s = option_map words.Upgrade (print_asked g)
+asked verb.Graph g s = graph_asked g
+asked verb.Mocks g s = mocks_asked g
+asked verb.Run g s = run_asked g s
+asked verb.Debug g s = debug_asked g s
+asked verb.Test g s = test_asked g
+asked verb.Explore g s = explore_asked g
+asked verb.Explain g s = Some (words.Explain (record { code = g.code }))

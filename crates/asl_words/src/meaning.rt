@@ -1,0 +1,356 @@
+// What is asked for by what is given.
+ghost use Rattle.std.specs.Prelude.{◌≡◌};
+ghost use Rattle.std.specs.Str.{all_ascii_digits};
+ghost use Rattle.asl_words.specs.Asked.{asked, definition_asked, print_asked, setup_asked, lint_asked, graph_asked, mocks_asked};
+ghost use Rattle.asl_words.specs.Asked.{run_asked, debug_asked, test_asked, explore_asked, names_run, marked_run};
+ghost use Rattle.asl_words.specs.Asked.{format_asked, lint_formats, graph_formats, run_formats, report_formats};
+ghost use Rattle.asl_words.specs.Asked.{tells_of_states, script_asked, debug_format, coverage_asked};
+ghost use Rattle.asl_words.specs.Asked.{number_in, number_asked, number_if_asked, digits_in, shard_between, shard_by, shard_in, shard_asked};
+
+use crate::given::Given;
+use crate::screen::Screen;
+use crate::verbs::Verb;
+use crate::words::{
+    DebugFormat, DebugWords, DefinitionWords, ExplainWords, ExploreWords, GraphFormat, GraphWords,
+    LintFormat, LintWords, MocksWords, PrintWords, ReportFormat, RunFormat, RunWords, SetupWords,
+    Shard, TestWords, Words,
+};
+
+/// What a command asks for, where answers are read on this screen; none where what is given doesn't fit together.
+pub fn asked<'a>(verb: Verb, given: &Given<'a>, screen: Screen) -> Option<Words<'a>>
+    ensures { result ≡ asked verb given.now screen }
+{
+    match verb {
+        Verb::Check => Some(Words::Check(definition_of(given)?)),
+        Verb::Lint => lint_of(given),
+        Verb::Print => Some(Words::Print(print_of(given)?)),
+        Verb::Upgrade => Some(Words::Upgrade(print_of(given)?)),
+        Verb::Graph => graph_of(given),
+        Verb::Mocks => mocks_of(given),
+        Verb::Run => run_of(given, screen),
+        Verb::Debug => debug_of(given, screen),
+        Verb::Test => test_of(given),
+        Verb::Explore => explore_of(given),
+        Verb::Explain => Some(Words::Explain(ExplainWords { code: given.code })),
+    }
+}
+
+fn definition_of<'a>(given: &Given<'a>) -> Option<DefinitionWords<'a>>
+    ensures { result ≡ definition_asked given.now }
+{
+    Some(DefinitionWords {
+        definition: given.definition?,
+    })
+}
+
+fn print_of<'a>(given: &Given<'a>) -> Option<PrintWords<'a>>
+    ensures { result ≡ print_asked given.now }
+{
+    Some(PrintWords {
+        definition: definition_of(given)?,
+        pretty: given.pretty,
+    })
+}
+
+/// What a run begins with: each of its texts as a word or as the option that stands for it.
+fn setup_of<'a>(given: &Given<'a>) -> Option<SetupWords<'a>>
+    ensures { result ≡ setup_asked given.now }
+{
+    Some(SetupWords {
+        definition: given.definition?,
+        mocks: given.mocks.xor(given.mocks_option)?,
+        chosen: given.chosen.xor(given.case_option)?,
+        input: given.input.xor(given.input_option)?,
+    })
+}
+
+fn lint_of<'a>(given: &Given<'a>) -> Option<Words<'a>>
+    ensures { result ≡ lint_asked given.now }
+{
+    Some(Words::Lint(LintWords {
+        definition: given.definition?,
+        mocks: given.mocks,
+        machine: given.machine,
+        format: lint_format_of(given.format)?,
+        strict: given.strict,
+    }))
+}
+
+fn lint_format_of(word: Option<&str>) -> Option<LintFormat>
+    ensures { result ≡ format_asked lint_formats word.entry }
+{
+    match word? {
+        "text" => Some(LintFormat::Text),
+        "json" => Some(LintFormat::Json),
+        "sarif" => Some(LintFormat::Sarif),
+        _ => None,
+    }
+}
+
+fn graph_of<'a>(given: &Given<'a>) -> Option<Words<'a>>
+    ensures { result ≡ graph_asked given.now }
+{
+    Some(Words::Graph(GraphWords {
+        definition: definition_of(given)?,
+        format: graph_format_of(given.format)?,
+        run: marked_run(given)?,
+    }))
+}
+
+fn graph_format_of(word: Option<&str>) -> Option<GraphFormat>
+    ensures { result ≡ format_asked graph_formats word.entry }
+{
+    match word? {
+        "mermaid" => Some(GraphFormat::Mermaid),
+        "dot" => Some(GraphFormat::Dot),
+        _ => None,
+    }
+}
+
+/// The run of which a graph marks the states, where one is asked for.
+fn marked_run<'a>(given: &Given<'a>) -> Option<Option<SetupWords<'a>>>
+    ensures { result ≡ marked_run given.now }
+{
+    if given.run {
+        return Some(Some(setup_of(given)?));
+    }
+    if names_run(given) {
+        return None;
+    }
+    Some(None)
+}
+
+/// Whether something is named that only a run needs.
+pub(crate) fn names_run(given: &Given<'_>) -> bool
+    ensures { result ≡ names_run given.now }
+{
+    given.mocks.is_some()
+        || given.chosen.is_some()
+        || given.input.is_some()
+        || given.mocks_option.is_some()
+        || given.case_option.is_some()
+        || given.input_option.is_some()
+}
+
+fn mocks_of<'a>(given: &Given<'a>) -> Option<Words<'a>>
+    ensures { result ≡ mocks_asked given.now }
+{
+    Some(Words::Mocks(MocksWords {
+        definition: definition_of(given)?,
+        machine: given.machine?,
+        pretty: given.pretty,
+    }))
+}
+
+fn run_of<'a>(given: &Given<'a>, screen: Screen) -> Option<Words<'a>>
+    ensures { result ≡ run_asked given.now screen }
+{
+    let setup = setup_of(given)?;
+    let format = run_format_of(given.format)?;
+    Some(Words::Run(RunWords {
+        setup,
+        steps: given.steps,
+        format,
+        coloured: screen.coloured && tells_of_states(format),
+    }))
+}
+
+fn run_format_of(word: Option<&str>) -> Option<RunFormat>
+    ensures { result ≡ format_asked run_formats word.entry }
+{
+    match word? {
+        "text" => Some(RunFormat::Text),
+        "json" => Some(RunFormat::Json),
+        "aws" => Some(RunFormat::Aws),
+        "steps" => Some(RunFormat::Steps),
+        "tree" => Some(RunFormat::Tree),
+        "data" => Some(RunFormat::Data),
+        _ => None,
+    }
+}
+
+/// Whether a run is printed by what happened at each state.
+fn tells_of_states(format: RunFormat) -> bool
+    ensures { result ≡ tells_of_states format }
+{
+    matches!(format, RunFormat::Tree | RunFormat::Data)
+}
+
+fn debug_of<'a>(given: &Given<'a>, screen: Screen) -> Option<Words<'a>>
+    ensures { result ≡ debug_asked given.now screen }
+{
+    let setup = setup_of(given)?;
+    let script = script_of(given.script, given.script_option)?;
+    Some(Words::Debug(DebugWords {
+        setup,
+        script,
+        format: debug_format_of(given.format, screen.typed, script.is_some())?,
+        coloured: screen.coloured,
+    }))
+}
+
+/// The script of `debug`, where one is named: by the word or by the option.
+fn script_of<'a>(word: Option<&'a str>, option: Option<&'a str>) -> Option<Option<&'a str>>
+    ensures { result ≡ script_asked word.entry option.entry }
+{
+    match (word, option) {
+        (Some(_), Some(_)) => None,
+        (Some(said), None) => Some(Some(said)),
+        (None, option) => Some(option),
+    }
+}
+
+/// The format that a word names; without a word it is the tree where a person types and reads.
+fn debug_format_of(word: Option<&str>, typed: bool, has_script: bool) -> Option<DebugFormat>
+    ensures { result ≡ debug_format word.entry typed has_script }
+{
+    match word {
+        None if typed && !has_script => Some(DebugFormat::Tree),
+        None => Some(DebugFormat::Text),
+        Some("text") => Some(DebugFormat::Text),
+        Some("tree") if !has_script => Some(DebugFormat::Tree),
+        Some(_) => None,
+    }
+}
+
+fn test_of<'a>(given: &Given<'a>) -> Option<Words<'a>>
+    ensures { result ≡ test_asked given.now }
+{
+    Some(Words::Test(TestWords {
+        definition: given.definition?,
+        mocks: given.mocks?,
+        expectations: given.expectations?,
+        workers: number_of(given.workers, 1, 64)? as usize,
+        format: report_format_of(given.format)?,
+        shard: shard_of(given.shard)?,
+        filter: given.filter,
+        list: given.list,
+        coverage: coverage_of(given.least, given.coverage)?,
+        strict: given.strict,
+    }))
+}
+
+fn report_format_of(word: Option<&str>) -> Option<ReportFormat>
+    ensures { result ≡ format_asked report_formats word.entry }
+{
+    match word? {
+        "text" => Some(ReportFormat::Text),
+        "junit" => Some(ReportFormat::JUnit),
+        "json" => Some(ReportFormat::Json),
+        _ => None,
+    }
+}
+
+/// The least percent that is to be covered; 0 where only the flag is there.
+fn coverage_of(least: Option<&str>, flag: bool) -> Option<Option<u32>>
+    ensures { result ≡ coverage_asked least.entry flag }
+{
+    match least {
+        Some(text) => Some(Some(number_in(text, 0, 100)?)),
+        None if flag => Some(Some(0)),
+        None => Some(None),
+    }
+}
+
+/// The part of a suite that a word names; the whole where none does.
+fn shard_of(word: Option<&str>) -> Option<Shard>
+    ensures { result ≡ shard_asked word.entry }
+{
+    match word {
+        Some(text) => shard_in(text),
+        None => Some(Shard { first: 1, apart: 1 }),
+    }
+}
+
+/// The part of a suite that `I/N` names.
+fn shard_in(text: &str) -> Option<Shard>
+    ensures { result ≡ shard_in text.now }
+{
+    match text.split_once('/') {
+        Some((first, apart)) => shard_by(first, apart),
+        None => None,
+    }
+}
+
+/// The part of a suite that two numbers name.
+fn shard_by(first: &str, apart: &str) -> Option<Shard>
+    ensures { result ≡ shard_by first.now apart.now }
+{
+    shard_between(digits_in(first)?, digits_in(apart)?)
+}
+
+fn shard_between(first: usize, apart: usize) -> Option<Shard>
+    ensures { result ≡ shard_between first apart }
+{
+    if 1 <= first && first <= apart {
+        Some(Shard { first, apart })
+    } else {
+        None
+    }
+}
+
+/// The number that decimal digits spell.
+fn digits_in(digits: &str) -> Option<usize>
+    ensures { result ≡ digits_in digits.now }
+{
+    if !are_digits(digits.as_bytes()) {
+        return None;
+    }
+    match digits.parse::<usize>() {
+        Ok(number) => Some(number),
+        Err(_) => None,
+    }
+}
+
+/// Whether these are decimal digits.
+fn are_digits(bytes: &[u8]) -> bool
+    ensures { result ≡ all_ascii_digits bytes.now }
+{
+    match bytes {
+        [] => true,
+        [first, rest @ ..] => first.is_ascii_digit() && are_digits(rest),
+    }
+}
+
+fn explore_of<'a>(given: &Given<'a>) -> Option<Words<'a>>
+    ensures { result ≡ explore_asked given.now }
+{
+    Some(Words::Explore(ExploreWords {
+        setup: setup_of(given)?,
+        limit: number_of(given.limit, 1, 1_000_000)?,
+        prompt: given.prompt,
+        calls: given.calls,
+        witness: number_if(given.witness, 1, 1_000_000)?,
+    }))
+}
+
+/// The number of a word, from a least to a greatest.
+fn number_of(word: Option<&str>, least: u32, greatest: u32) -> Option<u32>
+    ensures { result ≡ number_asked least greatest word.entry }
+{
+    number_in(word?, least, greatest)
+}
+
+/// The number that a text spells, from a least to a greatest.
+#[tactic(auto, unfolding(crate::specs::Asked::number_in))]
+fn number_in(text: &str, least: u32, greatest: u32) -> Option<u32>
+    ensures { result ≡ number_in least greatest text.now }
+{
+    let Ok(number) = text.parse::<u64>() else {
+        return None;
+    };
+    if number < u64::from(least) || u64::from(greatest) < number {
+        return None;
+    }
+    Some(number as u32)
+}
+
+/// The same where there is a word.
+fn number_if(word: Option<&str>, least: u32, greatest: u32) -> Option<Option<u32>>
+    ensures { result ≡ number_if_asked least greatest word.entry }
+{
+    match word {
+        Some(text) => Some(Some(number_in(text, least, greatest)?)),
+        None => Some(None),
+    }
+}

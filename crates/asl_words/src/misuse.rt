@@ -1,0 +1,105 @@
+// What is wrong with words that clap takes.
+use crate::given::Given;
+use crate::meaning::names_run;
+use crate::verbs::Verb;
+use std::alloc::AllocError;
+
+/// Why nothing is asked for.
+#[derive(Clone, Copy)]
+pub enum Misuse {
+    /// Texts of a run are lacking: the mock file, what is chosen, the input.
+    Lacking(bool, bool, bool),
+    /// A word and the option that stands for it are both there.
+    Twice(&'static str, &'static str),
+    /// Texts of a run are named, and none is asked for.
+    Runless,
+    /// A shard isn't two numbers.
+    Shard,
+    /// A script is to be told as a tree.
+    TreeOfScript,
+    /// A word isn't UTF-8.
+    Malformed,
+    /// A word names an outcome that isn't there.
+    Outcome,
+}
+
+/// Why a command asks for nothing.
+pub fn misuse_of(verb: Verb, given: &Given<'_>) -> Misuse {
+    match verb {
+        Verb::Test => Misuse::Shard,
+        Verb::Graph if !given.run && names_run(given) => Misuse::Runless,
+        _ => misuse_of_run(given),
+    }
+}
+
+fn misuse_of_run(given: &Given<'_>) -> Misuse {
+    if are_both(given.mocks, given.mocks_option) {
+        Misuse::Twice("[MOCKS]", "--mocks <FILE>")
+    } else if are_both(given.chosen, given.case_option) {
+        Misuse::Twice("[CHOSEN]", "--case <CHOSEN>")
+    } else if are_both(given.input, given.input_option) {
+        Misuse::Twice("[INPUT]", "--input <FILE>")
+    } else if are_both(given.script, given.script_option) {
+        Misuse::Twice("[SCRIPT]", "--script <FILE>")
+    } else {
+        lacking_in(given)
+    }
+}
+
+/// Whether a word and the option that stands for it are both there.
+fn are_both(word: Option<&str>, option: Option<&str>) -> bool {
+    word.is_some() && option.is_some()
+}
+
+fn lacking_in(given: &Given<'_>) -> Misuse {
+    let mocks = is_neither(given.mocks, given.mocks_option);
+    let chosen = is_neither(given.chosen, given.case_option);
+    let input = is_neither(given.input, given.input_option);
+    if mocks || chosen || input {
+        Misuse::Lacking(mocks, chosen, input)
+    } else {
+        Misuse::TreeOfScript
+    }
+}
+
+/// Whether neither a word nor the option that stands for it is there.
+fn is_neither(word: Option<&str>, option: Option<&str>) -> bool {
+    word.is_none() && option.is_none()
+}
+
+/// Appends what is wrong.
+pub fn put_misuse(out: &mut String, misuse: Misuse) -> Result<(), AllocError> {
+    match misuse {
+        Misuse::Lacking(mocks, chosen, input) => put_lacking(out, mocks, chosen, input),
+        Misuse::Twice(word, option) => {
+            write!(out, "the argument '{word}' cannot be used with '{option}'")
+        }
+        Misuse::Runless => out.push_str(
+            "the following required arguments were not provided:\n  --run",
+        ),
+        Misuse::Shard => {
+            out.push_str("a shard is I/N: two numbers from 1, the first at most the second")
+        }
+        Misuse::TreeOfScript => {
+            out.push_str("a script is told as text: --format tree is for lines that are typed")
+        }
+        Misuse::Malformed => { out.push_str("invalid UTF-8 was detected in one or more arguments") }
+        Misuse::Outcome => out.push_str("no outcome has the number that --witness names"),
+    }
+}
+
+fn put_lacking(out: &mut String, mocks: bool, chosen: bool, input: bool) -> Result<(), AllocError> {
+    out.push_str("the following required arguments were not provided:")?;
+    put_if(out, mocks, "\n  <MOCKS>")?;
+    put_if(out, chosen, "\n  <CHOSEN>")?;
+    put_if(out, input, "\n  <INPUT>")
+}
+
+/// Appends a text where it is wanted.
+fn put_if(out: &mut String, is_wanted: bool, text: &str) -> Result<(), AllocError> {
+    if is_wanted {
+        out.push_str(text)
+    } else {
+        Ok(())
+    }
+}

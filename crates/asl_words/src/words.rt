@@ -1,0 +1,211 @@
+// What the words of a command line ask for.
+
+/// What a command line asks for.
+#[derive(Clone, Copy)]
+pub enum Words<'a> {
+    /// A definition is to be judged.
+    Check(DefinitionWords<'a>),
+    /// All that is wrong with a definition and its mock file is to be told.
+    Lint(LintWords<'a>),
+    /// A definition is to be printed in its canonical form.
+    Print(PrintWords<'a>),
+    /// A definition is to be printed in the newer spelling of Map states.
+    Upgrade(PrintWords<'a>),
+    /// A definition's graph is to be printed.
+    Graph(GraphWords<'a>),
+    /// A mock file is to be printed for a definition.
+    Mocks(MocksWords<'a>),
+    /// An execution is to be emulated.
+    Run(RunWords<'a>),
+    /// An execution is to be debugged.
+    Debug(DebugWords<'a>),
+    /// The tests of a suite are to be run.
+    Test(TestWords<'a>),
+    /// Every order of an execution is to be tried.
+    Explore(ExploreWords<'a>),
+    /// A code is to be explained, or all are to be listed.
+    Explain(ExplainWords<'a>),
+}
+
+/// The word of `check`: the name of a file.
+#[derive(Clone, Copy)]
+pub struct DefinitionWords<'a> {
+    pub definition: &'a str,
+}
+
+/// The words of `print` and of `upgrade`.
+#[derive(Clone, Copy)]
+pub struct PrintWords<'a> {
+    pub definition: DefinitionWords<'a>,
+    /// Whether it is printed for a person, a line for each member and item.
+    pub pretty: bool,
+}
+
+/// How findings are printed.
+#[derive(Clone, Copy)]
+pub enum LintFormat {
+    /// A line a finding, and how many there are.
+    Text,
+    /// A JSON object a finding, each on a line.
+    Json,
+    /// One JSON text in SARIF 2.1.0.
+    Sarif,
+}
+
+/// The words of `lint`.
+#[derive(Clone, Copy)]
+pub struct LintWords<'a> {
+    pub definition: &'a str,
+    /// The name of a file, where the mocked tasks are judged too.
+    pub mocks: Option<&'a str>,
+    /// The name that the machine has in the mock file; none where that has only one.
+    pub machine: Option<&'a str>,
+    pub format: LintFormat,
+    /// Whether warnings count as errors.
+    pub strict: bool,
+}
+
+/// The language in which a graph is printed.
+#[derive(Clone, Copy)]
+pub enum GraphFormat {
+    /// A flowchart of Mermaid.
+    Mermaid,
+    /// A directed graph of DOT.
+    Dot,
+}
+
+/// The words of `graph`.
+#[derive(Clone, Copy)]
+pub struct GraphWords<'a> {
+    pub definition: DefinitionWords<'a>,
+    pub format: GraphFormat,
+    /// The run of which the states are marked that it enters; none where nothing is run.
+    pub run: Option<SetupWords<'a>>,
+}
+
+/// The words of `mocks`.
+#[derive(Clone, Copy)]
+pub struct MocksWords<'a> {
+    pub definition: DefinitionWords<'a>,
+    /// The name that the machine gets in the mock file.
+    pub machine: &'a str,
+    /// Whether it is printed for a person, a line for each member and item.
+    pub pretty: bool,
+}
+
+/// What an execution begins with: names of files, and the machine and the case that are chosen.
+#[derive(Clone, Copy)]
+pub struct SetupWords<'a> {
+    pub definition: &'a str,
+    pub mocks: &'a str,
+    pub chosen: &'a str,
+    pub input: &'a str,
+}
+
+/// How a run is printed.
+#[derive(Clone, Copy)]
+pub enum RunFormat {
+    /// Its replies, its history and its status.
+    Text,
+    /// Its history, a JSON object each on a line.
+    Json,
+    /// Its history as one JSON text, in the shape in which the service tells one.
+    Aws,
+    /// The steps that it took, as a file of steps.
+    Steps,
+    /// What happened at each state, for a person.
+    Tree,
+    /// The same, with what each state made of its data, stage by stage.
+    Data,
+}
+
+/// The words of `run`.
+#[derive(Clone, Copy)]
+pub struct RunWords<'a> {
+    pub setup: SetupWords<'a>,
+    /// The name of a file. Where no file of steps is named, the execution takes the steps that come next.
+    pub steps: Option<&'a str>,
+    pub format: RunFormat,
+    /// Whether what happened at each state is told in colours.
+    pub coloured: bool,
+}
+
+/// How the debugger tells what the steps of a line do.
+#[derive(Clone, Copy)]
+pub enum DebugFormat {
+    /// What was replied to each.
+    Text,
+    /// What happened at each state, and where each branch stands then.
+    Tree,
+}
+
+/// The words of `debug`.
+#[derive(Clone, Copy)]
+pub struct DebugWords<'a> {
+    pub setup: SetupWords<'a>,
+    /// The name of a file. Where no script is named, lines are read that are typed.
+    pub script: Option<&'a str>,
+    /// How lines that are typed are answered; a script is told as text.
+    pub format: DebugFormat,
+    /// Whether what happened at each state is told in colours.
+    pub coloured: bool,
+}
+
+/// How the reports of a suite are printed.
+#[derive(Clone, Copy)]
+pub enum ReportFormat {
+    /// A line a test, and how many passed and failed.
+    Text,
+    /// JUnit XML, as systems of continuous integration read it.
+    JUnit,
+    /// A JSON object a test, each on a line.
+    Json,
+}
+
+/// A part of a suite: the tests of these numbers, from 1: `first`, and each that stands `apart` behind one of them.
+#[derive(Clone, Copy)]
+pub struct Shard {
+    pub first: usize,
+    pub apart: usize,
+}
+
+/// The words of `test`.
+#[derive(Clone, Copy)]
+pub struct TestWords<'a> {
+    pub definition: &'a str,
+    pub mocks: &'a str,
+    pub expectations: &'a str,
+    /// So many workers, from 1 to 64, run the tests.
+    pub workers: usize,
+    pub format: ReportFormat,
+    pub shard: Shard,
+    /// What stands in the machine and the case, or in the name, of each test that is run; none where all are.
+    pub filter: Option<&'a str>,
+    /// Whether the tests are listed, and none is run.
+    pub list: bool,
+    /// The least percent that the tests are to cover; none where nothing is told of what they cover.
+    pub coverage: Option<u32>,
+    /// Whether a test fails that may not mean what it says.
+    pub strict: bool,
+}
+
+/// The words of `explore`.
+#[derive(Clone, Copy)]
+pub struct ExploreWords<'a> {
+    pub setup: SetupWords<'a>,
+    /// So many worlds, from 1 to 1,000,000, are tried at most.
+    pub limit: u32,
+    /// Whether only orders are tried in which no branch is late.
+    pub prompt: bool,
+    /// Whether it is told how often each Task is invoked in the orders that end in each outcome.
+    pub calls: bool,
+    /// The number, from 1, of the outcome whose steps are to be printed; none where all outcomes are.
+    pub witness: Option<u32>,
+}
+
+/// The word of `explain`.
+#[derive(Clone, Copy)]
+pub struct ExplainWords<'a> {
+    /// The code to explain; none where all are to be listed.
+    pub code: Option<&'a str>,
+}
