@@ -34,15 +34,6 @@ written-more taken failures old mid new a b one two = (
   two.1 ∙ one.1,
 )
 
-pub answered-none : {I O : Type 0} (given : I → List ℕ) (taken : O → List ℕ) (failures : O → ℕ) (look : Look) (c : Console) (input : I) (out : O) → AreAnswered (input_use given input input) (sink_use taken failures out out) look c c
-answered-none given taken failures look c input out = record {
-  lines = [];
-  text = [];
-  given_is = sym (append-nil (given input));
-  replied = (refl, refl);
-  written = (sym (append-nil (taken out)), refl);
-}
-
 pub answered-more : {I O : Type 0} (given : I → List ℕ) (taken : O → List ℕ) (failures : O → ℕ) (look : Look) (c d e : Console) (i j k : I) (o p q : O) (l t : List ℕ)
     → AreAnswered (input_use given i j) (sink_use taken failures o p) look c d → given k ≡ given j ++ (l ++ 10 ∷ []) → IsReplied look d l t e → IsWhole (sink_use taken failures p q) t → AreAnswered (input_use given i k) (sink_use taken failures o q) look c e
 answered-more given taken failures look c d e i j k o p q l t h g r w = record {
@@ -54,17 +45,6 @@ answered-more given taken failures look c d e i j k o p q l t h g r w = record {
 }
 
 -- ---- the end
-
--- no line comes any more
-pub talked-all : {I O : Type 0} (given : I → List ℕ) (taken : O → List ℕ) (failures : O → ℕ) (look : Look) (c d : Console) (i j k : I) (o p : O)
-    → AreAnswered (input_use given i j) (sink_use taken failures o p) look c d → given k ≡ given j → IsTalked (input_use given i k) (sink_use taken failures o p) look c d
-talked-all given taken failures look c d i j k o p h g = record {
-  lines = h.lines;
-  text = h.text;
-  given_is = g ∙ h.given_is;
-  talk = inl h.replied;
-  written = h.written;
-}
 
 quit-is : (look : Look) (c d e : Console) (ls : List (List ℕ)) (l text t : List ℕ) → AreReplied look c ls text d → Answers look d l t true e → IsTalk look c (ls ++ l ∷ []) (text ++ t) e
 quit-is look c d e ls l text t h a = inr (record { before = ls; told = text; here = d; line = l; answer = t; replied = h; quits = a; lines_are = refl; text_is = refl })

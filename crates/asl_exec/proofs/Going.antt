@@ -75,9 +75,10 @@ step-is s w p t now r e a =
     let b : IsReady s w p (max w.last t) r = subst (λ n. IsReady s w p n r) (sym e) a in
     (ready-so s w p t r b, ready-step s w p t r b ∙ ap (λ n. next s w p n r) e)
 
-so-ready : (s : Setup) (w : World) (p : List ℕ) (t : ℕ) → refusal_in s w p t ≡ None → is_late (max w.last t) w.deadline ≡ false → (r : Record) × IsReady s w p (max w.last t) r
+-- a step that is accepted and comes in time is ready
+pub ready-if : (s : Setup) (w : World) (p : List ℕ) (t : ℕ) → refusal_in s w p t ≡ None → is_late (max w.last t) w.deadline ≡ false → (r : Record) × IsReady s w p (max w.last t) r
 unfolding refusal_of
-so-ready s w p t h early = by (is_over w.outcome) (record_at p w.branches) (is_stopped p w.branches) refl refl refl
+ready-if s w p t h early = by (is_over w.outcome) (record_at p w.branches) (is_stopped p w.branches) refl refl refl
   where
     by : (o : Bool) (m : Option Record) (f : Bool) → is_over w.outcome ≡ o → record_at p w.branches ≡ m → is_stopped p w.branches ≡ f → (r : Record) × IsReady s w p (max w.last t) r
     by true m f eo em ef = absurd (let x : Some Over ≡ None = rw eo at h in cc)
@@ -118,7 +119,7 @@ so-goes s w p t g =
     let b = and_parts (not (is_over (step s w p t).outcome)) _ a.1 in
     let accepted : refusal_in s w p t ≡ None = none-is (refusal_in s w p t) a.0 in
     let goes : is_over (step s w p t).outcome ≡ false = not-true _ b.0 in
-    let x = so-ready s w p t accepted (in-time s w p t accepted goes) in
+    let x = ready-if s w p t accepted (in-time s w p t accepted goes) in
     (x.0, goes-by s w p t x.0 x.1 goes (not-true _ b.1))
 
 -- ---- how the code finds it out
@@ -135,7 +136,7 @@ over-if (Some (EndedBadly x)) o h = refl
 -- else its effect says whether it goes on
 pub halted-is : (s : Setup) (w : World) (a : StepAt) (r : Record) (e : Effect) → refusal_in s w a.place a.moment ≡ None → is_late (max w.last a.moment) w.deadline ≡ false → record_at a.place w.branches ≡ Some r → e ≡ does s w a.place (max w.last a.moment) r → halt_by (is_some e.outcome) (is_failed e.after) a.place ≡ halted s w a
 halted-is s w a r e h l at is =
-    let x = so-ready s w a.place a.moment h l in
+    let x = ready-if s w a.place a.moment h l in
     let d = does s w a.place (max w.last a.moment) r in
     let step_is : step s w a.place a.moment ≡ next s w a.place (max w.last a.moment) r = step_taken s w a.place a.moment h l ∙ applied s w a.place (max w.last a.moment) r at in
     rw (is, step_is, record-after a.place d.after r d.children w.branches at, over-if d.outcome w.outcome x.1.running) refl

@@ -44,6 +44,10 @@ abbrev pub driven_steps : ℕ → Setup → World → ℕ
 driven_steps zero s w = 0
 driven_steps (suc n) s w = one_if (is_some (chosen s w)) + driven_steps n s (after s w (chosen s w))
 
+-- at most so many are taken where nothing else is said
+unfoldable pub most_steps : ℕ
+most_steps = 10000
+
 -- how a driven run ends
 abbrev pub end_of : World → End
 end_of w = if is_over w.outcome then Over else (if is_full w then Full else Limit)

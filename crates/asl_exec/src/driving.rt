@@ -2,7 +2,7 @@
 ghost use Rattle.std.specs.Prelude.{◌≡◌, ◌≤◌, IfOk, IfErr, OnOk, OnErr, Some, option_map, is_some};
 ghost use Rattle.asl_run_state.specs.Picking.{first_at, pick, picked, CanBeDone};
 ghost use Rattle.asl_exec.specs.Steps.{limits_in};
-ghost use Rattle.asl_exec.specs.Driving.{chosen, after, driven, driven_steps, end_of};
+ghost use Rattle.asl_exec.specs.Driving.{chosen, after, driven, driven_steps, end_of, most_steps};
 ghost use Rattle.asl_exec.specs.Views.{setup_of, world_of};
 
 use crate::execution::Execution;
@@ -14,6 +14,14 @@ use asl_run_input::StepAt;
 use asl_run_state::Next;
 use asl_time::Moment;
 use std::alloc::AllocError;
+
+/// So many steps that come next are taken at most, where nothing else is said.
+#[tactic(auto, unfolding(crate::specs::Driving::most_steps))]
+pub fn most_steps() -> u32
+    ensures { result ≡ most_steps }
+{
+    10_000
+}
 
 /// How a driven run ended.
 #[derive(Clone, Copy)]
@@ -93,7 +101,7 @@ impl Execution {
     }
 
     /// How a driven run ends here.
-    fn end(&self) -> Ended
+    pub fn end(&self) -> Ended
         ensures { result ≡ end_of (world_of self.now) }
     {
         if !self.world.is_running() {

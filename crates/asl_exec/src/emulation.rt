@@ -3,9 +3,10 @@ ghost use Rattle.std.specs.Prelude.{Some, None, IfOk, IfErr, string_bytes};
 ghost use Rattle.asl_run_input.specs.Emulations.{IsRefused, run_texts};
 ghost use Rattle.asl_run_input.specs.Texts.{Unless};
 ghost use Rattle.asl_run_input.specs.Views.{texts_of};
-ghost use Rattle.asl_exec.specs.Emulations.{IsRunOf};
+ghost use Rattle.asl_exec.specs.Emulations.{IsRunOf, IsEndIn};
 ghost use Rattle.asl_exec.specs.Lacking.{IsLackingIn};
 
+use crate::driving::Ended;
 use crate::lacking::Invocation;
 use crate::printing::run;
 use asl_run_input::{EmulateFault, Emulation, RunTexts};
@@ -20,6 +21,8 @@ pub struct Emulated {
     pub good: bool,
     /// Where the execution failed since a service was invoked that its test case doesn't answer: this invocation.
     pub lacking: Option<Invocation>,
+    /// How it ended: over, or why it still runs.
+    pub end: Ended,
 }
 
 /// Runs an execution: by the steps of a file, where there is one, else by the steps that come next, at most so many, from the epoch
@@ -36,6 +39,7 @@ pub fn emulate_texts(
     ensures run { IfOk result
         (λ e. IsRunOf (texts_of texts.now) limit (string_bytes e.text) e.good) }
     ensures lacking { IfOk result (λ e. IsLackingIn (texts_of texts.now) limit e.lacking) }
+    ensures end { IfOk result (λ e. IsEndIn (texts_of texts.now) limit e.end) }
     ensures fault { IfErr result (Unless (IsRefused (texts_of texts.now))) }
 {
     let emulation = Emulation::read(alloc, texts)?;
@@ -57,6 +61,8 @@ pub fn emulate<'a>(
         (string_bytes e.text) e.good) }
     ensures lacking { IfOk result (λ e. IsLackingIn
         (run_texts definition.now mocks.now chosen.now input.now (Some steps.now)) 0 e.lacking) }
+    ensures end { IfOk result (λ e. IsEndIn
+        (run_texts definition.now mocks.now chosen.now input.now (Some steps.now)) 0 e.end) }
     ensures fault { IfErr result (Unless (IsRefused
         (run_texts definition.now mocks.now chosen.now input.now (Some steps.now)))) }
 {
@@ -84,6 +90,8 @@ pub fn emulate_driven<'a>(
         (string_bytes e.text) e.good) }
     ensures lacking { IfOk result (λ e. IsLackingIn
         (run_texts definition.now mocks.now chosen.now input.now None) limit e.lacking) }
+    ensures end { IfOk result (λ e. IsEndIn
+        (run_texts definition.now mocks.now chosen.now input.now None) limit e.end) }
     ensures fault { IfErr result (Unless (IsRefused
         (run_texts definition.now mocks.now chosen.now input.now None))) }
 {

@@ -17,11 +17,11 @@ mod rewinding;
 mod stepping;
 mod swapping;
 
-pub use driving::Ended;
+pub use driving::{Ended, most_steps};
 pub use emulation::{Emulated, emulate, emulate_driven, emulate_texts};
 pub use execution::Execution;
 pub use lacking::{Invocation, unanswered};
 pub use laws::{steps_only_append_events, texts_have_one_run};
 pub use obstacle::{Obstacle, put_obstacle};
 pub use probe::Probe;
-pub use stepping::{facts_of, invokes_in, state_of};
+pub use stepping::{deadline_of, facts_of, invokes_in, state_of};

@@ -1,6 +1,7 @@
 // The text of a run.
 ghost use Rattle.std.specs.Prelude.{◌≡◌, ◌++◌, OnOk, OnErr, IfOk, option_map, string_bytes};
 ghost use Rattle.asl_run_state.specs.Lines.{end_text, is_success};
+ghost use Rattle.asl_exec.specs.Driving.{end_of};
 ghost use Rattle.asl_exec.specs.Lacking.{unanswered_in};
 ghost use Rattle.asl_exec.specs.RunText.{step_lines, lines_by, world_by, text_by};
 ghost use Rattle.asl_exec.specs.Steps.{opening, refusal_in, step, world_after};
@@ -79,6 +80,7 @@ impl Execution {
         ensures good { IfOk result (λ e. e.good ≡ is_success (world_of self.now).outcome) }
         ensures lacking { IfOk result (λ e. e.lacking
             ≡ unanswered_in (setup_of self.now).case (world_of self.now)) }
+        ensures end { IfOk result (λ e. e.end ≡ end_of (world_of self.now)) }
     {
         let mut text = text;
         put_end(self.alloc(), &mut text, self.world())?;
@@ -87,6 +89,7 @@ impl Execution {
             text,
             good: is_success(self.outcome()),
             lacking,
+            end: self.end(),
         })
     }
 
@@ -103,6 +106,9 @@ impl Execution {
         ensures lacking { IfOk result (λ e. e.lacking
             ≡ unanswered_in (setup_of self.old).case
             (world_by limit (setup_of self.old) (world_of self.old)
+            (option_map (λ ss. ss.now) steps.entry))) }
+        ensures end { IfOk result (λ e. e.end
+            ≡ end_of (world_by limit (setup_of self.old) (world_of self.old)
             (option_map (λ ss. ss.now) steps.entry))) }
     {
         let mut text = String::new(self.alloc());
@@ -126,6 +132,8 @@ pub(crate) fn run(
     ensures lacking { IfOk result (λ e. e.lacking
         ≡ unanswered_in setup.case (world_by limit setup (opening setup)
         (option_map (λ ss. ss.now) steps.entry))) }
+    ensures end { IfOk result (λ e. e.end
+        ≡ end_of (world_by limit setup (opening setup) (option_map (λ ss. ss.now) steps.entry))) }
 {
     let mut execution = Execution::open(alloc, setup)?;
     let printed = execution.print(steps, limit);

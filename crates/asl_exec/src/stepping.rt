@@ -46,7 +46,7 @@ pub fn facts_of(alloc: Global, setup: &Setup) -> Result<Facts, AllocError>
 }
 
 /// The moment at which the time of an execution is over, where its machine has a time limit.
-fn deadline_of(setup: &Setup) -> Option<Moment>
+pub fn deadline_of(setup: &Setup) -> Option<Moment>
     ensures { result ≡ deadline_of setup.now }
 {
     match setup.machine.timeout() {

@@ -14,14 +14,14 @@ use Rattle.asl_run_input.specs.declared.setup.Setup.{Setup}
 use Rattle.asl_run_input.specs.declared.step_at.StepAt.{StepAt}
 use Rattle.asl_exec.specs.Steps.{opening, refusal_in, step, world_after}
 use Rattle.asl_exec.proofs.Accepting.{step_refused, step_late}
-use Rattle.asl_exec.proofs.Going.{next, IsReady, step-is}
+use Rattle.asl_exec.proofs.Going.{next, IsReady, step-is, ready-if}
 use Rattle.asl_exec_moment_laws.specs.Orders.{due_of, due, after_order}
 use Rattle.asl_exec_moment_laws.specs.Moments.{DifferInMoments}
 use Rattle.asl_exec_moment_laws.specs.Laws.{MomentsMayBeAny, MomentsStayAside, OpenPlacesStay, BareWorldsStayAside}
 use Rattle.asl_exec_moment_laws.proofs.Until.{until_in}
 use Rattle.asl_exec_moment_laws.proofs.Reading.{record-same}
 use Rattle.asl_exec_moment_laws.proofs.Changing.{AreSooner, sooner-self, sooner-there}
-use Rattle.asl_exec_moment_laws.proofs.Stepping.{next-alike, next-sooner, ready-too, waits-till, ready-if, due-is, earlier}
+use Rattle.asl_exec_moment_laws.proofs.Stepping.{next-alike, next-sooner, ready-too, waits-till, due-is, earlier}
 
 -- ---- a world that is over stays
 

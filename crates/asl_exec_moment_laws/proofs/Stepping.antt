@@ -16,16 +16,16 @@ use Rattle.asl_step_reads.specs.Reading.{reads}
 use Rattle.asl_step_reads.specs.Steps.{clock_keys, timeless_record, timeless, timeless_effect}
 use Rattle.asl_step_reads.proofs.Inside.{states_read_no_more}
 use Rattle.asl_step_reads.proofs.Clock.{moments}
-use Rattle.asl_run_branches.specs.Branches.{record_at, is_stopped}
+use Rattle.asl_run_branches.specs.Branches.{record_at}
 use Rattle.asl_run_branches.specs.Earliest.{due_from}
 use Rattle.asl_run_branches.specs.Turns.{limit_of, is_full as is_taken}
 use Rattle.asl_run_state.specs.declared.refusal.Refusal.{Refusal}
-use Rattle.asl_run_state.specs.declared.refusal.Refusal.TheVariants.{Over, NoSuchPlace, Stopped, Slots, Busy, HistoryFull}
+use Rattle.asl_run_state.specs.declared.refusal.Refusal.TheVariants.{Slots, Busy, HistoryFull}
 use Rattle.asl_run_state.specs.World.{World, count_of, is_over, is_late, counts_after, outcome_after}
-use Rattle.asl_run_state.specs.Refusals.{refusal_if_full, refusal_by, refusal_of}
+use Rattle.asl_run_state.specs.Refusals.{refusal_if_full, refusal_by}
 use Rattle.asl_run_state.proofs.Telling.{events-length}
 use Rattle.asl_run_input.specs.declared.setup.Setup.{Setup}
-use Rattle.asl_exec.specs.Steps.{facts_of, number_in, object_in, invokes_by, limits_in, seen_at, effect_by, refusal_in}
+use Rattle.asl_exec.specs.Steps.{facts_of, number_in, object_in, invokes_by, limits_in, seen_at, effect_by}
 use Rattle.asl_exec.proofs.Going.{does, next, slots_at, IsReady}
 use Rattle.asl_exec_moment_laws.specs.Moments.{DifferInMoments}
 use Rattle.asl_exec_moment_laws.proofs.Until.{until_in, waits-no-longer}
@@ -183,17 +183,6 @@ ready-too s w v alike p n m r q a there same waited early =
 
 pub waits-till : (s : Setup) (w : World) (p : List ℕ) (n : ℕ) (r : Record) → IsReady s w p n r → until_in r ≤ n
 waits-till s w p n r a = (is-free w p n (slots_at s w p) r a.ready).waited
-
--- by Going of asl_exec, where the step is accepted and comes in time
-pub ready-if : (s : Setup) (w : World) (p : List ℕ) (t : ℕ) → refusal_in s w p t ≡ None → is_late (max w.last t) w.deadline ≡ false → (r : Record) × IsReady s w p (max w.last t) r
-unfolding refusal_of
-ready-if s w p t h early = by (is_over w.outcome) (record_at p w.branches) (is_stopped p w.branches) refl refl refl
-  where
-    by : (o : Bool) (m : Option Record) (f : Bool) → is_over w.outcome ≡ o → record_at p w.branches ≡ m → is_stopped p w.branches ≡ f → (r : Record) × IsReady s w p (max w.last t) r
-    by true m f eo em ef = absurd (let x : Some Over ≡ None = rw eo at h in cc)
-    by false None f eo em ef = absurd (let x : Some NoSuchPlace ≡ None = rw (eo, early, em) at h in cc)
-    by false (Some r) true eo em ef = absurd (let x : Some Stopped ≡ None = rw (eo, early, em, ef) at h in cc)
-    by false (Some r) false eo em ef = (r, record { running = eo; early = early; there = em; free = ef; ready = rw (eo, early, em, ef) at h })
 
 -- ---- the earliest moment
 

@@ -17,7 +17,7 @@ use Rattle.asl_explore.specs.declared.calls.Bounds.{Bounds}
 use Rattle.asl_explore.specs.declared.calls.Calls.{Calls}
 use Rattle.asl_explore.specs.declared.orders.Orders.{Orders}
 use Rattle.asl_explore.specs.declared.orders.Orders.TheVariants.{Every}
-use Rattle.asl_explore.specs.Orders.{AreTried, after_order}
+use Rattle.asl_explore.specs.Orders.{after_order}
 use Rattle.asl_explore.specs.Searches.{IsLater, IsReached, is_beyond}
 use Rattle.asl_explore.specs.Calls.{no_bounds, AreBoth, IsIn, AreBothOrNone, AreEachMet, AreMetSoFar, ComesInOrders, ComesWith, AreBoundsMet, AreAllBoundsMet, AreCounted, IsCounted}
 use Rattle.asl_explore.specs.private.Reaching.{IsLeast}

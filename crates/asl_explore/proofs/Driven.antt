@@ -22,9 +22,8 @@ use Rattle.asl_run_input.specs.declared.setup.Setup.{Setup}
 use Rattle.asl_exec.specs.Driving.{Chosen, chosen_by, chosen, after, driven}
 use Rattle.asl_exec.specs.Steps.{limits_in, refusal_in, moved_on, stepped, step, opening, deadline_of}
 use Rattle.asl_exec.proofs.Accepting.{step_late}
-use Rattle.asl_exec.proofs.Going.{slots_at, IsReady}
+use Rattle.asl_exec.proofs.Going.{slots_at, IsReady, ready-if}
 use Rattle.asl_exec_swap_laws.proofs.Inline.{ready-due}
-use Rattle.asl_exec_moment_laws.proofs.Stepping.{ready-if}
 use Rattle.asl_explore.specs.declared.orders.Orders.{Orders}
 use Rattle.asl_explore.specs.declared.orders.Orders.TheVariants.{Every, Prompt}
 use Rattle.asl_explore.specs.Laws.{DrivenIsListed}

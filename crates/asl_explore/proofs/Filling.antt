@@ -24,7 +24,7 @@ use Rattle.asl_explore.proofs.Steady.{AreLike, asked, held-less, like-less}
 use Rattle.asl_explore.proofs.Asking.{asks_of, asks_at}
 use Rattle.asl_explore.proofs.Carrying.{with_counts, go, after_bare, ArePrompt, AreTriedOn, asks}
 use Rattle.asl_explore.proofs.Calm.{KeepsOn, IsHeldFor}
-use Rattle.asl_explore.proofs.Orderly.{ready-prompt, go-is, asks-is}
+use Rattle.asl_explore.proofs.Orderly.{ready-prompt, go-is}
 use Rattle.asl_explore.proofs.Ending.{expanded-ends, taken-expanded}
 use Rattle.asl_explore.proofs.Reduced.{good-opening, Plain, plain, ends-so}
 use Rattle.asl_explore.proofs.Stopped.{Back, recounted, taken-back}

@@ -1,5 +1,5 @@
 -- Lists that agree place by place, and lists that are gone through to the end.
-use Rattle.std.proofs.Common.{ℕ, suc, zero, ◌≡◌, ◌<◌, ◌≤◌, ◌+◌, ◌++◌, ◌||◌, ◌∙◌, ap, sym, refl, subst, arith, cond, Bool, true, false, List, [], ◌∷◌, length, get_or, set, take, map, max, count_by, append_assoc, append-nil}
+use Rattle.std.proofs.Common.{ℕ, suc, ◌≡◌, ◌<◌, ◌≤◌, ◌+◌, ◌++◌, ◌||◌, ◌∙◌, ap, sym, refl, subst, arith, cond, Bool, true, false, List, [], ◌∷◌, length, get_or, set, take, map, max, count_by, append_assoc, append-nil}
 use Rattle.std.specs.Prelude.{nat_eq}
 use Rattle.std.specs.List.{list_any}
 use Rattle.std.proofs.lemmas.Bool.Decides.{nat_tests}

@@ -1,13 +1,12 @@
 -- What is noted of each state, world by world.
-use Rattle.std.proofs.Common.{ℕ, ◌≡◌, ◌<◌, ◌≤◌, ◌+◌, ◌||◌, ◌++◌, ◌∙◌, ◌⊎◌, inl, inr, ap, sym, refl, subst, arith, cond, count_by, Bool, true, false, List, [], ◌∷◌, length, get_or, map, max, min, replicate, take, Option, Some, None, IfSome}
+use Rattle.std.proofs.Common.{ℕ, ◌≡◌, ◌<◌, ◌≤◌, ◌+◌, ◌||◌, ◌++◌, ◌∙◌, ◌⊎◌, inl, inr, ap, sym, refl, subst, arith, cond, count_by, Bool, true, false, List, [], ◌∷◌, length, get_or, map, max, min, take, Option, Some, None, IfSome}
 use Rattle.std.specs.Prelude.{is_none, nat_eq, nat_le}
 use Rattle.std.specs.List.{Contains, list_any}
 use Rattle.std.proofs.lemmas.Bool.{both_ways}
 use Rattle.std.proofs.lemmas.Bool.Decides.{nat_tests}
-use Rattle.std.proofs.lemmas.List.{get_or-replicate, length-replicate, map_more, map_push}
+use Rattle.std.proofs.lemmas.List.{map_more, map_push}
 use Rattle.std.proofs.lemmas.List.Elements.{Contains-append_left, Contains-push, Contains-push_cases}
 use Rattle.std.proofs.lemmas.List.Folds.{list_any-append}
-use Rattle.asl_def.specs.Machines.{state_count}
 use Rattle.asl_run_branches.specs.Branches.{Branch, record_at}
 use Rattle.asl_step.specs.declared.record.Record.{Record}
 use Rattle.asl_run_branches.specs.declared.earliest.Earliest.{Earliest}
@@ -162,22 +161,6 @@ module _ (o : Orders) (s : Setup) (ws : List World) (w : World) (n : ℕ) where
       two = ap (nat_le 2) (sym (count-like (look_asks n) (λ (b : Branch). asks o s w n b.place) ls w.branches looks.many (λ k d b l. (looks.each k b d l).asks_is n)))
 
 -- ---- each state
-
--- nothing in no world
-pub nothing-seen : (o : Orders) (s : Setup) (xs : List Sight) (count : ℕ) → xs ≡ replicate count (record { is_entered = false; is_cut_off = false; most = 0; shared_from = None }) → count ≡ state_count s.machine → AreSeen o s [] xs
-nothing-seen o s xs count e many = record {
-  many = ap (length {A = Sight}) e ∙ length-replicate count nothing ∙ many;
-  each = λ n d l. subst (IsSeen o s [] n) (sym (ap (λ z. get_or z n d) e ∙ get_or-replicate count n nothing d (let long : length xs ≡ count = ap (length {A = Sight}) e ∙ length-replicate count nothing in omega (arith, l, long)))) (record {
-    entered = refl;
-    cut_off = refl;
-    most = refl;
-    shared = tt;
-    least = λ w there. let l = there.1 in absurd (omega (arith, l));
-  });
-}
-  where
-    nothing : Sight
-    nothing = record { is_entered = false; is_cut_off = false; most = 0; shared_from = None }
 
 -- what is noted in one world
 pub all-more : (o : Orders) (s : Setup) (ws : List World) (w : World) (ls : List (Option Look)) (xs ys zs : List Sight) → AreLooks o s w ls → length ys ≡ length xs → length zs ≡ length ys

@@ -10,12 +10,11 @@ use Rattle.asl_run_state.specs.Bare.{bare}
 use Rattle.asl_run_state.specs.World.{World, is_late, world_with, counts_after, count_of}
 use Rattle.asl_run_input.specs.declared.setup.Setup.{Setup}
 use Rattle.asl_exec.specs.Steps.{number_in, refusal_in, step}
-use Rattle.asl_exec.proofs.Going.{does, IsReady, next, step-is}
+use Rattle.asl_exec.proofs.Going.{does, IsReady, next, step-is, ready-if}
 use Rattle.asl_exec_swap_laws.proofs.Apart.{IsApart}
 use Rattle.asl_exec_swap_laws.proofs.Rooting.{one-place}
 use Rattle.asl_exec_swap_laws.proofs.Pending.{IsPending, ahead, after}
 use Rattle.asl_exec_swap_laws.proofs.Inline.{Someone, someone, ready-due, ready-going, none-under}
-use Rattle.asl_exec_moment_laws.proofs.Stepping.{ready-if}
 use Rattle.asl_explore.specs.Orders.{due_of, due, MayStep, IsPrompt}
 use Rattle.asl_explore.proofs.Steady.{AreLike, asked, held-less}
 use Rattle.asl_explore.proofs.Asking.{asks_at, asks-taken}

@@ -5,21 +5,19 @@ use Rattle.std.specs.List.{list_any}
 use Rattle.std.proofs.lemmas.Bool.{and_parts, and_from, both_ways, eqb-true, eq-eqb, false_from_ne_true}
 use Rattle.asl_json.specs.private.SameLaws.{bytes_refl}
 use Rattle.asl_history.specs.Places.{is_prefix, is_beside}
-use Rattle.asl_step.specs.Records.{is_done, is_failed}
-use Rattle.asl_step.specs.Rows.{idle}
+use Rattle.asl_step.specs.Records.{is_failed}
 use Rattle.asl_step.specs.declared.effect.Children.{Children}
 use Rattle.asl_step.specs.declared.effect.Effect.{Effect}
 use Rattle.asl_step.specs.declared.record.Record.{Record}
-use Rattle.asl_run_branches.specs.Branches.{Branch, same_place, record_at, children_at, forker_at, is_stopped, is_elder, undone_in, branch_after, branches_after}
+use Rattle.asl_run_branches.specs.Branches.{Branch, same_place, record_at, children_at, is_stopped, is_elder, undone_in, branch_after, branches_after}
 use Rattle.asl_run_branches.specs.Turns.{is_full, is_crowded, limit_of}
-use Rattle.asl_run_branches.proofs.Linking.{same-eq}
 use Rattle.asl_run_state.specs.World.{World, is_over, counts_after, count_of, world_with}
 use Rattle.asl_run_state.specs.Refusals.{refusal_by}
 use Rattle.asl_run_input.specs.declared.setup.Setup.{Setup}
 use Rattle.asl_exec.specs.Exchanges.{IsOneEach}
 use Rattle.asl_exec.specs.Steps.{number_in, limits_in}
 use Rattle.asl_exec.proofs.Going.{record-after, does, next, slots_at, IsReady}
-use Rattle.asl_exec_swap_laws.proofs.Apart.{IsApart, apart-sym, prefix-append, MissesUnder}
+use Rattle.asl_exec_swap_laws.proofs.Apart.{IsApart, prefix-append, MissesUnder}
 use Rattle.asl_exec_swap_laws.proofs.Leaving.{record-stays, children-stay, forker-stays, stays, passes}
 use Rattle.asl_exec_swap_laws.proofs.Fewer.{AllAt, all-at, not-stopped}
 use Rattle.asl_exec_swap_laws.proofs.Families.{or-left, or-right, failed-stops, stopped-under, stopped-by-child}

@@ -9,7 +9,6 @@ use Rattle.asl_history.specs.Places.{is_prefix}
 use Rattle.asl_step.specs.Records.{is_done, is_failed}
 use Rattle.asl_step.specs.declared.effect.Effect.{Effect}
 use Rattle.asl_step.specs.declared.record.Record.{Record}
-use Rattle.asl_step.specs.declared.record.Record.TheVariants.{New, Ready, Pausing, Again, Forked, Done, Failed}
 use Rattle.asl_run_branches.specs.Branches.{record_at, forker_at}
 use Rattle.asl_run_branches.specs.Earliest.{due_from}
 use Rattle.asl_run_branches.specs.Turns.{limit_of}
@@ -20,14 +19,13 @@ use Rattle.asl_run_state.specs.declared.refusal.Refusal.{Refusal}
 use Rattle.asl_run_input.specs.declared.setup.Setup.{Setup}
 use Rattle.asl_exec.specs.Steps.{limits_in, refusal_in, moved_on, stepped, step, opening, deadline_of}
 use Rattle.asl_exec.proofs.Accepting.{step_refused}
-use Rattle.asl_exec.proofs.Going.{IsReady}
+use Rattle.asl_exec.proofs.Going.{IsReady, ready-if}
 use Rattle.asl_exec_swap_laws.proofs.Fewer.{not-stopped}
 use Rattle.asl_exec_swap_laws.proofs.Leaving.{record-stays}
 use Rattle.asl_exec_swap_laws.proofs.Rooted.{is_joining, rooted-above, below}
 use Rattle.asl_exec_swap_laws.proofs.Rooting.{one-place}
 use Rattle.asl_exec_swap_laws.proofs.Pending.{IsPending, ahead, none-over}
 use Rattle.asl_exec_swap_laws.proofs.Inline.{none-under, ready-due}
-use Rattle.asl_exec_moment_laws.proofs.Stepping.{ready-if}
 use Rattle.asl_explore.specs.declared.orders.Orders.TheVariants.{Every, Prompt}
 use Rattle.asl_explore.specs.Orders.{due_of, due, after_order, IsPrompt, AreTried, IsWhole}
 use Rattle.asl_explore.specs.Searches.{IsMet, AreTakenOn, Waits, NoneWaits}
@@ -46,15 +44,6 @@ pub record IsPausing (m : Record) : Type 0 where
   pub alone : is_joining m ≡ false
   pub undone : is_done m ≡ false
   pub whole : is_failed m ≡ false
-
-pausing-is : (last : ℕ) (m : Record) → last < due_from last m → IsPausing m
-pausing-is last (New n x) h = absurd (omega (arith, h))
-pausing-is last (Ready n x) h = absurd (omega (arith, h))
-pausing-is last (Pausing n x since until) h = record { alone = refl; undone = refl; whole = refl }
-pausing-is last (Again n x since uses until) h = record { alone = refl; undone = refl; whole = refl }
-pausing-is last (Forked n x since uses items) h = absurd (omega (arith, h))
-pausing-is last (Done x) h = absurd (omega (arith, h))
-pausing-is last (Failed e) h = absurd (omega (arith, h))
 
 waits-ahead : (s : Setup) (u : World) (p : List ℕ) (r : Record) (e : Effect) → KeepsOn e → IsPending s u p r e → Waits u → Waits (ahead s u p r e)
 waits-ahead s u p r e calm w z = by (is_prefix p q) (is_prefix q p) refl refl

@@ -1,5 +1,5 @@
 -- What is remarkable in the worlds that a search met, without their histories.
-use Rattle.std.specs.Prelude.{ℕ, suc, ◌≡◌, ◌≤◌, ◌<◌, ◌⊎◌, ◌+◌, ◌++◌, ◌&&◌, ◌||◌, not, Bool, true, false, List, [], ◌∷◌, map, max, nat_eq, nat_le, is_none, is_some, if◌then◌else◌, Option, Some, None}
+use Rattle.std.specs.Prelude.{ℕ, ◌≡◌, ◌≤◌, ◌<◌, ◌⊎◌, ◌+◌, ◌++◌, ◌&&◌, ◌||◌, not, Bool, true, false, List, [], ◌∷◌, map, max, nat_eq, nat_le, is_none, is_some, if◌then◌else◌, Option, Some, None}
 use Rattle.std.specs.List.{Contains, count_by, filter, list_all, list_any}
 use Rattle.asl_step.specs.declared.record.Record.{Record}
 use Rattle.asl_step.specs.Records.{beginning_with, entering_with, is_finished}

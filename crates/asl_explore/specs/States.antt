@@ -1,6 +1,5 @@
 -- The states of a definition that are told.
 use Rattle.std.specs.Prelude.{ℕ, ◌≡◌, List, Some, map}
-use Rattle.std.specs.List.{All}
 use Rattle.asl_json_data.specs.Data.{Data}
 use Rattle.asl_def_walk.specs.States.{all_states}
 use Rattle.asl_def.specs.Machines.{state_number, state_object}

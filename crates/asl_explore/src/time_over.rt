@@ -12,22 +12,12 @@ ghost use Rattle.asl_explore.specs.TimeOver.{IsWitnessed, RunsOut};
 use crate::found::Found;
 use crate::orders::Orders;
 use crate::visiting::is_found;
-use asl_exec::Probe;
+use asl_exec::{Probe, deadline_of};
 use asl_history::Place;
 use asl_run_input::{Setup, StepAt};
 use asl_run_state::Outcome;
-use asl_time::{Moment, add};
+use asl_time::Moment;
 use std::alloc::{AllocError, Global};
-
-/// The moment at which the time of an execution is over, where it has a time limit.
-pub(crate) fn deadline_of(setup: &Setup) -> Option<Moment>
-    ensures { result ≡ deadline_of setup.now }
-{
-    match setup.machine.timeout() {
-        Some(seconds) => Some(add(setup.start, u64::from(seconds) * 1000)),
-        None => None,
-    }
-}
 
 /// A step of the branch at a place at the start, and one of the root at the deadline; none where these don't end as the time is over. The
 /// error is that memory ran out.

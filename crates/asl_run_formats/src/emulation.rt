@@ -4,6 +4,8 @@ ghost use Rattle.asl_run_input.specs.Emulations.{IsRefused};
 ghost use Rattle.asl_run_input.specs.Texts.{Unless};
 ghost use Rattle.asl_run_input.specs.Views.{texts_of, steps_in};
 ghost use Rattle.asl_run_state.specs.Lines.{is_success};
+ghost use Rattle.asl_exec.specs.Driving.{end_of};
+ghost use Rattle.asl_exec.specs.Emulations.{IsEndIn};
 ghost use Rattle.asl_exec.specs.Lacking.{unanswered_in, IsLackingIn};
 ghost use Rattle.asl_exec.specs.RunText.{world_by};
 ghost use Rattle.asl_exec.specs.Steps.{opening};
@@ -32,6 +34,8 @@ fn run_as(
         ≡ is_success (world_by limit setup (opening setup) (steps_in steps)).outcome) }
     ensures lacking { IfOk result (λ e. e.lacking
         ≡ unanswered_in setup.case (world_by limit setup (opening setup) (steps_in steps))) }
+    ensures end { IfOk result (λ e. e.end
+        ≡ end_of (world_by limit setup (opening setup) (steps_in steps))) }
 {
     let mut execution = Execution::open(alloc, setup)?;
     let text = printed(alloc, format, &mut execution, steps, limit)?;
@@ -40,6 +44,7 @@ fn run_as(
         text,
         good: is_success(execution.outcome()),
         lacking,
+        end: execution.end(),
     })
 }
 
@@ -53,6 +58,7 @@ pub fn emulate_as(
     ensures run { IfOk result
         (λ e. IsToldRunOf format (texts_of texts.now) limit (string_bytes e.text) e.good) }
     ensures lacking { IfOk result (λ e. IsLackingIn (texts_of texts.now) limit e.lacking) }
+    ensures end { IfOk result (λ e. IsEndIn (texts_of texts.now) limit e.end) }
     ensures fault { IfErr result (Unless (IsRefused (texts_of texts.now))) }
 {
     let emulation = Emulation::read(alloc, texts)?;

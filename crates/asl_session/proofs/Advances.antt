@@ -4,7 +4,7 @@ use Rattle.asl_run_state.specs.declared.refusal.Refusal.{Refusal}
 use Rattle.asl_run_input.specs.declared.step_at.StepAt.{StepAt}
 use Rattle.asl_exec.specs.Steps.{refusal_in}
 use Rattle.asl_session.specs.Sessions.{Session, world_in, pause_at, reply_to_step, reply_to, changed, next_session}
-use Rattle.asl_session.specs.Advancing.{stop_of, after_steps, AreTaken, IsStop, IsTried}
+use Rattle.asl_session.specs.Advancing.{stop_of, after_steps, AreTaken, IsTried}
 use Rattle.asl_session.specs.declared.command.Command.TheVariants.{Step}
 use Rattle.asl_session.specs.declared.reply.Reply.{Reply}
 use Rattle.asl_session.specs.declared.reply.Reply.TheVariants.{Stepped}
@@ -40,10 +40,3 @@ done-more old now new l a h t = record {
   taken = taken-last old l a h.taken (rw h.here at t.0);
   here = t.1 ∙ ap (λ (s : Session). next_session s (Step a)) h.here ∙ sym (after-last old l a);
 }
-
--- why the first of these steps isn't taken, is why none of them is
-pub stop-first : (s : Session) (a : StepAt) (l : List StepAt) (stop : Stop) → IsStop s (a ∷ []) stop → IsStop s (a ∷ l) stop
-stop-first s a l stop h = by stop h
-  where
-    by : (x : Stop) → IsStop s (a ∷ []) x → IsStop s (a ∷ l) x
-    by x h = h

@@ -31,9 +31,6 @@ in-take (suc n) (x ∷ xs) (suc i) y e = let h = in-take n xs i y e in let l = h
 
 -- ---- steps are taken
 
-pub no-marks : (s : Setup) → AreMarks s [] []
-no-marks s = record { cover = omega arith; each = λ i c e. absurd cc }
-
 mark-more : (s : Setup) (steps : List StepAt) (a : StepAt) (n : ℕ) (c : Checkpoint) → IsMark s steps n c → IsMark s (steps ++ a ∷ []) n c
 mark-more s steps a n c h = record {
   within = omega (arith, h.within, length-append steps (a ∷ []));
@@ -59,9 +56,6 @@ marks-push s steps cs c h full is = record {
         record { within = omega (arith, full, n); marks = rw (all, k.1) is }
   ];
 }
-
-pub covers-push : (steps : List StepAt) (cs : List Checkpoint) (c : Checkpoint) → length steps ≤ 64 * length cs → length steps < 64 * length (cs ++ c ∷ [])
-covers-push steps cs c h = omega (arith, h, length-append cs (c ∷ []))
 
 -- ---- steps are taken back
 

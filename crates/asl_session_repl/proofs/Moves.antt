@@ -27,11 +27,6 @@ gone-next h most k t s all l g e =
     let one : gone h (suc (most - (k + 1))) t s ≡ all = rw (left most k l) at e in
     rw g at one
 
-pub gone-stop : (h : Bool) (most k t : ℕ) (s : Session) (all : Session) → k < most → goes_on h t s ≡ false → gone h (most - k) t s ≡ all → moved t s ≡ all
-gone-stop h most k t s all l g e =
-    let one : gone h (suc (most - (k + 1))) t s ≡ all = rw (left most k l) at e in
-    rw g at one
-
 -- ---- moves stop behind a step
 
 pub halt-is : (s u : Session) (a : StepAt) (halts taken handled badly : Bool) → taken ≡ is_stepped (reply_to s (Step a)) → handled ≡ handles_error s a → u ≡ next_session s (Step a) → badly ≡ ends_badly (world_in u) a.place → halts ≡ (taken && (handled || badly)) → halts ≡ is_halt true s a

@@ -1,7 +1,6 @@
 -- The branches of a tree of frames, one after another.
 use Rattle.std.proofs.Common.{ℕ, Result, Ok, Err, OnOk, append_assoc, ◌≡◌, ◌+◌, List, [], ◌∷◌, ◌++◌, map, refl, ◌∙◌, ap}
 use Rattle.std.specs.List.{flat_map}
-use Rattle.std.proofs.lemmas.Grind.{flat_map-append}
 use Rattle.std.proofs.lemmas.List.{map-append}
 use Rattle.asl_run_branches.specs.Trees.{Spot, Family, pushed, below_of, branch_of, node_of, ArePlaced}
 use Rattle.asl_session.specs.Sessions.{Session}
@@ -25,10 +24,6 @@ lines-spots s (x ∷ ss) h = rw (h.0, lines-spots s ss h.1) refl
 
 pub lines-family : (s : Session) (f : Family) → f.head.place ≡ [] → ArePlaced (map node_of f.below) → held_lines s (helds_of f) ≡ branch_line s [] f.head.current ++ flat_map (λ b. branch_line s b.place b.current) (map branch_of f.below)
 lines-family s f e h = rw (e, lines-spots s f.below h) refl
-
--- the lines of one child more
-pub lines-more : (s : Session) (k : Family) (ks : List Family) → held_lines s (helds_of k ++ flat_map helds_of ks) ≡ held_lines s (helds_of k) ++ held_lines s (flat_map helds_of ks)
-lines-more s k ks = flat_map-append (λ h. branch_line s h.place h.current) (helds_of k) (flat_map helds_of ks)
 
 -- the lines of a frame are its own and those of its children
 pub lines-frame : (s : Session) (f : Family) (ks : List Family) → f.below ≡ below_of 0 ks → branch_line s f.head.place f.head.current ++ held_lines s (flat_map helds_of ks) ≡ held_lines s (helds_of f)

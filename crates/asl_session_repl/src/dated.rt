@@ -5,7 +5,7 @@ ghost use Rattle.asl_exec.specs.Steps.{deadline_of};
 ghost use Rattle.asl_session_repl.specs.Dated.{last_moment, moment_of, dated, no_later, earliest, moment_or, dated_step};
 
 use crate::timed::{Timed, When};
-use asl_def::Machine;
+use asl_exec::deadline_of;
 use asl_history::Place;
 use asl_run_input::{Setup, StepAt};
 use asl_run_state::Refusal;
@@ -41,17 +41,6 @@ pub(crate) fn dated(session: &Session, step: &Timed) -> Result<StepAt, AllocErro
         place: step.place.try_clone()?,
         moment: moment_of(session, step.when),
     })
-}
-
-/// The moment at which the time of an execution is over, where its machine has a time limit.
-fn deadline_of(setup: &Setup) -> Option<Moment>
-    ensures { result ≡ deadline_of setup.now }
-{
-    let machine: &Machine = &setup.machine;
-    match machine.timeout() {
-        Some(seconds) => Some(add(setup.start, u64::from(seconds) * 1000)),
-        None => None,
-    }
 }
 
 /// The earlier of two moments.

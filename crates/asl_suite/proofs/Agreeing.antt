@@ -21,7 +21,8 @@ use Rattle.asl_suite_file.specs.declared.holding.Likeness.{Likeness}
 use Rattle.asl_suite_file.specs.declared.holding.Likeness.TheVariants.{Same, Holding}
 use Rattle.asl_suite_file.specs.declared.expectation.StateCount.{StateCount}
 use Rattle.asl_suite_file.specs.declared.expectation.StateCalls.{StateCalls}
-use Rattle.asl_suite.specs.Cases.{is_wanted, is_output, has_error, has_cause, is_visited, is_invoked, is_called, verdict_by_states, verdict_by_end, verdict_on, test_world, step_limit, report_by, report_on}
+use Rattle.asl_exec.specs.Driving.{most_steps}
+use Rattle.asl_suite.specs.Cases.{is_wanted, is_output, has_error, has_cause, is_visited, is_invoked, is_called, verdict_by_states, verdict_by_end, verdict_on, test_world, report_by, report_on}
 use Rattle.asl_suite.specs.Reasons.{no_output, output_difference, first_not, by_visits, by_invocations, by_calls, by_part, by_output, by_status, reason_by_states, reason_by_error, reason_by_end, reason_in, reason_by, reason_for, verdict_by}
 use Rattle.asl_suite.specs.declared.suite.Suite.{Suite}
 use Rattle.asl_suite.specs.declared.case_report.Verdict.{Verdict}
@@ -95,7 +96,7 @@ case_agrees n s x (Err e) = refl
 case_agrees n s x (Ok c) = sym (reason_agrees s.machine x c (test_world n s x c))
 
 test_agrees : (s : Suite) (x : Expectation) → (report_on s x).verdict ≡ verdict_by (reason_for s x)
-test_agrees s x = case_agrees step_limit s x (case_or_empty s.mocks x.machine x.case)
+test_agrees s x = case_agrees most_steps s x (case_or_empty s.mocks x.machine x.case)
 
 found_agrees : (s : Suite) (o : Option Expectation) (r : Reason) → option_map (reason_for s) o ≡ Some r → option_map (λ (x : Expectation). (report_on s x).verdict) o ≡ Some (verdict_by r)
 found_agrees s None r e = absurd (cc e)

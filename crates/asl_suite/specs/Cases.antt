@@ -19,6 +19,7 @@ use Rattle.asl_run_input.specs.Chosen.{name_or_run, case_or_empty}
 use Rattle.asl_run_input.specs.Texts.{start_of}
 use Rattle.asl_run_input.specs.declared.setup.Setup.{Setup}
 use Rattle.asl_run_input.specs.declared.step_at.StepAt.{StepAt}
+use Rattle.asl_exec.specs.Driving.{most_steps}
 use Rattle.asl_exec.specs.RunText.{world_by}
 use Rattle.asl_exec.specs.Steps.{opening}
 use Rattle.asl_exec.specs.Lacking.{invokes}
@@ -200,13 +201,9 @@ report_by limit s x (Ok c) = judged s.machine x c (test_world limit s x c)
 abbrev pub report_within : ℕ → Suite → Expectation → CaseReport
 report_within limit s x = report_by limit s x (case_or_empty s.mocks x.machine x.case)
 
--- a test without steps of its own is driven by at most so many
-unfoldable pub step_limit : ℕ
-step_limit = 10000
-
--- what is reported of a test
+-- what is reported of a test; without steps of its own it is driven
 abbrev pub report_on : Suite → Expectation → CaseReport
-report_on s x = report_within step_limit s x
+report_on s x = report_within most_steps s x
 
 -- the reports of all tests, in order
 abbrev pub reports_of : Suite → List CaseReport

@@ -1,5 +1,5 @@
 -- Why a test that is `ok` may not mean what it says.
-use Rattle.std.specs.Prelude.{ℕ, Bool, ◌||◌, if◌then◌else◌, List, map, codes, Option, Some, None}
+use Rattle.std.specs.Prelude.{ℕ, Bool, ◌||◌, if◌then◌else◌, List, codes, Option, Some, None}
 use Rattle.asl_json.specs.Same.{bytes_eq}
 use Rattle.asl_mock.specs.Answers.{Case}
 use Rattle.asl_run_state.specs.World.{World}

@@ -7,6 +7,7 @@ use Rattle.asl_history.specs.declared.event.Event.{Event}
 use Rattle.asl_mock.specs.Answers.{Case}
 use Rattle.asl_mock.specs.declared.fault.CaseFault.{CaseFault}
 use Rattle.asl_run_state.specs.World.{World, is_over}
+use Rattle.asl_exec.specs.Driving.{most_steps}
 use Rattle.asl_exec.specs.Lacking.{unanswered_in}
 use Rattle.asl_run_state.specs.declared.outcome.Outcome.{Outcome}
 use Rattle.asl_run_state.specs.declared.outcome.Outcome.TheVariants.{Running, Succeeded, Failed, TimedOut}
@@ -18,7 +19,7 @@ use Rattle.asl_suite_file.specs.declared.expectation.StateCount.{StateCount}
 use Rattle.asl_suite_file.specs.declared.expectation.StateCalls.{StateCalls}
 use Rattle.asl_suite_file.specs.declared.holding.Likeness.{Likeness}
 use Rattle.asl_suite_file.specs.declared.holding.Likeness.TheVariants.{Same, Holding}
-use Rattle.asl_suite.specs.Cases.{is_wanted, has_error, has_cause, entries, is_visited, invocations, is_invoked, inputs_of, is_called, test_world, step_limit}
+use Rattle.asl_suite.specs.Cases.{is_wanted, has_error, has_cause, entries, is_visited, invocations, is_invoked, inputs_of, is_called, test_world}
 use Rattle.asl_suite.specs.declared.suite.Suite.{Suite}
 use Rattle.asl_suite.specs.declared.case_report.Verdict.{Verdict}
 use Rattle.asl_suite.specs.declared.case_report.Verdict.TheVariants as verdict
@@ -108,7 +109,7 @@ abbrev pub reason_within : ℕ → Suite → Expectation → Reason
 reason_within limit s x = reason_by limit s x (case_or_empty s.mocks x.machine x.case)
 
 abbrev pub reason_for : Suite → Expectation → Reason
-reason_for s x = reason_within step_limit s x
+reason_for s x = reason_within most_steps s x
 
 -- the verdict that goes with it
 abbrev pub verdict_by : Reason → Verdict

@@ -9,10 +9,10 @@ use crate::judging::{
     is_wanted,
 };
 use crate::reason::Reason;
-use crate::running::{case_of, execution_of, step_limit};
+use crate::running::{case_of, execution_of};
 use crate::suite::Suite;
 use asl_def::Machine;
-use asl_exec::unanswered;
+use asl_exec::{most_steps, unanswered};
 use asl_history::Event;
 use asl_json::{Items, Json};
 use asl_json_write::Pointer;
@@ -298,5 +298,5 @@ fn reason_numbered(alloc: Global, suite: &Suite, number: usize) -> Result<Reason
     ensures { IfOk result (λ r. option_map (reason_for suite.now)
         (slice_get suite.now.tests.list.items number) ≡ Some r) }
 {
-    reason_within(alloc, suite, &suite.tests.list[number], step_limit())
+    reason_within(alloc, suite, &suite.tests.list[number], most_steps())
 }

@@ -5,14 +5,14 @@ ghost use Rattle.asl_exec.specs.Steps.{opening, world_after};
 ghost use Rattle.asl_exec.specs.Views.{world_of};
 ghost use Rattle.asl_run_input.specs.Chosen.{name_or_run, case_or_empty};
 ghost use Rattle.asl_run_input.specs.Texts.{start_of};
-ghost use Rattle.asl_suite.specs.Cases.{step_limit, test_setup, setup_in, world_behind, test_world, judged, no_case, report_by, report_within, report_on};
+ghost use Rattle.asl_suite.specs.Cases.{test_setup, setup_in, world_behind, test_world, judged, no_case, report_by, report_within, report_on};
 
 use crate::case_report::{CaseReport, Doubt, Status, Verdict};
 use crate::doubting::doubt_of;
 use crate::judging::{status_of, verdict_on};
 use crate::suite::Suite;
 use asl_def::Machine;
-use asl_exec::Execution;
+use asl_exec::{Execution, most_steps};
 use asl_json::{Txt, clone_text};
 use asl_mock::{Case, CaseFault, Mocks};
 use asl_run_input::{Setup, StepAt};
@@ -20,14 +20,6 @@ use asl_run_state::World;
 use asl_suite_file::{Expectation, Steps};
 use asl_time::Moment;
 use std::alloc::{AllocError, Global};
-
-/// A test without steps of its own is driven by at most so many.
-#[tactic(auto, unfolding(crate::specs::Cases::step_limit))]
-pub(crate) fn step_limit() -> u32
-    ensures { result ≡ step_limit }
-{
-    10_000
-}
 
 /// The name of the execution of a case: the case's, and `run` where it is empty.
 fn name_or_run(case: &str) -> &str
@@ -239,5 +231,5 @@ pub fn run_case(alloc: Global, suite: &Suite, number: usize) -> Result<CaseRepor
     ensures { IfOk result (λ r. option_map (report_on suite.now)
         (slice_get suite.now.tests.list.items number) ≡ Some r) }
 {
-    run_test(alloc, suite, &suite.tests.list[number], step_limit())
+    run_test(alloc, suite, &suite.tests.list[number], most_steps())
 }

@@ -15,7 +15,7 @@ use Rattle.asl_run_input.specs.declared.step_at.StepAt.{StepAt}
 use Rattle.asl_run_state.specs.World.{World, count_of}
 use Rattle.asl_run_state.specs.declared.refusal.Refusal.{Refusal}
 use Rattle.asl_exec.specs.Steps.{facts_of, number_in, opening, refusal_in, step}
-use Rattle.asl_exec.specs.Driving.{Chosen, chosen, after}
+use Rattle.asl_exec.specs.Driving.{Chosen, chosen, after, most_steps}
 use Rattle.asl_trace.specs.declared.deciding.Deciding.{Deciding}
 use Rattle.asl_trace.specs.declared.deciding.Deciding.TheVariants as by
 use Rattle.asl_trace.specs.Deciding.{deciding_at}
@@ -124,10 +124,6 @@ driven_spots mocks case f zero s w = []
 driven_spots mocks case f (suc n) s w =
     chosen_spots mocks case f s w (chosen s w)
     ++ driven_spots mocks case f n s (after s w (chosen s w))
-
--- at most so many steps are taken, as in the run of a test
-unfoldable pub most_steps : ℕ
-most_steps = 10000
 
 -- of these; without them, of those that come next
 abbrev pub spots_by : Data → Option Data → Facts → Setup → World → Option (List StepAt) → List Spot

@@ -8,11 +8,11 @@ ghost use Rattle.asl_exec.specs.Steps.{step};
 ghost use Rattle.asl_exec.specs.Views.{setup_of, world_of};
 ghost use Rattle.asl_trace.specs.Deciding.{deciding_at};
 ghost use Rattle.asl_suite_coverage.specs.Spots.{spot, spot_if};
-ghost use Rattle.asl_suite_coverage.specs.Covered.{answer_spots, event_spots, events_spots, is_scheduled, leaves, part_of, name_at, count_at, taken_spots, spots_unless, step_spots, steps_spots, chosen_spots, driven_spots, spots_by, most_steps, run_spots};
+ghost use Rattle.asl_suite_coverage.specs.Covered.{answer_spots, event_spots, events_spots, is_scheduled, leaves, part_of, name_at, count_at, taken_spots, spots_unless, step_spots, steps_spots, chosen_spots, driven_spots, spots_by, run_spots};
 
 use crate::answering::{answer_number, case_in, response_of};
 use crate::spot::{Part, Spot};
-use asl_exec::{Execution, state_of};
+use asl_exec::{Execution, most_steps, state_of};
 use asl_history::{Event, EventKind, Place};
 use asl_json::Json;
 use asl_json_shared::Name;
@@ -21,14 +21,6 @@ use asl_run_state::Refusal;
 use asl_step::{Context, Record};
 use asl_trace::{Deciding, Staged, context_of, decided_at};
 use std::alloc::{AllocError, Global};
-
-/// At most so many steps are taken, as in the run of a test.
-#[tactic(auto, unfolding(crate::specs::Covered::most_steps))]
-fn most_steps() -> u32
-    ensures { result ≡ most_steps }
-{
-    10_000
-}
 
 /// What is kept of an execution until a step is taken.
 struct Before {

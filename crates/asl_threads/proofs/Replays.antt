@@ -1,8 +1,6 @@
 -- A history goes on by one row.
-use Rattle.std.proofs.Common.{◌≡◌, List, [], ◌∷◌, ◌++◌, false, refl, ◌∙◌, sym, ap, subst}
+use Rattle.std.proofs.Common.{◌≡◌, List, [], ◌∷◌, ◌++◌, refl, ◌∙◌, sym, ap, subst}
 use Rattle.asl_run_input.specs.declared.setup.Setup.{Setup}
-use Rattle.asl_session.specs.Replies.{is_plain}
-use Rattle.asl_session.proofs.Plain.{unplain-stays}
 use Rattle.asl_session.specs.Sessions.{Session, opened, changed, reply_to, next_session, session_after}
 use Rattle.asl_session.specs.declared.command.Command.{Command}
 use Rattle.asl_session.specs.declared.command.Command.TheVariants.{Step, Break, Clear, Resume, Back}
@@ -42,9 +40,3 @@ replay-grows rows rows' s t r h replied moved grown =
     let same : t.setup ≡ s.setup = ap (λ (w : Session). w.setup) moved ∙ setup-next s r.command in
     let new : IsReplay s.setup (rows ++ r ∷ []) t = replay-snoc s.setup rows s t r h replied moved in
     subst (λ (u : Setup). IsReplay u rows' t) (sym same) (subst (λ (q : List Row). IsReplay s.setup q t) (sym grown) new)
-
--- a reply that can't be copied leaves the session, so the rows lead to it as before
-pub replay-stays : (rows : List Row) (s t : Session) (c : Command) (r : Reply) → IsReplay s.setup rows s → r ≡ reply_to s c → is_plain r ≡ false → t ≡ next_session s c → IsReplay t.setup rows t
-replay-stays rows s t c r h replied unplain moved =
-    let stays : next_session s c ≡ s = unplain-stays s c (ap is_plain (sym replied) ∙ unplain) in
-    subst (λ (w : Session). IsReplay w.setup rows w) (sym (moved ∙ stays)) h

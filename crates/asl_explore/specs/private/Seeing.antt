@@ -8,7 +8,7 @@ use Rattle.asl_run_input.specs.declared.setup.Setup.{Setup}
 use Rattle.asl_explore.specs.declared.orders.Orders.{Orders}
 use Rattle.asl_explore.specs.declared.seeing.Look.{Look}
 use Rattle.asl_explore.specs.declared.sights.Sight.{Sight}
-use Rattle.asl_explore.specs.Remarks.{asked_in, askers, asks, count_behind, enters, is_cut_off, is_entered, is_tried_at, most_asked, stops}
+use Rattle.asl_explore.specs.Remarks.{askers, asks, count_behind, enters, is_cut_off, is_entered, is_tried_at, most_asked, stops}
 use Rattle.asl_explore.specs.Searches.{is_beyond}
 
 -- ---- one branch

@@ -5,7 +5,7 @@ use Rattle.asl_run_input.specs.declared.setup.Setup.{Setup}
 use Rattle.asl_exec.specs.Probes.{setup_of}
 use Rattle.asl_explore.specs.Searches.{worlds_of}
 use Rattle.asl_explore.specs.private.Seeing.{AreSeen}
-use Rattle.asl_explore.proofs.Noted.{nothing-seen, worlds-more}
+use Rattle.asl_explore.proofs.Noted.{worlds-more}
 use Rattle.asl_explore.proofs.sights.sights_in.Goals as goal
 use Rattle.asl_explore.proofs.sights.sights_in.Goals.{then-whole, else-whole}
 
