@@ -74,6 +74,7 @@ run_formats =
 
 abbrev pub run_own_arguments : List Argument
 run_own_arguments = run_arguments (free (codes "steps") text
+    ∷ free (codes "max-steps") (number 1 1000000)
     ∷ preset (codes "format") (choice run_formats) (codes "text") ∷ [])
 
 abbrev pub debug_arguments : List Argument
@@ -85,6 +86,7 @@ test_arguments =
     needed (codes "DEF") word ∷ needed (codes "MOCKS") word ∷ needed (codes "EXPECT") word
     ∷ preset (codes "workers") (number 1 64) (codes "1")
     ∷ preset (codes "format") (choice (codes "text" ∷ codes "junit" ∷ codes "json" ∷ [])) (codes "text")
+    ∷ free (codes "junit") text ∷ free (codes "json") text
     ∷ free (codes "shard") text ∷ free (codes "filter") text ∷ free (codes "list") flag
     ∷ free (codes "coverage") flag
     ∷ free (codes "min") (number 0 100) ∷ free (codes "strict") flag ∷ []

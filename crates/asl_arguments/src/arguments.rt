@@ -164,6 +164,12 @@ const RUN: &[Argument] = &[
         help: Help::RunSteps,
     },
     Argument {
+        name: "max-steps",
+        kind: Number("N", 1, 1_000_000),
+        presence: Optional,
+        help: Help::RunMostSteps,
+    },
+    Argument {
         name: "format",
         kind: Choice(&["text", "json", "aws", "steps", "tree", "data"]),
         presence: Default(&["text"]),
@@ -224,6 +230,18 @@ const TEST: &[Argument] = &[
         kind: Choice(&["text", "junit", "json"]),
         presence: Default(&["text"]),
         help: Help::TestFormat,
+    },
+    Argument {
+        name: "junit",
+        kind: Text("FILE"),
+        presence: Optional,
+        help: Help::TestJUnit,
+    },
+    Argument {
+        name: "json",
+        kind: Text("FILE"),
+        presence: Optional,
+        help: Help::TestJson,
     },
     Argument {
         name: "shard",

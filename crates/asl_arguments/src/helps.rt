@@ -11,6 +11,7 @@ pub enum Help {
     GraphFormat,
     MocksMachine,
     RunSteps,
+    RunMostSteps,
     RunFormat,
     DebugScript,
     ScriptOption,
@@ -19,6 +20,8 @@ pub enum Help {
     TestExpectations,
     TestWorkers,
     TestFormat,
+    TestJUnit,
+    TestJson,
     TestShard,
     TestFilter,
     TestList,
@@ -53,6 +56,8 @@ impl Help {
             Help::MocksMachine => "The machine's name in the mock file",
             Help::RunSteps =>
                 "The file of the steps to take; without it, each step is the one that comes next",
+            Help::RunMostSteps =>
+                "How many steps are taken at most where no file names them, from 1 to 1000000; 10000 if it isn't given",
             Help::RunFormat => "How the run is printed",
             Help::DebugScript =>
                 "The file of the commands to carry out; without it, lines are read from standard input and answered at once",
@@ -63,6 +68,8 @@ impl Help {
             Help::TestExpectations => "The file of the tests: what each runs, and how it is to end",
             Help::TestWorkers => "How many workers run the tests side by side, from 1 to 64",
             Help::TestFormat => "How the reports are printed",
+            Help::TestJUnit => "Writes the reports to this file as JUnit's XML, too",
+            Help::TestJson => "Writes the reports to this file as JSON, too",
             Help::TestShard => "Only the tests I, I+N, .. of the file, counted from 1",
             Help::TestFilter => {
                 "Only the tests of which the machine and the case, as Machine#Case, or the name contain WORD"

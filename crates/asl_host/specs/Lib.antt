@@ -2,3 +2,4 @@ pub mod Limits
 pub mod Outcomes
 pub mod Typing
 pub mod Reading
+pub mod Writing

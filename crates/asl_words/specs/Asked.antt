@@ -157,13 +157,19 @@ tells_of_states run.Tree = true
 tells_of_states run.Data = true
 tells_of_states _ = false
 
+-- at most so many steps are taken where no file names them; both aren't given
+abbrev pub most_asked : Word → Word → Option (Option ℕ)
+most_asked (Some steps) (Some w) = None
+most_asked steps w = number_if_asked 1 1000000 w
+
 abbrev pub run_asked : Given → Screen → Option Words
-run_asked g s = option_and_then (λ setup. option_map (λ format. words.Run (record {
+run_asked g s = option_and_then (λ setup. option_and_then (λ format. option_map (λ most. words.Run (record {
   setup = setup;
   steps = g.steps;
+  most_steps = most;
   format = format;
   coloured = s.coloured && tells_of_states format;
-})) (format_asked run_formats g.format)) (setup_asked g)
+})) (most_asked g.steps g.most_steps)) (format_asked run_formats g.format)) (setup_asked g)
 
 -- the word or the option, and not both
 abbrev pub script_asked : Word → Word → Option Word
@@ -188,8 +194,12 @@ abbrev pub coverage_asked : Word → Bool → Option (Option ℕ)
 coverage_asked (Some w) flag = option_map Some (number_in 0 100 w.now)
 coverage_asked None flag = Some (if flag then Some 0 else None)
 
+-- reports are to be written of tests that are listed alone
+abbrev pub lists_reports : Given → Bool
+lists_reports g = g.list && (is_some g.junit || is_some g.json)
+
 abbrev pub test_asked : Given → Option Words
-test_asked g = option_and_then (λ definition. option_and_then (λ mocks. option_and_then (λ expectations.
+test_asked g = if lists_reports g then None else option_and_then (λ definition. option_and_then (λ mocks. option_and_then (λ expectations.
     option_and_then (λ workers. option_and_then (λ format. option_and_then (λ shard. option_map (λ coverage.
     words.Test (record {
       definition = definition;
@@ -197,6 +207,8 @@ test_asked g = option_and_then (λ definition. option_and_then (λ mocks. option
       expectations = expectations;
       workers = workers;
       format = format;
+      junit = g.junit;
+      json = g.json;
       shard = shard;
       filter = g.filter;
       list = g.list;

@@ -2,7 +2,7 @@
 ghost use Rattle.std.specs.Prelude.{◌≡◌};
 ghost use Rattle.std.specs.Str.{all_ascii_digits};
 ghost use Rattle.asl_words.specs.Asked.{asked, definition_asked, print_asked, setup_asked, lint_asked, graph_asked, mocks_asked};
-ghost use Rattle.asl_words.specs.Asked.{run_asked, debug_asked, test_asked, explore_asked, names_run, marked_run};
+ghost use Rattle.asl_words.specs.Asked.{run_asked, debug_asked, test_asked, explore_asked, names_run, marked_run, most_asked, lists_reports};
 ghost use Rattle.asl_words.specs.Asked.{format_asked, lint_formats, graph_formats, run_formats, report_formats};
 ghost use Rattle.asl_words.specs.Asked.{tells_of_states, script_asked, debug_format, coverage_asked};
 ghost use Rattle.asl_words.specs.Asked.{number_in, number_asked, number_if_asked, digits_in, shard_between, shard_by, shard_in, shard_asked};
@@ -147,12 +147,24 @@ fn run_of<'a>(given: &Given<'a>, screen: Screen) -> Option<Words<'a>>
 {
     let setup = setup_of(given)?;
     let format = run_format_of(given.format)?;
+    let most_steps = most_of(given.steps, given.most_steps)?;
     Some(Words::Run(RunWords {
         setup,
         steps: given.steps,
+        most_steps,
         format,
         coloured: screen.coloured && tells_of_states(format),
     }))
+}
+
+/// How many of the steps that come next are taken at most, where that is said; it can't be where a file names the steps.
+fn most_of(steps: Option<&str>, word: Option<&str>) -> Option<Option<u32>>
+    ensures { result ≡ most_asked steps.entry word.entry }
+{
+    match (steps, word) {
+        (Some(_), Some(_)) => None,
+        (_, word) => number_if(word, 1, 1_000_000),
+    }
 }
 
 fn run_format_of(word: Option<&str>) -> Option<RunFormat>
@@ -213,15 +225,27 @@ fn debug_format_of(word: Option<&str>, typed: bool, has_script: bool) -> Option<
     }
 }
 
+/// Whether reports are to be written of tests that are listed alone.
+pub(crate) fn lists_reports(given: &Given<'_>) -> bool
+    ensures { result ≡ lists_reports given.now }
+{
+    given.list && (given.junit.is_some() || given.json.is_some())
+}
+
 fn test_of<'a>(given: &Given<'a>) -> Option<Words<'a>>
     ensures { result ≡ test_asked given.now }
 {
+    if lists_reports(given) {
+        return None;
+    }
     Some(Words::Test(TestWords {
         definition: given.definition?,
         mocks: given.mocks?,
         expectations: given.expectations?,
         workers: number_of(given.workers, 1, 64)? as usize,
         format: report_format_of(given.format)?,
+        junit: given.junit,
+        json: given.json,
         shard: shard_of(given.shard)?,
         filter: given.filter,
         list: given.list,

@@ -1,6 +1,6 @@
 // What is wrong with words that clap takes.
 use crate::given::Given;
-use crate::meaning::names_run;
+use crate::meaning::{lists_reports, names_run};
 use crate::verbs::Verb;
 use std::alloc::AllocError;
 
@@ -9,7 +9,7 @@ use std::alloc::AllocError;
 pub enum Misuse {
     /// Texts of a run are lacking: the mock file, what is chosen, the input.
     Lacking(bool, bool, bool),
-    /// A word and the option that stands for it are both there.
+    /// Two words are both there of which one excludes the other, as a word and the option that stands for it.
     Twice(&'static str, &'static str),
     /// Texts of a run are named, and none is asked for.
     Runless,
@@ -26,9 +26,20 @@ pub enum Misuse {
 /// Why a command asks for nothing.
 pub fn misuse_of(verb: Verb, given: &Given<'_>) -> Misuse {
     match verb {
+        Verb::Test if lists_reports(given) => misuse_of_list(given),
         Verb::Test => Misuse::Shard,
+        Verb::Run if are_both(given.steps, given.most_steps) => {
+            Misuse::Twice("--steps <FILE>", "--max-steps <N>")
+        }
         Verb::Graph if !given.run && names_run(given) => Misuse::Runless,
         _ => misuse_of_run(given),
+    }
+}
+
+fn misuse_of_list(given: &Given<'_>) -> Misuse {
+    match given.junit {
+        Some(_) => Misuse::Twice("--list", "--junit <FILE>"),
+        None => Misuse::Twice("--list", "--json <FILE>"),
     }
 }
 

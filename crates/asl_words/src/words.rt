@@ -125,6 +125,8 @@ pub struct RunWords<'a> {
     pub setup: SetupWords<'a>,
     /// The name of a file. Where no file of steps is named, the execution takes the steps that come next.
     pub steps: Option<&'a str>,
+    /// So many of the steps that come next, from 1 to 1,000,000, are taken at most; none where nothing is said of it.
+    pub most_steps: Option<u32>,
     pub format: RunFormat,
     /// Whether what happened at each state is told in colours.
     pub coloured: bool,
@@ -178,6 +180,10 @@ pub struct TestWords<'a> {
     /// So many workers, from 1 to 64, run the tests.
     pub workers: usize,
     pub format: ReportFormat,
+    /// The name of the file that the reports are written to as JUnit's XML beside what is printed; none where none is.
+    pub junit: Option<&'a str>,
+    /// The same for JSON.
+    pub json: Option<&'a str>,
     pub shard: Shard,
     /// What stands in the machine and the case, or in the name, of each test that is run; none where all are.
     pub filter: Option<&'a str>,
