@@ -3,7 +3,7 @@
 #![tactic(auto)]
 
 use asl_cli::{Progress, refuse_words, run_words};
-use asl_host::{HostFiles, Stream, Typed, given, tell_fault};
+use asl_host::{HostFiles, HostOutputs, Stream, Typed, given, tell_fault};
 use asl_words::Screen;
 use std::io::{BufReader, IsTerminal};
 use std::process::ExitCode;
@@ -34,6 +34,7 @@ fn program<R: Threads + Wait + Sync>(handle: &R, rt: HostRuntime) -> u8 {
         None
     };
     let mut input = Typed::new(reader, prompt);
+    let mut outputs = HostOutputs::new(&rt);
     let screen = Screen::new(&rt, rt.stdin().is_terminal(), rt.stdout().is_terminal());
     let progress = Progress::new(&rt, rt.stderr().is_terminal());
     let status = match given(&rt) {
@@ -45,6 +46,7 @@ fn program<R: Threads + Wait + Sync>(handle: &R, rt: HostRuntime) -> u8 {
             screen,
             &mut files,
             &mut input,
+            &mut outputs,
             &mut out,
             &mut err,
         ),

@@ -1,5 +1,5 @@
 -- What is read for a command, what is judged or emulated then, and why nothing is.
-use Rattle.std.specs.Prelude.{ℕ, Bool, Option, Some, None, option_map, string_bytes, List, [], ◌∷◌, ◌≡◌, ◌++◌, ◌⊎◌, ⊤, codes}
+use Rattle.std.specs.Prelude.{ℕ, Bool, Option, Some, None, option_map, unwrap_or, string_bytes, List, [], ◌∷◌, ◌≡◌, ◌++◌, ◌⊎◌, ⊤, codes}
 use Rattle.asl_json_data.specs.Data.{Data}
 use Rattle.asl_json_data.specs.Reads.{ReadsAs}
 use Rattle.asl_def_schema.specs.Canon.{canonical}
@@ -15,18 +15,20 @@ use Rattle.asl_run_input.specs.declared.setup.Setup.{Setup}
 use Rattle.asl_mock.specs.Chosen.{IsChosen}
 use Rattle.asl_run_input.specs.Emulations.{Texts, run_texts, Accepts, IsRefused}
 use Rattle.asl_run_input.specs.Texts.{Unless, refusal_line}
+use Rattle.asl_exec.specs.Driving.{most_steps}
 use Rattle.asl_session.specs.declared.script_file.ScriptFault.{ScriptFault}
 use Rattle.asl_session.specs.declared.script_file.ScriptFault.TheVariants as script
 use Rattle.asl_session.specs.Scripts.{IsScriptRun, IsScriptFault, script_refusal}
 use Rattle.asl_text.specs.Shown.{shown}
 use Rattle.asl_cli.specs.Layouts.{laid_out}
 use Rattle.asl_cli.specs.Formats.{format_of, IsRunIn}
-use Rattle.asl_run_notes.specs.Notes.{IsNoteOf}
+use Rattle.asl_cli.specs.Noting.{IsNoteOf}
 use Rattle.asl_cli.specs.declared.fault.CommandFault.{CommandFault}
-use Rattle.asl_cli.specs.declared.fault.CommandFault.TheVariants.{File, Definition, Emulation, Script, Expectations, Code, OutOfMemory}
+use Rattle.asl_cli.specs.declared.fault.CommandFault.TheVariants.{File, Definition, Emulation, Script, Expectations, Code, Output, OutOfMemory}
 use Rattle.asl_cli.specs.declared.reading.SetupTexts.{SetupTexts}
 use Rattle.asl_host.specs.Outcomes.{fault_line}
 use Rattle.asl_host.specs.Reading.{Lacks, unreadable_words}
+use Rattle.asl_host.specs.Writing.{unwritable_words}
 use Rattle.asl_host.specs.declared.files.Unreadable.{Unreadable}
 use Rattle.asl_words.specs.declared.words.DefinitionWords.{DefinitionWords}
 use Rattle.asl_words.specs.declared.words.PrintWords.{PrintWords}
@@ -123,17 +125,17 @@ abbrev pub steps_name : RunWords → Option (List ℕ)
 steps_name w = option_map (λ name. name.now) w.steps
 
 -- at most so many steps are taken where no file names them
-abbrev pub most_steps : ℕ
-most_steps = 10_000
+abbrev pub most_of : RunWords → ℕ
+most_of w = unwrap_or w.most_steps most_steps
 
 -- the run that the words ask for, of what the files may give, prints this text in the format that they
--- ask for, and is good or not; this is told of an answer that it lacked
+-- ask for, and is good or not; this is told of an answer that it lacked, and of why it isn't over
 pub record IsEmulated (gives : List ℕ → List ℕ → Type 0) (w : RunWords) (text : List ℕ)
     (good : Bool) (note : List ℕ) : Type 0 where
   pub texts : Texts
   pub given : AreGiven gives w.setup (steps_name w) texts
-  pub is_run : IsRunIn (format_of w.format) w.coloured texts most_steps text good
-  pub note_is : IsNoteOf texts most_steps note
+  pub is_run : IsRunIn (format_of w.format) w.coloured texts (most_of w) text good
+  pub note_is : IsNoteOf texts (steps_name w) (most_of w) note
 
 -- ---- a session
 
@@ -249,6 +251,7 @@ reason_text (Emulation fault lines) = refusal_line fault
 reason_text (Script fault lines) = script_refusal fault
 reason_text (Expectations fault lines) = codes "expectations: " ++ expect_line fault
 reason_text (Code word lines) = codes "code " ++ word.now
+reason_text (Output name why) = codes "file " ++ (name.now ++ unwritable_words why)
 reason_text OutOfMemory = codes "OutOfMemory"
 
 -- what stands behind its line

@@ -5,6 +5,7 @@ use Rattle.asl_graph.specs.declared.language.Language.{Language}
 use Rattle.asl_graph.specs.declared.language.Language.TheVariants.{Mermaid, Dot}
 use Rattle.asl_graph.specs.Graphs.{graph_text}
 use Rattle.asl_run_input.specs.Emulations.{Texts}
+use Rattle.asl_exec.specs.Driving.{most_steps}
 use Rattle.asl_run_formats.specs.Marked.{IsMarkedRunOf}
 use Rattle.asl_host.specs.Reading.{Lacks}
 use Rattle.asl_words.specs.declared.words.SetupWords.{SetupWords}
@@ -12,7 +13,7 @@ use Rattle.asl_words.specs.declared.words.GraphFormat.{GraphFormat}
 use Rattle.asl_words.specs.declared.words.GraphFormat.TheVariants as format
 use Rattle.asl_words.specs.declared.words.GraphWords.{GraphWords}
 use Rattle.asl_cli.specs.declared.fault.CommandFault.{CommandFault}
-use Rattle.asl_cli.specs.Faults.{AreGiven, most_steps, IsRunReason, IsAccepted, IsDefinitionReason}
+use Rattle.asl_cli.specs.Faults.{AreGiven, IsRunReason, IsAccepted, IsDefinitionReason}
 use Rattle.asl_cli.specs.Streams.{FileSystem, Io}
 use Rattle.asl_cli.specs.Answers.{IsDone}
 

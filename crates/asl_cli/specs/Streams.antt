@@ -1,8 +1,8 @@
 -- What a command meets and leaves: the files that it may read, the lines that it is given, the two sinks
 -- that it writes to, and its status.
-use Rattle.std.specs.Prelude.{ℕ, List}
+use Rattle.std.specs.Prelude.{ℕ, List, ◌≡◌, ◌++◌}
 use Rattle.asl_host.specs.Reading.{Lacks}
-use Rattle.asl_host.specs.Outcomes.{SinkUse, IsPrinted}
+use Rattle.asl_host.specs.Outcomes.{SinkUse, IsPrinted, IsTold}
 
 -- what each file may give, and why it may be lacking
 pub record FileSystem : Type 1 where
@@ -21,6 +21,23 @@ pub record InputUse (I : Type 0) : Type 0 where
 abbrev pub input_use : {I : Type 0} → (I → List ℕ) → I → I → InputUse I
 input_use given before after = record { given = given; before = before; after = after }
 
+-- the use of the files that are written by their names, before and after
+pub record OutputUse (K : Type 0) : Type 0 where
+  pub written : K → List (List ℕ × List ℕ)
+  pub before : K
+  pub after : K
+
+abbrev pub output_use : {K : Type 0} → (K → List (List ℕ × List ℕ)) → K → K → OutputUse K
+output_use written before after = record { written = written; before = before; after = after }
+
+-- none was written
+abbrev pub IsUnused : {K : Type 0} → OutputUse K → Type 0
+IsUnused k = k.after ≡ k.before
+
+-- these were written, in this order
+abbrev pub Writes : {K : Type 0} → OutputUse K → List (List ℕ × List ℕ) → Type 0
+Writes k files = k.written k.after ≡ k.written k.before ++ files
+
 -- the use of standard output and of standard error, and the status
 pub record Io (O E : Type 0) : Type 0 where
   pub out : SinkUse O
@@ -33,3 +50,8 @@ io out err status = record { out = out; err = err; status = status }
 -- a text was printed and has this status, or its sink failed and the status is 2
 abbrev pub Prints : {O E : Type 0} → Io O E → List ℕ → ℕ → Type 0
 Prints x text wanted = IsPrinted x.out text wanted x.status
+
+-- a text was told and then another, each as far as the sink didn't fail
+abbrev pub AreTold : {S : Type 0} → SinkUse S → List ℕ → List ℕ → Type 0
+AreTold {S = S} s first second =
+    (between : S) × IsTold (record s { after = between }) first × IsTold (record s { before = between }) second

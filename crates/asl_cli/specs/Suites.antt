@@ -1,5 +1,6 @@
 -- What the command `test` reads, why nothing is tested, and what is printed and told of a suite.
 use Rattle.std.specs.Prelude.{ℕ, Bool, true, false, codes, not, ◌&&◌, if◌then◌else◌, nat_lt, map, List, [], ◌∷◌, ◌++◌, Option, Some, None, ◌≡◌, ◌⊎◌, ⊤}
+use Rattle.std.specs.Borrow.{Bor}
 use Rattle.std.specs.List.{list_all}
 use Rattle.std.specs.Fmt.{decimal}
 use Rattle.asl_check.specs.Judged.{IsDefinition, IsMachineOf}
@@ -23,14 +24,14 @@ use Rattle.asl_words.specs.declared.words.TestWords.{TestWords}
 use Rattle.asl_words.specs.declared.words.ReportFormat.{ReportFormat}
 use Rattle.asl_words.specs.declared.words.ReportFormat.TheVariants as format
 use Rattle.asl_host.specs.Reading.{Lacks}
-use Rattle.asl_host.specs.Outcomes.{status_of, IsTold}
+use Rattle.asl_host.specs.Outcomes.{status_of, IsPrinted, IsTold}
 use Rattle.asl_cli.specs.declared.fault.CommandFault.{CommandFault}
-use Rattle.asl_cli.specs.declared.fault.CommandFault.TheVariants.{File, Definition, Emulation, Expectations, OutOfMemory}
+use Rattle.asl_cli.specs.declared.fault.CommandFault.TheVariants.{File, Definition, Emulation, Expectations, Output, OutOfMemory}
 use Rattle.asl_cli.specs.Choosing.{list_text, meant}
 use Rattle.asl_cli.specs.Covers.{ArePointsOf}
-use Rattle.asl_cli.specs.Streams.{FileSystem, Io, Prints}
+use Rattle.asl_cli.specs.Streams.{FileSystem, OutputUse, IsUnused, Writes, Io, Prints, AreTold}
 use Rattle.asl_cli.specs.Answers.{IsRefusedFor}
-use Rattle.asl_cli.specs.Faults.{AreUnread}
+use Rattle.asl_cli.specs.Faults.{AreUnread, Tells}
 
 -- ---- the files
 
@@ -206,12 +207,55 @@ abbrev pub IsShown : Bool → (List ℕ → List ℕ → Type 0) → TestWords �
 IsShown true gives w text told good = IsListing gives w text × (told ≡ []) × (good ≡ true)
 IsShown false gives w text told good = IsReported gives w text told good
 
--- the test of these words: the reports were printed, or the list of the tests, and something may have been told behind them,
--- and the status says whether all tests are `ok`, and cover what they are to; or a fault was told,
--- and the status is 2
-abbrev pub IsTested : {O E : Type 0} → FileSystem → Io O E → TestWords → Type 0
-IsTested files io w =
-    ((text : List ℕ) × (remarks : List ℕ) × (good : Bool)
-    × IsShown w.list files.gives w text remarks good × Prints io text (status_of good)
-    × IsTold io.err remarks)
-    ⊎ IsRefusedFor io (IsSuiteReason files.gives files.lacks w)
+-- ---- the files that reports are written to
+
+abbrev pub kept_file : Option (Bor (List ℕ)) → List ℕ → List (List ℕ × List ℕ)
+kept_file None text = []
+kept_file (Some name) text = (name.now, text) ∷ []
+
+-- the reports in JUnit's format and in JSON, each where a word names a file for it; of a list none
+abbrev pub kept_files : TestWords → List ℕ → List ℕ → List (List ℕ × List ℕ)
+kept_files w junit json =
+    if w.list then [] else kept_file w.junit junit ++ kept_file w.json json
+
+-- the file of this name can't be written
+abbrev pub IsUnkept : Option (Bor (List ℕ)) → CommandFault → Type 0
+IsUnkept (Some wanted) (Output name why) = name.now ≡ wanted.now
+IsUnkept wanted r = ⊥
+
+-- the first of these files that can't be written, behind which none is written
+abbrev pub IsFirstUnkept : {K : Type 0} → OutputUse K → TestWords → List ℕ → CommandFault → Type 0
+IsFirstUnkept outputs w junit r =
+    (IsUnkept w.junit r × Writes outputs []) ⊎ (IsUnkept w.json r × Writes outputs (kept_file w.junit junit))
+
+-- ---- what is left
+
+-- all was written, and the status says whether all is good
+abbrev pub IsKept : {K O E : Type 0} → OutputUse K → Io O E → TestWords → List ℕ → List ℕ → Bool → List ℕ
+    → List ℕ → Type 0
+IsKept outputs io w text remarks good junit json =
+    Writes outputs (kept_files w junit json) × Prints io text (status_of good) × IsTold io.err remarks
+
+-- a file wasn't written, which was told behind the rest, and the status is 2
+abbrev pub IsKeptInPart : {K O E : Type 0} → OutputUse K → Io O E → TestWords → List ℕ → List ℕ → Bool
+    → List ℕ → Type 0
+IsKeptInPart outputs io w text remarks good junit =
+    (r : CommandFault) × (t : List ℕ) × (printed : ℕ) × IsFirstUnkept outputs w junit r × Tells r t
+    × IsPrinted io.out text (status_of good) printed × AreTold io.err remarks t × (io.status ≡ 2)
+
+-- one or the other
+abbrev pub IsLeft : {K O E : Type 0} → OutputUse K → Io O E → TestWords → List ℕ → List ℕ → Bool → List ℕ
+    → List ℕ → Type 0
+IsLeft outputs io w text remarks good junit json =
+    IsKept outputs io w text remarks good junit json
+    ⊎ IsKeptInPart outputs io w text remarks good junit
+
+-- the test of these words: the reports were printed, or the list of the tests, something may have been told
+-- behind them, the reports were written to the files that are named for them, and the status says whether
+-- all tests are `ok`, and cover what they are to; or a fault was told, and the status is 2
+abbrev pub IsTested : {K O E : Type 0} → FileSystem → OutputUse K → Io O E → TestWords → Type 0
+IsTested files outputs io w =
+    ((text : List ℕ) × (remarks : List ℕ) × (good : Bool) × (junit : List ℕ) × (json : List ℕ)
+    × IsShown w.list files.gives w text remarks good
+    × IsLeft outputs io w text remarks good junit json)
+    ⊎ (IsUnused outputs × IsRefusedFor io (IsSuiteReason files.gives files.lacks w))

@@ -3,11 +3,12 @@ ghost use Rattle.std.specs.Prelude.{◌≡◌, ◌⊎◌, List, ℕ, map, string
 ghost use Rattle.asl_host.specs.Outcomes.{status_of, sink_use, IsTold, IsPrinted};
 ghost use Rattle.asl_command_line.specs.Read.{IsRead, IsUnread};
 ghost use Rattle.asl_run_input.specs.Views.{texts_of};
+ghost use Rattle.asl_exec.specs.Emulations.{IsEndIn};
 ghost use Rattle.asl_exec.specs.Lacking.{IsLackingIn};
-ghost use Rattle.asl_cli.specs.Streams.{file_system, input_use, io};
+ghost use Rattle.asl_cli.specs.Streams.{file_system, input_use, output_use, io};
 ghost use Rattle.asl_cli.specs.Answers.{IsRan, IsAnswered, text_told};
 ghost use Rattle.asl_cli.specs.Formats.{format_of, IsRunIn};
-ghost use Rattle.asl_cli.specs.Faults.{most_steps, steps_name, IsEmulated, IsTextsReason, IsRunReason};
+ghost use Rattle.asl_cli.specs.Faults.{most_of, steps_name, IsEmulated, IsTextsReason, IsRunReason};
 ghost use Rattle.asl_cli.specs.Noting.{IsNoted};
 ghost use Rattle.asl_cli.specs.Obeyed.{IsObeyed};
 
@@ -27,10 +28,10 @@ use crate::reading::{read_named, read_texts};
 use crate::testing::test;
 use crate::upgrading::upgrade;
 use asl_command_line::{Answer, malformed_word, read_words};
-use asl_exec::Emulated;
+use asl_exec::{Emulated, most_steps};
 use asl_explore::Watch;
 use asl_history::Sink;
-use asl_host::{Files, GivenFault, Input, tell_fault, write_piece};
+use asl_host::{Files, GivenFault, Input, Outputs, tell_fault, write_piece};
 use asl_run_input::{EmulateFault, RunTexts};
 use asl_threads_base::Gate;
 use asl_words::{RunWords, Screen, Words};
@@ -43,9 +44,6 @@ use std::thread::Threads;
 pub(crate) const GOOD: u8 = 0;
 /// The status where an execution didn't end in success, or a test isn't `ok`.
 pub(crate) const FAILED: u8 = 1;
-/// So many steps are taken at most where no file names them.
-pub(crate) const MOST_STEPS: u32 = 10_000;
-
 /// The status where a command line, a file or its content is refused, or a write fails.
 pub(crate) const REFUSED: u8 = 2;
 
@@ -57,6 +55,7 @@ pub fn run_words<
     S: AsStr,
     F: Files,
     I: Input,
+    K: Outputs,
     O: Sink,
     E: Sink,
 >(
@@ -67,6 +66,7 @@ pub fn run_words<
     screen: Screen,
     files: &mut F,
     input: &mut I,
+    outputs: &mut K,
     out: &mut O,
     err: &mut E,
 ) -> u8
@@ -74,31 +74,42 @@ pub fn run_words<
     ensures { ((w : Words) × IsRead (map S.text words.now) screen w
         × IsObeyed (file_system (F.gives files.old) (F.lacks files.old))
         (input_use I.given input.old input.new)
+        (output_use K.written outputs.old outputs.new)
         (io (sink_use O.taken O.failures out.old out.new)
         (sink_use E.taken E.failures err.old err.new) result) w)
         ⊎ ((a : Answer) × ((a ≡ Answer.OutOfMemory) ⊎ IsUnread (map S.text words.now) screen)
-        × (files.new ≡ files.old) × IsAnswered (io (sink_use O.taken O.failures out.old out.new)
+        × (files.new ≡ files.old) × (outputs.new ≡ outputs.old) × IsAnswered (io (sink_use O.taken O.failures out.old out.new)
         (sink_use E.taken E.failures err.old err.new) result) a) }
 {
     match read_words(alloc, words, screen) {
-        Ok(words) => obey(rt, gate, alloc, &words, files, input, out, err),
+        Ok(words) => obey(rt, gate, alloc, &words, files, input, outputs, out, err),
         Err(answer) => answer_words(&answer, out, err),
     }
 }
 
 /// Does what words ask for, and tells the status of the program.
-pub fn obey<R: Threads + Wait + Sync, G: Gate + Watch + Sync, F: Files, I: Input, O: Sink, E: Sink>(
+pub fn obey<
+    R: Threads + Wait + Sync,
+    G: Gate + Watch + Sync,
+    F: Files,
+    I: Input,
+    K: Outputs,
+    O: Sink,
+    E: Sink,
+>(
     rt: &R,
     gate: &G,
     alloc: Global,
     words: &Words<'_>,
     files: &mut F,
     input: &mut I,
+    outputs: &mut K,
     out: &mut O,
     err: &mut E,
 ) -> u8
     ensures { IsObeyed (file_system (F.gives files.old) (F.lacks files.old))
         (input_use I.given input.old input.new)
+        (output_use K.written outputs.old outputs.new)
         (io (sink_use O.taken O.failures out.old out.new)
         (sink_use E.taken E.failures err.old err.new) result) words.now }
 {
@@ -111,7 +122,7 @@ pub fn obey<R: Threads + Wait + Sync, G: Gate + Watch + Sync, F: Files, I: Input
         Words::Mocks(words) => mocks(alloc, words, files, out, err),
         Words::Run(words) => run(alloc, words, files, out, err),
         Words::Debug(words) => debug(alloc, words, files, input, out, err),
-        Words::Test(words) => test(rt, gate, alloc, words, files, out, err),
+        Words::Test(words) => test(rt, gate, alloc, words, files, outputs, out, err),
         Words::Explore(words) => explore(gate, alloc, words, files, out, err),
         Words::Explain(words) => explain(alloc, words, out, err),
     }
@@ -165,10 +176,17 @@ fn emulate_files<'a, F: Files>(
     let steps = read_named(alloc, files, words.steps)?;
     let given = texts.of_run(steps.as_deref());
     let emulated = emulate_given(alloc, words, &given)?;
-    match with_note(alloc, given.chosen, emulated) {
+    match with_note(alloc, given.chosen, words.steps, most_of(words), emulated) {
         Ok(ran) => Ok(ran),
         Err(AllocError) => Err(CommandFault::OutOfMemory),
     }
+}
+
+/// So many steps are taken at most where no file names them.
+fn most_of(words: &RunWords<'_>) -> u32
+    ensures { result ≡ most_of words.now }
+{
+    words.most_steps.unwrap_or(most_steps())
 }
 
 /// Emulates what was read.
@@ -178,11 +196,12 @@ fn emulate_given<'a>(
     texts: &RunTexts<'_>,
 ) -> Result<Emulated, CommandFault<'a>>
     ensures run { IfOk result (λ e. IsRunIn (format_of words.now.format) words.now.coloured
-        (texts_of texts.now) most_steps (string_bytes e.text) e.good) }
-    ensures lacking { IfOk result (λ e. IsLackingIn (texts_of texts.now) most_steps e.lacking) }
+        (texts_of texts.now) (most_of words.now) (string_bytes e.text) e.good) }
+    ensures lacking { IfOk result (λ e. IsLackingIn (texts_of texts.now) (most_of words.now) e.lacking) }
+    ensures end { IfOk result (λ e. IsEndIn (texts_of texts.now) (most_of words.now) e.end) }
     ensures refused { IfErr result (IsTextsReason (texts_of texts.now)) }
 {
-    match emulate_in(alloc, words.format, words.coloured, texts, MOST_STEPS) {
+    match emulate_in(alloc, words.format, words.coloured, texts, most_of(words)) {
         Ok(emulated) => Ok(emulated),
         Err(EmulateFault::OutOfMemory) => Err(CommandFault::OutOfMemory),
         Err(fault) => match of_run(alloc, &words.setup, words.steps, texts, &fault) {

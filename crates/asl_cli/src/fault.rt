@@ -6,7 +6,7 @@ ghost use Rattle.asl_cli.specs.Faults.{mending, reason_text, Tells};
 
 use asl_check::Fault;
 use asl_history::{Sink, SinkFault};
-use asl_host::{Unreadable, tell_fault, write_fault, write_piece};
+use asl_host::{Unreadable, Unwritable, tell_fault, write_fault, write_piece};
 use asl_run_input::EmulateFault;
 use asl_session::ScriptFault;
 use asl_suite_file::ExpectFault;
@@ -48,6 +48,8 @@ pub enum CommandFault<'a> {
     Expectations(ExpectFault, String),
     /// Nothing is explained under this word.
     Code(&'a str, String),
+    /// The file of this name can't be written.
+    Output(&'a str, Unwritable),
     OutOfMemory,
 }
 
@@ -73,7 +75,7 @@ impl<'a> CommandFault<'a> {
             | CommandFault::Script(_, lines)
             | CommandFault::Expectations(_, lines)
             | CommandFault::Code(_, lines) => lines.as_str(),
-            CommandFault::File(_, _) | CommandFault::OutOfMemory => "",
+            CommandFault::File(_, _) | CommandFault::Output(_, _) | CommandFault::OutOfMemory => "",
         }
     }
 
@@ -101,6 +103,7 @@ impl fmt::Display for CommandFault<'_> {
             CommandFault::Script(fault, _) => write!(f, "{fault}"),
             CommandFault::Expectations(fault, _) => write!(f, "expectations: {fault}"),
             CommandFault::Code(word, _) => write!(f, "code {word}"),
+            CommandFault::Output(name, why) => write!(f, "file {name}{}", why.words()),
             CommandFault::OutOfMemory => f.write_str("OutOfMemory"),
         }
     }

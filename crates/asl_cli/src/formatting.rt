@@ -3,6 +3,7 @@ ghost use Rattle.std.specs.Prelude.{◌≡◌, IfOk, IfErr, string_bytes};
 ghost use Rattle.asl_run_input.specs.Emulations.{IsRefused};
 ghost use Rattle.asl_run_input.specs.Texts.{Unless};
 ghost use Rattle.asl_run_input.specs.Views.{texts_of};
+ghost use Rattle.asl_exec.specs.Emulations.{IsEndIn};
 ghost use Rattle.asl_exec.specs.Lacking.{IsLackingIn};
 ghost use Rattle.asl_cli.specs.Formats.{format_of, IsPlainRunIn, IsShown, IsRunIn};
 
@@ -37,6 +38,7 @@ fn emulate_plain(
     ensures run { IfOk result (λ e. IsPlainRunIn (format_of format) (texts_of texts.now) limit
         (string_bytes e.text) e.good) }
     ensures lacking { IfOk result (λ e. IsLackingIn (texts_of texts.now) limit e.lacking) }
+    ensures end { IfOk result (λ e. IsEndIn (texts_of texts.now) limit e.end) }
     ensures fault { IfErr result (Unless (IsRefused (texts_of texts.now))) }
 {
     match format_of(format) {
@@ -67,17 +69,20 @@ pub(crate) fn emulate_in(
     ensures run { IfOk result (λ e. IsRunIn (format_of format) is_coloured (texts_of texts.now)
         limit (string_bytes e.text) e.good) }
     ensures lacking { IfOk result (λ e. IsLackingIn (texts_of texts.now) limit e.lacking) }
+    ensures end { IfOk result (λ e. IsEndIn (texts_of texts.now) limit e.end) }
     ensures fault { IfErr result (Unless (IsRefused (texts_of texts.now))) }
 {
     let Emulated {
         text,
         good,
         lacking,
+        end,
     } = emulate_plain(alloc, format, texts, limit)?;
     let text = shown_as(alloc, is_coloured, text)?;
     Ok(Emulated {
         text,
         good,
         lacking,
+        end,
     })
 }

@@ -2,18 +2,20 @@
 ghost use Rattle.std.specs.Prelude.{◌≡◌, None, IfOk, IfErr, string_bytes};
 ghost use Rattle.asl_graph.specs.Graphs.{graph_text};
 ghost use Rattle.asl_run_input.specs.Views.{texts_of};
+ghost use Rattle.asl_exec.specs.Driving.{most_steps};
 ghost use Rattle.asl_run_formats.specs.Marked.{IsMarkedRunOf};
 ghost use Rattle.asl_host.specs.Outcomes.{sink_use};
 ghost use Rattle.asl_cli.specs.Streams.{file_system, io};
 ghost use Rattle.asl_cli.specs.Graphing.{language_of, IsDefinitionGraph, IsRunGraph, IsGraph, IsGraphReason, IsDrawn};
-ghost use Rattle.asl_cli.specs.Faults.{most_steps, IsTextsReason, IsRunReason, IsDefinitionReason};
+ghost use Rattle.asl_cli.specs.Faults.{IsTextsReason, IsRunReason, IsDefinitionReason};
 
 use crate::checking::machine_in;
-use crate::command::{MOST_STEPS, REFUSED, print_good};
+use crate::command::{REFUSED, print_good};
 use crate::fault::CommandFault;
 use crate::mending::of_run;
 use crate::reading::read_texts;
 use asl_def::Machine;
+use asl_exec::most_steps;
 use asl_graph::Language;
 use asl_history::Sink;
 use asl_host::Files;
@@ -92,7 +94,7 @@ fn graph_given<'a>(
         (λ t. IsMarkedRunOf language (texts_of texts.now) most_steps (string_bytes t)) }
     ensures refused { IfErr result (IsTextsReason (texts_of texts.now)) }
 {
-    match emulate_marked(alloc, language, texts, MOST_STEPS) {
+    match emulate_marked(alloc, language, texts, most_steps()) {
         Ok(text) => Ok(text),
         Err(EmulateFault::OutOfMemory) => Err(CommandFault::OutOfMemory),
         Err(fault) => match of_run(alloc, words, None, texts, &fault) {

@@ -1,30 +1,74 @@
-// What is told of answers that a run lacked, or the outcomes of a search.
-ghost use Rattle.std.specs.Prelude.{◌≡◌, IfOk, string_bytes};
+// What is told of a run, or of the outcomes of a search.
+ghost use Rattle.std.specs.Prelude.{◌≡◌, ◌++◌, IfOk, OnOk, option_map, string_bytes};
 ghost use Rattle.asl_run_notes.specs.Notes.{note_text};
 ghost use Rattle.asl_host.specs.Outcomes.{sink_use};
-ghost use Rattle.asl_cli.specs.Noting.{notes_for, IsNoted};
+ghost use Rattle.asl_cli.specs.Noting.{full_note, limit_lead, limit_end, limit_note, end_note, notes_for, IsNoted};
 
 use crate::command::tell_text;
-use asl_exec::Emulated;
+use asl_exec::{Emulated, Ended};
 use asl_explore::Found;
 use asl_history::Sink;
 use asl_run_input::Setup;
 use asl_run_notes::{note_of, notes_of_search};
+use asl_text::put_decimal;
 use std::alloc::{AllocError, Global};
 
-/// What a run prints, and what is told of an answer that it lacked.
+/// What a run prints, and what is told of it.
 #[derive(Drop)]
 pub struct Ran {
     pub emulated: Emulated,
     pub note: String,
 }
 
-/// A run with what is told of it. The error is that memory ran out.
-pub(crate) fn with_note(alloc: Global, chosen: &str, emulated: Emulated) -> Result<Ran, AllocError>
-    ensures emulated { IfOk result (λ r. r.emulated ≡ emulated) }
-    ensures note { IfOk result (λ r. string_bytes r.note ≡ note_text chosen.now emulated.lacking) }
+/// Appends what is told of a run that took so many steps, where no file names them.
+#[tactic(auto, unfolding(crate::specs::Noting::limit_lead, crate::specs::Noting::limit_end))]
+fn put_limit_note(out: &mut String, steps: Option<&str>, limit: u32) -> Result<(), AllocError>
+    ensures { OnOk result (string_bytes out.new ≡ string_bytes out.old
+        ++ limit_note (option_map (λ name. name.now) steps.entry) limit) }
 {
-    let note = note_of(alloc, chosen, &emulated.lacking)?;
+    if steps.is_some() {
+        return Ok(());
+    }
+    out.push_str("note: the execution still runs: ")?;
+    put_decimal(out, u64::from(limit))?;
+    out.push_str(" steps were taken, and --max-steps takes more\n")
+}
+
+/// Appends why an execution isn't over.
+#[tactic(auto, unfolding(crate::specs::Noting::full_note))]
+fn put_end_note(
+    out: &mut String,
+    steps: Option<&str>,
+    limit: u32,
+    end: Ended,
+) -> Result<(), AllocError>
+    ensures { OnOk result (string_bytes out.new ≡ string_bytes out.old
+        ++ end_note (option_map (λ name. name.now) steps.entry) limit end) }
+{
+    match end {
+        Ended::Over => Ok(()),
+        Ended::Full => out.push_str(
+            "note: the execution still runs, and takes no more steps: its history is full\n",
+        ),
+        Ended::Limit => put_limit_note(out, steps, limit),
+    }
+}
+
+/// A run of what was chosen by these words, by a file of steps, where there is one, else by at most so many, with what is told of it. The
+/// error is that memory ran out.
+pub(crate) fn with_note(
+    alloc: Global,
+    chosen: &str,
+    steps: Option<&str>,
+    limit: u32,
+    emulated: Emulated,
+) -> Result<Ran, AllocError>
+    ensures emulated { IfOk result (λ r. r.emulated ≡ emulated) }
+    ensures note { IfOk result (λ r. string_bytes r.note ≡ note_text chosen.now emulated.lacking
+        ++ end_note (option_map (λ name. name.now) steps.entry) limit emulated.end) }
+{
+    let mut note = note_of(alloc, chosen, &emulated.lacking)?;
+    put_end_note(&mut note, steps, limit, emulated.end)?;
     Ok(Ran { emulated, note })
 }
 

@@ -1,15 +1,15 @@
 // The command `test`.
-ghost use Rattle.std.specs.Prelude.{◌≡◌, [], true, IfOk, IfErr, OnOk, string_bytes};
+ghost use Rattle.std.specs.Prelude.{◌≡◌, [], true, is_some, IfOk, IfErr, OnOk, OnErr, string_bytes};
 ghost use Rattle.std.specs.List.{list_all};
 ghost use Rattle.asl_check.specs.Judged.{IsMachineOf};
 ghost use Rattle.asl_mock.specs.Told.{IsMockFile};
 ghost use Rattle.asl_suite_file.specs.Told.{IsExpectationsFile};
 ghost use Rattle.asl_suite.specs.Reports.{is_passed};
 ghost use Rattle.asl_host.specs.Outcomes.{status_of, sink_use, IsTold, IsPrinted};
-ghost use Rattle.asl_cli.specs.Streams.{file_system, io};
+ghost use Rattle.asl_cli.specs.Streams.{file_system, output_use, Writes, io};
 ghost use Rattle.asl_cli.specs.Choosing.{list_text, meant};
 ghost use Rattle.asl_cli.specs.Faults.{AreUnread};
-ghost use Rattle.asl_cli.specs.Suites.{AreSuiteTexts, suite_names, AreTestsOf, IsListOf, IsListing, IsShown, IsSuiteOf, IsGood, IsCovered, chosen, IsDefinitionTextReason, IsMocksTextReason, IsTestsTextReason, IsSuiteTextReason, IsSuiteReason, IsReportText, judged, IsReport, IsReported, IsTested};
+ghost use Rattle.asl_cli.specs.Suites.{AreSuiteTexts, suite_names, AreTestsOf, IsListOf, IsListing, IsShown, IsSuiteOf, IsGood, IsCovered, chosen, IsDefinitionTextReason, IsMocksTextReason, IsTestsTextReason, IsSuiteTextReason, IsSuiteReason, IsReportText, judged, IsReport, IsReported, kept_file, kept_files, IsUnkept, IsFirstUnkept, IsLeft, IsTested};
 
 use crate::choosing::{keep_meant, list_of, numbers_of};
 use crate::command::{FAILED, GOOD, REFUSED};
@@ -21,7 +21,7 @@ use crate::reading::read_file;
 use asl_check::{Fault, accept};
 use asl_def::Machine;
 use asl_history::Sink;
-use asl_host::{Files, write_piece};
+use asl_host::{Files, Outputs, write_piece};
 use asl_mock::{MockFault, Mocks};
 use asl_run_input::EmulateFault;
 use asl_suite::{
@@ -39,35 +39,104 @@ use std::thread::Threads;
 /// The most workers that run a suite.
 const MOST_WORKERS: usize = 64;
 
-/// What is printed of a suite, what is told of the tests that aren't `ok` and of what they cover, and whether all is good: all tests are
-/// `ok`, and they cover as much as they are to.
+/// What is printed of a suite, what is written to files in JUnit's format and in JSON, where that is asked for, what is told of the tests
+/// that aren't `ok` and of what they cover, and whether all is good: all tests are `ok`, and they cover as much as they are to.
 #[derive(Drop)]
 struct Reported {
     text: String,
+    junit: String,
+    json: String,
     remarks: String,
     good: bool,
 }
 
-/// The command `test`: runs the tests of a suite, prints a report of each, and tells of each that isn't `ok` why.
-pub fn test<R: Threads + Wait + Sync, G: Gate + Sync, F: Files, O: Sink, E: Sink>(
+/// The command `test`: runs the tests of a suite, prints a report of each, writes the reports to files that are named for them, and tells of
+/// each test that isn't `ok` why.
+pub fn test<R: Threads + Wait + Sync, G: Gate + Sync, F: Files, K: Outputs, O: Sink, E: Sink>(
     rt: &R,
     gate: &G,
     alloc: Global,
     words: &TestWords<'_>,
     files: &mut F,
+    outputs: &mut K,
     out: &mut O,
     err: &mut E,
 ) -> u8
     ensures { IsTested (file_system (F.gives files.old) (F.lacks files.old))
+        (output_use K.written outputs.old outputs.new)
         (io (sink_use O.taken O.failures out.old out.new)
         (sink_use E.taken E.failures err.old err.new) result) words.now }
 {
     match report_files(rt, gate, alloc, words, files) {
-        Ok(reported) => show_reports(&reported, out, err),
+        Ok(reported) => leave(alloc, words, &reported, outputs, out, err),
         Err(refusal) => {
             refusal.write(alloc, err);
             REFUSED
         }
+    }
+}
+
+/// Writes, prints and tells what is to be; the status says whether all is good.
+fn leave<K: Outputs, O: Sink, E: Sink>(
+    alloc: Global,
+    words: &TestWords<'_>,
+    reported: &Reported,
+    outputs: &mut K,
+    out: &mut O,
+    err: &mut E,
+) -> u8
+    ensures { IsLeft (output_use K.written outputs.old outputs.new)
+        (io (sink_use O.taken O.failures out.old out.new)
+        (sink_use E.taken E.failures err.old err.new) result) words.now
+        (string_bytes reported.now.text) (string_bytes reported.now.remarks) reported.now.good
+        (string_bytes reported.now.junit) (string_bytes reported.now.json) }
+{
+    let kept = keep(words, reported, outputs);
+    let status = show_reports(reported, out, err);
+    match kept {
+        Ok(()) => status,
+        Err(refusal) => {
+            refusal.write(alloc, err);
+            REFUSED
+        }
+    }
+}
+
+/// Writes the reports to the files that the words name. The error is the first of these that can't be written.
+fn keep<'a, K: Outputs>(
+    words: &TestWords<'a>,
+    reported: &Reported,
+    outputs: &mut K,
+) -> Result<(), CommandFault<'a>>
+    ensures ok { OnOk result (Writes (output_use K.written outputs.old outputs.new)
+        (kept_files words.now (string_bytes reported.now.junit) (string_bytes reported.now.json))) }
+    ensures err { IfErr result (IsFirstUnkept (output_use K.written outputs.old outputs.new) words.now
+        (string_bytes reported.now.junit)) }
+{
+    if words.list {
+        return Ok(());
+    }
+    keep_file(words.junit, reported.junit.as_str(), outputs)?;
+    keep_file(words.json, reported.json.as_str(), outputs)
+}
+
+/// Writes a text to a file, where one is named.
+fn keep_file<'a, K: Outputs>(
+    name: Option<&'a str>,
+    text: &str,
+    outputs: &mut K,
+) -> Result<(), CommandFault<'a>>
+    ensures ok { OnOk result (Writes (output_use K.written outputs.old outputs.new)
+        (kept_file name.entry text.now)) }
+    ensures err { IfErr result (IsUnkept name.entry) }
+    ensures kept { OnErr result (K.written outputs.new ≡ K.written outputs.old) }
+{
+    let Some(name) = name else {
+        return Ok(());
+    };
+    match outputs.write(name, text) {
+        Ok(()) => Ok(()),
+        Err(why) => Err(CommandFault::Output(name, why)),
     }
 }
 
@@ -122,6 +191,8 @@ fn list_files<'a, F: Files>(
     let text = list_in(alloc, words, &texts)?;
     Ok(Reported {
         text,
+        junit: String::new(alloc),
+        json: String::new(alloc),
         remarks: String::new(alloc),
         good: true,
     })
@@ -220,6 +291,8 @@ fn with_coverage(
     let percent = coverage.percent();
     let Reported {
         text,
+        junit,
+        json,
         remarks,
         good,
     } = reported;
@@ -227,6 +300,8 @@ fn with_coverage(
     remarks.push_str(coverage_told(alloc, &coverage, least)?.as_str())?;
     Ok(Reported {
         text,
+        junit,
+        json,
         remarks,
         good: good && !(percent < least),
     })
@@ -280,9 +355,27 @@ fn told_of(
     let mut remarks = remarks(alloc, &findings)?;
     remarks.push_str(notes(alloc, &findings)?.as_str())?;
     remarks.push_str(misnamed(alloc, suite, texts.definition.as_slice(), &findings)?.as_str())?;
-    let text = text_of(alloc, words, reports, &findings)?;
+    let text = text_of(alloc, words.format, words, reports, &findings)?;
+    let junit = text_if(
+        alloc,
+        words.junit,
+        ReportFormat::JUnit,
+        words,
+        reports,
+        &findings,
+    )?;
+    let json = text_if(
+        alloc,
+        words.json,
+        ReportFormat::Json,
+        words,
+        reports,
+        &findings,
+    )?;
     Ok(Reported {
         text,
+        junit,
+        json,
         remarks,
         good: all_passed(reports),
     })
@@ -322,16 +415,34 @@ fn source_of<'a>(words: &TestWords<'a>) -> Source<'a> {
     }
 }
 
-/// The reports in the format that is asked for. The error is that memory ran out.
-fn text_of(
+/// The reports in a format, where a file is named for them; else nothing. The error is that memory ran out.
+fn text_if(
     alloc: Global,
+    name: Option<&str>,
+    format: ReportFormat,
     words: &TestWords<'_>,
     reports: &[CaseReport],
     findings: &[Finding<'_>],
 ) -> Result<String, AllocError>
-    ensures { IfOk result (λ t. IsReportText words.now.format reports.now (string_bytes t)) }
+    ensures { IfOk result (λ t. is_some name.entry ≡ true → IsReportText format reports.now (string_bytes t)) }
 {
-    match words.format {
+    match name {
+        Some(_) => text_of(alloc, format, words, reports, findings),
+        None => Ok(String::new(alloc)),
+    }
+}
+
+/// The reports in a format. The error is that memory ran out.
+fn text_of(
+    alloc: Global,
+    format: ReportFormat,
+    words: &TestWords<'_>,
+    reports: &[CaseReport],
+    findings: &[Finding<'_>],
+) -> Result<String, AllocError>
+    ensures { IfOk result (λ t. IsReportText format reports.now (string_bytes t)) }
+{
+    match format {
         ReportFormat::Text => report(alloc, reports),
         ReportFormat::JUnit => junit(alloc, words.expectations, findings),
         ReportFormat::Json => json(alloc, findings),

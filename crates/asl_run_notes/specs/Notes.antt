@@ -11,7 +11,7 @@ use Rattle.asl_run_input.specs.Emulations.{Texts}
 use Rattle.asl_run_state.specs.World.{World}
 use Rattle.asl_run_state.specs.declared.outcome.Outcome.{Outcome}
 use Rattle.asl_run_state.specs.declared.outcome.Outcome.TheVariants.{Failed}
-use Rattle.asl_exec.specs.Lacking.{unanswered_in, IsLackingIn}
+use Rattle.asl_exec.specs.Lacking.{unanswered_in}
 use Rattle.asl_exec.specs.declared.lacking.Invocation.{Invocation}
 use Rattle.asl_exec.specs.Steps.{opening, world_after}
 use Rattle.asl_explore.specs.declared.found.Found.{Found}
@@ -40,15 +40,6 @@ note_text chosen (Some v) = note_line chosen v
 -- words, doesn't answer it
 abbrev pub note_in : List ℕ → Setup → World → List ℕ
 note_in chosen s w = note_text chosen (unanswered_in s.case w)
-
--- ---- of a run
-
--- of the run that the texts spell; where no file names steps, those that come next are taken, at most
--- so many
-pub record IsNoteOf (t : Texts) (limit : ℕ) (note : List ℕ) : Type 0 where
-  pub lacking : Option Invocation
-  pub is_lacking : IsLackingIn t limit lacking
-  pub note_is : note ≡ note_text t.chosen lacking
 
 -- ---- of a search
 

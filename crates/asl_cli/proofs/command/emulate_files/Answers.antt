@@ -2,7 +2,7 @@ use Rattle.std.proofs.Common.{◌∙◌, sym, subst, ap}
 use Rattle.std.specs.Prelude.{string_bytes}
 use Rattle.std.proofs.lemmas.Result.{err_from_is_err_and}
 use Rattle.asl_run_input.specs.Views.{texts_of}
-use Rattle.asl_cli.specs.Faults.{most_steps, read_texts}
+use Rattle.asl_cli.specs.Faults.{most_of, read_texts}
 use Rattle.asl_cli.specs.Formats.{format_of, IsRunIn}
 use Rattle.asl_exec.specs.declared.emulation.Emulated.{Emulated}
 use Rattle.asl_cli.proofs.Given.{given-run, given-before, refused-run}
@@ -16,8 +16,14 @@ returns-in-Ok-clause-emulated g c =
     record {
       texts = all;
       given = given-run _ c.args.words.now.setup _ _ texts all same c.in_ok-texts.ensures.given (given-before _ _ _ _ c.in_ok-texts.ensures.kept c.in_ok-steps.ensures.given);
-      is_run = subst (λ (e : Emulated). IsRunIn (format_of c.args.words.now.format) c.args.words.now.coloured all most_steps (string_bytes e.text) e.good) (sym c.in-Ok.ensures.emulated) c.in_ok-emulated.ensures.run;
-      note_is = record { lacking = c.in_ok-emulated.emulated.lacking; is_lacking = c.in_ok-emulated.ensures.lacking; note_is = c.in-Ok.ensures.note };
+      is_run = subst (λ (e : Emulated). IsRunIn (format_of c.args.words.now.format) c.args.words.now.coloured all (most_of c.args.words.now) (string_bytes e.text) e.good) (sym c.in-Ok.ensures.emulated) c.in_ok-emulated.ensures.run;
+      note_is = record {
+        lacking = c.in_ok-emulated.emulated.lacking;
+        end = c.in_ok-emulated.emulated.end;
+        is_lacking = c.in_ok-emulated.ensures.lacking;
+        is_end = c.in_ok-emulated.ensures.end;
+        note_is = c.in-Ok.ensures.note;
+      };
     }
 
 pub returns-in_err-emulated-clause-refused : goal.returns-in_err-emulated-clause-refused
