@@ -205,6 +205,28 @@ class CommandTest(ProgramTest):
         loop = '{"StartAt":"P","States":{"P":{"Type":"Pass","Next":"P"}}}'
         self.assert_ends(self.told(loop), 20_002, "status RUNNING")
 
+    def test_a_run_takes_as_many_steps_as_are_asked_for(self):
+        loop = self.file("machine", '{"StartAt":"P","States":{"P":{"Type":"Pass","Next":"P"}}}')
+        for most, events in [("1", 3), ("7", 15), ("12000", 24_001), ("12495", 24_991)]:
+            for more in ([], ["--format", "json"]):
+                ran = run_program("run", loop, *self.files[1:], "--max-steps", most, *more)
+                self.assertEqual((ran.returncode, len(ran.stdout.splitlines())), (1, events + (not more)), most)
+                self.assertEqual(ran.stderr, f"note: the execution still runs: {most} steps were taken, and --max-steps takes more\n")
+        # The history is full behind 24,992 events.
+        ran = run_program("run", loop, *self.files[1:], "--max-steps", "1000000")
+        self.assertEqual((ran.returncode, len(ran.stdout.splitlines()), ran.stdout.splitlines()[-1]), (1, 24_994, "status RUNNING"))
+        self.assertEqual(ran.stderr, "note: the execution still runs, and takes no more steps: its history is full\n")
+        # A run that is over is so.
+        over = self.file("machine", '{"StartAt":"P","States":{"P":{"Type":"Pass","End":true}}}')
+        self.assertEqual(run_program("run", over, *self.files[1:], "--max-steps", "1").stderr, "")
+        # A file of steps says itself how many there are.
+        self.assertEqual(run_program("run", loop, *self.files[1:], "--steps", self.file("none", "")).stderr, "")
+        ran = run_program("run", loop, *self.files[1:], "--steps", self.file("none", ""), "--max-steps", "7")
+        self.assertEqual((ran.returncode, ran.stdout), (2, ""))
+        self.assertIn("the argument '--steps <FILE>' cannot be used with '--max-steps <N>'", ran.stderr)
+        for word in ("0", "1000001", "x", ""):
+            self.assertEqual(run_program("run", loop, *self.files[1:], "--max-steps", word).returncode, 2, word)
+
     def test_definitions_are_judged_and_printed(self):
         for text, judged, printed in JUDGED:
             with self.subTest(text):

@@ -358,6 +358,41 @@ class SuitesTest(ProgramTest):
         self.assertEqual([one.find("failure").get("type") if one.find("failure") is not None else None for one in cases],
             [None, None, None, "output", "nocase"])
 
+    def test_reports_are_written_to_files(self):
+        suite, room = tests(*FIVE), tempfile.TemporaryDirectory(prefix="asl-test-")
+        self.addCleanup(room.cleanup)
+
+        def placeless(text):
+            return re.sub(r'[^" ]*tests\.json', "tests.json", text)
+
+        names = {kind: os.path.join(room.name, kind) for kind in ("junit", "json")}
+        for words in ([], ["--workers", "3"], ["--format", "json"], ["--filter", "#A"]):
+            plain = self.on_suite(suite, *words)
+            for kinds in (["junit"], ["json"], ["json", "junit"]):
+                with self.subTest(words, kinds=kinds):
+                    ran = self.on_suite(suite, *words, *[word for kind in kinds for word in (f"--{kind}", names[kind])])
+                    self.assertEqual((ran.returncode, ran.stdout, ran.stderr), (plain.returncode, plain.stdout, plain.stderr))
+                    for kind in kinds:
+                        alone = self.on_suite(suite, "--format", kind, *[word for word in words if word not in ("--format", "json")])
+                        with open(names[kind], encoding="utf-8") as file:
+                            self.assertEqual(placeless(file.read()), placeless(alone.stdout))
+                        os.remove(names[kind])
+                    self.assertEqual(os.listdir(room.name), [])
+
+    def test_files_that_cant_be_written_are_told(self):
+        with tempfile.TemporaryDirectory(prefix="asl-test-") as room:
+            plain, json_file = self.on_suite(tests(*FIVE)), os.path.join(room, "json")
+            for name, why in [(room, "it is a folder"), (os.path.join(room, "no", "file"), "there is no folder for it"), ("/dev/full", "a write failed")]:
+                for words, has_json in [(["--junit", name], False), (["--junit", name, "--json", json_file], False), (["--json", name], False)]:
+                    ran = self.on_suite(tests(*FIVE), *words)
+                    self.assertEqual((ran.returncode, ran.stdout, ran.stderr), (2, plain.stdout, f"{plain.stderr}fault: file {name}: {why}\n"))
+                    self.assertEqual(os.path.exists(json_file), has_json)
+            for kind in ("junit", "json"):
+                ran = self.on_suite(tests(*FIVE), "--list", f"--{kind}", json_file)
+                self.assertEqual((ran.returncode, ran.stdout), (2, ""))
+                self.assertIn(f"the argument '--list' cannot be used with '--{kind} <FILE>'", ran.stderr)
+            self.assertEqual(os.listdir(room), [])
+
     def test_names_of_any_characters_are_written(self):
         for name in ["a&b<c>\"d'", "tab\t, line\n, bell\u0007", "\ufffe\uffff\U0001f600", "]]>", "#"]:
             rows = json.dumps([{"machine": "M", "case": name, "input": {}, "status": "FAILED"}])
