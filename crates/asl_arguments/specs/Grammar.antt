@@ -94,7 +94,8 @@ test_arguments =
 abbrev pub explore_arguments : List Argument
 explore_arguments = run_arguments (preset (codes "limit") (number 1 1000000) (codes "100000")
     ∷ free (codes "prompt") flag ∷ free (codes "calls") flag
-    ∷ free (codes "witness") (number 1 1000000) ∷ [])
+    ∷ free (codes "witness") (number 1 1000000)
+    ∷ free (codes "format") (choice (codes "steps" ∷ codes "tree" ∷ codes "data" ∷ [])) ∷ [])
 
 abbrev pub command : Verb → Text → List Argument → Command
 command v n arguments = record { verb = v; name = n; arguments = arguments }

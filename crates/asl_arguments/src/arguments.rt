@@ -313,6 +313,12 @@ const EXPLORE: &[Argument] = &[
         presence: Optional,
         help: Help::ExploreWitness,
     },
+    Argument {
+        name: "format",
+        kind: Choice(&["steps", "tree", "data"]),
+        presence: Optional,
+        help: Help::ExploreFormat,
+    },
 ];
 
 const EXPLAIN: &[Argument] = &[Argument {

@@ -32,6 +32,7 @@ pub enum Help {
     ExplorePrompt,
     ExploreCalls,
     ExploreWitness,
+    ExploreFormat,
     ExplainCode,
     Definition,
     Pretty,
@@ -87,6 +88,8 @@ impl Help {
                 "Tells how often each Task is invoked in the orders that end in each outcome",
             Help::ExploreWitness =>
                 "Prints the steps of the outcome of this number alone, as a steps file",
+            Help::ExploreFormat =>
+                "How the steps of --witness are printed: as a steps file, which is the default, or by what happened at each state",
             Help::ExplainCode =>
                 "A code that a command told, as F10, no-default or States.Timeout; without it, all codes are listed",
             Help::Definition =>

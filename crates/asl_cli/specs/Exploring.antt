@@ -1,7 +1,10 @@
 -- What the command `explore` finds, prints and tells.
-use Rattle.std.specs.Prelude.{ℕ, zero, suc, Bool, true, false, List, Option, Some, None, ◌≡◌, ◌⊎◌, slice_get, codes}
+use Rattle.std.specs.Prelude.{ℕ, zero, suc, Bool, true, false, ◌&&◌, List, Option, Some, None, ◌≡◌, ◌⊎◌, ⊤, slice_get, codes}
 use Rattle.asl_run_input.specs.declared.setup.Setup.{Setup}
-use Rattle.asl_run_input.specs.StepsFile.{steps_file}
+use Rattle.asl_exec.specs.Steps.{opening, world_after}
+use Rattle.asl_run_formats.specs.declared.format.Format.{Format}
+use Rattle.asl_run_formats.specs.declared.format.Format.TheVariants.{Steps, Tree, Data}
+use Rattle.asl_run_formats.specs.Told.{told}
 use Rattle.asl_explore.specs.declared.found.Found.{Found}
 use Rattle.asl_explore.specs.declared.found.Explored.{Explored}
 use Rattle.asl_explore.specs.declared.orders.Orders.{Orders}
@@ -9,8 +12,11 @@ use Rattle.asl_explore.specs.declared.orders.Orders.TheVariants.{Every, Prompt}
 use Rattle.asl_explore.specs.Finding.{IsFound}
 use Rattle.asl_explore.specs.Reports.{explored_text, is_good}
 use Rattle.asl_words.specs.declared.words.ExploreWords.{ExploreWords}
+use Rattle.asl_words.specs.declared.words.WitnessFormat.{WitnessFormat}
+use Rattle.asl_words.specs.declared.words.WitnessFormat.TheVariants as format
 use Rattle.asl_host.specs.Outcomes.{status_of, fault_line, IsUntouched, IsTold}
 use Rattle.asl_cli.specs.Faults.{IsBegun, IsRunReason}
+use Rattle.asl_cli.specs.Formats.{IsShown as IsShownIn}
 use Rattle.asl_cli.specs.Streams.{FileSystem, Io, Prints}
 use Rattle.asl_cli.specs.Noting.{notes_for, IsNoted}
 use Rattle.asl_cli.specs.Answers.{IsRefusedFor}
@@ -21,19 +27,46 @@ abbrev pub orders_for : Bool → Orders
 orders_for true = Prompt
 orders_for false = Every
 
--- what a search may find for the setup that the files may give, and what is told of the answers that
--- its outcomes lacked
-pub record IsFoundFor (gives : List ℕ → List ℕ → Type 0) (w : ExploreWords) (x : Explored)
-    (notes : List ℕ) : Type 0 where
-  pub setup : Setup
-  pub begins : IsBegun gives w.setup setup
-  pub found : IsFound (orders_for w.prompt) w.calls w.limit setup x
-  pub notes_are : notes ≡ notes_for w.witness begins.texts.chosen setup x.found.items
-
 -- the outcome of a number, from 1
 abbrev pub numbered : List Found → ℕ → Option Found
 numbered fs zero = None
 numbered fs (suc n) = slice_get fs n
+
+abbrev pub format_for : WitnessFormat → Format
+format_for format.Steps = Steps
+format_for format.Tree = Tree
+format_for format.Data = Data
+
+-- what happened at each state may have colours
+abbrev pub has_colours : WitnessFormat → Bool → Bool
+has_colours format.Steps coloured = false
+has_colours f coloured = coloured
+
+-- the steps of an outcome in a format
+abbrev pub witness_text : WitnessFormat → Setup → Found → List ℕ
+witness_text f s x =
+    told (format_for f) s (opening s) x.steps.items (world_after s (opening s) x.steps.items)
+
+-- this is shown of an outcome, where it is there
+abbrev pub IsWitnessOf : ExploreWords → Setup → Option Found → Option (List ℕ) → Type 0
+IsWitnessOf w s None None = ⊤
+IsWitnessOf w s (Some x) (Some t) = IsShownIn (has_colours w.format w.coloured) (witness_text w.format s x) t
+IsWitnessOf w s x t = ⊥
+
+-- the same of the outcome of a number, where one is wanted alone
+abbrev pub IsWitness : ExploreWords → Setup → List Found → Option ℕ → Option (List ℕ) → Type 0
+IsWitness w s fs None t = t ≡ None
+IsWitness w s fs (Some n) t = IsWitnessOf w s (numbered fs n) t
+
+-- what a search may find for the setup that the files may give, what is told of the answers that its
+-- outcomes lacked, and what is shown of the outcome that is wanted alone
+pub record IsFoundFor (gives : List ℕ → List ℕ → Type 0) (w : ExploreWords) (x : Explored)
+    (notes : List ℕ) (witness : Option (List ℕ)) : Type 0 where
+  pub setup : Setup
+  pub begins : IsBegun gives w.setup setup
+  pub found : IsFound (orders_for w.prompt) w.calls w.limit setup x
+  pub notes_are : notes ≡ notes_for w.witness begins.texts.chosen setup x.found.items
+  pub is_witness : IsWitness w setup x.found.items w.witness witness
 
 -- ---- what is printed
 
@@ -46,21 +79,18 @@ abbrev pub AreAllShown : {O E : Type 0} → Io O E → Explored → List ℕ →
 AreAllShown io x notes =
     (IsNoted io.err notes × Prints io (explored_text x) (status_of (is_good x))) ⊎ IsWanting io
 
--- the steps of the outcome of this number were printed; or there is none, which was told
-abbrev pub IsOneShown : {O E : Type 0} → Io O E → Explored → ℕ → Type 0
-IsOneShown io x n =
-    ((f : Found) × (numbered x.found.items n ≡ Some f) × IsUntouched io.err
-    × Prints io (steps_file f.steps.items) 0)
-    ⊎ ((t : List ℕ) × (numbered x.found.items n ≡ None) × IsUntouched io.out × (io.status ≡ 2)
-    × IsTold io.err t)
-    ⊎ IsWanting io
+-- the outcome that is wanted was printed; or there is none, which was told
+abbrev pub IsOneShown : {O E : Type 0} → Io O E → Option (List ℕ) → Type 0
+IsOneShown io (Some t) = IsUntouched io.err × Prints io t 0
+IsOneShown io None = (t : List ℕ) × IsUntouched io.out × (io.status ≡ 2) × IsTold io.err t
 
-abbrev pub IsShown : {O E : Type 0} → Io O E → Explored → List ℕ → Option ℕ → Type 0
-IsShown io x notes None = AreAllShown io x notes
-IsShown io x notes (Some n) = IsOneShown io x n
+abbrev pub IsShown : {O E : Type 0} → Io O E → Explored → List ℕ → Option (List ℕ) → Option ℕ → Type 0
+IsShown io x notes witness None = AreAllShown io x notes
+IsShown io x notes witness (Some n) = IsOneShown io witness
 
 -- the exploration for these words: what was found was printed; or nothing was tried, which was told
 abbrev pub IsExplored : {O E : Type 0} → FileSystem → Io O E → ExploreWords → Type 0
 IsExplored files io w =
-    ((x : Explored) × (notes : List ℕ) × IsFoundFor files.gives w x notes × IsShown io x notes w.witness)
+    ((x : Explored) × (notes : List ℕ) × (witness : Option (List ℕ)) × IsFoundFor files.gives w x notes witness
+    × IsShown io x notes witness w.witness)
     ⊎ IsRefusedFor io (IsRunReason files.gives files.lacks w.setup None)

@@ -1,26 +1,28 @@
 // The command `explore`.
-ghost use Rattle.std.specs.Prelude.{◌≡◌, List, ℕ, None, IfOk, IfErr, string_bytes};
+ghost use Rattle.std.specs.Prelude.{◌≡◌, List, ℕ, None, option_map, IfOk, IfErr, string_bytes};
 ghost use Rattle.std.specs.Option.{option_copied};
-ghost use Rattle.asl_run_input.specs.StepsFile.{steps_file};
 ghost use Rattle.asl_explore.specs.Finding.{IsFound};
 ghost use Rattle.asl_explore.specs.Reports.{explored_text};
 ghost use Rattle.asl_host.specs.Outcomes.{status_of, sink_use, IsTold, IsPrinted};
 ghost use Rattle.asl_cli.specs.Streams.{file_system, io};
-ghost use Rattle.asl_cli.specs.Exploring.{IsExplored, IsFoundFor, IsShown, AreAllShown, IsOneShown, numbered, orders_for};
+ghost use Rattle.asl_cli.specs.Exploring.{IsExplored, IsFoundFor, IsShown, AreAllShown, IsOneShown, IsWitness, IsWitnessOf, numbered, orders_for, format_for, has_colours, witness_text};
 ghost use Rattle.asl_cli.specs.Faults.{IsRunReason};
+ghost use Rattle.asl_cli.specs.Formats.{IsShown as IsShownIn};
 ghost use Rattle.asl_cli.specs.Noting.{notes_for};
 
 use crate::command::{FAILED, GOOD, REFUSED, print_good, tell_answer};
 use crate::debugging::setup_of;
 use crate::fault::CommandFault;
+use crate::formatting::shown_as;
 use crate::noting::{notes_of, tell_notes};
 use crate::reading::read_texts;
 use asl_command_line::missing_outcome;
 use asl_explore::{Explored, Found, Orders, Watch, explore as search, is_good, put_explored};
 use asl_history::Sink;
 use asl_host::{Files, tell_fault, write_piece};
-use asl_run_input::{Setup, put_steps};
-use asl_words::ExploreWords;
+use asl_run_formats::{Format, printed_steps};
+use asl_run_input::Setup;
+use asl_words::{ExploreWords, WitnessFormat};
 use std::alloc::{AllocError, Global};
 
 /// The command `explore`: tries every order of an execution's branches, and prints each outcome with an order that ends in it, or the
@@ -46,11 +48,13 @@ pub fn explore<W: Watch, F: Files, O: Sink, E: Sink>(
     }
 }
 
-/// What was found, and what is told of answers that were lacking.
+/// What was found, what is told of answers that were lacking, and what is shown of the outcome that is wanted alone.
 #[derive(Drop)]
 pub struct Searched {
     pub explored: Explored,
     pub notes: String,
+    /// None where all outcomes are wanted, or none has the number.
+    pub witness: Option<String>,
 }
 
 /// The orders that are tried: those in which no branch is late, if only these are wanted.
@@ -72,7 +76,7 @@ fn explore_files<'a, W: Watch, F: Files>(
     files: &mut F,
 ) -> Result<Searched, CommandFault<'a>>
     ensures found { IfOk result (λ r. IsFoundFor (F.gives files.old) words.now r.explored
-        (string_bytes r.notes)) }
+        (string_bytes r.notes) (option_map string_bytes r.witness)) }
     ensures refused { IfErr result
         (IsRunReason (F.gives files.old) (F.lacks files.old) words.now.setup None) }
 {
@@ -96,15 +100,77 @@ fn search_from<W: Watch>(
         words.now.limit setup r.explored) }
     ensures notes { IfOk result (λ r. string_bytes r.notes
         ≡ notes_for words.now.witness chosen.now setup r.explored.found.items) }
+    ensures witness { IfOk result (λ r. IsWitness words.now setup r.explored.found.items
+        words.now.witness (option_map string_bytes r.witness)) }
 {
     let again = setup.try_clone(alloc)?;
+    let once_more = setup.try_clone(alloc)?;
     let orders = orders_for(words.prompt);
     let explored = search(alloc, setup, orders, words.calls, words.limit, watch)?;
     let notes = notes_of(alloc, words.witness, chosen, again, &explored.found)?;
-    Ok(Searched { explored, notes })
+    let witness = witness_of(alloc, words, once_more, &explored.found)?;
+    Ok(Searched {
+        explored,
+        notes,
+        witness,
+    })
 }
 
-/// Prints what was found, or the steps of the outcome of this number.
+/// What is shown of the outcome that is wanted alone; none where all are wanted, or none has the number. The execution begins so.
+fn witness_of(
+    alloc: Global,
+    words: &ExploreWords<'_>,
+    setup: Setup,
+    found: &[Found],
+) -> Result<Option<String>, AllocError>
+    ensures { IfOk result (λ o. IsWitness words.now setup found.now words.now.witness
+        (option_map string_bytes o)) }
+{
+    let Some(number) = words.witness else {
+        return Ok(None);
+    };
+    let Some(found) = outcome_of(found, number) else {
+        return Ok(None);
+    };
+    let text = shown_of(alloc, words, setup, found)?;
+    Ok(Some(text))
+}
+
+/// What is shown of an outcome of an execution that begins so.
+fn shown_of(
+    alloc: Global,
+    words: &ExploreWords<'_>,
+    setup: Setup,
+    found: &Found,
+) -> Result<String, AllocError>
+    ensures { IfOk result (λ t. IsShownIn (has_colours words.now.format words.now.coloured)
+        (witness_text words.now.format setup found.now) (string_bytes t)) }
+{
+    let text = printed_steps(alloc, format_for(words.format), setup, &found.steps)?;
+    shown_as(alloc, has_colours(words.format, words.coloured), text)
+}
+
+fn format_for(format: WitnessFormat) -> Format
+    ensures { result ≡ format_for format }
+{
+    match format {
+        WitnessFormat::Steps => Format::Steps,
+        WitnessFormat::Tree => Format::Tree,
+        WitnessFormat::Data => Format::Data,
+    }
+}
+
+/// Whether what is shown in this format has colours.
+fn has_colours(format: WitnessFormat, coloured: bool) -> bool
+    ensures { result ≡ has_colours format coloured }
+{
+    match format {
+        WitnessFormat::Steps => false,
+        WitnessFormat::Tree | WitnessFormat::Data => coloured,
+    }
+}
+
+/// Prints what was found, or the outcome that is wanted alone.
 fn show<O: Sink, E: Sink>(
     alloc: Global,
     searched: &Searched,
@@ -114,11 +180,11 @@ fn show<O: Sink, E: Sink>(
 ) -> u8
     ensures { IsShown (io (sink_use O.taken O.failures out.old out.new)
         (sink_use E.taken E.failures err.old err.new) result) searched.now.explored
-        (string_bytes searched.now.notes) witness }
+        (string_bytes searched.now.notes) (option_map string_bytes searched.now.witness) witness }
 {
     match witness {
         None => show_all(alloc, searched, out, err),
-        Some(number) => show_one(alloc, &searched.explored, number, out, err),
+        Some(_) => show_one(alloc, &searched.witness, out, err),
     }
 }
 
@@ -161,26 +227,19 @@ fn print_all<O: Sink>(text: &str, good: bool, out: &mut O) -> u8
     }
 }
 
-/// Prints the steps of the outcome of a number, from 1.
+/// Prints what is shown of an outcome; where there is none, that is told.
 fn show_one<O: Sink, E: Sink>(
     alloc: Global,
-    explored: &Explored,
-    number: u32,
+    witness: &Option<String>,
     out: &mut O,
     err: &mut E,
 ) -> u8
     ensures { IsOneShown (io (sink_use O.taken O.failures out.old out.new)
-        (sink_use E.taken E.failures err.old err.new) result) explored.now number }
+        (sink_use E.taken E.failures err.old err.new) result) (option_map string_bytes witness.now) }
 {
-    let Some(found) = outcome_of(&explored.found, number) else {
-        return refuse_number(alloc, err);
-    };
-    match steps_of(alloc, found) {
-        Ok(text) => print_good(text.as_str(), out),
-        Err(AllocError) => {
-            tell_fault(err, "OutOfMemory");
-            REFUSED
-        }
+    match witness {
+        Some(text) => print_good(text.as_str(), out),
+        None => refuse_number(alloc, err),
     }
 }
 
@@ -192,15 +251,6 @@ fn outcome_of(found: &[Found], number: u32) -> Option<&Found>
         return None;
     }
     found.get(number as usize - 1)
-}
-
-/// The steps of an outcome, as a steps file.
-fn steps_of(alloc: Global, found: &Found) -> Result<String, AllocError>
-    ensures { IfOk result (λ t. string_bytes t ≡ steps_file found.now.steps.items) }
-{
-    let mut text = String::new(alloc);
-    put_steps(&mut text, &found.steps)?;
-    Ok(text)
 }
 
 /// Tells that the command line names an outcome that isn't there.

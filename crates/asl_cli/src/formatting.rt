@@ -48,7 +48,7 @@ fn emulate_plain(
 }
 
 /// A text in colours, or as it is.
-fn shown_as(alloc: Global, is_coloured: bool, text: String) -> Result<String, AllocError>
+pub(crate) fn shown_as(alloc: Global, is_coloured: bool, text: String) -> Result<String, AllocError>
     ensures { IfOk result (λ t. IsShown is_coloured (string_bytes text) (string_bytes t)) }
 {
     if is_coloured {

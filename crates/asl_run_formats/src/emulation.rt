@@ -8,7 +8,7 @@ ghost use Rattle.asl_exec.specs.Driving.{end_of};
 ghost use Rattle.asl_exec.specs.Emulations.{IsEndIn};
 ghost use Rattle.asl_exec.specs.Lacking.{unanswered_in, IsLackingIn};
 ghost use Rattle.asl_exec.specs.RunText.{world_by};
-ghost use Rattle.asl_exec.specs.Steps.{opening};
+ghost use Rattle.asl_exec.specs.Steps.{opening, world_after};
 ghost use Rattle.asl_run_formats.specs.Taken.{taken_by};
 ghost use Rattle.asl_run_formats.specs.Told.{told, IsToldRunOf};
 
@@ -46,6 +46,32 @@ fn run_as(
         lacking,
         end: execution.end(),
     })
+}
+
+/// An equal list of steps. The error is that memory ran out.
+fn copied(alloc: Global, steps: &[StepAt]) -> Result<Vec<StepAt>, AllocError>
+    ensures { IfOk result (λ v. v.items ≡ steps.now) }
+{
+    let mut copy = Vec::new(alloc);
+    for at in steps {
+        copy.push(at.try_clone()?)?;
+    }
+    Ok(copy)
+}
+
+/// What the run of these steps prints in a format. The error is that memory ran out.
+pub fn printed_steps(
+    alloc: Global,
+    format: Format,
+    setup: Setup,
+    steps: &[StepAt],
+) -> Result<String, AllocError>
+    ensures { IfOk result (λ t. string_bytes t ≡ told format setup (opening setup) steps.now
+        (world_after setup (opening setup) steps.now)) }
+{
+    let steps = copied(alloc, steps)?;
+    let ran = run_as(alloc, format, setup, Some(steps), 0)?;
+    Ok(ran.text)
 }
 
 /// Runs an execution as `asl_exec::emulate_texts` does, with its faults, and prints it in a format.

@@ -16,7 +16,7 @@ mod passing;
 mod treeing;
 
 pub use driving::take_by;
-pub use emulation::emulate_as;
+pub use emulation::{emulate_as, printed_steps};
 pub use format::Format;
 pub use graphing::emulate_marked;
 pub use laws::taken_steps_lead_to_the_same_world;

@@ -27,6 +27,8 @@ use Rattle.asl_words.specs.declared.words.DebugFormat.{DebugFormat}
 use Rattle.asl_words.specs.declared.words.DebugFormat.TheVariants as debug
 use Rattle.asl_words.specs.declared.words.ReportFormat.{ReportFormat}
 use Rattle.asl_words.specs.declared.words.ReportFormat.TheVariants as report
+use Rattle.asl_words.specs.declared.words.WitnessFormat.{WitnessFormat}
+use Rattle.asl_words.specs.declared.words.WitnessFormat.TheVariants as witness
 
 abbrev pub Word : Type 0
 Word = Option (Bor (List ℕ))
@@ -55,6 +57,9 @@ run_formats =
 abbrev pub report_formats : List (List ℕ × ReportFormat)
 report_formats =
     (codes "text", report.Text) ∷ (codes "junit", report.JUnit) ∷ (codes "json", report.Json) ∷ []
+
+abbrev pub witness_formats : List (List ℕ × WitnessFormat)
+witness_formats = (codes "steps", witness.Steps) ∷ (codes "tree", witness.Tree) ∷ (codes "data", witness.Data) ∷ []
 
 -- decimal digits, one at least
 abbrev pub is_numeral : List ℕ → Bool
@@ -217,15 +222,23 @@ test_asked g = if lists_reports g then None else option_and_then (λ definition.
     })) (coverage_asked g.least g.coverage)) (shard_asked g.shard)) (format_asked report_formats g.format))
     (number_asked 1 64 g.workers)) g.expectations) g.mocks) g.definition
 
-abbrev pub explore_asked : Given → Option Words
-explore_asked g = option_and_then (λ setup. option_and_then (λ limit. option_map (λ witness.
+-- how the steps of one outcome are printed; nothing is said of it where all outcomes are
+abbrev pub witness_format : Word → Word → Option WitnessFormat
+witness_format number None = Some witness.Steps
+witness_format None (Some w) = None
+witness_format (Some n) (Some w) = named witness_formats w.now
+
+abbrev pub explore_asked : Given → Screen → Option Words
+explore_asked g s = option_and_then (λ setup. option_and_then (λ limit. option_and_then (λ number. option_map (λ format.
     words.Explore (record {
       setup = setup;
       limit = limit;
       prompt = g.prompt;
       calls = g.calls;
-      witness = witness;
-    })) (number_if_asked 1 1000000 g.witness)) (number_asked 1 1000000 g.limit)) (setup_asked g)
+      witness = number;
+      format = format;
+      coloured = s.coloured;
+    })) (witness_format g.witness g.format)) (number_if_asked 1 1000000 g.witness)) (number_asked 1 1000000 g.limit)) (setup_asked g)
 
 -- what a command asks for, where answers are read on this screen; nothing where what is given doesn't
 -- fit together
@@ -239,5 +252,5 @@ asked verb.Mocks g s = mocks_asked g
 asked verb.Run g s = run_asked g s
 asked verb.Debug g s = debug_asked g s
 asked verb.Test g s = test_asked g
-asked verb.Explore g s = explore_asked g
+asked verb.Explore g s = explore_asked g s
 asked verb.Explain g s = Some (words.Explain (record { code = g.code }))

@@ -19,5 +19,5 @@ pub use verbs::Verb;
 pub use words::{
     DebugFormat, DebugWords, DefinitionWords, ExplainWords, ExploreWords, GraphFormat, GraphWords,
     LintFormat, LintWords, MocksWords, PrintWords, ReportFormat, RunFormat, RunWords, SetupWords,
-    Shard, TestWords, Words,
+    Shard, TestWords, WitnessFormat, Words,
 };

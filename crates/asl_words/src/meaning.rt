@@ -3,7 +3,7 @@ ghost use Rattle.std.specs.Prelude.{◌≡◌};
 ghost use Rattle.std.specs.Str.{all_ascii_digits};
 ghost use Rattle.asl_words.specs.Asked.{asked, definition_asked, print_asked, setup_asked, lint_asked, graph_asked, mocks_asked};
 ghost use Rattle.asl_words.specs.Asked.{run_asked, debug_asked, test_asked, explore_asked, names_run, marked_run, most_asked, lists_reports};
-ghost use Rattle.asl_words.specs.Asked.{format_asked, lint_formats, graph_formats, run_formats, report_formats};
+ghost use Rattle.asl_words.specs.Asked.{format_asked, lint_formats, graph_formats, run_formats, report_formats, witness_formats, witness_format};
 ghost use Rattle.asl_words.specs.Asked.{tells_of_states, script_asked, debug_format, coverage_asked};
 ghost use Rattle.asl_words.specs.Asked.{number_in, number_asked, number_if_asked, digits_in, shard_between, shard_by, shard_in, shard_asked};
 
@@ -13,7 +13,7 @@ use crate::verbs::Verb;
 use crate::words::{
     DebugFormat, DebugWords, DefinitionWords, ExplainWords, ExploreWords, GraphFormat, GraphWords,
     LintFormat, LintWords, MocksWords, PrintWords, ReportFormat, RunFormat, RunWords, SetupWords,
-    Shard, TestWords, Words,
+    Shard, TestWords, WitnessFormat, Words,
 };
 
 /// What a command asks for, where answers are read on this screen; none where what is given doesn't fit together.
@@ -30,7 +30,7 @@ pub fn asked<'a>(verb: Verb, given: &Given<'a>, screen: Screen) -> Option<Words<
         Verb::Run => run_of(given, screen),
         Verb::Debug => debug_of(given, screen),
         Verb::Test => test_of(given),
-        Verb::Explore => explore_of(given),
+        Verb::Explore => explore_of(given, screen),
         Verb::Explain => Some(Words::Explain(ExplainWords { code: given.code })),
     }
 }
@@ -336,8 +336,8 @@ fn are_digits(bytes: &[u8]) -> bool
     }
 }
 
-fn explore_of<'a>(given: &Given<'a>) -> Option<Words<'a>>
-    ensures { result ≡ explore_asked given.now }
+fn explore_of<'a>(given: &Given<'a>, screen: Screen) -> Option<Words<'a>>
+    ensures { result ≡ explore_asked given.now screen }
 {
     Some(Words::Explore(ExploreWords {
         setup: setup_of(given)?,
@@ -345,7 +345,25 @@ fn explore_of<'a>(given: &Given<'a>) -> Option<Words<'a>>
         prompt: given.prompt,
         calls: given.calls,
         witness: number_if(given.witness, 1, 1_000_000)?,
+        format: witness_format_of(given.witness, given.format)?,
+        coloured: screen.coloured,
     }))
+}
+
+/// The format that a word names for the steps of one outcome; there is no such word where all outcomes are printed.
+fn witness_format_of(witness: Option<&str>, word: Option<&str>) -> Option<WitnessFormat>
+    ensures { result ≡ witness_format witness.entry word.entry }
+{
+    let Some(word) = word else {
+        return Some(WitnessFormat::Steps);
+    };
+    witness?;
+    match word {
+        "steps" => Some(WitnessFormat::Steps),
+        "tree" => Some(WitnessFormat::Tree),
+        "data" => Some(WitnessFormat::Data),
+        _ => None,
+    }
 }
 
 /// The number of a word, from a least to a greatest.

@@ -17,6 +17,8 @@ pub enum Misuse {
     Shard,
     /// A script is to be told as a tree.
     TreeOfScript,
+    /// The steps of one outcome are to be told in a format, and none is named.
+    Witnessless,
     /// A word isn't UTF-8.
     Malformed,
     /// A word names an outcome that isn't there.
@@ -28,6 +30,7 @@ pub fn misuse_of(verb: Verb, given: &Given<'_>) -> Misuse {
     match verb {
         Verb::Test if lists_reports(given) => misuse_of_list(given),
         Verb::Test => Misuse::Shard,
+        Verb::Explore if given.witness.is_none() && given.format.is_some() => Misuse::Witnessless,
         Verb::Run if are_both(given.steps, given.most_steps) => {
             Misuse::Twice("--steps <FILE>", "--max-steps <N>")
         }
@@ -87,6 +90,9 @@ pub fn put_misuse(out: &mut String, misuse: Misuse) -> Result<(), AllocError> {
         }
         Misuse::Runless => out.push_str(
             "the following required arguments were not provided:\n  --run",
+        ),
+        Misuse::Witnessless => out.push_str(
+            "the following required arguments were not provided:\n  --witness <I>",
         ),
         Misuse::Shard => {
             out.push_str("a shard is I/N: two numbers from 1, the first at most the second")

@@ -195,6 +195,17 @@ pub struct TestWords<'a> {
     pub strict: bool,
 }
 
+/// How the steps of one outcome of a search are printed.
+#[derive(Clone, Copy)]
+pub enum WitnessFormat {
+    /// As a file of steps.
+    Steps,
+    /// By what happened at each state.
+    Tree,
+    /// The same, with the data of each.
+    Data,
+}
+
 /// The words of `explore`.
 #[derive(Clone, Copy)]
 pub struct ExploreWords<'a> {
@@ -207,6 +218,10 @@ pub struct ExploreWords<'a> {
     pub calls: bool,
     /// The number, from 1, of the outcome whose steps are to be printed; none where all outcomes are.
     pub witness: Option<u32>,
+    /// How these are printed.
+    pub format: WitnessFormat,
+    /// Whether what happened at each state is told in colours.
+    pub coloured: bool,
 }
 
 /// The word of `explain`.

@@ -14,4 +14,5 @@ returns-in-Ok-clause-found g c = record {
   };
   found = c.in-Ok.ensures.found;
   notes_are = c.in-Ok.ensures.notes ∙ ap (λ (t : List ℕ). notes_for c.args.words.now.witness t c.in_ok-setup.setup c.in-Ok.searched.explored.found.items) c.as_str.ensures.value;
+  is_witness = c.in-Ok.ensures.witness;
 }
