@@ -229,6 +229,10 @@ class Exploring(Searches):
                     file.write(witness.stdout)
                     file.flush()
                     again = run_program("run", *words, "--steps", file.name).stdout.splitlines()
+                    for form in ("steps", "tree", "data"):
+                        shown = run_program("explore", *words, "--witness", str(number), "--format", form)
+                        of_run = run_program("run", *words, "--steps", file.name, "--format", form)
+                        self.assertEqual((shown.returncode, shown.stdout, shown.stderr), (0, of_run.stdout, ""))
                 self.assertEqual(again[: len(lines)], [f"step {place} ok" for place in one.places])
                 self.assertEqual(again[-1], f"status {one.outcome}")
             with open(stored, encoding="utf-8") as file:
@@ -849,7 +853,8 @@ class Exploring(Searches):
 
     def test_wrong_command_lines(self):
         definition = parallel([chain("A", 2), chain("B", 2)])
-        for words in [("--limit", "0"), ("--limit", "1000001"), ("--limit", "x"), ("--witness", "0"), ("--witness", "2"), ("--witness", "x"), ("more",)]:
+        for words in [("--limit", "0"), ("--limit", "1000001"), ("--limit", "x"), ("--witness", "0"), ("--witness", "2"), ("--witness", "x"), ("more",),
+                ("--format", "tree"), ("--format", "steps"), ("--witness", "1", "--format", "aws"), ("--witness", "2", "--format", "tree")]:
             ran = self.explore(definition, "{}", "{}", "M", *words)
             self.assertEqual((ran.returncode, ran.stdout), (2, ""), words)
             self.assertRegex(ran.stderr, r"\Aerror: [^\n]+\n")

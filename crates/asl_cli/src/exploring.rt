@@ -14,7 +14,7 @@ use crate::command::{FAILED, GOOD, REFUSED, print_good, tell_answer};
 use crate::debugging::setup_of;
 use crate::fault::CommandFault;
 use crate::formatting::shown_as;
-use crate::noting::{notes_of, tell_notes};
+use crate::noting::tell_notes;
 use crate::reading::read_texts;
 use asl_command_line::missing_outcome;
 use asl_explore::{Explored, Found, Orders, Watch, explore as search, is_good, put_explored};
@@ -22,6 +22,7 @@ use asl_history::Sink;
 use asl_host::{Files, tell_fault, write_piece};
 use asl_run_formats::{Format, printed_steps};
 use asl_run_input::Setup;
+use asl_run_notes::notes_of_search;
 use asl_words::{ExploreWords, WitnessFormat};
 use std::alloc::{AllocError, Global};
 
@@ -104,11 +105,9 @@ fn search_from<W: Watch>(
         words.now.witness (option_map string_bytes r.witness)) }
 {
     let again = setup.try_clone(alloc)?;
-    let once_more = setup.try_clone(alloc)?;
     let orders = orders_for(words.prompt);
     let explored = search(alloc, setup, orders, words.calls, words.limit, watch)?;
-    let notes = notes_of(alloc, words.witness, chosen, again, &explored.found)?;
-    let witness = witness_of(alloc, words, once_more, &explored.found)?;
+    let (notes, witness) = told_of(alloc, words, chosen, again, &explored.found)?;
     Ok(Searched {
         explored,
         notes,
@@ -116,19 +115,39 @@ fn search_from<W: Watch>(
     })
 }
 
-/// What is shown of the outcome that is wanted alone; none where all are wanted, or none has the number. The execution begins so.
+/// What is told of the outcomes, where all are wanted; else what is shown of one. The execution begins so.
+fn told_of(
+    alloc: Global,
+    words: &ExploreWords<'_>,
+    chosen: &str,
+    setup: Setup,
+    found: &[Found],
+) -> Result<(String, Option<String>), AllocError>
+    ensures notes { IfOk result (λ r. string_bytes r.0
+        ≡ notes_for words.now.witness chosen.now setup found.now) }
+    ensures witness { IfOk result (λ r. IsWitness words.now setup found.now words.now.witness
+        (option_map string_bytes r.1)) }
+{
+    match words.witness {
+        None => Ok((notes_of_search(alloc, chosen, setup, found)?, None)),
+        Some(number) => Ok((
+            String::new(alloc),
+            witness_of(alloc, words, setup, found, number)?,
+        )),
+    }
+}
+
+/// What is shown of the outcome of a number; none where there is none.
 fn witness_of(
     alloc: Global,
     words: &ExploreWords<'_>,
     setup: Setup,
     found: &[Found],
+    number: u32,
 ) -> Result<Option<String>, AllocError>
-    ensures { IfOk result (λ o. IsWitness words.now setup found.now words.now.witness
+    ensures { IfOk result (λ o. IsWitnessOf words.now setup (numbered found.now number)
         (option_map string_bytes o)) }
 {
-    let Some(number) = words.witness else {
-        return Ok(None);
-    };
     let Some(found) = outcome_of(found, number) else {
         return Ok(None);
     };

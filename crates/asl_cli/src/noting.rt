@@ -1,15 +1,13 @@
-// What is told of a run, or of the outcomes of a search.
+// What is told of a run.
 ghost use Rattle.std.specs.Prelude.{◌≡◌, ◌++◌, IfOk, OnOk, option_map, string_bytes};
 ghost use Rattle.asl_run_notes.specs.Notes.{note_text};
 ghost use Rattle.asl_host.specs.Outcomes.{sink_use};
-ghost use Rattle.asl_cli.specs.Noting.{full_note, limit_lead, limit_end, limit_note, end_note, notes_for, IsNoted};
+ghost use Rattle.asl_cli.specs.Noting.{full_note, limit_lead, limit_end, limit_note, end_note, IsNoted};
 
 use crate::command::tell_text;
 use asl_exec::{Emulated, Ended};
-use asl_explore::Found;
 use asl_history::Sink;
-use asl_run_input::Setup;
-use asl_run_notes::{note_of, notes_of_search};
+use asl_run_notes::note_of;
 use asl_text::put_decimal;
 use std::alloc::{AllocError, Global};
 
@@ -70,22 +68,6 @@ pub(crate) fn with_note(
     let mut note = note_of(alloc, chosen, &emulated.lacking)?;
     put_end_note(&mut note, steps, limit, emulated.end)?;
     Ok(Ran { emulated, note })
-}
-
-/// What is told of the outcomes of a search, where all are printed.
-pub(crate) fn notes_of(
-    alloc: Global,
-    witness: Option<u32>,
-    chosen: &str,
-    setup: Setup,
-    found: &[Found],
-) -> Result<String, AllocError>
-    ensures { IfOk result (λ t. string_bytes t ≡ notes_for witness chosen.now setup found.now) }
-{
-    match witness {
-        None => notes_of_search(alloc, chosen, setup, found),
-        Some(_) => Ok(String::new(alloc)),
-    }
 }
 
 /// Tells what is to be told; of nothing, nothing.
