@@ -1,5 +1,5 @@
 -- A step that is taken no later, by a branch that waits no longer, leaves one that waits no longer.
-use Rattle.std.proofs.Common.{◌≡◌, ◌≤◌, ◌*◌, ℕ, List, [], Bool, true, false, refl, sym, arith, cond, subst, Option, Some, None}
+use Rattle.std.proofs.Common.{◌≡◌, ◌≤◌, ◌*◌, ℕ, List, [], Bool, true, false, refl, sym, arith, cond, subst, Option, Some, None, option_map}
 use Rattle.std.specs.Prelude.{Ok, Err, codes, nat_lt}
 use Rattle.asl_json_data.specs.Data.{Data}
 use Rattle.asl_json.specs.View.{data_of}
@@ -25,8 +25,9 @@ use Rattle.asl_step.specs.Records.{name_in, uses_in, entering_with, beginning_wi
 use Rattle.asl_step.specs.Seen.{Seen}
 use Rattle.asl_step.specs.Context.{context_of}
 use Rattle.asl_step.specs.Rows.{idle, entering, beginning, telling, unstarted, left, failing, leaving, error_output, is_within_limit, over_limit}
-use Rattle.asl_step_io.specs.Paths.{Given, put_into, taken}
-use Rattle.asl_kinds.specs.Members.{next_in, effective, pass_output, passed_on, selected, fail_error, GivenTarget, choice_output, GivenMoment, later, wait_by, wait_until, no_answer}
+use Rattle.asl_step_io.specs.Paths.{Given, no_value, put_into, taken}
+use Rattle.asl_step_io.specs.Delay.{seconds_of, moment_of, seconds_at, moment_at}
+use Rattle.asl_kinds.specs.Members.{next_in, effective, pass_output, passed_on, selected, fail_error, GivenTarget, choice_output, GivenMoment, moment_or, later, until_by, wait_by, wait_until, no_answer}
 use Rattle.asl_kinds.specs.Forks.{in_iteration, GivenFork, forked_with, first_error, outputs, gathered}
 use Rattle.asl_kinds.specs.Table.{passed, in_one, pass_effect, succeed_effect, begun, fail_effect, decided, choice_effect, waits, wait_over, wait_with, wait_effect, handled, raised, settled, invoked, task_fails, task_answered, task_with, task_effect, fork_settled, joined_by, joined, parallel_forks, parallel_joins, parallel_with, parallel_effect, fork_of, map_forks, map_joins, map_with, map_effect, effect_by_type, state_effect}
 use Rattle.asl_step_reads.specs.Reading.{reads}
@@ -88,8 +89,23 @@ MomentsGrow (Ok m) (Ok n) = m ≤ n
 MomentsGrow (Ok m) (Err e) = ⊥
 MomentsGrow (Err e) g = Unit {0}
 
+grow-self : (g : GivenMoment) → MomentsGrow g g
+grow-self (Ok m) = omega arith
+grow-self (Err e) = tt
+
 delayed-grows : (m n k : ℕ) → m ≤ n → delayed m k ≤ delayed n k
 delayed-grows m n k h = omega arith
+
+later-grows : (e : ErrorOut) (m n : ℕ) (o : Option ℕ) → m ≤ n → MomentsGrow (moment_or e (option_map (later m) o)) (moment_or e (option_map (later n) o))
+later-grows e m n None h = tt
+later-grows e m n (Some k) h = delayed-grows m n (k * 1000) h
+
+until-grows : (s t : Option Data) (sp tp : Option (List ℕ)) (m n : ℕ) (y c : Data) → m ≤ n → MomentsGrow (until_by s sp t tp m y c) (until_by s sp t tp n y c)
+until-grows (Some s) t sp tp m n y c h = later-grows (no_value (codes "Seconds")) m n (seconds_of s) h
+until-grows None t (Some p) tp m n y c h = later-grows (no_value (codes "SecondsPath")) m n (seconds_at p y c) h
+until-grows None (Some t) None tp m n y c h = grow-self (moment_or (no_value (codes "Timestamp")) (moment_of t))
+until-grows None None None (Some p) m n y c h = grow-self (moment_or (no_value (codes "TimestampPath")) (moment_at p y c))
+until-grows None None None None m n y c h = tt
 
 wait-grows : (d : Data) (m n : ℕ) (c : Data) (g : Given) → m ≤ n → MomentsGrow (wait_by d m c g) (wait_by d n c g)
 wait-grows d m n c (Err e) h = tt

@@ -9,12 +9,12 @@ use Rattle.asl_json.specs.View.{data_of}
 use Rattle.asl_json.specs.declared.value.Json.{Json}
 use Rattle.asl_json.specs.declared.value.Json.TheVariants.{Dict, List as ListOf}
 use Rattle.asl_history.specs.declared.kind.EventKind.{EventKind}
-use Rattle.asl_history.specs.declared.kind.EventKind.TheVariants.{PassStateEntered, PassStateExited, SucceedStateEntered, SucceedStateExited, FailStateEntered, ChoiceStateEntered, ChoiceStateExited, TaskStateEntered, TaskStateExited, TaskSucceeded, TaskFailed, ParallelStateEntered, ParallelStateExited, ParallelStateSucceeded, ParallelStateFailed, MapStateEntered, MapStateSucceeded, MapStateFailed, MapStateExited}
+use Rattle.asl_history.specs.declared.kind.EventKind.TheVariants.{PassStateEntered, PassStateExited, SucceedStateEntered, SucceedStateExited, FailStateEntered, ChoiceStateEntered, ChoiceStateExited, WaitStateEntered, WaitStateExited, TaskStateEntered, TaskStateExited, TaskSucceeded, TaskFailed, ParallelStateEntered, ParallelStateExited, ParallelStateSucceeded, ParallelStateFailed, MapStateEntered, MapStateSucceeded, MapStateFailed, MapStateExited}
 use Rattle.asl_def_shared.specs.Texts.{text_in}
 use Rattle.asl_step.specs.Bounds.{is_forked}
 use Rattle.asl_step.specs.Context.{context_of}
 use Rattle.asl_step.specs.Records.{name_in, entering_with, beginning_with, pausing_with, uses_in, error_name}
-use Rattle.asl_step.specs.Rows.{telling, error_output, left, idle, entering, beginning_by, beginning, leaving, failing, is_within_limit, over_limit}
+use Rattle.asl_step.specs.Rows.{telling, error_output, left, idle, entering, unstarted, beginning_by, beginning, leaving, failing, is_within_limit, over_limit}
 use Rattle.asl_step.specs.Seen.{Seen}
 use Rattle.asl_step.specs.declared.effect.Children.{Children}
 use Rattle.asl_step.specs.declared.effect.Children.TheVariants.{Kept, Removed}
@@ -29,9 +29,9 @@ use Rattle.asl_mock.specs.declared.response.Answer.{Answer}
 use Rattle.asl_mock.specs.declared.response.Answer.TheVariants.{Returns, Throws}
 use Rattle.asl_handle.specs.Decisions.{Handling, again, caught, unhandled, decision}
 use Rattle.asl_step_io.specs.Paths.{Given, put_into}
-use Rattle.asl_kinds.specs.Members.{GivenTarget, effective, next_in, pass_output, passed_on, fail_error, choice_output, wait_until, selected, no_answer}
+use Rattle.asl_kinds.specs.Members.{GivenTarget, GivenMoment, effective, next_in, pass_output, passed_on, fail_error, choice_output, wait_until, selected, no_answer}
 use Rattle.asl_kinds.specs.Forks.{GivenFork, forked_with, first_error, outputs, gathered}
-use Rattle.asl_kinds.specs.Table.{begun, task_settled, task_returns, task_fails, fork_settled, passed, in_one, fail_effect, decided, choice_effect, waits, wait_with, handled, settled, task_answered, task_with, task_effect, joined_by, joined, parallel_forks, parallel_joins, parallel_with, fork_of, map_forks, map_joins, map_with, effect_by_type, invoked}
+use Rattle.asl_kinds.specs.Table.{begun, task_settled, task_returns, task_fails, fork_settled, passed, in_one, fail_effect, decided, choice_effect, waits, wait_over, wait_with, handled, settled, task_answered, task_with, task_effect, joined_by, joined, parallel_forks, parallel_joins, parallel_with, fork_of, map_forks, map_joins, map_with, effect_by_type, invoked}
 use Rattle.asl_exec.specs.Steps.{effect_by}
 use Rattle.asl_exec_swap_laws.proofs.Rooted.{is_joining}
 
@@ -101,6 +101,14 @@ choice-made d f v = by (entering_with v.current)
     by : (o : Option Json) → IsMade (begun (λ x. decided v (entering v ChoiceStateEntered x) (choice_output d x (context_of f v))) v o)
     by (Some x) = decided-made v x (choice_output d x (context_of f v))
     by None = λ h. (cc)
+
+waits-made : (v : Seen) (x : Json) (g : GivenMoment) → IsMade (waits v (entering v WaitStateEntered x) x g)
+waits-made v x (Ok until) = λ h. (cc)
+waits-made v x (Err e) = λ h. (cc)
+
+over-made : (d : Data) (f : Facts) (v : Seen) (o : Option Json) → IsMade (wait_over d f v o)
+over-made d f v (Some x) = unmade _ _ Kept (passed-keeps v unstarted WaitStateExited (next_in d) (passed_on d x (context_of f v))) refl
+over-made d f v None = λ h. (cc)
 
 wait-made : (d : Data) (f : Facts) (v : Seen) (o : Option Json) → IsMade (wait_with d f v o)
 wait-made d f v (Some x) = waits-made v x (wait_until d v.moment x (context_of f v))

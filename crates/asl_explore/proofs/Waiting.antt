@@ -9,6 +9,7 @@ use Rattle.asl_history.specs.Places.{is_prefix}
 use Rattle.asl_step.specs.Records.{is_done, is_failed}
 use Rattle.asl_step.specs.declared.effect.Effect.{Effect}
 use Rattle.asl_step.specs.declared.record.Record.{Record}
+use Rattle.asl_step.specs.declared.record.Record.TheVariants.{New, Ready, Pausing, Again, Forked, Done, Failed}
 use Rattle.asl_run_branches.specs.Branches.{record_at, forker_at}
 use Rattle.asl_run_branches.specs.Earliest.{due_from}
 use Rattle.asl_run_branches.specs.Turns.{limit_of}
@@ -44,6 +45,15 @@ pub record IsPausing (m : Record) : Type 0 where
   pub alone : is_joining m ≡ false
   pub undone : is_done m ≡ false
   pub whole : is_failed m ≡ false
+
+pausing-is : (last : ℕ) (m : Record) → last < due_from last m → IsPausing m
+pausing-is last (New n x) h = absurd (omega (arith, h))
+pausing-is last (Ready n x) h = absurd (omega (arith, h))
+pausing-is last (Pausing n x since until) h = record { alone = refl; undone = refl; whole = refl }
+pausing-is last (Again n x since uses until) h = record { alone = refl; undone = refl; whole = refl }
+pausing-is last (Forked n x since uses items) h = absurd (omega (arith, h))
+pausing-is last (Done x) h = absurd (omega (arith, h))
+pausing-is last (Failed e) h = absurd (omega (arith, h))
 
 waits-ahead : (s : Setup) (u : World) (p : List ℕ) (r : Record) (e : Effect) → KeepsOn e → IsPending s u p r e → Waits u → Waits (ahead s u p r e)
 waits-ahead s u p r e calm w z = by (is_prefix p q) (is_prefix q p) refl refl

@@ -1,19 +1,20 @@
 -- Each state of a definition without faults is without faults.
 use Rattle.std.proofs.Common.{◌≡◌, ℕ, suc, List, [], ◌∷◌, ◌++◌, Bool, true, false, not, refl, sym, subst}
-use Rattle.std.specs.Prelude.{Some, map}
+use Rattle.std.specs.Prelude.{Option, Some, map, codes}
 use Rattle.std.specs.Fmt.{decimal}
 use Rattle.asl_json_data.specs.Data.{Data, null, boolean, number, text, list, dict, Chain, no_items, item, Pairs, no_members, member, pairs}
 use Rattle.asl_json.specs.Same.{bytes_eq}
 use Rattle.asl_json.specs.Meaning.{value_at, count}
 use Rattle.asl_json_data.specs.Distinct.{Members}
+use Rattle.asl_json.specs.View.{unpaired}
 use Rattle.asl_def_schema.specs.declared.sort.Sort.{Sort}
 use Rattle.asl_def_schema.specs.declared.sort.Sort.TheVariants as sort
 use Rattle.asl_def_schema.specs.declared.sort.Kind.{Kind}
-use Rattle.asl_def_schema.specs.Members.{Shape, shape_in, sort_at}
+use Rattle.asl_def_schema.specs.Members.{Shape, shape_of, shape_in, sort_at, kind_named}
 use Rattle.asl_def_schema.specs.Claims.{Spot, under, heres, step, demands, claims, at_member, at_item, inside, member_claims, item_claims, row_claims, group_demands, is_object, is_nonempty, outside}
 use Rattle.asl_def_schema.specs.States.{states_in, unique_claims}
 use Rattle.asl_def_schema.specs.First.{Each, Hold}
-use Rattle.asl_def_schema.specs.Clean.{IsClean}
+use Rattle.asl_def_schema.specs.Clean.{IsClean, IsCleanAmong}
 use Rattle.asl_def_schema.specs.Canon.{Named}
 use Rattle.asl_def_schema.specs.Faults.{Accepted}
 use Rattle.asl_def_schema.proofs.Inside.{each_left, each_right, each_under, object_hold}
@@ -40,8 +41,22 @@ leaf_items : (s : Sort) (ds : Chain) → holds_states s ≡ false → states_of_
 leaf_items s no_items e = refl
 leaf_items s (item d ds) e = λ i. leaf s d e i ++ leaf_items s ds e i
 
+leaf_members : (sh : Shape) (ms : Pairs) → ((k : List ℕ) → holds_states (sort_at sh k) ≡ false) → states_of_members sh ms ≡ []
+leaf_members sh no_members e = refl
+leaf_members sh (member k d ms) e = λ i. leaf (sort_at sh k) d (e k) i ++ leaf_members sh ms e i
+
 none : (xs : List Named) → xs ≡ [] → AreClean xs
 none xs e = subst AreClean (sym e) tt
+
+-- the states of a machine itself
+own_clean : (p : Spot) (o : Option Kind) (seen : Members) (i : ℕ) (ms : Pairs) → Each Hold (member_claims p (shape_of sort.States o) seen i ms) → AreClean (unpaired ms)
+own_clean p o seen i no_members h = tt
+own_clean p o seen i (member k d ms) h =
+    let sh = shape_of sort.States o in
+    let part = map (under (step i k)) (claims (at_member p sh seen k d) sort.State d) in
+    let rest = member_claims p sh (seen ++ (k, d) ∷ []) (suc i) ms in
+    let own : IsCleanAmong p.names sort.State d = record { spot = at_member p sh seen k d; named = λ l. refl; hold = each_under (step i k) (claims (at_member p sh seen k d) sort.State d) (each_left Hold part rest h) } in
+    (record { names = p.names; is = own }, own_clean p o (seen ++ (k, d) ∷ []) (suc i) ms (each_right Hold part rest h))
 
 list_clean : (p : Spot) (s : Sort) (ds : Chain) → Each Hold (claims p s (list ds)) → (Each Hold (item_claims p sort.Machine 0 ds) → AreClean (states_of_items sort.Machine ds)) → AreClean (all_states s (list ds))
 list_clean p sort.Machines ds h rest = rest (each_right Hold (heres (demands p sort.Machines (list ds))) (item_claims p sort.Machine 0 ds) h)
@@ -57,6 +72,17 @@ members_of p s ms e h =
     let sh = shape_in s ms in
     let others = each_right Hold (heres (group_demands sh.groups ms)) (member_claims (inside p s ms) sh [] 0 ms ++ row_claims (count ms) sh.rows ms) (object_hold p s ms e h) in
     each_left Hold (member_claims (inside p s ms) sh [] 0 ms) (row_claims (count ms) sh.rows ms) others
+
+dict_clean : (p : Spot) (s : Sort) (ms : Pairs) → Each Hold (claims p s (dict ms)) → (is_object s ≡ true → AreClean (states_of_members (shape_in s ms) ms)) → AreClean (all_states s (dict ms))
+dict_clean p sort.Definition ms h rest = clean-append (states_of_members (shape_in sort.Definition ms) ms) [] (rest refl) tt
+dict_clean p sort.Machine ms h rest = clean-append (states_of_members (shape_in sort.Machine ms) ms) [] (rest refl) tt
+dict_clean p sort.ItemProcessor ms h rest = clean-append (states_of_members (shape_in sort.ItemProcessor ms) ms) [] (rest refl) tt
+dict_clean p sort.State ms h rest = clean-append (states_of_members (shape_in sort.State ms) ms) [] (rest refl) tt
+dict_clean p sort.States ms h rest =
+    clean-append (states_of_members (shape_in sort.States ms) ms) (unpaired ms) (rest refl)
+    (own_clean (inside p sort.States ms) (kind_named (value_at (codes "Type") ms)) [] 0 ms (members_of p sort.States ms refl h))
+dict_clean p sort.Machines ms h rest = clean-append (states_of_members (shape_in sort.Machines ms) ms) [] (none (states_of_members (shape_in sort.Machines ms) ms) (leaf_members (shape_in sort.Machines ms) ms (λ k. refl))) tt
+dict_clean p s ms h rest = tt
 
 mutual
   pub states_clean : (p : Spot) (s : Sort) (d : Data) → Each Hold (claims p s d) → AreClean (all_states s d)

@@ -19,13 +19,13 @@ use Rattle.asl_def_schema.specs.declared.sort.Sort.TheVariants as sort
 use Rattle.asl_def_schema.specs.declared.sort.Kind.{Kind}
 use Rattle.asl_def_schema.specs.declared.sort.Kind.TheVariants as kind
 use Rattle.asl_def_schema.specs.Members.{Group, Shape, shape_in, sort_at, item_sort, state_shape, kind_named, processor_group, selector_group, transition}
-use Rattle.asl_def_schema.specs.Claims.{Spot, under, heres, step, claims, at_member, at_item, inside, member_claims, item_claims, row_claims, group_demands, is_object, is_nonempty, counts, any_counts, is_doubled, is_twice}
+use Rattle.asl_def_schema.specs.Claims.{Spot, under, heres, step, demands, claims, at_member, at_item, inside, member_claims, item_claims, row_claims, group_demands, is_object, is_nonempty, counts, any_counts, is_doubled, is_twice}
 use Rattle.asl_def_schema.specs.First.{Each, Hold}
 use Rattle.asl_def_schema.proofs.Inside.{each_left, each_right, each_under, own_hold, object_hold}
 use Rattle.asl_def_schema.proofs.Deciding.{not_true, neither_is}
 use Rattle.asl_def.specs.Machines.{holds_states}
-use Rattle.asl_def.specs.Upgraded.{newer, names_map, map_in, newer_value, newer_items, newer_members}
-use Rattle.asl_def.proofs.Newer.{by_name, IsOther, other_name, members_leaf, map_shape}
+use Rattle.asl_def.specs.Upgraded.{newer, renamed, names_map, map_in, newer_value, newer_items, newer_members}
+use Rattle.asl_def.proofs.Newer.{by_name, IsOther, other_name, items_leaf, members_leaf, map_shape}
 use Rattle.asl_def.proofs.NewerHolds.{Alike, map_counts, alike_push}
 
 -- ---- texts in UTF-8
@@ -42,6 +42,10 @@ small_utf8 (b ∷ bs) e =
 
 newer_utf8 : (k : List ℕ) → IsUtf8 k → IsUtf8 (newer k)
 newer_utf8 k h = by_name (λ (m n : List ℕ). IsUtf8 m → IsUtf8 n) (λ u. small_utf8 (codes "ItemProcessor") refl) (λ u. small_utf8 (codes "ItemSelector") refl) (λ m p q u. u) k h
+
+renamed_utf8 : (b : Bool) (k : List ℕ) → IsUtf8 k → IsUtf8 (renamed b k)
+renamed_utf8 true k h = newer_utf8 k h
+renamed_utf8 false k h = h
 
 mutual
   pub sound_newer : (s : Sort) (d : Data) → IsSound d → IsSound (newer_value s d)
@@ -202,6 +206,15 @@ dict_keys p sort.States ms k h rest = (same_keys (shape_in sort.States ms) ms k.
 dict_keys p sort.State ms k h rest = (state_keys p ms (kind_named (value_at (codes "Type") ms)) k.0 (members_of p sort.State ms refl h), rest refl)
 dict_keys p sort.Machines ms k h rest = subst (λ (x : Pairs). KeysDiffer (dict x)) (sym (members_leaf (shape_in sort.Machines ms) ms (λ l. refl))) k
 dict_keys p s ms k h rest = k
+
+list_keys : (p : Spot) (s : Sort) (ds : Chain) → KeysDifferInItems ds → Each Hold (claims p s (list ds)) → (Each Hold (item_claims p sort.Machine 0 ds) → KeysDifferInItems (newer_items sort.Machine ds)) → KeysDiffer (newer_value s (list ds))
+list_keys p sort.Machines ds k h rest = rest (each_right Hold (heres (demands p sort.Machines (list ds))) (item_claims p sort.Machine 0 ds) h)
+list_keys p sort.Definition ds k h rest = subst KeysDifferInItems (sym (items_leaf sort.Any ds refl)) k
+list_keys p sort.Machine ds k h rest = subst KeysDifferInItems (sym (items_leaf sort.Any ds refl)) k
+list_keys p sort.ItemProcessor ds k h rest = subst KeysDifferInItems (sym (items_leaf sort.Any ds refl)) k
+list_keys p sort.States ds k h rest = subst KeysDifferInItems (sym (items_leaf sort.Any ds refl)) k
+list_keys p sort.State ds k h rest = subst KeysDifferInItems (sym (items_leaf sort.Any ds refl)) k
+list_keys p s ds k h rest = k
 
 mutual
   pub keys_newer : (p : Spot) (s : Sort) (d : Data) → KeysDiffer d → Each Hold (claims p s d) → KeysDiffer (newer_value s d)
