@@ -38,13 +38,14 @@ class Argument(NamedTuple):
 
 
 class Help(NamedTuple):
-    """What a help tells: what the program or a command does, how it is used, its commands, its arguments and its options."""
+    """What a help tells: what the program or a command does, how it is used, its commands, its arguments, its options and its examples."""
 
     about: str
     usage: str
     commands: dict
     arguments: list
     options: list
+    examples: list
 
 
 def parts_of(lines):
@@ -73,7 +74,7 @@ def help_of(name):
     arguments = [Argument(it[2], it[1] == "<", it[3]) for it in map(ARGUMENT.fullmatch, parts.get("Arguments", []))]
     commands = dict(COMMAND.fullmatch(line).groups() for line in parts.get("Commands", []))
     usage = next(line for line in lines if line.startswith("Usage: "))[len("Usage: ") :]
-    return Help(parts[""][0], usage, commands, arguments, [*map(option_of, parts["Options"])])
+    return Help(parts[""][0], usage, commands, arguments, [*map(option_of, parts["Options"])], [line.strip() for line in parts.get("Examples", [])])
 
 
 def commands():

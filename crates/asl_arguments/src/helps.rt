@@ -1,4 +1,6 @@
-// What help tells of arguments. These texts stand apart from the table of arguments, since a proof unfolds that wherever it is named.
+// What help tells of arguments, and its examples. These texts stand apart from the table of arguments, since a proof unfolds that wherever it is named.
+
+use asl_words::Verb;
 
 /// What help tells of an argument.
 #[derive(Clone, Copy)]
@@ -104,5 +106,42 @@ impl Help {
             Help::CaseOption => "Stands for the word CHOSEN",
             Help::InputOption => "Stands for the word INPUT",
         }
+    }
+}
+
+/// How the help of a command ends: two command lines on files of the repository.
+pub(crate) fn examples_of(verb: Verb) -> &'static str {
+    match verb {
+        Verb::Check => {
+            "Examples:\n  asl check examples/order/definition.json\n  asl check - < examples/order/definition.json"
+        }
+        Verb::Lint => {
+            "Examples:\n  asl lint examples/order/definition.json examples/order/mocks.json\n  asl lint --strict --format sarif examples/refused.json"
+        }
+        Verb::Print => {
+            "Examples:\n  asl print examples/order/definition.json\n  asl print --pretty examples/order/definition.json"
+        }
+        Verb::Upgrade => {
+            "Examples:\n  asl upgrade examples/orders/definition.json\n  asl upgrade --pretty examples/orders/definition.json"
+        }
+        Verb::Graph => {
+            "Examples:\n  asl graph --format dot examples/order/definition.json\n  asl graph --run examples/order/definition.json examples/order/mocks.json unpaid examples/order/input.json"
+        }
+        Verb::Mocks => {
+            "Examples:\n  asl mocks examples/order/definition.json\n  asl mocks --pretty examples/order/definition.json order"
+        }
+        Verb::Run => {
+            "Examples:\n  asl run examples/order/definition.json examples/order/mocks.json shipped examples/order/input.json\n  asl run --format tree examples/order/definition.json examples/order/mocks.json unpaid '{\"id\":17}'"
+        }
+        Verb::Debug => {
+            "Examples:\n  asl debug examples/order/definition.json examples/order/mocks.json unpaid examples/order/input.json\n  asl debug examples/order/definition.json examples/order/mocks.json unpaid examples/order/input.json examples/order/unpaid.script.txt"
+        }
+        Verb::Test => {
+            "Examples:\n  asl test examples/order/definition.json examples/order/mocks.json examples/order/expectations.json\n  asl test --coverage --filter unpaid examples/order/definition.json examples/order/mocks.json examples/order/expectations.json"
+        }
+        Verb::Explore => {
+            "Examples:\n  asl explore examples/loan/definition.json examples/loan/mocks.json both examples/loan/input.json\n  asl explore --witness 2 examples/loan/definition.json examples/loan/mocks.json both examples/loan/input.json"
+        }
+        Verb::Explain => "Examples:\n  asl explain F10\n  asl explain States.Timeout",
     }
 }

@@ -4,6 +4,7 @@ ghost use Rattle.clap.specs.Words.{app_of, new_app, new_rule, rule_of};
 ghost use Rattle.asl_arguments.specs.Grammar.{app_for, kind_rule, rule_for};
 
 use crate::arguments::{Argument, CommandRow, Kind, commands};
+use crate::helps::examples_of;
 use clap::builder::ValueParser;
 use clap::{Arg, ArgAction, Command};
 use std::alloc::{AllocError, Global};
@@ -43,7 +44,9 @@ fn with_arguments<'a>(
 fn called_so<'a>(alloc: Global, row: &CommandRow, called: &str) -> Result<Command<'a>, AllocError>
     ensures { IfOk result (λ c. app_of c ≡ new_app row.now.name.now) }
 {
-    described(alloc, row.name, row.verb.about()).bin_name(called)
+    described(alloc, row.name, row.verb.about())
+        .after_help(examples_of(row.verb))
+        .bin_name(called)
 }
 
 /// The program itself, with its commands without what they take. It reads the words behind its name.
