@@ -40,6 +40,31 @@ class MendingTest(ProgramTest):
             with self.subTest(words=words):
                 self.assert_mended(words, "definition: F9 Neither /States/C", errors, m=MOCKS, i="{}", e="[]")
 
+    def test_a_file_in_the_place_of_another(self):
+        suite = '[{"machine":"order","case":"shipped","input":{},"status":"SUCCEEDED"}]'
+        described = '{"stateMachineArn":"arn","definition":"{}"}'
+        for words, texts, file, told in [
+            (["check", "m"], {}, "m", "this is a mock file, and a definition is wanted"),
+            (["run", "m", "d", "order#shipped", "i"], {}, "m", "this is a mock file, and a definition is wanted"),
+            (["check", "e"], {}, "e", "this is an expectation file, and a definition is wanted"),
+            (["run", "d", "e", "order#shipped", "i"], {}, "e", "this is an expectation file, and a mock file is wanted"),
+            (["run", "d", "d", "order#shipped", "i"], {}, "d", "this is a definition, and a mock file is wanted"),
+            (["test", "d", "m", "m"], {}, "m", "this is a mock file, and an expectation file is wanted"),
+            (["test", "d", "m", "d"], {}, "d", "this is a definition, and an expectation file is wanted"),
+            (["check", "x"], {"x": described}, "x",
+                'this is what describe-state-machine prints, which has the definition as the text of its member "definition", and a definition is wanted'),
+            (["check", "x"], {"x": '{"events":[]}'}, "x", "this is what get-execution-history prints, and a definition is wanted"),
+            (["check", "x"], {"x": '{"Resources":{}}'}, "x",
+                "this is a template of CloudFormation, of which a resource has the definition, and a definition is wanted"),
+        ]:
+            with self.subTest(words=words, texts=texts):
+                ran = self.ran(*words, d=PASS, m=MOCKS, e=suite, i="{}", **texts)
+                self.assertEqual((ran.returncode, ran.stdout), (2, ""))
+                self.assertEqual(ran.stderr.splitlines()[1], f"{file}: error: {told}")
+        # A file that is what is wanted, or of which nothing shows, isn't told of.
+        for text in ('{"StartAt":1}', "{}", "[]", "[1]", "1"):
+            self.assertNotIn(" is wanted", self.ran("check", "x", x=text).stderr, text)
+
     def test_a_definition_that_is_no_json(self):
         self.assert_mended(["check", "d"], "definition: F1 Json J1 Syntax 14",
                            ["d:2:1: error F1: the text ends too early: a quote, a bracket or a brace isn't closed"], d='{"StartAt": 1\n')

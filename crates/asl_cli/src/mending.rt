@@ -1,5 +1,6 @@
 // What stands behind the line of a fault: where in a file it is, in the words of `lint`, and which names there are.
 use crate::pointing::place_in;
+use crate::recognizing::{Role, put_if_other};
 use asl_explain::{Explanation, families};
 use asl_json::{Json, Member};
 use asl_json_read::{JsonFault, read};
@@ -27,31 +28,37 @@ fn put_line(out: &mut String, file: &str, number: usize) -> Result<(), AllocErro
     write!(out, ":{number}:1: ")
 }
 
-/// The errors of a definition. The error is that memory ran out.
+/// The errors of a definition, behind a line on a file that is another one. The error is that memory ran out.
 pub(crate) fn of_definition(alloc: Global, file: &str, text: &[u8]) -> Result<String, AllocError> {
+    let mut out = String::new(alloc);
+    put_if_other(alloc, &mut out, file, text, Role::Definition)?;
     let source = Source {
         definition: text,
         mocks: None,
         machine: None,
     };
     let report = lint(alloc, &source)?;
-    errors(alloc, file, &report.definition)
+    out.push_str(errors(alloc, file, &report.definition)?.as_str())?;
+    Ok(out)
 }
 
-/// The errors of a mock file beside a definition. The error is that memory ran out.
+/// The errors of a mock file beside a definition, behind a line on a file that is another one. The error is that memory ran out.
 pub(crate) fn of_mocks<'a>(
     alloc: Global,
     file: &str,
     text: &'a [u8],
     definition: &'a [u8],
 ) -> Result<String, AllocError> {
+    let mut out = String::new(alloc);
+    put_if_other(alloc, &mut out, file, text, Role::Mocks)?;
     let source = Source {
         definition,
         mocks: Some(text),
         machine: None,
     };
     let report = lint(alloc, &source)?;
-    errors(alloc, file, &report.mocks)
+    out.push_str(errors(alloc, file, &report.mocks)?.as_str())?;
+    Ok(out)
 }
 
 /// Why a text is no JSON, if it isn't. The error is that memory ran out.
@@ -85,6 +92,7 @@ fn misfit(alloc: Global, file: &str, text: &[u8], pointer: &str) -> Result<Strin
     let mut out = String::new(alloc);
     match read(alloc, text) {
         Ok(value) => {
+            put_if_other(alloc, &mut out, file, text, Role::Expectations)?;
             let (line, column) = place_in(alloc, text, &value, pointer)?;
             let member = pointer.split('/').nth(2).unwrap_or("");
             let depth = pointer.split('/').count().saturating_sub(1);
@@ -173,6 +181,7 @@ fn put_lost(
 /// The line on a test case that a mock file doesn't have.
 fn lost_case(alloc: Global, file: &str, mocks: &[u8], chosen: &str) -> Result<String, AllocError> {
     let mut out = String::new(alloc);
+    put_if_other(alloc, &mut out, file, mocks, Role::Mocks)?;
     match read(alloc, mocks) {
         Ok(mocks) => {
             let names = cases_in(alloc, &mocks)?;
