@@ -1,4 +1,5 @@
+use Rattle.std.proofs.Common.{refl}
 use Rattle.asl_cli.proofs.command.obey.Goals as goal
 
 pub returns-in-Run : goal.returns-in-Run
-returns-in-Run g c = rw c.in-Run.is c.run.ensures
+returns-in-Run g c = rw c.in-Run.is (refl, c.run.ensures)
