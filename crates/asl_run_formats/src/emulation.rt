@@ -52,7 +52,7 @@ fn run_as(
 fn copied(alloc: Global, steps: &[StepAt]) -> Result<Vec<StepAt>, AllocError>
     ensures { IfOk result (λ v. v.items ≡ steps.now) }
 {
-    let mut copy = Vec::new(alloc);
+    let mut copy = Vec::with_capacity(alloc, steps.len())?;
     for at in steps {
         copy.push(at.try_clone()?)?;
     }
