@@ -32,14 +32,14 @@ def said(key, body):
     return {key: body, f"{key}Details": {"truncated": False}}
 
 
-def resources_in(value):
-    """The resource of each Task in a part of a definition, by its name."""
+def tasks_in(value):
+    """Each Task in a part of a definition, by its name."""
     if isinstance(value, list):
-        return {name: resource for item in value for name, resource in resources_in(item).items()}
+        return {name: task for item in value for name, task in tasks_in(item).items()}
     if not isinstance(value, dict):
         return {}
-    own = {name: state["Resource"] for name, state in value.get("States", {}).items() if "Resource" in state}
-    return {**own, **resources_in(list(value.values()))}
+    own = {name: state for name, state in value.get("States", {}).items() if "Resource" in state}
+    return {**own, **tasks_in(list(value.values()))}
 
 
 def called(resource):
@@ -51,15 +51,22 @@ def called(resource):
     return {"resourceType": ":".join(arn[5 : 5 + front]), "resource": ":".join(arn[5 + front :])}
 
 
-def details(kind, name, body, resources):
+def limits(task):
+    """How long a Task may take, as the service tells it where it is scheduled."""
+    return {f"{key.lower()}InSeconds": int(task[f"{key}Seconds"]) for key in ("Timeout", "Heartbeat") if f"{key}Seconds" in task}
+
+
+def details(kind, name, body, tasks):
     """The details of an event, in a member; `body` is a text."""
     if kind.startswith("Task") and "State" not in kind:
         key = OWN.get(kind)
-        more = {"region": "us-east-1", "parameters": body} if key == "parameters" else said("output", body) if key == "output" else {}
+        more = said("output", body) if key == "output" else {}
+        if key == "parameters":
+            more = {"region": "us-east-1", "parameters": body, **limits(tasks[name])}
         if key == "error":
             value = json.loads(body)
             more = {low: value[low.capitalize()] for low in ("error", "cause") if low.capitalize() in value}
-        return {f"{kind[0].lower()}{kind[1:]}EventDetails": {**called(resources[name]), **more}}
+        return {f"{kind[0].lower()}{kind[1:]}EventDetails": {**called(tasks[name]["Resource"]), **more}}
     state = re.fullmatch(r"\w+State(Entered|Exited)", kind)
     if state:
         member, key = STATE[state[1]]
@@ -99,6 +106,19 @@ class FormatsTest(ProgramTest):
         self.assertEqual((ran.returncode, ran.stderr), (wanted, ""))
         return ran.stdout
 
+    def told_of_a_task(self, resource, members=""):
+        """What a run of one Task of this resource prints, in the shape of the service. Its state has these members, too, each with a comma behind."""
+        texts = {
+            "definition": '{"StartAt":"T","States":{"T":{"Type":"Task","Resource":"%s",%s"End":true}}}' % (resource, members),
+            "mocks": '{"StateMachines":{"m":{"TestCases":{"c":{"T":"R"}}}},"MockedResponses":{"R":{"0":{"Return":1}}}}',
+            "input": "{}",
+        }
+        with tempfile.TemporaryDirectory(prefix="asl-test-") as folder:
+            for name, text in texts.items():
+                with open(f"{folder}/{name}", "w", encoding="utf-8") as file:
+                    file.write(text)
+            return self.formatted([f"{folder}/definition", f"{folder}/mocks", "m#c", f"{folder}/input"], "status SUCCEEDED ", "aws")
+
     def test_lines_of_json(self):
         for words, text in self.cases():
             with self.subTest(words[2]):
@@ -115,11 +135,11 @@ class FormatsTest(ProgramTest):
             with self.subTest(words[2]):
                 wanted = []
                 with open(words[0], encoding="utf-8") as file:
-                    resources = resources_in(json.load(file))
+                    tasks = tasks_in(json.load(file))
                 for number, previous, stamp, _, kind, name, body in events_in(text):
                     kind = "TaskTimedOut" if kind == "TaskFailed" and json.loads(body).get("Error") == "States.Timeout" else kind
                     event = {"timestamp": stamp, "type": kind, "id": int(number), "previousEventId": int(previous)}
-                    wanted.append({**event, **details(kind, json.loads(name), body, resources)})
+                    wanted.append({**event, **details(kind, json.loads(name), body, tasks)})
                 told = self.formatted(words, text, "aws")
                 self.assertEqual(json.loads(told), {"events": wanted})
                 self.assertEqual(told.count("\n"), 1)
@@ -134,19 +154,22 @@ class FormatsTest(ProgramTest):
             ("arn:aws:states:eu-west-1:123456789012:activity:Approve", "activity", "Approve"),
             ("charge", "", "charge"),
         ):
-            with self.subTest(resource), tempfile.TemporaryDirectory(prefix="asl-test-") as folder:
-                state = {"Type": "Task", "Resource": resource, "End": True}
-                texts = {
-                    "definition": {"StartAt": "T", "States": {"T": state}},
-                    "mocks": {"StateMachines": {"m": {"TestCases": {"c": {"T": "R"}}}}, "MockedResponses": {"R": {"0": {"Return": 1}}}},
-                    "input": {},
-                }
-                for name, value in texts.items():
-                    with open(f"{folder}/{name}", "w", encoding="utf-8") as file:
-                        json.dump(value, file)
-                told = self.formatted([f"{folder}/definition", f"{folder}/mocks", "m#c", f"{folder}/input"], "status SUCCEEDED ", "aws")
-                found = [event["taskScheduledEventDetails"] for event in json.loads(told)["events"] if event["type"] == "TaskScheduled"]
+            with self.subTest(resource):
+                told = json.loads(self.told_of_a_task(resource))
+                found = [event["taskScheduledEventDetails"] for event in told["events"] if event["type"] == "TaskScheduled"]
                 self.assertEqual([(one["resourceType"], one["resource"], one["region"]) for one in found], [(kind, called_so, "us-east-1")])
+
+    def test_how_long_a_task_may_take(self):
+        for members, wanted in (
+            ("", ""),
+            ('"TimeoutSeconds":300,', ',"timeoutInSeconds":300'),
+            ('"TimeoutSeconds":3e2,"HeartbeatSeconds":60.0,', ',"timeoutInSeconds":300,"heartbeatInSeconds":60'),
+            ('"HeartbeatSeconds":99999999,', ',"heartbeatInSeconds":99999999'),
+            ('"TimeoutSecondsPath":"$.t","HeartbeatSecondsPath":"$.h",', ""),
+        ):
+            with self.subTest(members):
+                told = self.told_of_a_task("r", members)
+                self.assertEqual(re.findall(r'"parameters":"{}"([^}]*)}}', told), [wanted])
 
     def test_steps_lead_to_the_same_history(self):
         for words, text in self.cases():

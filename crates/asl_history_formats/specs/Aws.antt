@@ -15,6 +15,8 @@ use Rattle.asl_history_formats.specs.declared.details.Form.TheVariants.{Nothing,
 use Rattle.asl_history_formats.specs.Keys.{stamp_key, previous_key}
 use Rattle.asl_history_formats.specs.Details.{form_of, details_name}
 use Rattle.asl_history_formats.specs.Resources.{resource_type, resource_name}
+use Rattle.asl_history_formats.specs.declared.tasks.Limits.{Limits}
+use Rattle.asl_history_formats.specs.Tasks.{TaskTable}
 
 -- ---- details
 
@@ -70,25 +72,43 @@ resource_told r =
 unfoldable pub region_told : List ℕ
 region_told = codes ",\"region\":\"us-east-1\","
 
--- where Tasks have these resources
-abbrev pub details_inside : (List ℕ → List ℕ) → Form → Event → List ℕ
-details_inside rs Nothing e = []
-details_inside rs Input e = said (codes "input") (data_of e.body)
-details_inside rs Output e = said (codes "output") (data_of e.body)
-details_inside rs StateInput e = named e ++ said (codes "input") (data_of e.body)
-details_inside rs StateOutput e = named e ++ said (codes "output") (data_of e.body)
-details_inside rs Parameters e =
-    resource_told (rs e.name) ++ (region_told ++ parameters_told (data_of e.body))
-details_inside rs Resource e = resource_told (rs e.name)
-details_inside rs TaskOutput e =
-    resource_told (rs e.name) ++ 44 ∷ said (codes "output") (data_of e.body)
-details_inside rs TaskError e =
-    resource_told (rs e.name)
+-- a limit of so many seconds behind what stands before
+unfoldable pub seconds_told : List ℕ → ℕ → List ℕ
+seconds_told k n = codes ",\"" ++ (k ++ (codes "InSeconds\":" ++ decimal n))
+
+-- where there is one
+abbrev pub limit_told : List ℕ → Option ℕ → List ℕ
+limit_told k (Some n) = seconds_told k n
+limit_told k None = []
+
+-- how long a Task may take
+unfoldable pub limits_told : Limits → List ℕ
+limits_told l = limit_told (codes "timeout") l.timeout ++ limit_told (codes "heartbeat") l.heartbeat
+
+-- how a Task is called: of this resource, with these limits and this
+unfoldable pub scheduled_told : List ℕ → Limits → Data → List ℕ
+scheduled_told r l d =
+    resource_told r ++ (region_told ++ (parameters_told d ++ limits_told l))
+
+-- over the table of Tasks
+abbrev pub details_inside : TaskTable → Form → Event → List ℕ
+details_inside ts Nothing e = []
+details_inside ts Input e = said (codes "input") (data_of e.body)
+details_inside ts Output e = said (codes "output") (data_of e.body)
+details_inside ts StateInput e = named e ++ said (codes "input") (data_of e.body)
+details_inside ts StateOutput e = named e ++ said (codes "output") (data_of e.body)
+details_inside ts Parameters e =
+    scheduled_told (ts.resource e.name) (ts.limits e.name) (data_of e.body)
+details_inside ts Resource e = resource_told (ts.resource e.name)
+details_inside ts TaskOutput e =
+    resource_told (ts.resource e.name) ++ 44 ∷ said (codes "output") (data_of e.body)
+details_inside ts TaskError e =
+    resource_told (ts.resource e.name)
     ++ and_error (value_in (codes "Error") (data_of e.body)) (value_in (codes "Cause") (data_of e.body))
-details_inside rs Error e =
+details_inside ts Error e =
     error_details (value_in (codes "Error") (data_of e.body)) (value_in (codes "Cause") (data_of e.body))
-details_inside rs Length e = number_member (codes "length") (value_in (codes "length") (data_of e.body))
-details_inside rs Iteration e = iteration_told e
+details_inside ts Length e = number_member (codes "length") (value_in (codes "length") (data_of e.body))
+details_inside ts Iteration e = iteration_told e
 
 -- an error says that a Task took too long
 abbrev pub is_timeout : Option Data → Bool
@@ -105,10 +125,10 @@ details_key f e =
     if has_timed_out f e then codes "taskTimedOutEventDetails" else details_name e.kind
 
 -- a member with details of this form
-abbrev pub details_part : (List ℕ → List ℕ) → Form → Event → List ℕ
-details_part rs Nothing e = []
-details_part rs f e =
-    codes ",\"" ++ (details_key f e ++ (codes "\":{" ++ (details_inside rs f e ++ 125 ∷ [])))
+abbrev pub details_part : TaskTable → Form → Event → List ℕ
+details_part ts Nothing e = []
+details_part ts f e =
+    codes ",\"" ++ (details_key f e ++ (codes "\":{" ++ (details_inside ts f e ++ 125 ∷ [])))
 
 -- ---- events
 
@@ -126,15 +146,15 @@ event_numbers e = codes "\",\"id\":" ++ (decimal e.id ++ (previous_key ++ decima
 abbrev pub event_head : Event → List ℕ
 event_head e = event_kind e ++ event_numbers e
 
-abbrev pub event_object : (List ℕ → List ℕ) → Event → List ℕ
-event_object rs e = event_head e ++ (details_part rs (form_of e.kind) e ++ 125 ∷ [])
+abbrev pub event_object : TaskTable → Event → List ℕ
+event_object ts e = event_head e ++ (details_part ts (form_of e.kind) e ++ 125 ∷ [])
 
 -- the events from this number on, with commas between
-abbrev pub events_from : (List ℕ → List ℕ) → ℕ → List Event → List ℕ
-events_from rs i [] = []
-events_from rs i (e ∷ es) = separator i ++ (event_object rs e ++ events_from rs (suc i) es)
+abbrev pub events_from : TaskTable → ℕ → List Event → List ℕ
+events_from ts i [] = []
+events_from ts i (e ∷ es) = separator i ++ (event_object ts e ++ events_from ts (suc i) es)
 
--- where the Tasks of these names have these resources
-abbrev pub aws_text : (List ℕ → List ℕ) → List Event → List ℕ
-aws_text rs events =
-    codes "{\"events\":[" ++ (events_from rs 0 events ++ (codes "]}" ++ 10 ∷ []))
+-- over the table of Tasks
+abbrev pub aws_text : TaskTable → List Event → List ℕ
+aws_text ts events =
+    codes "{\"events\":[" ++ (events_from ts 0 events ++ (codes "]}" ++ 10 ∷ []))

@@ -4,11 +4,12 @@ ghost use Rattle.asl_json.specs.Meaning.{value_in};
 ghost use Rattle.asl_json_data.specs.Compact.{quoted};
 ghost use Rattle.asl_json.specs.View.{data_of};
 ghost use Rattle.asl_history_formats.specs.Resources.{resource_type, resource_name};
-ghost use Rattle.asl_history_formats.specs.Aws.{said, named, error_details, and_error, number_member, iteration_told, resource_told, region_told, details_inside, details_key, details_part, has_timed_out, is_timeout, parameters_key, parameters_told, type_name, event_kind, event_numbers, event_head, event_object, events_from, aws_text, truncated};
+ghost use Rattle.asl_history_formats.specs.Aws.{said, named, error_details, and_error, number_member, iteration_told, resource_told, region_told, seconds_told, limit_told, limits_told, scheduled_told, details_inside, details_key, details_part, has_timed_out, is_timeout, parameters_key, parameters_told, type_name, event_kind, event_numbers, event_head, event_object, events_from, aws_text, truncated};
 
 use crate::details::{Form, details_name, form_of};
 use crate::pieces::{put_as_text, put_previous_key, put_stamp_key, separate};
-use crate::resources::{Resources, resource_name, resource_type};
+use crate::resources::{resource_name, resource_type};
+use crate::tasks::{Limits, Tasks};
 use asl_history::Event;
 use asl_json::Json;
 use asl_json_write::{put, put_quoted};
@@ -169,19 +170,53 @@ fn put_region(out: &mut String) -> Result<(), AllocError>
     out.push_str(",\"region\":\"us-east-1\",")
 }
 
-/// Appends what a Task is called with, behind its resource.
+/// Appends a limit of so many seconds behind what stands before.
+#[tactic(auto, unfolding(crate::specs::Aws::seconds_told))]
+fn put_seconds(out: &mut String, name: &str, seconds: u32) -> Result<(), AllocError>
+    ensures { OnOk result (string_bytes out.new
+        ≡ string_bytes out.old ++ seconds_told name.now seconds) }
+{
+    out.push_str(",\"")?;
+    out.push_str(name)?;
+    out.push_str("InSeconds\":")?;
+    put_decimal(out, seconds as u64)
+}
+
+/// Appends a limit behind what stands before, where there is one.
+fn put_limit(out: &mut String, name: &str, limit: Option<u32>) -> Result<(), AllocError>
+    ensures { OnOk result (string_bytes out.new ≡ string_bytes out.old ++ limit_told name.now limit) }
+{
+    match limit {
+        Some(seconds) => put_seconds(out, name, seconds),
+        None => Ok(()),
+    }
+}
+
+/// Appends how long a Task may take.
+#[tactic(auto, unfolding(crate::specs::Aws::limits_told))]
+fn put_limits(out: &mut String, limits: Limits) -> Result<(), AllocError>
+    ensures { OnOk result (string_bytes out.new ≡ string_bytes out.old ++ limits_told limits) }
+{
+    put_limit(out, "timeout", limits.timeout)?;
+    put_limit(out, "heartbeat", limits.heartbeat)
+}
+
+/// Appends how a Task of this resource is called, with these limits.
+#[tactic(auto, unfolding(crate::specs::Aws::scheduled_told))]
 fn put_scheduled(
     alloc: Global,
     out: &mut String,
     resource: &str,
+    limits: Limits,
     event: &Event,
 ) -> Result<(), AllocError>
     ensures { OnOk result (string_bytes out.new ≡ string_bytes out.old
-        ++ (resource_told resource.now ++ (region_told ++ parameters_told (data_of event.now.body)))) }
+        ++ scheduled_told resource.now limits (data_of event.now.body)) }
 {
     put_resource(alloc, out, resource)?;
     put_region(out)?;
-    put_parameters(alloc, out, &event.body)
+    put_parameters(alloc, out, &event.body)?;
+    put_limits(out, limits)
 }
 
 /// Appends the output of a Task behind its resource.
@@ -224,15 +259,15 @@ fn put_iteration(out: &mut String, event: &Event) -> Result<(), AllocError>
 }
 
 /// Appends the details of an event, of this form.
-fn put_inside<R: Resources>(
+fn put_inside<T: Tasks>(
     alloc: Global,
     out: &mut String,
-    resources: &R,
+    tasks: &T,
     form: Form,
     event: &Event,
 ) -> Result<(), AllocError>
     ensures { OnOk result (string_bytes out.new ≡ string_bytes out.old
-        ++ details_inside (R.resources resources.now) form event.now) }
+        ++ details_inside (T.table tasks.now) form event.now) }
 {
     let body = event.body.get();
     let name = event.name.as_str();
@@ -242,10 +277,12 @@ fn put_inside<R: Resources>(
         Form::Output => put_said(alloc, out, "output", body),
         Form::StateInput => put_state_said(alloc, out, "input", event),
         Form::StateOutput => put_state_said(alloc, out, "output", event),
-        Form::Parameters => put_scheduled(alloc, out, resources.resource(name), event),
-        Form::Resource => put_resource(alloc, out, resources.resource(name)),
-        Form::TaskOutput => put_task_output(alloc, out, resources.resource(name), event),
-        Form::TaskError => put_task_error(alloc, out, resources.resource(name), event),
+        Form::Parameters => {
+            put_scheduled(alloc, out, tasks.resource(name), tasks.limits(name), event)
+        }
+        Form::Resource => put_resource(alloc, out, tasks.resource(name)),
+        Form::TaskOutput => put_task_output(alloc, out, tasks.resource(name), event),
+        Form::TaskError => put_task_error(alloc, out, tasks.resource(name), event),
         Form::Error => put_error(out, body.get("Error"), body.get("Cause")),
         Form::Length => put_number_member(out, "length", body.get("length")),
         Form::Iteration => put_iteration(out, event),
@@ -297,15 +334,15 @@ fn type_name(form: Form, event: &Event) -> &'static str
 }
 
 /// Appends the member with the details of an event, of this form.
-fn put_details<R: Resources>(
+fn put_details<T: Tasks>(
     alloc: Global,
     out: &mut String,
-    resources: &R,
+    tasks: &T,
     form: Form,
     event: &Event,
 ) -> Result<(), AllocError>
     ensures { OnOk result (string_bytes out.new ≡ string_bytes out.old
-        ++ details_part (R.resources resources.now) form event.now) }
+        ++ details_part (T.table tasks.now) form event.now) }
 {
     if form == Form::Nothing {
         return Ok(());
@@ -313,7 +350,7 @@ fn put_details<R: Resources>(
     out.push_str(",\"")?;
     out.push_str(details_key(form, event))?;
     out.push_str("\":{")?;
-    put_inside(alloc, out, resources, form, event)?;
+    put_inside(alloc, out, tasks, form, event)?;
     out.push('}')
 }
 
@@ -343,49 +380,45 @@ fn put_head(out: &mut String, event: &Event) -> Result<(), AllocError>
     put_numbers(out, event)
 }
 
-fn put_event<R: Resources>(
+fn put_event<T: Tasks>(
     alloc: Global,
     out: &mut String,
-    resources: &R,
+    tasks: &T,
     event: &Event,
 ) -> Result<(), AllocError>
     ensures { OnOk result (string_bytes out.new
-        ≡ string_bytes out.old ++ event_object (R.resources resources.now) event.now) }
+        ≡ string_bytes out.old ++ event_object (T.table tasks.now) event.now) }
 {
     put_head(out, event)?;
-    put_details(alloc, out, resources, form_of(event.kind), event)?;
+    put_details(alloc, out, tasks, form_of(event.kind), event)?;
     out.push('}')
 }
 
-fn put_events<R: Resources>(
+fn put_events<T: Tasks>(
     alloc: Global,
     out: &mut String,
-    resources: &R,
+    tasks: &T,
     events: &[Event],
 ) -> Result<(), AllocError>
     ensures { OnOk result (string_bytes out.new
-        ≡ string_bytes out.old ++ events_from (R.resources resources.now) 0 events.now) }
+        ≡ string_bytes out.old ++ events_from (T.table tasks.now) 0 events.now) }
 {
     for (number, event) in events.iter().enumerate() {
         separate(out, number)?;
-        put_event(alloc, out, resources, event)?;
+        put_event(alloc, out, tasks, event)?;
     }
     Ok(())
 }
 
 /// The events of a history as one JSON text, in the shape of the service's `GetExecutionHistory`: an object with the list `events`, and in
 /// each event `timestamp`, `type`, `id`, `previousEventId` and the member with the details of its kind, in which inputs, outputs and
-/// parameters are texts; the Tasks have these resources. The error is that memory ran out.
-pub fn aws_json<R: Resources>(
-    alloc: Global,
-    resources: &R,
-    events: &[Event],
-) -> Result<String, AllocError>
-    ensures { IfOk result (λ t. string_bytes t ≡ aws_text (R.resources resources.now) events.now) }
+/// parameters are texts; the Tasks are these. The error is that memory ran out.
+pub fn aws_json<T: Tasks>(alloc: Global, tasks: &T, events: &[Event]) -> Result<String, AllocError>
+    ensures { IfOk result (λ t. string_bytes t ≡ aws_text (T.table tasks.now) events.now) }
 {
     let mut out = String::new(alloc);
     out.push_str("{\"events\":[")?;
-    put_events(alloc, &mut out, resources, events)?;
+    put_events(alloc, &mut out, tasks, events)?;
     out.push_str("]}\n")?;
     Ok(out)
 }

@@ -1,19 +1,9 @@
 // What the resource of a Task names.
-ghost use Rattle.std.specs.Prelude.{◌≡◌, IfOk, string_bytes, List, ℕ};
+ghost use Rattle.std.specs.Prelude.{◌≡◌, IfOk, string_bytes};
 ghost use Rattle.std.specs.List.{before_first, after_first};
 ghost use Rattle.asl_history_formats.specs.Resources.{action_named, behind, is_colon, is_integration, is_sdk, name_in, resource_name, resource_type, service_in, type_named};
 
 use std::alloc::{AllocError, Global};
-
-/// The resources of Tasks, by the names of their states.
-pub trait Resources {
-    /// Empty where no Task has this name.
-    ghost resources: { Self → List ℕ → List ℕ };
-
-    /// The resource of the Task of this name; empty where there is none.
-    fn resource(&self, name: &str) -> &str
-        ensures { result.now ≡ resources self.now name.now };
-}
 
 /// What stands before the first colon.
 fn before_colon(text: &str) -> &str

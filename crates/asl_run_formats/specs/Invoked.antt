@@ -1,12 +1,15 @@
--- The resources that the Tasks of a definition invoke.
+-- What a definition says of its Tasks.
 use Rattle.std.specs.Prelude.{List, ℕ, [], Option, Some, None, unwrap_or, if◌then◌else◌, codes}
 use Rattle.asl_json_data.specs.Data.{Data}
 use Rattle.asl_json.specs.Meaning.{value_in}
+use Rattle.asl_def_fields.specs.Retries.{whole_in}
 use Rattle.asl_def_shared.specs.Texts.{text_in}
 use Rattle.asl_def.specs.Machines.{state_object}
 use Rattle.asl_kinds.specs.Table.{invokes}
+use Rattle.asl_history_formats.specs.declared.tasks.Limits.{Limits}
+use Rattle.asl_history_formats.specs.Tasks.{TaskTable}
 
--- of a state, by its object; empty where it is no Task
+-- the resource of a state, by its object; empty where it is no Task
 abbrev pub resource_of : Data → List ℕ
 resource_of d = if invokes d then unwrap_or (text_in (value_in (codes "Resource") d)) [] else []
 
@@ -14,6 +17,27 @@ abbrev pub resource_by : Option Data → List ℕ
 resource_by None = []
 resource_by (Some d) = resource_of d
 
--- of the Task of this name; empty where there is none
-abbrev pub resources_in : Data → List ℕ → List ℕ
-resources_in m name = resource_by (state_object name m)
+abbrev pub unlimited : Limits
+unlimited = record { timeout = None; heartbeat = None }
+
+-- the limits of a Task, by its object
+abbrev pub own_limits : Data → Limits
+own_limits d = record {
+  timeout = whole_in (value_in (codes "TimeoutSeconds") d);
+  heartbeat = whole_in (value_in (codes "HeartbeatSeconds") d);
+}
+
+-- those of a state; none where it is no Task
+abbrev pub limits_of : Data → Limits
+limits_of d = if invokes d then own_limits d else unlimited
+
+abbrev pub limits_by : Option Data → Limits
+limits_by None = unlimited
+limits_by (Some d) = limits_of d
+
+-- of the Tasks of a definition, by their names
+abbrev pub tasks_in : Data → TaskTable
+tasks_in m = record {
+  resource = λ n. resource_by (state_object n m);
+  limits = λ n. limits_by (state_object n m);
+}

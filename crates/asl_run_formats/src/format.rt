@@ -5,7 +5,7 @@ ghost use Rattle.asl_exec.specs.RunText.{world_by};
 ghost use Rattle.asl_exec.specs.Views.{setup_of, world_of};
 ghost use Rattle.asl_run_formats.specs.Taken.{taken_by};
 ghost use Rattle.asl_history_formats.specs.Aws.{aws_text};
-ghost use Rattle.asl_run_formats.specs.Invoked.{resources_in};
+ghost use Rattle.asl_run_formats.specs.Invoked.{tasks_in};
 ghost use Rattle.asl_run_formats.specs.Told.{told};
 
 use crate::driving::take_by;
@@ -35,7 +35,7 @@ pub enum Format {
 /// The history so far, in the shape in which the service tells one. The error is that memory ran out.
 fn aws_of(alloc: Global, execution: &Execution) -> Result<String, AllocError>
     ensures { IfOk result (λ t. string_bytes t
-        ≡ aws_text (resources_in (setup_of execution.now).machine) (world_of execution.now).events) }
+        ≡ aws_text (tasks_in (setup_of execution.now).machine) (world_of execution.now).events) }
 {
     let setup = execution.setup();
     let invoked = Invoked {

@@ -1,12 +1,15 @@
-// The resources that the Tasks of a definition invoke.
-ghost use Rattle.std.specs.Prelude.{◌≡◌, List};
+// What a definition says of its Tasks.
+ghost use Rattle.std.specs.Prelude.{◌≡◌, List, option_map};
+ghost use Rattle.asl_json_data.specs.Data.{number};
 ghost use Rattle.asl_def_schema.specs.Canon.{Named};
-ghost use Rattle.asl_def_states.specs.Show.{state_of as state_shown};
-ghost use Rattle.asl_run_formats.specs.Invoked.{resource_of, resources_in};
+ghost use Rattle.asl_def_fields.specs.Retries.{whole_in};
+ghost use Rattle.asl_def_states.specs.Show.{state_of as state_shown, task_object};
+ghost use Rattle.asl_run_formats.specs.Invoked.{resource_of, limits_of, own_limits, unlimited};
 
 use asl_def::Machine;
-use asl_def_states::State;
-use asl_history_formats::Resources;
+use asl_def_fields::Count;
+use asl_def_states::{State, Task};
+use asl_history_formats::{Limits, Tasks};
 
 /// The Tasks of a definition.
 #[derive(Drop)]
@@ -30,15 +33,68 @@ fn resource_of(state: &State) -> &str
     }
 }
 
-impl Resources for Invoked<'_> {
-    ghost use Rattle.asl_run_formats.specs.Invoked.{resources_in};
+/// The seconds of a limit, where there is one.
+fn seconds_of(limit: Option<&Count>) -> Option<u32>
+    ensures { result ≡ whole_in (option_map (λ x. number x.now) limit.entry) }
+{
+    match limit {
+        Some(count) => Some(count.value()),
+        None => None,
+    }
+}
 
-    ghost resources = { λ x n. resources_in x.machine.now n };
+/// The limits of a Task that stand as numbers.
+fn own_limits(task: &Task) -> Limits
+    ensures { result ≡ own_limits (task_object task.now) }
+{
+    Limits {
+        timeout: seconds_of(task.timeout()),
+        heartbeat: seconds_of(task.heartbeat()),
+    }
+}
+
+/// No limits.
+fn unlimited() -> Limits
+    ensures { result ≡ unlimited }
+{
+    Limits {
+        timeout: None,
+        heartbeat: None,
+    }
+}
+
+/// The limits of a state; none where it is no Task.
+fn limits_of(state: &State) -> Limits
+    ensures { (t : List Named) → result ≡ limits_of (state_shown t state.now) }
+{
+    match state {
+        State::Task(task) => own_limits(task),
+        State::Pass(_)
+        | State::Choice(_)
+        | State::Wait(_)
+        | State::Parallel(_)
+        | State::Map(_)
+        | State::Succeed(_)
+        | State::Fail(_) => unlimited(),
+    }
+}
+
+impl Tasks for Invoked<'_> {
+    ghost use Rattle.asl_run_formats.specs.Invoked.{tasks_in};
+
+    ghost table = { λ x. tasks_in x.machine.now };
 
     fn resource(&self, name: &str) -> &str {
         match self.machine.find(name) {
             Some((_, state)) => resource_of(state),
             None => "",
+        }
+    }
+
+    fn limits(&self, name: &str) -> Limits {
+        match self.machine.find(name) {
+            Some((_, state)) => limits_of(state),
+            None => unlimited(),
         }
     }
 }

@@ -1,6 +1,6 @@
 //! Runs, and what they print in other formats than the usual text: their histories for other programs, and the steps that they took.
 //!
-//! Modules in reading order: `driving` takes steps and tells which they were, and `treeing` tells of them; `invoking` finds the resources of Tasks; `format` is how a run is printed,
+//! Modules in reading order: `driving` takes steps and tells which they were, and `treeing` tells of them; `invoking` is what a definition says of its Tasks; `format` is how a run is printed,
 //! `emulation` is a whole run, from texts to text; `entering` names the states that a run entered, `passing` finds the transitions that it
 //! took, and `graphing` writes the graph in which they are marked; `laws` says that the steps of a run lead where it led.
 #![tactic(auto)]

@@ -1,7 +1,7 @@
 // `serde_json` as the program that reads the formats for other programs.
 use crate::history::add;
 use asl_history::{Event, EventKind, History};
-use asl_history_formats::{Resources, aws_json, lines_of_json};
+use asl_history_formats::{Limits, Tasks, aws_json, lines_of_json};
 use serde_json::Value;
 use std::alloc::Global;
 use std::test::Fail;
@@ -297,18 +297,33 @@ const HEAD: usize = 4;
 
 const LINE: usize = 7;
 
-/// Tasks that all invoke a function of Lambda.
-struct Invoke;
+/// Tasks that all invoke a function of Lambda, and have these limits.
+#[derive(Clone, Copy)]
+struct Invoke {
+    limits: Limits,
+}
 
-impl Resources for Invoke {
+impl Tasks for Invoke {
     ghost use Rattle.std.specs.Prelude.{codes};
 
-    ghost resources = { λ x n. codes "arn:aws:states:::lambda:invoke" };
+    ghost table = { λ x. record { resource = λ n. codes "arn:aws:states:::lambda:invoke"; limits = λ n. x.limits } };
 
     fn resource(&self, _name: &str) -> &str {
         "arn:aws:states:::lambda:invoke"
     }
+
+    fn limits(&self, _name: &str) -> Limits {
+        self.limits
+    }
 }
+
+/// Those without limits.
+const INVOKE: Invoke = Invoke {
+    limits: Limits {
+        timeout: None,
+        heartbeat: None,
+    },
+};
 
 fn told(alloc: Global) -> Option<History> {
     let mut history = History::new(alloc);
@@ -410,7 +425,7 @@ fn each_line_is_read_as_its_event(rt: HostRuntime) -> Result<(), Fail> {
 #[test]
 fn each_event_is_read_in_the_shape_of_the_service(rt: HostRuntime) -> Result<(), Fail> {
     let history = told(rt.alloc()).ok_or("no history")?;
-    let text = aws_json(rt.alloc(), &Invoke, history.events())?;
+    let text = aws_json(rt.alloc(), &INVOKE, history.events())?;
     let value = value_of(rt.alloc(), text.as_str()).ok_or("not read")?;
     assert!(rt; has_members(&value, 1));
     let events = value.get("events").ok_or("no events")?;
@@ -439,7 +454,7 @@ fn a_task_that_took_too_long_is_an_event_of_its_own(rt: HostRuntime) -> Result<(
         body,
     )
     .ok_or("not added")?;
-    let text = aws_json(rt.alloc(), &Invoke, history.events())?;
+    let text = aws_json(rt.alloc(), &INVOKE, history.events())?;
     let value = value_of(rt.alloc(), text.as_str()).ok_or("not read")?;
     let events = value.get("events").ok_or("no events")?;
     let events = events.as_array().ok_or("no list")?;
@@ -448,5 +463,49 @@ fn a_task_that_took_too_long_is_an_event_of_its_own(rt: HostRuntime) -> Result<(
     let details = event.get("taskTimedOutEventDetails").ok_or("no details")?;
     assert!(rt; has_text(details, "error", "States.Timeout"));
     assert!(rt; has_text(details, "resource", "invoke"));
+    Ok(())
+}
+
+/// The text of what a Task with these limits is scheduled with.
+fn scheduled(alloc: Global, timeout: Option<u32>, heartbeat: Option<u32>) -> Option<String> {
+    let mut history = History::new(alloc);
+    add(
+        alloc,
+        &mut history,
+        "/0",
+        EventKind::TaskScheduled,
+        "T",
+        "{}",
+    )?;
+    let invoke = Invoke {
+        limits: Limits { timeout, heartbeat },
+    };
+    aws_json(alloc, &invoke, history.events()).ok()
+}
+
+#[test]
+fn limits_stand_behind_the_parameters(rt: HostRuntime) -> Result<(), Fail> {
+    let rows = [
+        (None, None, "\"parameters\":\"{}\"}}"),
+        (
+            Some(300),
+            None,
+            "\"parameters\":\"{}\",\"timeoutInSeconds\":300}}",
+        ),
+        (
+            None,
+            Some(0),
+            "\"parameters\":\"{}\",\"heartbeatInSeconds\":0}}",
+        ),
+        (
+            Some(99_999_999),
+            Some(60),
+            "\"parameters\":\"{}\",\"timeoutInSeconds\":99999999,\"heartbeatInSeconds\":60}}",
+        ),
+    ];
+    for (timeout, heartbeat, end) in rows {
+        let text = scheduled(rt.alloc(), timeout, heartbeat).ok_or("no text")?;
+        assert!(rt; text.as_str().contains(end), "{end}");
+    }
     Ok(())
 }

@@ -5,4 +5,4 @@ use Rattle.asl_history_formats.proofs.aws.put_events.Given as goal
 
 -- the events so far and those that are left are all
 abbrev pub invariant-loop-number : goal.invariant-loop-number
-invariant-loop-number g l = string_bytes l.out ++ events_from (g.R.Resources.resources l.resources) l.number (drop l.number l.events) ≡ string_bytes l.fn.out ++ events_from (g.R.Resources.resources l.fn.resources) 0 l.events
+invariant-loop-number g l = string_bytes l.out ++ events_from (g.T.Tasks.table l.tasks) l.number (drop l.number l.events) ≡ string_bytes l.fn.out ++ events_from (g.T.Tasks.table l.fn.tasks) 0 l.events
