@@ -1,33 +1,18 @@
 -- The graph of a definition in canonical form: its states with their transitions, of which those are
 -- thick that were taken, es, and the machines inside states as boxes.
-use Rattle.std.specs.Prelude.{ℕ, suc, List, [], ◌∷◌, ◌++◌, Option, Some, None, if◌then◌else◌, codes}
+use Rattle.std.specs.Prelude.{ℕ, suc, Bool, false, List, [], ◌∷◌, ◌++◌, Option, Some, None, if◌then◌else◌, codes}
 use Rattle.std.specs.Fmt.{decimal}
 use Rattle.asl_json_data.specs.Data.{Data, null, boolean, number, text, list, dict, Chain, no_items, item, Pairs, no_members, member}
-use Rattle.asl_json.specs.Access.{items_in}
 use Rattle.asl_json.specs.Same.{bytes_eq}
 use Rattle.asl_json.specs.Meaning.{value_in}
 use Rattle.asl_graph.specs.declared.language.Language.{Language}
 use Rattle.asl_graph.specs.declared.edges.Edge.{Edge}
 use Rattle.asl_graph.specs.declared.edges.Way.TheVariants.{Start, Next, Rule, Default, Catcher}
-use Rattle.asl_graph.specs.Names.{shown}
+use Rattle.asl_graph.specs.Members.{text_in, text_at, items_at}
+use Rattle.asl_graph.specs.Names.{shown, shown_short}
+use Rattle.asl_graph.specs.Conditions.{condition}
 use Rattle.asl_graph.specs.Edges.{is_taken}
 use Rattle.asl_graph.specs.Lines.{heading, ending, state_line, plain_line, labelled_line, begin_lines, inner_mark, box_heading, box_ending}
-
--- ---- members
-
-abbrev pub text_in : Option Data → List ℕ
-text_in (Some (text t)) = t
-text_in _ = []
-
-abbrev pub text_at : List ℕ → Data → List ℕ
-text_at k d = text_in (value_in k d)
-
-abbrev pub items_of_any : Option Data → Chain
-items_of_any None = no_items
-items_of_any (Some d) = items_in d
-
-abbrev pub items_at : List ℕ → Data → Chain
-items_at k d = items_of_any (value_in k d)
 
 -- ---- the lines of one state
 
@@ -48,11 +33,15 @@ default_line l es name (Some (text t)) =
     labelled_line l (is_taken es name Default) name (codes "Default") t
 default_line l es name _ = []
 
--- a line for each rule of a Choice, by its number
+-- the condition of a rule, cut where it is long
+unfoldable pub rule_label : Language → Data → List ℕ
+rule_label l d = shown_short l (condition false d)
+
+-- a line for each rule of a Choice, by its condition
 abbrev pub rule_lines : Language → List Edge → List ℕ → ℕ → Chain → List ℕ
 rule_lines l es name i no_items = []
 rule_lines l es name i (item d ds) =
-    labelled_line l (is_taken es name (Rule i)) name (codes "rule " ++ decimal i)
+    labelled_line l (is_taken es name (Rule i)) name (rule_label l d)
     (text_at (codes "Next") d)
     ++ rule_lines l es name (suc i) ds
 

@@ -1,5 +1,7 @@
+pub mod Members
 pub mod Names
 pub mod Lines
 pub mod Edges
+pub mod Conditions
 pub mod Graphs
 pub mod Marks

@@ -2,16 +2,18 @@
 //! boxes.
 //!
 //! Modules in reading order: `language` has the languages; `naming` writes names so that both languages take them, `lines` the lines of a
-//! graph, `edges` are the transitions that a run took, `leading` writes the lines of a state's transitions, and `walking` those of all
-//! states; `marking` marks states, and `drawing` is the whole text.
+//! graph; `edges` are the transitions that a run took; `members` reads off what members say, `conditions` writes the conditions of rules,
+//! `leading` the lines of a state's transitions, and `walking` those of all states; `marking` marks states, and `drawing` is the whole text.
 #![tactic(auto)]
 
+mod conditions;
 mod drawing;
 mod edges;
 mod language;
 mod leading;
 mod lines;
 mod marking;
+mod members;
 mod naming;
 mod walking;
 
