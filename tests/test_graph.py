@@ -111,6 +111,8 @@ def wanted(machine, around=(), states=None, edges=None):
             edges.append((name, rule_label(rule), rule["Next"]))
         if "Default" in state:
             edges.append((name, "Default", state["Default"]))
+        if state.get("End") or state["Type"] in ("Succeed", "Fail"):
+            edges.append((name, None, (around, "end")))
         for catcher in state.get("Catch", []):
             edges.append((name, "catch" + "".join(" " + shown(error) for error in catcher["ErrorEquals"]), catcher["Next"]))
         for told, body in bodies(state):
@@ -132,11 +134,15 @@ class GraphTest(ProgramTest):
             came = {named(key[2:]): (kind, around[key]) for key, (label, kind, _) in graph.states.items() if label == shown(named(key[2:]))}
             self.assertEqual(came, states)
 
-            def end(key):
-                return marks[key] if key in marks else named(key[2:])
+            ends = {key: (tuple(graph.boxes[box][0] for box in boxes), "end") for key, boxes in graph.ends.items()}
+            # each machine has both marks
+            self.assertEqual(sorted(marks.values()), sorted(boxes for boxes, _ in ends.values()))
 
-            ends = [(end(a), "begin" if a in marks else label, end(b)) for a, label, b in graph.edges]
-            self.assertEqual(sorted(map(repr, ends)), sorted(map(repr, edges)))
+            def end(key):
+                return marks[key] if key in marks else ends[key] if key in ends else named(key[2:])
+
+            came = [(end(a), "begin" if a in marks else label, end(b)) for a, label, b in graph.edges]
+            self.assertEqual(sorted(map(repr, came)), sorted(map(repr, edges)))
 
     def test_the_examples(self):
         for path in glob.glob(f"{TOP}/examples/*/definition.json"):
@@ -199,7 +205,8 @@ class GraphTest(ProgramTest):
         self.assertEqual(run_program("graph", path).stdout, run_program("graph", path, "--format", "mermaid").stdout)
         self.assertEqual(
             run_program("graph", path).stdout,
-            'flowchart TD\ni((" "))\ni --> s_P\ns_P["P<br/>Pass"]\ns_P --> s_S\ns_S["S<br/>Succeed"]\n',
+            'flowchart TD\nclassDef fail stroke:#c00\nclassDef succeed stroke:#080\ni((" "))\ne(((" ")))\ni --> s_P\n'
+            's_P["P<br/>Pass"]\ns_P --> s_S\ns_S["S<br/>Succeed"]:::succeed\ns_S --> e\n',
         )
 
 

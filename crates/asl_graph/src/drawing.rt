@@ -25,8 +25,8 @@ fn put_lines(
         ≡ string_bytes out.old ++ lines_of language edges.now (data_of definition.now)) }
 {
     out.push_str(heading(language))?;
-    put_first_lines(out, language, edges, "i", definition)?;
-    put_machine_lines(alloc, out, language, edges, definition)
+    put_first_lines(out, language, edges, "", definition)?;
+    put_machine_lines(alloc, out, language, edges, "", definition)
 }
 
 /// The graph of a definition in canonical form: each state with its type, its transitions and a mark for its retriers, and the machines

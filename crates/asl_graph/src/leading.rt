@@ -4,12 +4,14 @@ ghost use Rattle.asl_json_data.specs.Data.{chain};
 ghost use Rattle.asl_json.specs.View.{data_of, items_of};
 ghost use Rattle.asl_graph.specs.Members.{text_in, text_at, items_at};
 ghost use Rattle.asl_graph.specs.Names.{shown};
-ghost use Rattle.asl_graph.specs.Graphs.{retry_mark, own_line, next_line, default_line, rule_label, rule_lines, errors_shown, catcher_lines, state_lines, first_lines};
+ghost use Rattle.asl_graph.specs.Graphs.{retry_mark, own_line, next_line, default_line, rule_label, rule_lines, errors_shown, catcher_lines, is_true, is_end_kind, is_end, last_line, state_lines, first_lines};
 
 use crate::conditions::put_condition;
 use crate::edges::{Edge, Way, is_taken};
 use crate::language::Language;
-use crate::lines::{put_begin_lines, put_labelled_line, put_plain_line, put_state_line};
+use crate::lines::{
+    put_begin_lines, put_end_line, put_labelled_line, put_plain_line, put_state_line,
+};
 use crate::members::{items_at, text_at, text_in};
 use crate::naming::{put_shown, put_shown_short};
 use asl_json::Json;
@@ -157,34 +159,77 @@ fn put_catcher_lines(
     Ok(())
 }
 
-/// Appends the mark where a machine begins, with this identifier, and the line from it to the first state. The error is that memory ran
-/// out.
+fn is_true(value: Option<&Json>) -> bool
+    ensures { result ≡ is_true (option_map (λ v. data_of v.now) value.entry) }
+{
+    match value {
+        Some(Json::Bool(value)) => *value,
+        _ => false,
+    }
+}
+
+fn is_end_kind(kind: &str) -> bool
+    ensures { result ≡ is_end_kind kind.now }
+{
+    match kind {
+        "Succeed" | "Fail" => true,
+        _ => false,
+    }
+}
+
+/// Whether a machine ends in this state.
+fn is_end(state: &Json) -> bool
+    ensures { result ≡ is_end (data_of state.now) }
+{
+    is_true(state.get("End")) || is_end_kind(text_at(state, "Type"))
+}
+
+fn put_last_line(
+    out: &mut String,
+    language: Language,
+    key: &str,
+    name: &str,
+    state: &Json,
+) -> Result<(), AllocError>
+    ensures { OnOk result (string_bytes out.new
+        ≡ string_bytes out.old ++ last_line language key.now name.now (data_of state.now)) }
+{
+    if is_end(state) {
+        put_end_line(out, language, key, name)?;
+    }
+    Ok(())
+}
+
+/// Appends the marks where a machine begins and where it ends, by what tells it from others, and the line to its first state. The error is
+/// that memory ran out.
 pub(crate) fn put_first_lines(
     out: &mut String,
     language: Language,
     edges: &[Edge],
-    mark: &str,
+    key: &str,
     machine: &Json,
 ) -> Result<(), AllocError>
     ensures { OnOk result (string_bytes out.new ≡ string_bytes out.old
-        ++ first_lines language edges.now mark.now (text_at (codes "StartAt") (data_of machine.now))) }
+        ++ first_lines language edges.now key.now (text_at (codes "StartAt") (data_of machine.now))) }
 {
     let first = text_at(machine, "StartAt");
     let taken = is_taken(edges, first, Way::Start);
-    put_begin_lines(out, language, taken, mark, first)
+    put_begin_lines(out, language, taken, key, first)
 }
 
-/// Appends the lines of a state: its own, and one for each transition. The error is that memory ran out.
+/// Appends the lines of a state: its own, and one for each transition; its machine's key tells that from others. The error is that memory
+/// ran out.
 pub(crate) fn put_state_lines(
     alloc: Global,
     out: &mut String,
     language: Language,
     edges: &[Edge],
+    key: &str,
     name: &str,
     state: &Json,
 ) -> Result<(), AllocError>
     ensures { OnOk result (string_bytes out.new
-        ≡ string_bytes out.old ++ state_lines language edges.now name.now (data_of state.now)) }
+        ≡ string_bytes out.old ++ state_lines language edges.now key.now name.now (data_of state.now)) }
 {
     put_own_line(out, language, name, state)?;
     put_next_line(out, language, edges, name, state.get("Next"))?;
@@ -197,5 +242,6 @@ pub(crate) fn put_state_lines(
         items_at(state, "Choices"),
     )?;
     put_default_line(out, language, edges, name, state.get("Default"))?;
-    put_catcher_lines(alloc, out, language, edges, name, items_at(state, "Catch"))
+    put_catcher_lines(alloc, out, language, edges, name, items_at(state, "Catch"))?;
+    put_last_line(out, language, key, name, state)
 }
