@@ -210,6 +210,15 @@ class GraphTest(ProgramTest):
         )
 
 
+    def test_markdown_is_mermaid_in_a_block(self):
+        folder = os.path.join(TOP, "examples", "polling")
+        run = ["--run", f"{folder}/mocks.json", "polling#failed", f"{folder}/input.json"]
+        for words in ([f"{folder}/definition.json"], [f"{folder}/definition.json", *run]):
+            ran = run_program("graph", *words, "--format", "markdown")
+            self.assertEqual((ran.returncode, ran.stderr), (0, ""))
+            self.assertEqual(ran.stdout, "```mermaid\n" + run_program("graph", *words).stdout + "```\n")
+
+
 def entered(history):
     """The names of the states that a history enters, each once."""
     names = [json.JSONDecoder().raw_decode(found[1])[0] for found in re.finditer(r"^[0-9]+ [0-9]+ \S+ \S+ [A-Za-z]+StateEntered (.*)$", history, re.M)]

@@ -6,12 +6,14 @@ use Rattle.asl_json_data.specs.Data.{Data, null, boolean, number, text, list, di
 use Rattle.asl_json.specs.Same.{bytes_eq}
 use Rattle.asl_json.specs.Meaning.{value_in}
 use Rattle.asl_graph.specs.declared.language.Language.{Language}
+use Rattle.asl_graph.specs.declared.format.Format.{Format}
 use Rattle.asl_graph.specs.declared.edges.Edge.{Edge}
 use Rattle.asl_graph.specs.declared.edges.Way.TheVariants.{Start, Next, Rule, Default, Catcher}
 use Rattle.asl_graph.specs.Members.{text_in, text_at, items_at}
 use Rattle.asl_graph.specs.Names.{shown, shown_short, box_key}
 use Rattle.asl_graph.specs.Conditions.{condition}
 use Rattle.asl_graph.specs.Edges.{is_taken}
+use Rattle.asl_graph.specs.Formats.{language_of, printed}
 use Rattle.asl_graph.specs.Lines.{heading, ending, state_line, plain_line, labelled_line, begin_lines, end_line, box_heading, box_ending}
 
 -- ---- the lines of one state
@@ -181,5 +183,5 @@ lines_of l es d =
     heading l
     ++ (first_lines l es outer_key (text_at (codes "StartAt") d) ++ machine_lines l es outer_key d)
 
-abbrev pub graph_text : Language → Data → List ℕ
-graph_text l d = lines_of l [] d ++ ending l
+abbrev pub graph_text : Format → Data → List ℕ
+graph_text f d = printed f (lines_of (language_of f) [] d ++ ending (language_of f))
