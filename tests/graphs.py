@@ -10,7 +10,8 @@ DOT_LABEL = MERMAID_LABEL.replace("#", "&#")
 LINES = {
     "mermaid": {
         "mark": rf'({ID})\(\(" "\)\)',
-        "state": rf'({ID})\["({MERMAID_LABEL})<br/>({MERMAID_LABEL})"\]',
+        "end": rf'({ID})\(\(\(" "\)\)\)',
+        "state": rf'({ID})\["({MERMAID_LABEL})<br/>({MERMAID_LABEL})"\](?::::(fail|succeed))?',
         "plain": rf"({ID}) --> ({ID})",
         "thick": rf"({ID}) ==> ({ID})",
         "into": rf"({ID}) -\.-> ({ID})",
@@ -21,7 +22,8 @@ LINES = {
     },
     "dot": {
         "mark": rf"({ID}) \[shape=point\];",
-        "state": rf'({ID}) \[label="({DOT_LABEL})\\n({DOT_LABEL})"\];',
+        "end": rf"({ID}) \[shape=point, peripheries=2\];",
+        "state": rf'({ID}) \[label="({DOT_LABEL})\\n({DOT_LABEL})"(?:, color=(red3|green4))?\];',
         "plain": rf"({ID}) -> ({ID});",
         "thick": rf"({ID}) -> ({ID}) \[penwidth=4\];",
         "into": rf"({ID}) -> ({ID}) \[style=dotted\];",
@@ -35,17 +37,23 @@ LABELLED = {
     "mermaid": (rf'({ID}) (?:--|(==))>\|"({MERMAID_LABEL})"\| ({ID})', (0, 2, 3), 1),
     "dot": (rf'({ID}) -> ({ID}) \[label="({DOT_LABEL})"(, penwidth=4)?\];', (0, 2, 1), 3),
 }
-HEADS = {"mermaid": ["flowchart TD"], "dot": ["digraph {", "node [shape=box];", "labeljust=l;"]}
+HEADS = {
+    "mermaid": ["flowchart TD", "classDef fail stroke:#c00", "classDef succeed stroke:#080"],
+    "dot": ["digraph {", "node [shape=box];", "labeljust=l;"],
+}
+# What the colour of a state says of it.
+COLOURS = {None: None, "fail": "Fail", "red3": "Fail", "succeed": "Succeed", "green4": "Succeed"}
 ENTITY = {"mermaid": r"#([0-9]+);", "dot": r"&#([0-9]+);"}
 
 
 class Graph(NamedTuple):
-    """What a graph draws: states by identifier, transitions, where machines begin, and the boxes around each; boxes by identifier with their
-    labels; the identifiers of the states that are marked, in order; the transitions that are thick."""
+    """What a graph draws: states by identifier, transitions, where machines begin and where they end, and the boxes around each; boxes by
+    identifier with their labels; the identifiers of the states that are marked, in order; the transitions that are thick."""
 
     states: dict
     edges: list
     marks: dict
+    ends: dict
     boxes: dict
     taken: list
     thick: list
@@ -80,7 +88,7 @@ def lines_in(language, text):
 
 def graph_of(language, text):
     """The graph that a text draws. A line that isn't of the language fails."""
-    graph, around, styled = Graph({}, [], {}, {}, [], []), [], language == "dot"
+    graph, around, styled = Graph({}, [], {}, {}, {}, [], []), [], language == "dot"
     lines = iter(lines_in(language, text))
     pattern, order, thick = LABELLED[language]
     for line in lines:
@@ -96,9 +104,12 @@ def graph_of(language, text):
         assert kind and not others, line
         if kind == "mark":
             graph.marks[found[1]] = tuple(around)
+        elif kind == "end":
+            graph.ends[found[1]] = tuple(around)
         elif kind == "state":
             assert found[1] not in graph.states, line
             graph.states[found[1]] = (plain(language, found[2]), plain(language, found[3]), tuple(around))
+            assert COLOURS[found[4]] == (found[3] if found[3] in ("Fail", "Succeed") else None), line
         elif kind in ("plain", "thick", "into"):
             graph.edges.append((found[1], "into" if kind == "into" else None, found[2]))
             if kind == "thick":

@@ -21,6 +21,66 @@ def shown(name):
     return "".join("\ufffd" if ord(c) < 32 or 127 <= ord(c) <= 159 or c in "\ufffe\uffff" else c for c in name)
 
 
+# The signs of comparisons, by what their names say between the kind of the values and `Path`.
+SIGNS = {"Equals": "=", "LessThan": "<", "GreaterThan": ">", "LessThanEquals": "<=", "GreaterThanEquals": ">=", "Matches": "matches"}
+KINDS = ["String", "Numeric", "Timestamp", "Boolean"]
+
+
+def comparison(variable, name, value):
+    """The text of a test of this name."""
+    if name.startswith("Is"):
+        return f"{variable} is {'' if value else 'not '}{name[2:].lower()}"
+    relation = re.sub(f"^({'|'.join(KINDS)})", "", name)
+    if relation.endswith("Path"):
+        return f"{variable} {SIGNS[relation.removesuffix('Path')]} {value}"
+    return f"{variable} {SIGNS[relation]} {json.dumps(value, ensure_ascii=False, separators=(',', ':'))}"
+
+
+def condition(rule, beside=False):
+    """The condition of a rule in short form; an Or of more than one stands in parentheses beside others of an And."""
+    (name, value), *others = [(name, value) for name, value in rule.items() if name not in ("Comment", "Variable", "Next")]
+    assert not others, rule
+    if name == "Not":
+        return f"not ({condition(value)})"
+    if name in ("And", "Or"):
+        many = len(value) > 1
+        text = f" {name.lower()} ".join(condition(part, beside or many if name == "And" else beside and not many) for part in value)
+        return f"({text})" if name == "Or" and beside and many else text
+    return comparison(rule["Variable"], name, value)
+
+
+def rule_label(rule):
+    """The label of a rule's transition, as it is shown."""
+    text = condition(rule)
+    return shown(text[:60]) + ("..." if len(text) > 60 else "")
+
+
+# Rules, and the labels of their transitions.
+RULES = [
+    ({"Variable": "$.total", "NumericGreaterThan": 1000}, "$.total > 1000"),
+    ({"Variable": "$.kind", "StringEquals": "a"}, '$.kind = "a"'),
+    ({"Variable": "$.name", "StringMatches": "x*"}, '$.name matches "x*"'),
+    ({"Variable": "$.x", "IsPresent": True}, "$.x is present"),
+    ({"Variable": "$.x", "IsNull": False}, "$.x is not null"),
+    ({"Variable": "$.a", "NumericLessThanPath": "$.b"}, "$.a < $.b"),
+    ({"Variable": "$.ok", "BooleanEquals": True}, "$.ok = true"),
+    ({"Not": {"Variable": "$.x", "IsString": True}}, "not ($.x is string)"),
+    ({"And": [{"Variable": "$.a", "NumericEquals": 1}, {"Variable": "$.b", "NumericEquals": 2}]}, "$.a = 1 and $.b = 2"),
+    (
+        {"And": [{"Or": [{"Variable": "$.a", "NumericEquals": 1}, {"Variable": "$.b", "NumericEquals": 2}]}, {"Variable": "$.c", "IsNull": True}]},
+        "($.a = 1 or $.b = 2) and $.c is null",
+    ),
+    (
+        {"Or": [{"And": [{"Variable": "$.a", "NumericEquals": 1}, {"Variable": "$.b", "NumericEquals": 2}]}, {"Variable": "$.c", "IsNull": True}]},
+        "$.a = 1 and $.b = 2 or $.c is null",
+    ),
+    ({"And": [{"Or": [{"Variable": "$.a", "IsNull": True}, {"Variable": "$.b", "IsNull": True}]}]}, "$.a is null or $.b is null"),
+    ({"Variable": "$.t", "TimestampLessThanEquals": "2024-01-01T00:00:00Z"}, '$.t <= "2024-01-01T00:00:00Z"'),
+    ({"Variable": "$.x", "StringEquals": "a" * 53}, '$.x = "' + "a" * 53 + "..."),
+    ({"Variable": "$.x", "StringEquals": "\U0001f600" * 52}, '$.x = "' + "\U0001f600" * 52 + '"'),
+]
+
+
 def drawn(definition, language):
     """The text of a graph."""
     with tempfile.NamedTemporaryFile(prefix="asl-test-") as file:
@@ -47,10 +107,12 @@ def wanted(machine, around=(), states=None, edges=None):
         states[name] = (state["Type"] + (" - Retry" if "Retry" in state else ""), around)
         if "Next" in state:
             edges.append((name, None, state["Next"]))
-        for number, rule in enumerate(state.get("Choices", [])):
-            edges.append((name, f"rule {number}", rule["Next"]))
+        for rule in state.get("Choices", []):
+            edges.append((name, rule_label(rule), rule["Next"]))
         if "Default" in state:
             edges.append((name, "Default", state["Default"]))
+        if state.get("End") or state["Type"] in ("Succeed", "Fail"):
+            edges.append((name, None, (around, "end")))
         for catcher in state.get("Catch", []):
             edges.append((name, "catch" + "".join(" " + shown(error) for error in catcher["ErrorEquals"]), catcher["Next"]))
         for told, body in bodies(state):
@@ -72,11 +134,15 @@ class GraphTest(ProgramTest):
             came = {named(key[2:]): (kind, around[key]) for key, (label, kind, _) in graph.states.items() if label == shown(named(key[2:]))}
             self.assertEqual(came, states)
 
-            def end(key):
-                return marks[key] if key in marks else named(key[2:])
+            ends = {key: (tuple(graph.boxes[box][0] for box in boxes), "end") for key, boxes in graph.ends.items()}
+            # each machine has both marks
+            self.assertEqual(sorted(marks.values()), sorted(boxes for boxes, _ in ends.values()))
 
-            ends = [(end(a), "begin" if a in marks else label, end(b)) for a, label, b in graph.edges]
-            self.assertEqual(sorted(map(repr, ends)), sorted(map(repr, edges)))
+            def end(key):
+                return marks[key] if key in marks else ends[key] if key in ends else named(key[2:])
+
+            came = [(end(a), "begin" if a in marks else label, end(b)) for a, label, b in graph.edges]
+            self.assertEqual(sorted(map(repr, came)), sorted(map(repr, edges)))
 
     def test_the_examples(self):
         for path in glob.glob(f"{TOP}/examples/*/definition.json"):
@@ -92,6 +158,33 @@ class GraphTest(ProgramTest):
         catchers = [{"ErrorEquals": [name, "E"], "Next": "S"} for name in NAMES]
         task = {"Type": "Task", "Resource": "r", "Retry": [{"ErrorEquals": ["E"]}], "Catch": catchers, "Next": "S"}
         self.assert_drawn(json.dumps({"StartAt": "T", "States": {"T": task, "S": {"Type": "Succeed"}}}))
+
+    def labels_of(self, rules):
+        """The labels of the transitions by these rules, the same in both languages."""
+        choice = {"Type": "Choice", "Choices": [{**rule, "Next": "S"} for rule in rules], "Default": "S"}
+        definition = json.dumps({"StartAt": "C", "States": {"C": choice, "S": {"Type": "Succeed"}}})
+        self.assert_drawn(definition)
+        came = [[label for _, label, _ in graph_of(language, drawn(definition, language)).edges] for language in LANGUAGES]
+        self.assertEqual(*came)
+        return [label for label in came[0] if label not in (None, "Default")]
+
+    def test_conditions_of_rules(self):
+        self.assertEqual(self.labels_of([rule for rule, _ in RULES]), [label for _, label in RULES])
+
+    def test_each_test_of_a_rule(self):
+        values = {"String": "a", "Numeric": 1.5, "Timestamp": "2024-01-01T00:00:00Z", "Boolean": False}
+        relations = [relation for relation in SIGNS if relation != "Matches"]
+        compared = [(kind, relation) for kind in KINDS for relation in (relations if kind != "Boolean" else ["Equals"])]
+        rules = [{"Variable": "$.v", kind + relation: values[kind]} for kind, relation in compared]
+        rules += [{"Variable": "$.v", kind + relation + "Path": "$.w"} for kind, relation in compared]
+        rules += [{"Variable": "$.v", "StringMatches": "*"}]
+        asked = ["IsNull", "IsPresent", "IsNumeric", "IsString", "IsBoolean", "IsTimestamp"]
+        rules += [{"Variable": "$.v", name: value} for name in asked for value in (True, False)]
+        self.assertEqual(len({name for rule in rules for name in rule} - {"Variable"}), 39)
+        self.assertEqual(self.labels_of(rules), [rule_label(rule) for rule in rules])
+
+    def test_values_of_any_characters(self):
+        self.labels_of([{"Variable": "$.v", "StringEquals": name} for name in NAMES])
 
     def test_boxes_in_boxes(self):
         leaf = {"StartAt": "P", "States": {"P": {"Type": "Pass", "End": True}}}
@@ -112,8 +205,18 @@ class GraphTest(ProgramTest):
         self.assertEqual(run_program("graph", path).stdout, run_program("graph", path, "--format", "mermaid").stdout)
         self.assertEqual(
             run_program("graph", path).stdout,
-            'flowchart TD\ni((" "))\ni --> s_P\ns_P["P<br/>Pass"]\ns_P --> s_S\ns_S["S<br/>Succeed"]\n',
+            'flowchart TD\nclassDef fail stroke:#c00\nclassDef succeed stroke:#080\ni((" "))\ne(((" ")))\ni --> s_P\n'
+            's_P["P<br/>Pass"]\ns_P --> s_S\ns_S["S<br/>Succeed"]:::succeed\ns_S --> e\n',
         )
+
+
+    def test_markdown_is_mermaid_in_a_block(self):
+        folder = os.path.join(TOP, "examples", "polling")
+        run = ["--run", f"{folder}/mocks.json", "polling#failed", f"{folder}/input.json"]
+        for words in ([f"{folder}/definition.json"], [f"{folder}/definition.json", *run]):
+            ran = run_program("graph", *words, "--format", "markdown")
+            self.assertEqual((ran.returncode, ran.stderr), (0, ""))
+            self.assertEqual(ran.stdout, "```mermaid\n" + run_program("graph", *words).stdout + "```\n")
 
 
 def entered(history):
@@ -226,11 +329,11 @@ class MarkedTest(ProgramTest):
             self.thick_of(definition, mocks, "M#c", given),
             [
                 ("", None, "C"),
-                ("C", "rule 1", "D"),
+                ("C", "$.n = 2", "D"),
                 ("C", "Default", "D"),
                 ("D", None, "S"),
                 ("D", "catch B", "S"),
-                ("S", "rule 0", "E"),
+                ("S", "$.e is present", "E"),
                 ("S", "Default", "C"),
             ],
         )

@@ -16,7 +16,7 @@ COMMANDS = [
     ["print", DEFINITION],
     ["upgrade", DEFINITION],
     *(["lint", f"{TOP}/examples/refused.json", MOCKS, "--format", kind] for kind in ["text", "json", "sarif"]),
-    *(["graph", DEFINITION, "--format", kind] for kind in ["mermaid", "dot"]),
+    *(["graph", DEFINITION, "--format", kind] for kind in ["mermaid", "markdown", "dot"]),
     ["mocks", DEFINITION],
     ["run", *SETUP],
     ["run", *SETUP, "--steps", "STEPS"],

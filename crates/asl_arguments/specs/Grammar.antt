@@ -58,7 +58,8 @@ lint_arguments =
 
 abbrev pub graph_arguments : List Argument
 graph_arguments = run_arguments (free (codes "run") flag
-    ∷ preset (codes "format") (choice (codes "mermaid" ∷ codes "dot" ∷ [])) (codes "mermaid") ∷ [])
+    ∷ preset (codes "format") (choice (codes "mermaid" ∷ codes "markdown" ∷ codes "dot" ∷ []))
+    (codes "mermaid") ∷ [])
 
 abbrev pub print_arguments : List Argument
 print_arguments = needed (codes "DEF") word ∷ free (codes "pretty") flag ∷ []

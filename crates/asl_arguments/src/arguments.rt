@@ -132,7 +132,7 @@ const GRAPH: &[Argument] = &[
     },
     Argument {
         name: "format",
-        kind: Choice(&["mermaid", "dot"]),
+        kind: Choice(&["mermaid", "markdown", "dot"]),
         presence: Default(&["mermaid"]),
         help: Help::GraphFormat,
     },

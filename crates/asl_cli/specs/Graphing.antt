@@ -1,8 +1,8 @@
 -- The graph of a definition that a file holds, or of a run of it.
 use Rattle.std.specs.Prelude.{ℕ, List, ◌≡◌, Option, Some, None}
 use Rattle.asl_json_data.specs.Data.{Data}
-use Rattle.asl_graph.specs.declared.language.Language.{Language}
-use Rattle.asl_graph.specs.declared.language.Language.TheVariants.{Mermaid, Dot}
+use Rattle.asl_graph.specs.declared.format.Format.{Format}
+use Rattle.asl_graph.specs.declared.format.Format.TheVariants.{Mermaid, Markdown, Dot}
 use Rattle.asl_graph.specs.Graphs.{graph_text}
 use Rattle.asl_run_input.specs.Emulations.{Texts}
 use Rattle.asl_exec.specs.Driving.{most_steps}
@@ -17,29 +17,30 @@ use Rattle.asl_cli.specs.Faults.{AreGiven, IsRunReason, IsAccepted, IsDefinition
 use Rattle.asl_cli.specs.Streams.{FileSystem, Io}
 use Rattle.asl_cli.specs.Answers.{IsDone}
 
-abbrev pub language_of : GraphFormat → Language
-language_of format.Mermaid = Mermaid
-language_of format.Dot = Dot
+abbrev pub format_of : GraphFormat → Format
+format_of format.Mermaid = Mermaid
+format_of format.Markdown = Markdown
+format_of format.Dot = Dot
 
 -- the file that the words name may give a definition of a machine with this graph
 pub record IsDefinitionGraph (gives : List ℕ → List ℕ → Type 0) (w : GraphWords) (graph : List ℕ) : Type 0
   where
     pub machine : Data
     pub accepted : IsAccepted gives w.definition machine
-    pub drawn : graph ≡ graph_text (language_of w.format) machine
+    pub drawn : graph ≡ graph_text (format_of w.format) machine
 
 -- the files that the words name may give the texts of a run with this graph, in which the states are
 -- marked that it enters
-pub record IsRunGraph (gives : List ℕ → List ℕ → Type 0) (w : SetupWords) (language : Language)
+pub record IsRunGraph (gives : List ℕ → List ℕ → Type 0) (w : SetupWords) (drawn_as : Format)
     (graph : List ℕ) : Type 0 where
   pub texts : Texts
   pub given : AreGiven gives w None texts
-  pub is_run : IsMarkedRunOf language texts most_steps graph
+  pub is_run : IsMarkedRunOf drawn_as texts most_steps graph
 
 -- the graph of the definition, or that of a run
 abbrev pub IsGraphBy : (List ℕ → List ℕ → Type 0) → GraphWords → Option SetupWords → List ℕ → Type 0
 IsGraphBy gives w None graph = IsDefinitionGraph gives w graph
-IsGraphBy gives w (Some r) graph = IsRunGraph gives r (language_of w.format) graph
+IsGraphBy gives w (Some r) graph = IsRunGraph gives r (format_of w.format) graph
 
 abbrev pub IsGraph : (List ℕ → List ℕ → Type 0) → GraphWords → List ℕ → Type 0
 IsGraph gives w graph = IsGraphBy gives w w.run graph

@@ -6,7 +6,7 @@ ghost use Rattle.asl_exec.specs.Driving.{most_steps};
 ghost use Rattle.asl_run_formats.specs.Marked.{IsMarkedRunOf};
 ghost use Rattle.asl_host.specs.Outcomes.{sink_use};
 ghost use Rattle.asl_cli.specs.Streams.{file_system, io};
-ghost use Rattle.asl_cli.specs.Graphing.{language_of, IsDefinitionGraph, IsRunGraph, IsGraph, IsGraphReason, IsDrawn};
+ghost use Rattle.asl_cli.specs.Graphing.{format_of, IsDefinitionGraph, IsRunGraph, IsGraph, IsGraphReason, IsDrawn};
 ghost use Rattle.asl_cli.specs.Faults.{IsTextsReason, IsRunReason, IsDefinitionReason};
 
 use crate::checking::machine_in;
@@ -16,7 +16,7 @@ use crate::mending::of_run;
 use crate::reading::read_texts;
 use asl_def::Machine;
 use asl_exec::most_steps;
-use asl_graph::Language;
+use asl_graph::Format;
 use asl_history::Sink;
 use asl_host::Files;
 use asl_run_formats::emulate_marked;
@@ -58,7 +58,7 @@ fn graph_in<'a, F: Files>(
 {
     match &words.run {
         None => definition_graph(alloc, words, files),
-        Some(setup) => run_graph(alloc, language_of(words.format), setup, files),
+        Some(setup) => run_graph(alloc, format_of(words.format), setup, files),
     }
 }
 
@@ -66,18 +66,18 @@ fn graph_in<'a, F: Files>(
 /// that it takes.
 fn run_graph<'a, F: Files>(
     alloc: Global,
-    language: Language,
+    format: Format,
     words: &SetupWords<'a>,
     files: &mut F,
 ) -> Result<String, CommandFault<'a>>
     ensures graph { IfOk result
-        (λ t. IsRunGraph (F.gives files.old) words.now language (string_bytes t)) }
+        (λ t. IsRunGraph (F.gives files.old) words.now format (string_bytes t)) }
     ensures refused { IfErr result
         (IsRunReason (F.gives files.old) (F.lacks files.old) words.now None) }
 {
     let texts = read_texts(alloc, files, words)?;
     let given = texts.of_run(None);
-    match graph_given(alloc, language, words, &given) {
+    match graph_given(alloc, format, words, &given) {
         Ok(text) => Ok(text),
         Err(refusal) => Err(refusal),
     }
@@ -86,15 +86,15 @@ fn run_graph<'a, F: Files>(
 /// The graph of the run that was read.
 fn graph_given<'a>(
     alloc: Global,
-    language: Language,
+    format: Format,
     words: &SetupWords<'_>,
     texts: &RunTexts<'_>,
 ) -> Result<String, CommandFault<'a>>
     ensures run { IfOk result
-        (λ t. IsMarkedRunOf language (texts_of texts.now) most_steps (string_bytes t)) }
+        (λ t. IsMarkedRunOf format (texts_of texts.now) most_steps (string_bytes t)) }
     ensures refused { IfErr result (IsTextsReason (texts_of texts.now)) }
 {
-    match emulate_marked(alloc, language, texts, most_steps()) {
+    match emulate_marked(alloc, format, texts, most_steps()) {
         Ok(text) => Ok(text),
         Err(EmulateFault::OutOfMemory) => Err(CommandFault::OutOfMemory),
         Err(fault) => match of_run(alloc, words, None, texts, &fault) {
@@ -122,19 +122,20 @@ fn definition_graph<'a, F: Files>(
     }
 }
 
-fn language_of(format: GraphFormat) -> Language
-    ensures { result ≡ language_of format }
+fn format_of(format: GraphFormat) -> Format
+    ensures { result ≡ format_of format }
 {
     match format {
-        GraphFormat::Mermaid => Language::Mermaid,
-        GraphFormat::Dot => Language::Dot,
+        GraphFormat::Mermaid => Format::Mermaid,
+        GraphFormat::Markdown => Format::Markdown,
+        GraphFormat::Dot => Format::Dot,
     }
 }
 
 /// The graph of a machine.
 fn graph_of(alloc: Global, format: GraphFormat, machine: &Machine) -> Result<String, AllocError>
-    ensures { IfOk result (λ t. string_bytes t ≡ graph_text (language_of format) machine.now) }
+    ensures { IfOk result (λ t. string_bytes t ≡ graph_text (format_of format) machine.now) }
 {
     let definition = machine.json(alloc)?;
-    asl_graph::graph(alloc, language_of(format), &definition)
+    asl_graph::graph(alloc, format_of(format), &definition)
 }

@@ -1,13 +1,17 @@
 -- The lines of a graph, in both languages.
-use Rattle.std.specs.Prelude.{ℕ, Bool, true, false, List, [], ◌∷◌, ◌++◌, codes}
+use Rattle.std.specs.Prelude.{ℕ, Bool, true, false, List, [], ◌∷◌, ◌++◌, if◌then◌else◌, codes}
+use Rattle.asl_json.specs.Same.{bytes_eq}
 use Rattle.asl_graph.specs.declared.language.Language.{Language}
 use Rattle.asl_graph.specs.declared.language.Language.TheVariants.{Mermaid, Dot}
 use Rattle.asl_graph.specs.Names.{shown, state_id, box_key}
 
 -- ---- the beginning and the end
 
+-- Mermaid names the styles of states in which a run fails or succeeds once
 unfoldable pub heading : Language → List ℕ
-heading Mermaid = codes "flowchart TD" ++ 10 ∷ []
+heading Mermaid =
+    codes "flowchart TD"
+    ++ 10 ∷ (codes "classDef fail stroke:#c00" ++ 10 ∷ (codes "classDef succeed stroke:#080" ++ 10 ∷ []))
 heading Dot =
     codes "digraph {"
     ++ 10 ∷ (codes "node [shape=box];" ++ 10 ∷ (codes "labeljust=l;" ++ 10 ∷ []))
@@ -28,8 +32,16 @@ unfoldable pub label_open : Language → List ℕ
 label_open Mermaid = codes "[\""
 label_open Dot = codes " [label=\""
 
-unfoldable pub label_close : List ℕ
-label_close = codes "\"]"
+-- by the state's type: red for Fail, green for Succeed
+unfoldable pub label_close : Language → List ℕ → List ℕ
+label_close Mermaid kind =
+    if bytes_eq kind (codes "Fail") then codes "\"]:::fail"
+    else if bytes_eq kind (codes "Succeed") then codes "\"]:::succeed"
+    else codes "\"]"
+label_close Dot kind =
+    if bytes_eq kind (codes "Fail") then codes "\", color=red3]"
+    else if bytes_eq kind (codes "Succeed") then codes "\", color=green4]"
+    else codes "\"]"
 
 unfoldable pub label_break : Language → List ℕ
 label_break Mermaid = codes "<br/>"
@@ -43,7 +55,7 @@ state_label l name kind mark = shown l name ++ (label_break l ++ (shown l kind +
 abbrev pub state_line : Language → List ℕ → List ℕ → List ℕ → List ℕ
 state_line l name kind mark =
     state_id name
-    ++ (label_open l ++ (state_label l name kind mark ++ (label_close ++ line_end l)))
+    ++ (label_open l ++ (state_label l name kind mark ++ (label_close l kind ++ line_end l)))
 
 -- ---- transitions
 
@@ -82,21 +94,38 @@ labelled_line Dot taken from label to =
     state_id from
     ++ (codes " -> " ++ (state_id to ++ (codes " [label=\"" ++ (label ++ label_end taken))))
 
--- ---- where a machine begins
+-- ---- where a machine begins and where it ends, by what tells it from others
 
-unfoldable pub mark_label : Language → List ℕ
-mark_label Mermaid = codes "((\" \"))"
-mark_label Dot = codes " [shape=point]"
+abbrev pub begin_mark : List ℕ → List ℕ
+begin_mark key = 105 ∷ key
 
--- the mark with this identifier, and from it to the first state
+abbrev pub end_mark : List ℕ → List ℕ
+end_mark key = 101 ∷ key
+
+unfoldable pub begin_label : Language → List ℕ
+begin_label Mermaid = codes "((\" \"))"
+begin_label Dot = codes " [shape=point]"
+
+unfoldable pub end_label : Language → List ℕ
+end_label Mermaid = codes "(((\" \")))"
+end_label Dot = codes " [shape=point, peripheries=2]"
+
+abbrev pub both_marks : Language → List ℕ → List ℕ
+both_marks l key =
+    (begin_mark key ++ (begin_label l ++ line_end l)) ++ (end_mark key ++ (end_label l ++ line_end l))
+
+-- from where it begins to its first state
+abbrev pub begin_line : Language → Bool → List ℕ → List ℕ → List ℕ
+begin_line l taken key first =
+    begin_mark key ++ (arrow l taken ++ (state_id first ++ edge_end l taken))
+
 abbrev pub begin_lines : Language → Bool → List ℕ → List ℕ → List ℕ
-begin_lines l taken mark first =
-    (mark ++ (mark_label l ++ line_end l))
-    ++ (mark ++ (arrow l taken ++ (state_id first ++ edge_end l taken)))
+begin_lines l taken key first = both_marks l key ++ begin_line l taken key first
 
--- the mark of the machine with this number inside a state
-abbrev pub inner_mark : List ℕ → ℕ → List ℕ
-inner_mark name i = 105 ∷ box_key name i
+-- from a state in which it ends
+abbrev pub end_line : Language → List ℕ → List ℕ → List ℕ
+end_line l key from =
+    state_id from ++ (arrow l false ++ (end_mark key ++ edge_end l false))
 
 -- ---- boxes
 
@@ -133,4 +162,4 @@ box_heading l name i told =
 -- its end, and from the state into it
 abbrev pub box_ending : Language → List ℕ → ℕ → List ℕ
 box_ending l name i =
-    box_close l ++ (state_id name ++ (dotted l ++ (inner_mark name i ++ dotted_end l)))
+    box_close l ++ (state_id name ++ (dotted l ++ (begin_mark (box_key name i) ++ dotted_end l)))

@@ -4,9 +4,11 @@ use Rattle.std.specs.List.{flat_map}
 use Rattle.asl_json_data.specs.Data.{Data}
 use Rattle.asl_graph.specs.declared.language.Language.{Language}
 use Rattle.asl_graph.specs.declared.language.Language.TheVariants.{Mermaid, Dot}
+use Rattle.asl_graph.specs.declared.format.Format.{Format}
 use Rattle.asl_graph.specs.declared.edges.Edge.{Edge}
 use Rattle.asl_graph.specs.Names.{state_id}
 use Rattle.asl_graph.specs.Lines.{ending}
+use Rattle.asl_graph.specs.Formats.{language_of, printed}
 use Rattle.asl_graph.specs.Graphs.{lines_of}
 
 -- Mermaid names the style of marked states once
@@ -30,5 +32,8 @@ abbrev pub mark_lines : Language → List (List ℕ) → List ℕ
 mark_lines l names = mark_style l ++ flat_map (mark_line l) names
 
 -- the graph, with these transitions thick, and the states of these names marked behind all others
-abbrev pub marked_text : Language → List (List ℕ) → List Edge → Data → List ℕ
-marked_text l names es d = lines_of l es d ++ (mark_lines l names ++ ending l)
+abbrev pub marked_in : Language → List (List ℕ) → List Edge → Data → List ℕ
+marked_in l names es d = lines_of l es d ++ (mark_lines l names ++ ending l)
+
+abbrev pub marked_text : Format → List (List ℕ) → List Edge → Data → List ℕ
+marked_text f names es d = printed f (marked_in (language_of f) names es d)

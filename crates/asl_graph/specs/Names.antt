@@ -1,5 +1,5 @@
 -- Names in graphs: as labels, and as identifiers.
-use Rattle.std.specs.Prelude.{ℕ, Bool, false, not, List, [], ◌∷◌, ◌++◌, ◌&&◌, ◌||◌, ◌==◌, nat_le, nat_lt, if◌then◌else◌, codes}
+use Rattle.std.specs.Prelude.{ℕ, Bool, true, false, not, List, [], ◌∷◌, ◌++◌, ◌&&◌, ◌||◌, ◌==◌, length, take, nat_le, nat_lt, if◌then◌else◌, codes}
 use Rattle.std.specs.List.{flat_map}
 use Rattle.std.specs.Str.{chars}
 use Rattle.std.specs.Char.{encode_utf8, is_ascii_alphanumeric}
@@ -56,6 +56,17 @@ shown_behind l before (c ∷ cs) = shown_char l before c ++ shown_behind l c cs
 
 abbrev pub shown : Language → List ℕ → List ℕ
 shown l t = shown_behind l 0 (chars t)
+
+-- of a text of more characters than 60, these, and a mark that there are others
+abbrev pub most : ℕ
+most = 60
+
+abbrev pub more_mark : Bool → List ℕ
+more_mark true = codes "..."
+more_mark false = []
+
+abbrev pub shown_short : Language → List ℕ → List ℕ
+shown_short l t = shown_behind l 0 (take most (chars t)) ++ more_mark (nat_lt most (length (chars t)))
 
 -- ---- identifiers
 

@@ -5,6 +5,7 @@ ghost use Rattle.asl_graph.specs.Graphs.{lines_of, graph_text};
 ghost use Rattle.asl_graph.specs.Marks.{marked_text};
 
 use crate::edges::Edge;
+use crate::format::Format;
 use crate::language::Language;
 use crate::leading::put_first_lines;
 use crate::lines::{ending, heading};
@@ -25,18 +26,20 @@ fn put_lines(
         ≡ string_bytes out.old ++ lines_of language edges.now (data_of definition.now)) }
 {
     out.push_str(heading(language))?;
-    put_first_lines(out, language, edges, "i", definition)?;
-    put_machine_lines(alloc, out, language, edges, definition)
+    put_first_lines(out, language, edges, "", definition)?;
+    put_machine_lines(alloc, out, language, edges, "", definition)
 }
 
 /// The graph of a definition in canonical form: each state with its type, its transitions and a mark for its retriers, and the machines
 /// inside states as boxes. Names are written so that both languages take any of them. The error is that memory ran out.
-pub fn graph(alloc: Global, language: Language, definition: &Json) -> Result<String, AllocError>
-    ensures { IfOk result (λ t. string_bytes t ≡ graph_text language (data_of definition.now)) }
+pub fn graph(alloc: Global, format: Format, definition: &Json) -> Result<String, AllocError>
+    ensures { IfOk result (λ t. string_bytes t ≡ graph_text format (data_of definition.now)) }
 {
     let mut out = String::new(alloc);
-    put_lines(alloc, &mut out, language, &[], definition)?;
-    out.push_str(ending(language))?;
+    out.push_str(format.opening())?;
+    put_lines(alloc, &mut out, format.language(), &[], definition)?;
+    out.push_str(ending(format.language()))?;
+    out.push_str(format.closing())?;
     Ok(out)
 }
 
@@ -44,18 +47,21 @@ pub fn graph(alloc: Global, language: Language, definition: &Json) -> Result<Str
 /// took. The error is that memory ran out.
 pub fn marked_graph(
     alloc: Global,
-    language: Language,
+    format: Format,
     names: &[String],
     edges: &[Edge],
     definition: &Json,
 ) -> Result<String, AllocError>
     ensures { IfOk result (λ t. string_bytes t
-        ≡ marked_text language (map string_bytes names.now) edges.now (data_of definition.now)) }
+        ≡ marked_text format (map string_bytes names.now) edges.now (data_of definition.now)) }
 {
+    let language = format.language();
     let mut out = String::new(alloc);
+    out.push_str(format.opening())?;
     put_lines(alloc, &mut out, language, edges, definition)?;
     put_mark_lines(&mut out, language, names)?;
     let end = ending(language);
     out.push_str(end)?;
+    out.push_str(format.closing())?;
     Ok(out)
 }

@@ -1,45 +1,21 @@
 // A state, and where it leads.
 ghost use Rattle.std.specs.Prelude.{◌≡◌, ◌++◌, ◌∷◌, Some, IfOk, OnOk, option_map, string_bytes, codes};
-ghost use Rattle.std.specs.Fmt.{decimal};
 ghost use Rattle.asl_json_data.specs.Data.{chain};
 ghost use Rattle.asl_json.specs.View.{data_of, items_of};
+ghost use Rattle.asl_graph.specs.Members.{text_in, text_at, items_at};
 ghost use Rattle.asl_graph.specs.Names.{shown};
-ghost use Rattle.asl_graph.specs.Graphs.{text_in, text_at, items_at, retry_mark, own_line, next_line, default_line, rule_lines, errors_shown, catcher_lines, state_lines, first_lines};
+ghost use Rattle.asl_graph.specs.Graphs.{retry_mark, own_line, next_line, default_line, rule_label, rule_lines, errors_shown, catcher_lines, is_true, is_end_kind, is_end, last_line, state_lines, first_lines};
 
+use crate::conditions::put_condition;
 use crate::edges::{Edge, Way, is_taken};
 use crate::language::Language;
-use crate::lines::{put_begin_lines, put_labelled_line, put_plain_line, put_state_line};
-use crate::naming::put_shown;
+use crate::lines::{
+    put_begin_lines, put_end_line, put_labelled_line, put_plain_line, put_state_line,
+};
+use crate::members::{items_at, text_at, text_in};
+use crate::naming::{put_shown, put_shown_short};
 use asl_json::Json;
-use asl_text::put_decimal;
 use std::alloc::{AllocError, Global};
-
-/// The text that a value is; empty for any other.
-fn text_in<'a>(value: Option<&'a Json>) -> &'a str
-    ensures { result.now ≡ text_in (option_map (λ v. data_of v.now) value.entry) }
-{
-    match value {
-        Some(Json::Text(text)) => text.as_str(),
-        _ => "",
-    }
-}
-
-/// The text of the member with this key; empty where it is none.
-fn text_at<'a>(value: &'a Json, key: &str) -> &'a str
-    ensures { result.now ≡ text_at key.now (data_of value.now) }
-{
-    text_in(value.get(key))
-}
-
-/// The items of the member with this key; none where it is no list.
-fn items_at<'a>(value: &'a Json, key: &str) -> &'a [Json]
-    ensures { chain (items_of result.now) ≡ items_at key.now (data_of value.now) }
-{
-    match value.get(key) {
-        Some(value) => value.items(),
-        None => &[],
-    }
-}
 
 /// What marks a state that has retriers.
 fn retry_mark(retriers: Option<&Json>) -> &'static str
@@ -102,13 +78,15 @@ fn put_default_line(
     }
 }
 
-/// The label of the rule with this number.
-fn rule_label(alloc: Global, number: usize) -> Result<String, AllocError>
-    ensures { IfOk result (λ t. string_bytes t ≡ codes "rule " ++ decimal number) }
+/// The label of a rule: its condition, cut where it is long.
+#[tactic(auto, unfolding(crate::specs::Graphs::rule_label))]
+fn rule_label(alloc: Global, language: Language, rule: &Json) -> Result<String, AllocError>
+    ensures { IfOk result (λ t. string_bytes t ≡ rule_label language (data_of rule.now)) }
 {
+    let mut told = String::new(alloc);
+    put_condition(&mut told, false, rule)?;
     let mut label = String::new(alloc);
-    label.push_str("rule ")?;
-    put_decimal(&mut label, number as u64)?;
+    put_shown_short(&mut label, language, told.as_str())?;
     Ok(label)
 }
 
@@ -124,7 +102,7 @@ fn put_rule_lines(
         ++ rule_lines language edges.now name.now 0 (chain (items_of rules.now))) }
 {
     for (number, rule) in rules.iter().enumerate() {
-        let label = rule_label(alloc, number)?;
+        let label = rule_label(alloc, language, rule)?;
         let taken = is_taken(edges, name, Way::Rule(number));
         let next = text_at(rule, "Next");
         put_labelled_line(out, language, taken, name, label.as_str(), next)?;
@@ -181,34 +159,77 @@ fn put_catcher_lines(
     Ok(())
 }
 
-/// Appends the mark where a machine begins, with this identifier, and the line from it to the first state. The error is that memory ran
-/// out.
+fn is_true(value: Option<&Json>) -> bool
+    ensures { result ≡ is_true (option_map (λ v. data_of v.now) value.entry) }
+{
+    match value {
+        Some(Json::Bool(value)) => *value,
+        _ => false,
+    }
+}
+
+fn is_end_kind(kind: &str) -> bool
+    ensures { result ≡ is_end_kind kind.now }
+{
+    match kind {
+        "Succeed" | "Fail" => true,
+        _ => false,
+    }
+}
+
+/// Whether a machine ends in this state.
+fn is_end(state: &Json) -> bool
+    ensures { result ≡ is_end (data_of state.now) }
+{
+    is_true(state.get("End")) || is_end_kind(text_at(state, "Type"))
+}
+
+fn put_last_line(
+    out: &mut String,
+    language: Language,
+    key: &str,
+    name: &str,
+    state: &Json,
+) -> Result<(), AllocError>
+    ensures { OnOk result (string_bytes out.new
+        ≡ string_bytes out.old ++ last_line language key.now name.now (data_of state.now)) }
+{
+    if is_end(state) {
+        put_end_line(out, language, key, name)?;
+    }
+    Ok(())
+}
+
+/// Appends the marks where a machine begins and where it ends, by what tells it from others, and the line to its first state. The error is
+/// that memory ran out.
 pub(crate) fn put_first_lines(
     out: &mut String,
     language: Language,
     edges: &[Edge],
-    mark: &str,
+    key: &str,
     machine: &Json,
 ) -> Result<(), AllocError>
     ensures { OnOk result (string_bytes out.new ≡ string_bytes out.old
-        ++ first_lines language edges.now mark.now (text_at (codes "StartAt") (data_of machine.now))) }
+        ++ first_lines language edges.now key.now (text_at (codes "StartAt") (data_of machine.now))) }
 {
     let first = text_at(machine, "StartAt");
     let taken = is_taken(edges, first, Way::Start);
-    put_begin_lines(out, language, taken, mark, first)
+    put_begin_lines(out, language, taken, key, first)
 }
 
-/// Appends the lines of a state: its own, and one for each transition. The error is that memory ran out.
+/// Appends the lines of a state: its own, and one for each transition; its machine's key tells that from others. The error is that memory
+/// ran out.
 pub(crate) fn put_state_lines(
     alloc: Global,
     out: &mut String,
     language: Language,
     edges: &[Edge],
+    key: &str,
     name: &str,
     state: &Json,
 ) -> Result<(), AllocError>
     ensures { OnOk result (string_bytes out.new
-        ≡ string_bytes out.old ++ state_lines language edges.now name.now (data_of state.now)) }
+        ≡ string_bytes out.old ++ state_lines language edges.now key.now name.now (data_of state.now)) }
 {
     put_own_line(out, language, name, state)?;
     put_next_line(out, language, edges, name, state.get("Next"))?;
@@ -221,5 +242,6 @@ pub(crate) fn put_state_lines(
         items_at(state, "Choices"),
     )?;
     put_default_line(out, language, edges, name, state.get("Default"))?;
-    put_catcher_lines(alloc, out, language, edges, name, items_at(state, "Catch"))
+    put_catcher_lines(alloc, out, language, edges, name, items_at(state, "Catch"))?;
+    put_last_line(out, language, key, name, state)
 }

@@ -1,6 +1,6 @@
 // The lines of a graph.
 ghost use Rattle.std.specs.Prelude.{◌≡◌, ◌++◌, OnOk, string_bytes};
-ghost use Rattle.asl_graph.specs.Lines.{heading, ending, arrow, line_end, edge_end, label_arrow, label_end, label_open, label_close, label_break, state_label, state_line, plain_line, labelled_line, mark_label, begin_lines, inner_mark, box_open, box_label, box_label_end, box_close, box_heading, box_ending, dotted, dotted_end};
+ghost use Rattle.asl_graph.specs.Lines.{heading, ending, arrow, line_end, edge_end, label_arrow, label_end, label_open, label_close, label_break, state_label, state_line, plain_line, labelled_line, begin_label, end_label, both_marks, begin_line, begin_lines, end_line, box_open, box_label, box_label_end, box_close, box_heading, box_ending, dotted, dotted_end};
 
 use crate::language::Language;
 use crate::naming::{put_box_key, put_shown, put_state_id};
@@ -11,7 +11,8 @@ pub(crate) fn heading(language: Language) -> &'static str
     ensures { result.now ≡ heading language }
 {
     match language {
-        Language::Mermaid => "flowchart TD\n",
+        Language::Mermaid =>
+            "flowchart TD\nclassDef fail stroke:#c00\nclassDef succeed stroke:#080\n",
         Language::Dot => "digraph {\nnode [shape=box];\nlabeljust=l;\n",
     }
 }
@@ -96,11 +97,23 @@ fn label_break(language: Language) -> &'static str
     }
 }
 
+/// What ends the label of a state of this type.
 #[tactic(auto, unfolding(crate::specs::Lines::label_close))]
-fn put_label_close(out: &mut String) -> Result<(), AllocError>
-    ensures { OnOk result (string_bytes out.new ≡ string_bytes out.old ++ label_close) }
+fn label_close(language: Language, kind: &str) -> &'static str
+    ensures { result.now ≡ label_close language kind.now }
 {
-    out.push_str("\"]")
+    match language {
+        Language::Mermaid => match kind {
+            "Fail" => "\"]:::fail",
+            "Succeed" => "\"]:::succeed",
+            _ => "\"]",
+        },
+        Language::Dot => match kind {
+            "Fail" => "\", color=red3]",
+            "Succeed" => "\", color=green4]",
+            _ => "\"]",
+        },
+    }
 }
 
 /// Appends the label of a state of this name, type and mark.
@@ -134,7 +147,7 @@ pub(crate) fn put_state_line(
     put_state_id(out, name)?;
     out.push_str(label_open(language))?;
     put_state_label(out, language, name, kind, mark)?;
-    put_label_close(out)?;
+    out.push_str(label_close(language, kind))?;
     out.push_str(line_end(language))
 }
 
@@ -209,9 +222,9 @@ pub(crate) fn put_labelled_line(
     }
 }
 
-#[tactic(auto, unfolding(crate::specs::Lines::mark_label))]
-fn mark_label(language: Language) -> &'static str
-    ensures { result.now ≡ mark_label language }
+#[tactic(auto, unfolding(crate::specs::Lines::begin_label))]
+fn begin_label(language: Language) -> &'static str
+    ensures { result.now ≡ begin_label language }
 {
     match language {
         Language::Mermaid => "((\" \"))",
@@ -219,34 +232,78 @@ fn mark_label(language: Language) -> &'static str
     }
 }
 
-/// Appends the mark where a machine begins, with this identifier, and the line from it to the first state; a thick one where it was
-/// taken.
-pub(crate) fn put_begin_lines(
+#[tactic(auto, unfolding(crate::specs::Lines::end_label))]
+fn end_label(language: Language) -> &'static str
+    ensures { result.now ≡ end_label language }
+{
+    match language {
+        Language::Mermaid => "(((\" \")))",
+        Language::Dot => " [shape=point, peripheries=2]",
+    }
+}
+
+/// Appends the marks where a machine begins and where it ends, by what tells it from others.
+fn put_both_marks(out: &mut String, language: Language, key: &str) -> Result<(), AllocError>
+    ensures { OnOk result (string_bytes out.new
+        ≡ string_bytes out.old ++ both_marks language key.now) }
+{
+    out.push('i')?;
+    out.push_str(key)?;
+    out.push_str(begin_label(language))?;
+    out.push_str(line_end(language))?;
+    out.push('e')?;
+    out.push_str(key)?;
+    out.push_str(end_label(language))?;
+    out.push_str(line_end(language))
+}
+
+fn put_begin_line(
     out: &mut String,
     language: Language,
     taken: bool,
-    mark: &str,
+    key: &str,
     first: &str,
 ) -> Result<(), AllocError>
     ensures { OnOk result (string_bytes out.new
-        ≡ string_bytes out.old ++ begin_lines language taken mark.now first.now) }
+        ≡ string_bytes out.old ++ begin_line language taken key.now first.now) }
 {
-    out.push_str(mark)?;
-    out.push_str(mark_label(language))?;
-    out.push_str(line_end(language))?;
-    out.push_str(mark)?;
+    out.push('i')?;
+    out.push_str(key)?;
     out.push_str(arrow(language, taken))?;
     put_state_id(out, first)?;
     out.push_str(edge_end(language, taken))
 }
 
-/// Appends the identifier of the mark where the machine with this number inside a state begins.
-pub(crate) fn put_inner_mark(out: &mut String, name: &str, number: usize) -> Result<(), AllocError>
+/// Appends both marks of a machine, and the line to its first state; a thick one where it was taken.
+pub(crate) fn put_begin_lines(
+    out: &mut String,
+    language: Language,
+    taken: bool,
+    key: &str,
+    first: &str,
+) -> Result<(), AllocError>
     ensures { OnOk result (string_bytes out.new
-        ≡ string_bytes out.old ++ inner_mark name.now number) }
+        ≡ string_bytes out.old ++ begin_lines language taken key.now first.now) }
 {
-    out.push('i')?;
-    put_box_key(out, name, number)
+    put_both_marks(out, language, key)?;
+    put_begin_line(out, language, taken, key, first)
+}
+
+/// Appends the line from a state to the mark where its machine ends.
+pub(crate) fn put_end_line(
+    out: &mut String,
+    language: Language,
+    key: &str,
+    from: &str,
+) -> Result<(), AllocError>
+    ensures { OnOk result (string_bytes out.new
+        ≡ string_bytes out.old ++ end_line language key.now from.now) }
+{
+    put_state_id(out, from)?;
+    out.push_str(arrow(language, false))?;
+    out.push('e')?;
+    out.push_str(key)?;
+    out.push_str(edge_end(language, false))
 }
 
 #[tactic(auto, unfolding(crate::specs::Lines::box_open))]
@@ -341,6 +398,7 @@ pub(crate) fn put_box_ending(
     out.push_str(box_close(language))?;
     put_state_id(out, name)?;
     out.push_str(dotted(language))?;
-    put_inner_mark(out, name, number)?;
+    out.push('i')?;
+    put_box_key(out, name, number)?;
     out.push_str(dotted_end(language))
 }

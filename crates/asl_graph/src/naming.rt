@@ -1,11 +1,15 @@
 // Names in graphs.
-ghost use Rattle.std.specs.Prelude.{◌≡◌, ◌++◌, OnOk, string_bytes};
+ghost use Rattle.std.specs.Prelude.{◌≡◌, ◌++◌, OnOk, string_bytes, length, take, nat_lt};
 ghost use Rattle.std.specs.Fmt.{decimal};
-ghost use Rattle.asl_graph.specs.Names.{is_kept, is_refused, entity_lead, numbered, entity, marks_item, shown_char, shown, word_char, word, state_id, box_key};
+ghost use Rattle.std.specs.Str.{chars};
+ghost use Rattle.asl_graph.specs.Names.{is_kept, is_refused, entity_lead, numbered, entity, marks_item, shown_char, shown_behind, shown, most, more_mark, shown_short, word_char, word, state_id, box_key};
 
 use crate::language::Language;
 use asl_text::{is_hidden, put_decimal};
 use std::alloc::AllocError;
+
+/// How many characters of a text stand in a label that may be cut.
+const MOST: usize = 60;
 
 /// Whether a character stands in a label as it is, in both languages.
 fn is_kept(character: char) -> bool
@@ -98,6 +102,42 @@ pub(crate) fn put_shown(out: &mut String, language: Language, name: &str) -> Res
     for character in name.chars() {
         put_shown_char(out, language, before, character)?;
         before = character;
+    }
+    Ok(())
+}
+
+/// Appends the first characters of a text as they stand in a label.
+fn put_first(out: &mut String, language: Language, text: &str) -> Result<(), AllocError>
+    ensures { OnOk result (string_bytes out.new
+        ≡ string_bytes out.old ++ shown_behind language 0 (take most (chars text.now))) }
+{
+    let mut last = '\0';
+    for character in text.chars().take(MOST) {
+        put_shown_char(out, language, last, character)?;
+        last = character;
+    }
+    Ok(())
+}
+
+/// Whether a text has more characters than those.
+fn has_more(text: &str) -> bool
+    ensures { result ≡ nat_lt most (length (chars text.now)) }
+{
+    text.chars().count() > MOST
+}
+
+/// Appends a text as it stands in a label, cut where it is long.
+pub(crate) fn put_shown_short(
+    out: &mut String,
+    language: Language,
+    text: &str,
+) -> Result<(), AllocError>
+    ensures { OnOk result (string_bytes out.new
+        ≡ string_bytes out.old ++ shown_short language text.now) }
+{
+    put_first(out, language, text)?;
+    if has_more(text) {
+        out.push_str("...")?;
     }
     Ok(())
 }

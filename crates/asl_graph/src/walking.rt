@@ -1,13 +1,14 @@
 // The states of a machine, and of the machines inside it.
 ghost use Rattle.std.specs.Prelude.{◌≡◌, ◌++◌, Some, IfOk, OnOk, string_bytes};
 ghost use Rattle.asl_json.specs.View.{data_of};
-ghost use Rattle.asl_graph.specs.Lines.{inner_mark};
+ghost use Rattle.asl_graph.specs.Names.{box_key};
 ghost use Rattle.asl_graph.specs.Graphs.{boxed, branch_told, machine_lines, machine_part, states_lines, inner_lines, state_part, branches_lines};
 
 use crate::edges::Edge;
 use crate::language::Language;
 use crate::leading::{put_first_lines, put_state_lines};
-use crate::lines::{put_box_ending, put_box_heading, put_inner_mark};
+use crate::lines::{put_box_ending, put_box_heading};
+use crate::naming::put_box_key;
 use asl_json::{Json, Member};
 use asl_text::put_decimal;
 use std::alloc::{AllocError, Global};
@@ -22,36 +23,31 @@ fn branch_told(alloc: Global, number: usize) -> Result<String, AllocError>
     Ok(told)
 }
 
-/// The identifier of the mark where the machine with this number inside a state begins.
-fn mark_of(alloc: Global, name: &str, number: usize) -> Result<String, AllocError>
-    ensures { IfOk result (λ t. string_bytes t ≡ inner_mark name.now number) }
+/// What tells the machine with this number inside a state from others.
+fn key_of(alloc: Global, name: &str, number: usize) -> Result<String, AllocError>
+    ensures { IfOk result (λ t. string_bytes t ≡ box_key name.now number) }
 {
-    let mut mark = String::new(alloc);
-    put_inner_mark(&mut mark, name, number)?;
-    Ok(mark)
+    let mut key = String::new(alloc);
+    put_box_key(&mut key, name, number)?;
+    Ok(key)
 }
 
-/// Appends the lines of the states of a machine. The error is that memory ran out.
+/// Appends the lines of the states of a machine, by what tells it from others. The error is that memory ran out.
 #[cycle(walk)]
 pub(crate) fn put_machine_lines(
     alloc: Global,
     out: &mut String,
     language: Language,
     edges: &[Edge],
+    key: &str,
     machine: &Json,
 ) -> Result<(), AllocError>
     ensures { OnOk result (string_bytes out.new
-        ≡ string_bytes out.old ++ machine_lines language edges.now (data_of machine.now)) }
+        ≡ string_bytes out.old ++ machine_lines language edges.now key.now (data_of machine.now)) }
 {
     for member in machine.members() {
-        put_machine_part(
-            alloc,
-            out,
-            language,
-            edges,
-            member.key.as_str(),
-            &member.value,
-        )?;
+        let part = member.key.as_str();
+        put_machine_part(alloc, out, language, edges, key, part, &member.value)?;
     }
     Ok(())
 }
@@ -63,13 +59,14 @@ fn put_machine_part(
     language: Language,
     edges: &[Edge],
     key: &str,
+    part: &str,
     value: &Json,
 ) -> Result<(), AllocError>
-    ensures { OnOk result (string_bytes out.new
-        ≡ string_bytes out.old ++ machine_part key.now (states_lines language edges.now (data_of value.now))) }
+    ensures { OnOk result (string_bytes out.new ≡ string_bytes out.old
+        ++ machine_part part.now (states_lines language edges.now key.now (data_of value.now))) }
 {
-    if key == "States" {
-        put_states_lines(alloc, out, language, edges, value)
+    if part == "States" {
+        put_states_lines(alloc, out, language, edges, key, value)
     } else {
         Ok(())
     }
@@ -81,14 +78,15 @@ fn put_states_lines(
     out: &mut String,
     language: Language,
     edges: &[Edge],
+    key: &str,
     states: &Json,
 ) -> Result<(), AllocError>
     ensures { OnOk result (string_bytes out.new
-        ≡ string_bytes out.old ++ states_lines language edges.now (data_of states.now)) }
+        ≡ string_bytes out.old ++ states_lines language edges.now key.now (data_of states.now)) }
 {
     for member in states.members() {
         let name = member.key.as_str();
-        put_state_lines(alloc, out, language, edges, name, &member.value)?;
+        put_state_lines(alloc, out, language, edges, key, name, &member.value)?;
         put_inner_lines(alloc, out, language, edges, name, &member.value)?;
     }
     Ok(())
@@ -134,7 +132,7 @@ fn put_state_part(
     ensures { OnOk result (string_bytes out.new
         ≡ string_bytes out.old ++ state_part language edges.now name.now key.now (data_of value.now)
         (branches_lines language edges.now name.now (data_of value.now))
-        (machine_lines language edges.now (data_of value.now))) }
+        (machine_lines language edges.now (box_key name.now 0) (data_of value.now))) }
 {
     if key == "Branches" {
         put_branches(alloc, out, language, edges, name, value)
@@ -179,11 +177,11 @@ fn put_boxed(
 ) -> Result<(), AllocError>
     ensures { OnOk result (string_bytes out.new ≡ string_bytes out.old
         ++ boxed language edges.now name.now number told.now (data_of machine.now)
-        (machine_lines language edges.now (data_of machine.now))) }
+        (machine_lines language edges.now (box_key name.now number) (data_of machine.now))) }
 {
     put_box_heading(out, language, name, number, told)?;
-    let mark = mark_of(alloc, name, number)?;
-    put_first_lines(out, language, edges, mark.as_str(), machine)?;
-    put_machine_lines(alloc, out, language, edges, machine)?;
+    let key = key_of(alloc, name, number)?;
+    put_first_lines(out, language, edges, key.as_str(), machine)?;
+    put_machine_lines(alloc, out, language, edges, key.as_str(), machine)?;
     put_box_ending(out, language, name, number)
 }

@@ -1,7 +1,7 @@
 -- The graph of a definition in which the states are marked that a run entered, and the transitions that
 -- it took.
 use Rattle.std.specs.Prelude.{◌≡◌, List, [], ℕ, Option}
-use Rattle.asl_graph.specs.declared.language.Language.{Language}
+use Rattle.asl_graph.specs.declared.format.Format.{Format}
 use Rattle.asl_graph.specs.Marks.{marked_text}
 use Rattle.asl_run_input.specs.declared.setup.Setup.{Setup}
 use Rattle.asl_run_input.specs.declared.step_at.StepAt.{StepAt}
@@ -13,18 +13,18 @@ use Rattle.asl_run_formats.specs.Edges.{with_steps}
 use Rattle.asl_run_formats.specs.Entered.{entered_in}
 
 -- the graph of this run
-abbrev pub run_graph : Language → ℕ → Setup → Option (List StepAt) → List ℕ
-run_graph language limit setup steps =
-    marked_text language (entered_in (world_by limit setup (opening setup) steps).events)
+abbrev pub run_graph : Format → ℕ → Setup → Option (List StepAt) → List ℕ
+run_graph format limit setup steps =
+    marked_text format (entered_in (world_by limit setup (opening setup) steps).events)
     (with_steps [] (facts_of setup) setup (opening setup)
     (taken_by limit setup (opening setup) steps))
     setup.machine
 
 -- the graph is that of the run that the texts spell; where no file names steps, those that come next are
 -- taken, at most so many
-pub record IsMarkedRunOf (language : Language) (t : Texts) (limit : ℕ) (graph : List ℕ) : Type 0
+pub record IsMarkedRunOf (format : Format) (t : Texts) (limit : ℕ) (graph : List ℕ) : Type 0
   where
     pub setup : Setup
     pub steps : Option (List StepAt)
     pub accepted : Accepts t setup steps
-    pub graph_is : graph ≡ run_graph language limit setup steps
+    pub graph_is : graph ≡ run_graph format limit setup steps

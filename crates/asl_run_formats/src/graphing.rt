@@ -9,20 +9,20 @@ use crate::driving::take_by;
 use crate::entering::entered_in;
 use crate::passing::passed;
 use asl_exec::Execution;
-use asl_graph::{Language, marked_graph};
+use asl_graph::{Format, marked_graph};
 use asl_run_input::{EmulateFault, Emulation, RunTexts, Setup, StepAt};
 use std::alloc::{AllocError, Global};
 
 /// The graph of the run of these steps, or, without a list, of those that come next, at most so many. The error is that memory ran out.
 fn graph_of(
     alloc: Global,
-    language: Language,
+    format: Format,
     setup: Setup,
     steps: Option<Vec<StepAt>>,
     limit: u32,
 ) -> Result<String, AllocError>
     ensures { IfOk result (λ t. string_bytes t
-        ≡ run_graph language limit setup (steps_in steps)) }
+        ≡ run_graph format limit setup (steps_in steps)) }
 {
     let mut execution = Execution::open(alloc, setup)?;
     let steps = take_by(alloc, &mut execution, steps, limit)?;
@@ -30,21 +30,21 @@ fn graph_of(
     execution.restart()?;
     let definition = execution.setup().machine.json(alloc)?;
     let edges = passed(alloc, &mut execution, &steps)?;
-    marked_graph(alloc, language, names.as_slice(), &edges, &definition)
+    marked_graph(alloc, format, names.as_slice(), &edges, &definition)
 }
 
 /// Runs an execution as `asl_exec::emulate_texts` does, with its faults, and writes the graph of its definition, in which the states are
 /// marked that it entered, and the transitions that it took.
 pub fn emulate_marked(
     alloc: Global,
-    language: Language,
+    format: Format,
     texts: &RunTexts<'_>,
     limit: u32,
 ) -> Result<String, EmulateFault>
     ensures run { IfOk result
-        (λ t. IsMarkedRunOf language (texts_of texts.now) limit (string_bytes t)) }
+        (λ t. IsMarkedRunOf format (texts_of texts.now) limit (string_bytes t)) }
     ensures fault { IfErr result (Unless (IsRefused (texts_of texts.now))) }
 {
     let emulation = Emulation::read(alloc, texts)?;
-    Ok(graph_of(alloc, language, emulation.setup, emulation.steps, limit)?)
+    Ok(graph_of(alloc, format, emulation.setup, emulation.steps, limit)?)
 }

@@ -47,7 +47,8 @@ abbrev pub lint_formats : List (List ℕ × LintFormat)
 lint_formats = (codes "text", lint.Text) ∷ (codes "json", lint.Json) ∷ (codes "sarif", lint.Sarif) ∷ []
 
 abbrev pub graph_formats : List (List ℕ × GraphFormat)
-graph_formats = (codes "mermaid", graph.Mermaid) ∷ (codes "dot", graph.Dot) ∷ []
+graph_formats =
+    (codes "mermaid", graph.Mermaid) ∷ (codes "markdown", graph.Markdown) ∷ (codes "dot", graph.Dot) ∷ []
 
 abbrev pub run_formats : List (List ℕ × RunFormat)
 run_formats =

@@ -102,6 +102,7 @@ fn graph_format_of(word: Option<&str>) -> Option<GraphFormat>
 {
     match word? {
         "mermaid" => Some(GraphFormat::Mermaid),
+        "markdown" => Some(GraphFormat::Markdown),
         "dot" => Some(GraphFormat::Dot),
         _ => None,
     }

@@ -65,11 +65,13 @@ pub struct LintWords<'a> {
     pub strict: bool,
 }
 
-/// The language in which a graph is printed.
+/// How a graph is printed.
 #[derive(Clone, Copy)]
 pub enum GraphFormat {
     /// A flowchart of Mermaid.
     Mermaid,
+    /// A flowchart of Mermaid in a fenced block of Markdown.
+    Markdown,
     /// A directed graph of DOT.
     Dot,
 }

@@ -29,10 +29,10 @@ decreases-put_boxed l = 4 * depth (data_of l.machine.now) + 1
 -- the lines so far and those of what is left are those of all
 
 abbrev pub invariant-put_machine_lines-loop-member : goal.invariant-put_machine_lines-loop-member
-invariant-put_machine_lines-loop-member l = string_bytes l.out ++ in_machine l.language l.edges (pairs (members_of (drop l.member-index l.member-items))) ≡ string_bytes l.fn.out ++ in_machine l.language l.edges (pairs (members_of l.member-items))
+invariant-put_machine_lines-loop-member l = string_bytes l.out ++ in_machine l.language l.edges l.key (pairs (members_of (drop l.member-index l.member-items))) ≡ string_bytes l.fn.out ++ in_machine l.language l.edges l.key (pairs (members_of l.member-items))
 
 abbrev pub invariant-put_states_lines-loop-member : goal.invariant-put_states_lines-loop-member
-invariant-put_states_lines-loop-member l = string_bytes l.out ++ in_states l.language l.edges (pairs (members_of (drop l.member-index l.member-items))) ≡ string_bytes l.fn.out ++ in_states l.language l.edges (pairs (members_of l.member-items))
+invariant-put_states_lines-loop-member l = string_bytes l.out ++ in_states l.language l.edges l.key (pairs (members_of (drop l.member-index l.member-items))) ≡ string_bytes l.fn.out ++ in_states l.language l.edges l.key (pairs (members_of l.member-items))
 
 abbrev pub invariant-put_inner_lines-loop-member : goal.invariant-put_inner_lines-loop-member
 invariant-put_inner_lines-loop-member l = string_bytes l.out ++ in_state l.language l.edges l.name (pairs (members_of (drop l.member-index l.member-items))) ≡ string_bytes l.fn.out ++ in_state l.language l.edges l.name (pairs (members_of l.member-items))
