@@ -184,12 +184,10 @@ abbrev pub IsDebugReason : (List ℕ → List ℕ → Type 0) → Lacks → Setu
     → CommandFault → Type 0
 IsDebugReason gives lacks w script (File name why) =
     IsFirstUnread gives lacks (names_in w (Some script)) name.now why
-IsDebugReason gives lacks w script (Definition fault lines) = ⊥
 IsDebugReason gives lacks w script (Emulation fault lines) = IsRefusedRun gives w None fault
 IsDebugReason gives lacks w script (Script fault lines) = IsBadScript gives w script fault
-IsDebugReason gives lacks w script (Expectations fault lines) = ⊥
-IsDebugReason gives lacks w script (Code word lines) = ⊥
 IsDebugReason gives lacks w script OutOfMemory = ⊤
+IsDebugReason gives lacks w script _ = ⊥
 
 -- ---- a definition
 

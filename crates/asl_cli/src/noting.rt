@@ -1,5 +1,6 @@
 // What is told of a run.
 ghost use Rattle.std.specs.Prelude.{◌≡◌, ◌++◌, IfOk, OnOk, option_map, string_bytes};
+ghost use Rattle.std.specs.Fmt.{decimal};
 ghost use Rattle.asl_run_notes.specs.Notes.{note_text};
 ghost use Rattle.asl_host.specs.Outcomes.{sink_use};
 ghost use Rattle.asl_cli.specs.Noting.{full_note, limit_lead, limit_end, limit_note, end_note, IsNoted};
@@ -18,22 +19,52 @@ pub struct Ran {
     pub note: String,
 }
 
-/// Appends what is told of a run that took so many steps, where no file names them.
-#[tactic(auto, unfolding(crate::specs::Noting::limit_lead, crate::specs::Noting::limit_end))]
+/// Appends what stands before the number of steps.
+#[tactic(auto, unfolding(crate::specs::Noting::limit_lead))]
+fn put_limit_lead(out: &mut String) -> Result<(), AllocError>
+    ensures { OnOk result (string_bytes out.new ≡ string_bytes out.old ++ limit_lead) }
+{
+    out.push_str("note: the execution still runs: ")
+}
+
+/// Appends what stands behind it.
+#[tactic(auto, unfolding(crate::specs::Noting::limit_end))]
+fn put_limit_end(out: &mut String) -> Result<(), AllocError>
+    ensures { OnOk result (string_bytes out.new ≡ string_bytes out.old ++ limit_end) }
+{
+    out.push_str(" steps were taken, and --max-steps takes more\n")
+}
+
+/// Appends what is told of a run that took so many steps.
+fn put_limit(out: &mut String, limit: u32) -> Result<(), AllocError>
+    ensures { OnOk result (string_bytes out.new ≡ string_bytes out.old
+        ++ (limit_lead ++ (decimal limit ++ limit_end))) }
+{
+    put_limit_lead(out)?;
+    put_decimal(out, u64::from(limit))?;
+    put_limit_end(out)
+}
+
+/// The same, where no file names the steps.
 fn put_limit_note(out: &mut String, steps: Option<&str>, limit: u32) -> Result<(), AllocError>
     ensures { OnOk result (string_bytes out.new ≡ string_bytes out.old
         ++ limit_note (option_map (λ name. name.now) steps.entry) limit) }
 {
-    if steps.is_some() {
-        return Ok(());
+    match steps {
+        Some(_) => Ok(()),
+        None => put_limit(out, limit),
     }
-    out.push_str("note: the execution still runs: ")?;
-    put_decimal(out, u64::from(limit))?;
-    out.push_str(" steps were taken, and --max-steps takes more\n")
+}
+
+/// Appends that the history is full.
+#[tactic(auto, unfolding(crate::specs::Noting::full_note))]
+fn put_full_note(out: &mut String) -> Result<(), AllocError>
+    ensures { OnOk result (string_bytes out.new ≡ string_bytes out.old ++ full_note) }
+{
+    out.push_str("note: the execution still runs, and takes no more steps: its history is full\n")
 }
 
 /// Appends why an execution isn't over.
-#[tactic(auto, unfolding(crate::specs::Noting::full_note))]
 fn put_end_note(
     out: &mut String,
     steps: Option<&str>,
@@ -45,9 +76,7 @@ fn put_end_note(
 {
     match end {
         Ended::Over => Ok(()),
-        Ended::Full => out.push_str(
-            "note: the execution still runs, and takes no more steps: its history is full\n",
-        ),
+        Ended::Full => put_full_note(out),
         Ended::Limit => put_limit_note(out, steps, limit),
     }
 }
