@@ -1,8 +1,10 @@
-use Rattle.std.proofs.Common.{◌∙◌, sym, subst, ap}
+use Rattle.std.proofs.Common.{ℕ, ◌≡◌, ◌++◌, ◌∙◌, sym, subst, ap}
 use Rattle.std.specs.Prelude.{string_bytes}
 use Rattle.std.proofs.lemmas.Result.{err_from_is_err_and}
 use Rattle.asl_run_input.specs.Views.{texts_of}
-use Rattle.asl_cli.specs.Faults.{most_of, read_texts}
+use Rattle.asl_run_notes.specs.Notes.{note_text}
+use Rattle.asl_cli.specs.Faults.{most_of, steps_name, read_texts}
+use Rattle.asl_cli.specs.Noting.{end_note}
 use Rattle.asl_cli.specs.Formats.{format_of, IsRunIn}
 use Rattle.asl_exec.specs.declared.emulation.Emulated.{Emulated}
 use Rattle.asl_cli.proofs.Given.{given-run, given-before, refused-run}
@@ -22,7 +24,7 @@ returns-in-Ok-clause-emulated g c =
         end = c.in_ok-emulated.emulated.end;
         is_lacking = c.in_ok-emulated.ensures.lacking;
         is_end = c.in_ok-emulated.ensures.end;
-        note_is = c.in-Ok.ensures.note;
+        note_is = subst (λ (n : ℕ). string_bytes c.in-Ok.ran.note ≡ note_text all.chosen c.in_ok-emulated.emulated.lacking ++ end_note (steps_name c.args.words.now) n c.in_ok-emulated.emulated.end) c.most_of.ensures c.in-Ok.ensures.note;
       };
     }
 
