@@ -36,12 +36,19 @@ def without_mending(told):
     return re.sub(rf"\A(fault: [^\n]+\n){MENDING}\Z", r"\1", told)
 
 
-# What is told of a run without a file of steps that isn't over.
-GOES_ON = "note: the execution still runs: 10000 steps were taken, and --max-steps takes more\n"
-
 NO_ANSWER = '{"Error":"States.Runtime","Cause":"no mocked answer"}'
 EVENT = re.compile(r'(\d+) (\d+) \S+Z \S+ (\w+) ("(?:[^"\\]|\\.)*") (.*)')
 HANDS_UP = ("ExecutionFailed", "ParallelStateFailed", "MapStateFailed", "MapIterationFailed")
+
+
+def unended(printed, steps):
+    """What is told of a run that isn't over: that its history is full, or that it has taken so many steps, where no file names them."""
+    *events, last = printed.splitlines()
+    if last != "status RUNNING":
+        return ""
+    if sum(EVENT.fullmatch(line) is not None for line in events) > 24_992:
+        return "note: the execution still runs, and takes no more steps: its history is full\n"
+    return "" if steps is not None else "note: the execution still runs: 10000 steps were taken, and --max-steps takes more\n"
 
 
 def noted(text, chosen):
@@ -95,8 +102,7 @@ class ProgramTest(unittest.TestCase):
         """What a run prints. Its status is 0 just if the execution succeeds, and it is told which answer lacked, if one did."""
         ran = self.run_texts(definition, mocks, chosen, given, steps)
         last = ran.stdout.splitlines()[-1]
-        goes_on = GOES_ON if steps is None and last == "status RUNNING" else ""
-        self.assertEqual(ran.stderr, noted(ran.stdout, chosen) + goes_on)
+        self.assertEqual(ran.stderr, noted(ran.stdout, chosen) + unended(ran.stdout, steps))
         self.assertEqual(ran.returncode, 0 if last.startswith("status SUCCEEDED ") else 1, last)
         return ran.stdout
 

@@ -29,7 +29,7 @@ abbrev pub limit_note : Option (List ℕ) → ℕ → List ℕ
 limit_note (Some steps) limit = []
 limit_note None limit = limit_lead ++ (decimal limit ++ limit_end)
 
--- why an execution isn't over, where its steps aren't those of a file
+-- why an execution isn't over; where its steps are those of a file, only that its history is full
 abbrev pub end_note : Option (List ℕ) → ℕ → Ended → List ℕ
 end_note steps limit Over = []
 end_note steps limit Full = full_note
