@@ -19,6 +19,7 @@ LINES = {
         "close": r"end",
         "style": r"classDef taken stroke-width:4px",
         "taken": rf"class ({ID}) taken",
+        "ended": rf"class ({ID}) (fail|succeed)",
     },
     "dot": {
         "mark": rf"({ID}) \[shape=point\];",
@@ -30,6 +31,7 @@ LINES = {
         "box": rf"subgraph cluster_({ID}) \{{",
         "close": r"\}",
         "taken": rf"({ID}) \[penwidth=4\];",
+        "ended": rf"({ID}) \[color=(red3|green4)\];",
     },
 }
 # A transition with a label: its parts in order, and what makes it a thick one.
@@ -48,7 +50,8 @@ ENTITY = {"mermaid": r"#([0-9]+);", "dot": r"&#([0-9]+);"}
 
 class Graph(NamedTuple):
     """What a graph draws: states by identifier, transitions, where machines begin and where they end, and the boxes around each; boxes by
-    identifier with their labels; the identifiers of the states that are marked, in order; the transitions that are thick."""
+    identifier with their labels; the identifiers of the states that are marked, in order; the transitions that are thick; what is marked as the
+    end of a run, with what its colour says."""
 
     states: dict
     edges: list
@@ -57,6 +60,7 @@ class Graph(NamedTuple):
     boxes: dict
     taken: list
     thick: list
+    ended: list
 
 
 def plain(language, label):
@@ -88,7 +92,7 @@ def lines_in(language, text):
 
 def graph_of(language, text):
     """The graph that a text draws. A line that isn't of the language fails."""
-    graph, around, styled = Graph({}, [], {}, {}, {}, [], []), [], language == "dot"
+    graph, around, styled = Graph({}, [], {}, {}, {}, [], [], []), [], language == "dot"
     lines = iter(lines_in(language, text))
     pattern, order, thick = LABELLED[language]
     for line in lines:
@@ -124,6 +128,9 @@ def graph_of(language, text):
         elif kind == "taken":
             assert styled and not around and found[1] in graph.states, line
             graph.taken.append(found[1])
+        elif kind == "ended":
+            assert not around, line
+            graph.ended.append((found[1], COLOURS[found[2]]))
         else:
             around.pop()
     assert not around, text

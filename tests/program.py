@@ -51,6 +51,15 @@ def unended(printed, steps):
     return "" if steps is not None else "note: the execution still runs: 10000 steps were taken, and --max-steps takes more\n"
 
 
+# The note on a state that couldn't make its data; test_why has its words.
+WHY = re.compile(r'note: "(?:[^"\\\n]|\\.)*" at (?:/|(?:/\d+)+): (?:[A-Z][A-Za-z]*Path: |Parameters/|ItemSelector/|ResultSelector/|\$)[^\n]+\n')
+
+
+def without_why(told):
+    """What is told of a run, without the note on the state that couldn't make its data."""
+    return WHY.sub("", told)
+
+
 def noted(text, chosen):
     """What is told on standard error of a run that prints this text, where no mock throws what a Task without an answer fails with: which answer it lacked."""
     events = [match.groups() for match in map(EVENT.fullmatch, text.splitlines()) if match]
@@ -102,7 +111,7 @@ class ProgramTest(unittest.TestCase):
         """What a run prints. Its status is 0 just if the execution succeeds, and it is told which answer lacked, if one did."""
         ran = self.run_texts(definition, mocks, chosen, given, steps)
         last = ran.stdout.splitlines()[-1]
-        self.assertEqual(ran.stderr, noted(ran.stdout, chosen) + unended(ran.stdout, steps))
+        self.assertEqual(without_why(ran.stderr), noted(ran.stdout, chosen) + unended(ran.stdout, steps))
         self.assertEqual(ran.returncode, 0 if last.startswith("status SUCCEEDED ") else 1, last)
         return ran.stdout
 

@@ -436,6 +436,23 @@ class Exploring(Searches):
         told = explored(ran.stdout)
         self.assertEqual((ran.returncode, told.search, told.outcomes), (1, "search cut after 2 steps", [TIMED_OUT]))
 
+    def test_a_search_that_is_cut_lists_what_some_whole_orders_end_in(self):
+        item = '{"StartAt":"T","States":{"T":{%s,"End":true}}}' % TASK
+        definition = '{"StartAt":"M","States":{"M":{"Type":"Map","End":true,"ItemProcessor":%s}}}' % item
+        mocks, given = mocked({"T": ",".join(f'"{number}":{{"Return":{number}}}' for number in range(6))}), "[1,2,3,4,5,6]"
+        for words, most in [(["--limit", "20"], 3), (["--limit", "200"], 64), (["--limit", "200", "--prompt"], 64)]:
+            told = explored(self.explore(definition, given, mocks, "M#c", *words).stdout)
+            self.assertRegex(told.search, r"\Asearch cut")
+            self.assertEqual(len(set(told.outcomes)), len(told.outcomes))
+            self.assertTrue(1 < len(told.outcomes) <= most, told.outcomes)
+            # always the first branch, and always the last
+            self.assertEqual(told.outcomes[:2], ["SUCCEEDED [0,1,2,3,4,5]", "SUCCEEDED [5,4,3,2,1,0]"])
+            for number, outcome in enumerate(told.outcomes, 1):
+                steps = self.explore(definition, given, mocks, "M#c", *words, "--witness", str(number)).stdout
+                self.assertEqual(self.run_texts(definition, mocks, "M#c", given, steps).stdout.splitlines()[-1], f"status {outcome}")
+        told = explored(self.explore(definition, given, mocks, "M#c", "--limit", "200", "--calls").stdout)
+        self.assertEqual(told.outcomes, [])
+
     # ---- definitions that read the clock
 
     def test_the_text_that_reads_the_clock_is_told(self):

@@ -239,6 +239,16 @@ def passed(history):
     return pairs, {events[number][2] for number in left}
 
 
+def ended(history):
+    """What a graph marks as the end of the run of a history: the mark where the machine ends, or the state in which it failed."""
+    if re.search(r"^status SUCCEEDED ", history, re.M):
+        return [("e", "Succeed")]
+    told = re.findall(r"^[0-9]+ [0-9]+ \S+ \S+ [A-Za-z]+ (.*)$", history, re.M)
+    names = [name for name in (json.JSONDecoder().raw_decode(text)[0] for text in told) if name]
+    word = "".join(c if c.isascii() and c.isalnum() else f"_{ord(c)}_" for c in names[-1])
+    return [(f"s_{word}", "Fail")] if re.search(r"^status FAILED ", history, re.M) else []
+
+
 class MarkedTest(ProgramTest):
     def assert_passed(self, graph, history):
         """The transitions are thick that the history tells."""
@@ -261,8 +271,9 @@ class MarkedTest(ProgramTest):
             graph = graph_of(language, ran.stdout)
             self.assertEqual([named(key[2:]) for key in graph.taken], entered(history.stdout))
             self.assert_passed(graph, history.stdout)
+            self.assertEqual(graph.ended, ended(history.stdout))
             bare = run_program("graph", definition, "--format", language).stdout
-            self.assertEqual(graph_of(language, bare), graph._replace(taken=[], thick=[]))
+            self.assertEqual(graph_of(language, bare), graph._replace(taken=[], thick=[], ended=[]))
 
     def on_files(self, definition, mocks, given):
         """The names of the files of these texts, which are there till the test ends."""
@@ -298,9 +309,9 @@ class MarkedTest(ProgramTest):
         mocks = answered('"0":{"Throw":{"Error":"E"}},"1":{"Return":{"n":1}},"2":{"Return":{"n":2}}')
         definition, mocks, given = self.on_files(json.dumps({"StartAt": "W", "States": states}), mocks, "{}")
         ran = run_program("graph", definition, "--run", mocks, "M#c", given)
-        self.assertEqual(ran.stdout[-len(marks := "classDef taken stroke-width:4px\nclass s_W taken\nclass s_C taken\nclass s_S taken\n"):], marks)
+        self.assertEqual(ran.stdout[-len(marks := "classDef taken stroke-width:4px\nclass s_W taken\nclass s_C taken\nclass s_S taken\nclass e succeed\n"):], marks)
         dot = run_program("graph", definition, "--run", mocks, "M#c", given, "--format", "dot")
-        self.assertTrue(dot.stdout.endswith("s_W [penwidth=4];\ns_C [penwidth=4];\ns_S [penwidth=4];\n}\n"))
+        self.assertTrue(dot.stdout.endswith("s_W [penwidth=4];\ns_C [penwidth=4];\ns_S [penwidth=4];\ne [color=green4];\n}\n"))
 
     def thick_of(self, definition, mocks, chosen, given):
         """The transitions that a run marks, the same in both languages."""
@@ -347,6 +358,14 @@ class MarkedTest(ProgramTest):
         definition, mocks, given = self.on_files(json.dumps({"StartAt": "P", "States": {"P": passing, "S": {"Type": "Succeed"}}}), "{}", "{}")
         self.assertEqual(self.thick_of(definition, mocks, "M", given), [("", None, "P")])
 
+    def test_a_run_that_fails_inside_a_state(self):
+        # Its last event of a state is that of the Parallel.
+        branch = {"StartAt": "F", "States": {"F": {"Type": "Fail", "Error": "E"}}}
+        definition, mocks, given = self.on_files(json.dumps({"StartAt": "P", "States": {"P": {"Type": "Parallel", "Branches": [branch], "End": True}}}), "{}", "{}")
+        self.assert_marked(definition, mocks, "M", given)
+        ran = run_program("graph", definition, "--run", mocks, "M", given)
+        self.assertEqual(graph_of("mermaid", ran.stdout).ended, [("s_P", "Fail")])
+
     def test_a_run_that_does_not_end(self):
         definition, mocks, given = self.on_files('{"StartAt":"P","States":{"P":{"Type":"Pass","Next":"P"},"Q":{"Type":"Succeed"}}}', "{}", "{}")
         ran = run_program("graph", definition, "--run", mocks, "M", given)
@@ -372,7 +391,7 @@ class MarkedTest(ProgramTest):
         folder = f"{TOP}/examples/hello"
         words = [f"{folder}/definition.json", "--run", f"{folder}/mocks.json", "M", f"{folder}/input.json"]
         usual = run_program("graph", *words)
-        self.assertEqual((usual.returncode, usual.stdout.splitlines()[-1]), (0, "class s_S taken"))
+        self.assertEqual((usual.returncode, usual.stdout.splitlines()[-1]), (0, "class e succeed"))
         for other in [
             [words[0], "--mocks", words[2], "--case", "M", "--input", words[4], "--run"],
             [words[0], words[2], "M", words[4], "--run"],

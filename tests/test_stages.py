@@ -5,7 +5,7 @@ import os
 import re
 import tempfile
 
-from program import TOP, ProgramTest, answered, noted, run_program
+from program import TOP, ProgramTest, answered, noted, run_program, without_why
 
 ROW = re.compile(r"(\d+:)?\d\d:\d\d\.\d{3} /")
 STAGE = re.compile(r" {17,}(\w+) +(error )?(.*)")
@@ -29,7 +29,7 @@ class StagesTest(ProgramTest):
             ran = run_program("run", *words, "--format", "data")
             tree = run_program("run", *words, "--format", "tree")
             text = run_program("run", *words)
-        self.assertEqual((ran.stderr, ran.returncode), (noted(text.stdout, chosen), tree.returncode))
+        self.assertEqual((without_why(ran.stderr), ran.returncode), (noted(text.stdout, chosen), tree.returncode))
         lines = ran.stdout.splitlines()
         self.assertEqual(lines[0], f"input {given}")
         self.assertEqual(lines[-1], tree.stdout.splitlines()[-1])

@@ -236,6 +236,12 @@ class SuitesTest(ProgramTest):
             'note: test 2 "M#": its run lacked an answer: no answer 0 of the Task "T"',
             'note: test 3 "M#C" "named": its run lacked an answer: no answer 0 of the Task "T"'])
 
+    def assert_why(self, lines):
+        """These are a note on a state that couldn't make its data, or nothing; test_why has its words."""
+        self.assertLessEqual(len(lines), 1)
+        for line in lines:
+            self.assertRegex(line, r'\Anote: test 1 "M#": "\w+" at /: ')
+
     def test_strict_fails_what_is_noted(self):
         ran = self.on_suite(tests(*DOUBTS_OF_TASK), "--strict")
         words = ["unanswered M#C FAILED 6", "unanswered M# FAILED 6", 'unanswered M#C FAILED 6 "named"', "ok M#B FAILED 6", "ok M#A SUCCEEDED 7", "2 passed, 3 failed"]
@@ -247,7 +253,9 @@ class SuitesTest(ProgramTest):
         for definition, error in ACCIDENTS:
             ran = self.on_suite(tests(("", "FAILED", {}), ("", "FAILED", {"error": error})), "--strict", definition=definition)
             self.assertEqual((ran.returncode, [line.split()[0] for line in ran.stdout.splitlines()[:-1]]), (1, ["accident", "ok"]), definition)
-            self.assertEqual(ran.stderr, f'test 1 "M#": accident: it names no error, and failed by accident: "{error}"\n')
+            first, *why = ran.stderr.splitlines()
+            self.assertEqual(first, f'test 1 "M#": accident: it names no error, and failed by accident: "{error}"')
+            self.assert_why(why)
         # What isn't ok stays as it is.
         ran = self.on_suite(tests(("C", "SUCCEEDED", {}), ("C", "FAILED", {"output": 1})), "--strict")
         self.assertEqual([line.split()[0] for line in ran.stdout.splitlines()[:-1]], ["status", "output"])
@@ -255,7 +263,9 @@ class SuitesTest(ProgramTest):
     def test_failures_by_accident_are_noted(self):
         for definition, error in ACCIDENTS:
             ran = self.on_suite(tests(("", "FAILED", {}), ("", "FAILED", {"error": error})), definition=definition)
-            self.assertEqual((ran.returncode, ran.stderr), (0, f'note: test 1 "M#": it names no error, and failed by accident: "{error}"\n'), definition)
+            first, *why = ran.stderr.splitlines()
+            self.assertEqual((ran.returncode, first), (0, f'note: test 1 "M#": it names no error, and failed by accident: "{error}"'), definition)
+            self.assert_why(why)
         meant = '{"StartAt":"F","States":{"F":{"Type":"Fail","Error":"E"}}}'
         self.assertEqual(self.on_suite(tests(("", "FAILED", {})), definition=meant).stderr, "")
 

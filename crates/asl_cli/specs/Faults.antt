@@ -129,13 +129,13 @@ abbrev pub most_of : RunWords → ℕ
 most_of w = unwrap_or w.most_steps most_steps
 
 -- the run that the words ask for, of what the files may give, prints this text in the format that they
--- ask for, and is good or not; this is told of an answer that it lacked, and of why it isn't over
+-- ask for, and is good or not; this is told of an answer that it lacked, of why it isn't over, and of why it failed
 pub record IsEmulated (gives : List ℕ → List ℕ → Type 0) (w : RunWords) (text : List ℕ)
     (good : Bool) (note : List ℕ) : Type 0 where
   pub texts : Texts
   pub given : AreGiven gives w.setup (steps_name w) texts
   pub is_run : IsRunIn (format_of w.format) w.coloured texts (most_of w) text good
-  pub note_is : IsNoteOf texts (steps_name w) (most_of w) note
+  pub note_is : IsNoteOf texts (steps_name w) (most_of w) good note
 
 -- ---- a session
 

@@ -1,6 +1,6 @@
--- What is told on standard error of a run: of an answer that it lacked, and of why it isn't over; and of the
--- answers that the outcomes of a search lacked.
-use Rattle.std.specs.Prelude.{ℕ, List, [], ◌∷◌, ◌≡◌, ◌++◌, Option, Some, None, codes}
+-- What is told on standard error of a run: of an answer that it lacked, of why it isn't over, and of why it failed; and of
+-- the answers that the outcomes of a search lacked.
+use Rattle.std.specs.Prelude.{ℕ, Bool, true, List, [], ◌∷◌, ◌≡◌, ◌++◌, Option, Some, None, codes}
 use Rattle.std.specs.Fmt.{decimal}
 use Rattle.asl_run_input.specs.declared.setup.Setup.{Setup}
 use Rattle.asl_run_input.specs.Emulations.{Texts}
@@ -36,13 +36,15 @@ end_note steps limit Full = full_note
 end_note steps limit Limit = limit_note steps limit
 
 -- what is told of the run that the texts spell, with this file of steps, where there is one, and at
--- most so many without
-pub record IsNoteOf (t : Texts) (steps : Option (List ℕ)) (limit : ℕ) (note : List ℕ) : Type 0 where
+-- most so many without, and which ends in success or doesn't: words on why it failed stand last
+pub record IsNoteOf (t : Texts) (steps : Option (List ℕ)) (limit : ℕ) (good : Bool) (note : List ℕ) : Type 0 where
   pub lacking : Option Invocation
   pub end : Ended
   pub is_lacking : IsLackingIn t limit lacking
   pub is_end : IsEndIn t limit end
-  pub note_is : note ≡ note_text t.chosen lacking ++ end_note steps limit end
+  pub why : List ℕ
+  pub failed : good ≡ true → why ≡ []
+  pub note_is : note ≡ note_text t.chosen lacking ++ (end_note steps limit end ++ why)
 
 -- ---- of a search
 

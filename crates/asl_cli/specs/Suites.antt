@@ -18,6 +18,10 @@ use Rattle.asl_suite_coverage.specs.declared.point.Point.{Point}
 use Rattle.asl_suite_coverage.specs.Points.{percent_of, coverage_text}
 use Rattle.asl_suite.specs.Cases.{reports_of, strict_report}
 use Rattle.asl_suite.specs.Reports.{is_passed, report_text}
+use Rattle.asl_suite.specs.Findings.{reports_in}
+use Rattle.asl_suite.specs.JsonLines.{json_text}
+use Rattle.asl_suite.specs.Junit.{junit_text}
+use Rattle.asl_suite.specs.declared.finding.Finding.{Finding}
 use Rattle.asl_suite.specs.declared.suite.Suite.{Suite}
 use Rattle.asl_suite.specs.declared.case_report.CaseReport.{CaseReport}
 use Rattle.asl_words.specs.declared.words.TestWords.{TestWords}
@@ -131,11 +135,13 @@ IsSuiteReason gives lacks w r = AreUnread gives lacks (suite_names w) r ⊎ IsNo
 
 -- ---- what is printed
 
--- the text of reports; in the formats for tools it is any
+-- the text of reports; in the formats for tools that of what is told of them
 abbrev pub IsReportText : ReportFormat → List CaseReport → List ℕ → Type 0
 IsReportText format.Text reports text = text ≡ report_text reports
-IsReportText format.JUnit reports text = ⊤
-IsReportText format.Json reports text = ⊤
+IsReportText format.JUnit reports text =
+    (name : List ℕ) × (fs : List Finding) × (reports_in fs ≡ reports) × text ≡ junit_text name fs
+IsReportText format.Json reports text =
+    (fs : List Finding) × (reports_in fs ≡ reports) × text ≡ json_text fs
 
 -- these reports; or those by which a test that may not mean what it says fails
 abbrev pub judged : Bool → List CaseReport → List CaseReport

@@ -176,7 +176,7 @@ fn emulate_files<'a, F: Files>(
     let steps = read_named(alloc, files, words.steps)?;
     let given = texts.of_run(steps.as_deref());
     let emulated = emulate_given(alloc, words, &given)?;
-    match with_note(alloc, given.chosen, words.steps, most_of(words), emulated) {
+    match with_note(alloc, &given, words.steps, most_of(words), emulated) {
         Ok(ran) => Ok(ran),
         Err(AllocError) => Err(CommandFault::OutOfMemory),
     }

@@ -6,7 +6,6 @@ use asl_json::{Json, Member};
 use asl_json_read::{JsonFault, read};
 use asl_lint::{Finding, Source, errors, lint, unread_in};
 use asl_lint_messages::{put_name, put_near};
-use asl_mock::members_at;
 use asl_run_input::{EmulateFault, RunTexts};
 use asl_suite_file::ExpectFault;
 use asl_text::put_shown;
@@ -125,7 +124,7 @@ pub(crate) fn of_expectations(
 
 /// Appends the names of the cases of a machine, as they are chosen.
 fn add_cases(alloc: Global, names: &mut Vec<String>, machine: &Member) -> Result<(), AllocError> {
-    for case in members_at(&machine.value, "TestCases") {
+    for case in machine.value.members_at("TestCases") {
         let mut name = String::new(alloc);
         name.push_str(machine.key.as_str())?;
         name.push('#')?;
@@ -138,7 +137,7 @@ fn add_cases(alloc: Global, names: &mut Vec<String>, machine: &Member) -> Result
 /// The names of all cases of a mock file, as they are chosen.
 fn cases_in(alloc: Global, mocks: &Json) -> Result<Vec<String>, AllocError> {
     let mut names = Vec::new(alloc);
-    for machine in members_at(mocks, "StateMachines") {
+    for machine in mocks.members_at("StateMachines") {
         add_cases(alloc, &mut names, machine)?;
     }
     Ok(names)

@@ -1,5 +1,5 @@
 // What is told of a run.
-ghost use Rattle.std.specs.Prelude.{◌≡◌, ◌++◌, IfOk, OnOk, option_map, string_bytes};
+ghost use Rattle.std.specs.Prelude.{◌≡◌, ◌++◌, List, [], ℕ, true, IfOk, OnOk, option_map, string_bytes};
 ghost use Rattle.std.specs.Fmt.{decimal};
 ghost use Rattle.asl_run_notes.specs.Notes.{note_text};
 ghost use Rattle.asl_host.specs.Outcomes.{sink_use};
@@ -8,6 +8,8 @@ ghost use Rattle.asl_cli.specs.Noting.{full_note, limit_lead, limit_end, limit_n
 use crate::command::tell_text;
 use asl_exec::{Emulated, Ended};
 use asl_history::Sink;
+use asl_run_formats::why_of;
+use asl_run_input::RunTexts;
 use asl_run_notes::note_of;
 use asl_text::put_decimal;
 use std::alloc::{AllocError, Global};
@@ -81,21 +83,50 @@ fn put_end_note(
     }
 }
 
-/// A run of what was chosen by these words, by a file of steps, where there is one, else by at most so many, with what is told of it. The
-/// error is that memory ran out.
+/// The line on why the run of these texts failed; empty where nothing more is to say of that. The error is that memory ran out, here and below.
+fn why_line(alloc: Global, texts: &RunTexts<'_>, limit: u32) -> Result<String, AllocError> {
+    let words = why_of(alloc, texts, limit)?;
+    let mut line = String::new(alloc);
+    if !words.is_empty() {
+        line.push_str("note: ")?;
+        line.push_str(words.as_str())?;
+        line.push('\n')?;
+    }
+    Ok(line)
+}
+
+/// The same of a run; of one that ended in success, or that lacked an answer, nothing.
+fn why_note(
+    alloc: Global,
+    texts: &RunTexts<'_>,
+    limit: u32,
+    emulated: &Emulated,
+) -> Result<String, AllocError>
+    ensures { IfOk result (λ w. emulated.now.good ≡ true → string_bytes w ≡ []) }
+{
+    if emulated.good || emulated.lacking.is_some() {
+        return Ok(String::new(alloc));
+    }
+    why_line(alloc, texts, limit)
+}
+
+/// A run of these texts, by a file of steps, where there is one, else by at most so many, with what is told of it.
 pub(crate) fn with_note(
     alloc: Global,
-    chosen: &str,
+    texts: &RunTexts<'_>,
     steps: Option<&str>,
     limit: u32,
     emulated: Emulated,
 ) -> Result<Ran, AllocError>
     ensures emulated { IfOk result (λ r. r.emulated ≡ emulated) }
-    ensures note { IfOk result (λ r. string_bytes r.note ≡ note_text chosen.now emulated.lacking
-        ++ end_note (option_map (λ name. name.now) steps.entry) limit emulated.end) }
+    ensures note { IfOk result (λ r. (why : List ℕ) × (emulated.good ≡ true → why ≡ [])
+        × string_bytes r.note ≡ note_text texts.now.chosen.now emulated.lacking
+        ++ (end_note (option_map (λ name. name.now) steps.entry) limit emulated.end ++ why)) }
 {
-    let mut note = note_of(alloc, chosen, &emulated.lacking)?;
+    let mut note = note_of(alloc, texts.chosen, &emulated.lacking)?;
     put_end_note(&mut note, steps, limit, emulated.end)?;
+    let why = why_note(alloc, texts, limit, &emulated)?;
+    note.push_str(why.as_str())?;
     Ok(Ran { emulated, note })
 }
 

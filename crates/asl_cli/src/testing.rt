@@ -4,6 +4,7 @@ ghost use Rattle.std.specs.List.{list_all};
 ghost use Rattle.asl_check.specs.Judged.{IsMachineOf};
 ghost use Rattle.asl_mock.specs.Told.{IsMockFile};
 ghost use Rattle.asl_suite_file.specs.Told.{IsExpectationsFile};
+ghost use Rattle.asl_suite.specs.Findings.{reports_in};
 ghost use Rattle.asl_suite.specs.Reports.{is_passed};
 ghost use Rattle.asl_host.specs.Outcomes.{status_of, sink_use, IsTold, IsPrinted};
 ghost use Rattle.asl_cli.specs.Streams.{file_system, output_use, Writes, io};
@@ -14,6 +15,7 @@ ghost use Rattle.asl_cli.specs.Suites.{AreSuiteTexts, suite_names, AreTestsOf, I
 use crate::choosing::{keep_meant, list_of, numbers_of};
 use crate::command::{FAILED, GOOD, REFUSED};
 use crate::covering::{coverage_of, coverage_told};
+use crate::failing::failures;
 use crate::fault::CommandFault;
 use crate::mending::{of_definition, of_expectations, of_mocks};
 use crate::misnaming::misnamed;
@@ -350,11 +352,13 @@ fn told_of(
     ensures { IfOk result (λ r. IsReportText words.now.format reports.now (string_bytes r.text)
         × (r.good ≡ list_all is_passed reports.now)) }
 {
-    let mut findings = findings(alloc, &source_of(words), suite, reports)?;
-    renumber(alloc, words, texts, &mut findings)?;
+    let numbers = numbers_in(alloc, words, texts)?;
+    let source = source_of(words, numbers.as_deref());
+    let findings = findings(alloc, &source, suite, reports)?;
     let mut remarks = remarks(alloc, &findings)?;
     remarks.push_str(notes(alloc, &findings)?.as_str())?;
     remarks.push_str(misnamed(alloc, suite, texts.definition.as_slice(), &findings)?.as_str())?;
+    remarks.push_str(failures(alloc, suite, &findings)?.as_str())?;
     let text = text_of(alloc, words.format, words, reports, &findings)?;
     let junit = text_if(
         alloc,
@@ -381,37 +385,34 @@ fn told_of(
     })
 }
 
-/// Gives each test its number in the file, where a word chose the tests. The error is that memory ran out.
-fn renumber(
+/// The number of each test in the file, where a word chose the tests. The error is that memory ran out.
+fn numbers_in(
     alloc: Global,
     words: &TestWords<'_>,
     texts: &SuiteTexts,
-    findings: &mut [Finding<'_>],
-) -> Result<(), AllocError> {
+) -> Result<Option<Vec<usize>>, AllocError> {
     if words.filter.is_none() {
-        return Ok(());
+        return Ok(None);
     }
     let tests = match Expectations::read(alloc, texts.expectations.as_slice()) {
         Ok(tests) => tests,
         Err(ExpectFault::OutOfMemory) => return Err(AllocError),
         // It isn't so: the suite's tests were read from these bytes.
-        Err(_) => return Ok(()),
+        Err(_) => return Ok(None),
     };
     let (first, apart) = (words.shard.first, words.shard.apart);
     let numbers = numbers_of(alloc, words.filter, first, apart, tests.list.as_slice())?;
-    for (finding, number) in findings.iter_mut().zip(numbers.iter()) {
-        finding.number = *number;
-    }
-    Ok(())
+    Ok(Some(numbers))
 }
 
-/// Where the tests come from.
-fn source_of<'a>(words: &TestWords<'a>) -> Source<'a> {
+/// Where the tests come from, of which these are the numbers where a word chose them.
+fn source_of<'a>(words: &TestWords<'a>, numbers: Option<&'a [usize]>) -> Source<'a> {
     Source {
         definition: words.definition,
         mocks: words.mocks,
         first: words.shard.first,
         apart: words.shard.apart,
+        numbers,
     }
 }
 
@@ -424,6 +425,7 @@ fn text_if(
     reports: &[CaseReport],
     findings: &[Finding<'_>],
 ) -> Result<String, AllocError>
+    requires { reports_in findings.now ≡ reports.now }
     ensures { IfOk result (λ t. is_some name.entry ≡ true → IsReportText format reports.now (string_bytes t)) }
 {
     match name {
@@ -440,6 +442,7 @@ fn text_of(
     reports: &[CaseReport],
     findings: &[Finding<'_>],
 ) -> Result<String, AllocError>
+    requires { reports_in findings.now ≡ reports.now }
     ensures { IfOk result (λ t. IsReportText format reports.now (string_bytes t)) }
 {
     match format {

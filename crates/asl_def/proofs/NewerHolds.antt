@@ -14,7 +14,8 @@ use Rattle.asl_def_schema.specs.declared.sort.Kind.{Kind}
 use Rattle.asl_def_schema.specs.declared.sort.Kind.TheVariants as kind
 use Rattle.asl_def_schema.specs.Members.{Row, Group, Shape, shape_of, shape_in, state_shape, sort_at, item_sort, kind_named, is_among, unsupported_names, processor_group, selector_group, transition, untyped_rows, definition_rows, machine_rows, item_processor_rows, task_rows, pass_rows, choice_rows, wait_rows, parallel_rows, map_rows, succeed_rows, fail_rows}
 use Rattle.asl_def_schema.specs.Demands.{there, decided}
-use Rattle.asl_def_schema.specs.Claims.{Claim, Spot, under, heres, step, demands, claims, at_member, at_item, inside as inside_spot, one_deeper, names_in, members_in, member_claims, item_claims, row_claims, group_demands, object_claims, is_template, is_nonempty, item_count, is_needed, has_any, is_true, counts, any_counts, any_in, is_doubled, is_twice}
+use Rattle.asl_json.specs.Access.{members_of_any}
+use Rattle.asl_def_schema.specs.Claims.{Claim, Spot, under, heres, step, demands, claims, at_member, at_item, inside as inside_spot, one_deeper, names_in, member_claims, item_claims, row_claims, group_demands, object_claims, is_template, is_nonempty, item_count, is_needed, has_any, is_true, counts, any_counts, any_in, is_doubled, is_twice}
 use Rattle.asl_def_schema.specs.First.{Each, Hold}
 use Rattle.asl_def_schema.proofs.Inside.{each_left, each_right, each_under, own_hold, object_hold}
 use Rattle.asl_def_schema.proofs.Deciding.{IsGroup, not_true, neither_is}
@@ -287,7 +288,7 @@ parts_newer p b sh ms keeps h inner =
     (rows_hold b sh sh.rows ms (count ns) (count ms) keeps.kept (each_right Hold (member_claims p sh [] 0 ms) (row_claims (count ms) sh.rows ms) others)))
 
 -- the names of a machine's states stay
-states_named : (k : List ℕ) (o : Option Data) → is_some (value_at k (members_in (option_map (newer_value sort.States) o))) ≡ is_some (value_at k (members_in o))
+states_named : (k : List ℕ) (o : Option Data) → is_some (value_at k (members_of_any (option_map (newer_value sort.States) o))) ≡ is_some (value_at k (members_of_any o))
 states_named k None = refl
 states_named k (Some null) = refl
 states_named k (Some (boolean b)) = refl
@@ -304,7 +305,7 @@ states_named k (Some (dict ms)) =
 
 names_newer : (sh : Shape) → sort_at sh (codes "States") ≡ sort.States → (ms : Pairs) → names_in ms ≡ names_in (newer_members false sh ms)
 names_newer sh e ms = fun_ext (λ k. sym (
-    ap (λ (o : Option Data). is_some (value_at k (members_in o))) (value_at-newer false (codes "States") sh ms refl ∙ ap (λ (s : Sort). option_map (newer_value s) (value_at (codes "States") ms)) e)
+    ap (λ (o : Option Data). is_some (value_at k (members_of_any o))) (value_at-newer false (codes "States") sh ms refl ∙ ap (λ (s : Sort). option_map (newer_value s) (value_at (codes "States") ms)) e)
     ∙ states_named k (value_at (codes "States") ms)))
 
 definition_states : (o : Option Kind) → sort_at (shape_of sort.Definition o) (codes "States") ≡ sort.States

@@ -1,17 +1,18 @@
 -- The states of the outermost machine, by number.
 use Rattle.std.proofs.Common.{◌≡◌, ℕ, zero, suc, ◌+◌, ◌<◌, ◌≤◌, List, [], ◌∷◌, length, take, drop, refl, sym, ◌∙◌, ap, arith}
-use Rattle.std.specs.Prelude.{Some, None, slice_get, codes}
-use Rattle.asl_json_data.specs.Data.{dict, pairs}
-use Rattle.asl_json.specs.View.{unpaired-pairs}
+use Rattle.std.specs.Prelude.{Option, Some, None, slice_get, codes}
+use Rattle.asl_json_data.specs.Data.{Data, dict, pairs}
+use Rattle.asl_json.specs.Access.{members_of_any}
+use Rattle.asl_json.specs.View.{unpaired, unpaired-pairs}
 use Rattle.asl_def_schema.specs.Canon.{Named}
 use Rattle.asl_def_shared.specs.declared.body.Body.{Body}
 use Rattle.asl_def_shared.specs.declared.heading.Heading.{Heading}
-use Rattle.asl_def.specs.Own.{members_in, own_states_in}
+use Rattle.asl_def.specs.Own.{own_states_in}
 use Rattle.asl_def_shared.specs.Bodies.{machine_members, machine_of, IsWithin}
 use Rattle.asl_def_shared.proofs.Names.{named}
 
 own_are : (t : List Named) (h : Heading) (b : Body) → own_states_in (machine_of t h b) ≡ take b.count (drop b.first t)
-own_are t h b = ap members_in (sym (named (codes "States") (Some (dict (pairs (take b.count (drop b.first t))))) (machine_members t h b) refl)) ∙ unpaired-pairs (take b.count (drop b.first t))
+own_are t h b = ap (λ (o : Option Data). unpaired (members_of_any o)) (sym (named (codes "States") (Some (dict (pairs (take b.count (drop b.first t))))) (machine_members t h b) refl)) ∙ unpaired-pairs (take b.count (drop b.first t))
 
 slice_length : (m n : ℕ) (t : List Named) → m + n ≤ length t → length (take n (drop m t)) ≡ n
 slice_length zero zero t h = refl

@@ -1,15 +1,9 @@
 -- The states of the outermost machine.
-use Rattle.std.specs.Prelude.{List, [], Option, Some, codes}
-use Rattle.asl_json_data.specs.Data.{Data, dict}
-use Rattle.asl_json.specs.Meaning.{value_in}
-use Rattle.asl_json.specs.View.{unpaired}
+use Rattle.std.specs.Prelude.{List, codes}
+use Rattle.asl_json_data.specs.Data.{Data}
+use Rattle.asl_json.specs.Access.{member_list_at}
 use Rattle.asl_def_schema.specs.Canon.{Named}
-
--- the members of an object
-abbrev pub members_in : Option Data → List Named
-members_in (Some (dict ms)) = unpaired ms
-members_in _ = []
 
 -- names and objects, in document order
 abbrev pub own_states_in : Data → List Named
-own_states_in d = members_in (value_in (codes "States") d)
+own_states_in d = member_list_at (codes "States") d

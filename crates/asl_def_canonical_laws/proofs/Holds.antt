@@ -11,7 +11,8 @@ use Rattle.asl_def_schema.specs.declared.sort.Sort.{Sort}
 use Rattle.asl_def_schema.specs.declared.sort.Sort.TheVariants as sort
 use Rattle.asl_def_schema.specs.declared.sort.Kind.{Kind}
 use Rattle.asl_def_schema.specs.Members.{Shape, shape_of, shape_in, sort_at, item_sort, kind_named, definition_rows, machine_rows, item_processor_rows}
-use Rattle.asl_def_schema.specs.Claims.{Spot, under, heres, step, demands, claims, at_member, at_item, inside, one_deeper, names_in, members_in, member_claims, item_claims, row_claims, group_demands, object_claims, is_object, is_template, is_nonempty, item_count}
+use Rattle.asl_json.specs.Access.{members_of_any}
+use Rattle.asl_def_schema.specs.Claims.{Spot, under, heres, step, demands, claims, at_member, at_item, inside, one_deeper, names_in, member_claims, item_claims, row_claims, group_demands, object_claims, is_object, is_template, is_nonempty, item_count}
 use Rattle.asl_def_schema.specs.First.{Each, Hold}
 use Rattle.asl_json.specs.Sound.{KeysDiffer, KeysDifferInItems, KeysDifferInMembers}
 use Rattle.asl_def_schema.specs.Clean.{IsCleanInside}
@@ -31,7 +32,7 @@ mapped_there : (s : Sort) (o : Option Data) → is_some (option_map (canon s) o)
 mapped_there s None = refl
 mapped_there s (Some d) = refl
 
-states_there : (k : List ℕ) (o : Option Data) → is_some (value_at k (members_in (kept (codes "States") (option_map (canon sort.States) o)))) ≡ is_some (value_at k (members_in o))
+states_there : (k : List ℕ) (o : Option Data) → is_some (value_at k (members_of_any (kept (codes "States") (option_map (canon sort.States) o)))) ≡ is_some (value_at k (members_of_any o))
 states_there k None = refl
 states_there k (Some null) = refl
 states_there k (Some (boolean true)) = refl
@@ -47,21 +48,21 @@ definition_names : (ms : Pairs) (k : List ℕ) → names_in (pairs (picked (shap
 unfolding definition_rows
 definition_names ms k =
     let sh = shape_in sort.Definition ms in
-    ap (λ (o : Option Data). is_some (value_at k (members_in o))) (picked_there (codes "States") sh.rows (canon_members sh ms) refl ∙ ap (kept (codes "States")) (value_at-canon (codes "States") sh ms))
+    ap (λ (o : Option Data). is_some (value_at k (members_of_any o))) (picked_there (codes "States") sh.rows (canon_members sh ms) refl ∙ ap (kept (codes "States")) (value_at-canon (codes "States") sh ms))
     ∙ states_there k (value_at (codes "States") ms)
 
 machine_names : (ms : Pairs) (k : List ℕ) → names_in (pairs (picked (shape_in sort.Machine ms).rows (canon_members (shape_in sort.Machine ms) ms))) k ≡ names_in ms k
 unfolding machine_rows
 machine_names ms k =
     let sh = shape_in sort.Machine ms in
-    ap (λ (o : Option Data). is_some (value_at k (members_in o))) (picked_there (codes "States") sh.rows (canon_members sh ms) refl ∙ ap (kept (codes "States")) (value_at-canon (codes "States") sh ms))
+    ap (λ (o : Option Data). is_some (value_at k (members_of_any o))) (picked_there (codes "States") sh.rows (canon_members sh ms) refl ∙ ap (kept (codes "States")) (value_at-canon (codes "States") sh ms))
     ∙ states_there k (value_at (codes "States") ms)
 
 processor_names : (ms : Pairs) (k : List ℕ) → names_in (pairs (picked (shape_in sort.ItemProcessor ms).rows (canon_members (shape_in sort.ItemProcessor ms) ms))) k ≡ names_in ms k
 unfolding item_processor_rows
 processor_names ms k =
     let sh = shape_in sort.ItemProcessor ms in
-    ap (λ (o : Option Data). is_some (value_at k (members_in o))) (picked_there (codes "States") sh.rows (canon_members sh ms) refl ∙ ap (kept (codes "States")) (value_at-canon (codes "States") sh ms))
+    ap (λ (o : Option Data). is_some (value_at k (members_of_any o))) (picked_there (codes "States") sh.rows (canon_members sh ms) refl ∙ ap (kept (codes "States")) (value_at-canon (codes "States") sh ms))
     ∙ states_there k (value_at (codes "States") ms)
 
 -- ---- objects

@@ -14,7 +14,8 @@ use Rattle.asl_def_schema.specs.declared.sort.Sort.{Sort}
 use Rattle.asl_def_schema.specs.declared.sort.Sort.TheVariants as sort
 use Rattle.asl_def_schema.specs.Members.{Row, shape_in}
 use Rattle.asl_def_schema.specs.Demands.{number_of}
-use Rattle.asl_def_schema.specs.Claims.{claims, outside, step, members_in}
+use Rattle.asl_json.specs.Access.{members_of_any}
+use Rattle.asl_def_schema.specs.Claims.{claims, outside, step}
 use Rattle.asl_def_schema.specs.First.{Found}
 use Rattle.asl_def_fault_laws.specs.Parts.{Part, part, whole, member_at, part_in, next, part_at}
 use Rattle.asl_def_fault_laws.specs.Order.{is_up_to}
@@ -134,7 +135,7 @@ same_standing d ts us a b up down =
     r.front
 
 abbrev members_of : Part → Pairs
-members_of x = members_in (Some x.value)
+members_of x = members_of_any (Some x.value)
 
 abbrev row_of : ℕ → Part → Option Row
 row_of n x = slice_get (shape_in x.sort (members_of x)).rows n

@@ -8,7 +8,8 @@ use Rattle.asl_def_schema.specs.declared.fault.Step.{Step}
 use Rattle.asl_def_schema.specs.declared.sort.Sort.{Sort}
 use Rattle.asl_def_schema.specs.declared.sort.Sort.TheVariants as sort
 use Rattle.asl_def_schema.specs.Members.{shape_in, sort_at, item_sort}
-use Rattle.asl_def_schema.specs.Claims.{is_list, is_object, members_in, names_in}
+use Rattle.asl_json.specs.Access.{members_of_any}
+use Rattle.asl_def_schema.specs.Claims.{is_list, is_object, names_in}
 
 -- a value in a definition, and what it is to be
 pub record Part : Type 0 where
@@ -79,4 +80,4 @@ innermost (x ∷ y ∷ ys) = innermost (y ∷ ys)
 -- whether a machine has a state of this name
 abbrev pub has_state : Option Part → List ℕ → Bool
 has_state None k = false
-has_state (Some m) k = names_in (members_in (Some m.value)) k
+has_state (Some m) k = names_in (members_of_any (Some m.value)) k

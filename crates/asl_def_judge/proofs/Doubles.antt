@@ -137,11 +137,8 @@ name_again ks own inner n f h is = finds_early ks own inner f (subst (Finds ks o
 
 -- one name
 
-pub new_name : {Y S : Type 0} (ks : List (List ℕ)) (k : List ℕ) (s n : HashSet (String Y) S) (b : Bool) → Has s ks → b ≡ contains_text s k → b ≡ false → (key : String Y) → string_bytes key ≡ k → Updates string_eq s n key true → Finds ks ((k, []) ∷ []) (Ok n)
-new_name ks k s n b has is off key bytes updates = (
-  (ap not (sym (has k) ∙ sym is ∙ off), tt),
-  λ l. hash_set_updates_text (string_bytes key) s n true updates l ∙ ap (λ (m : List ℕ). cond (bytes_eq m l) true (contains_text s l)) bytes ∙ chosen (bytes_eq k l) (contains_text s l) ∙ (λ i. has l i || bytes_eq-flip k l i) ∙ among_push l ks k,
-)
+pub name_kept : {Y S : Type 0} (ks : List (List ℕ)) (k : List ℕ) (s n : HashSet (String Y) S) → Has s ks → (key : String Y) → string_bytes key ≡ k → Updates string_eq s n key true → Has n (ks ++ k ∷ [])
+name_kept ks k s n has key bytes updates = λ l. hash_set_updates_text (string_bytes key) s n true updates l ∙ ap (λ (m : List ℕ). cond (bytes_eq m l) true (contains_text s l)) bytes ∙ chosen (bytes_eq k l) (contains_text s l) ∙ (λ i. has l i || bytes_eq-flip k l i) ∙ among_push l ks k
   where
     chosen : (c x : Bool) → cond c true x ≡ (x || c)
     chosen true true = refl
@@ -160,6 +157,9 @@ new_name ks k s n b has is off key bytes updates = (
     among_push : (l : List ℕ) (ls : List (List ℕ)) (m : List ℕ) → (is_among l ls || bytes_eq l m) ≡ is_among l (ls ++ m ∷ [])
     among_push l [] m = or_false (bytes_eq l m)
     among_push l (x ∷ xs) m = or_assoc (bytes_eq l x) (is_among l xs) (bytes_eq l m) ∙ ap (λ (c : Bool). bytes_eq l x || c) (among_push l xs m)
+
+pub new_name : {Y S : Type 0} (ks : List (List ℕ)) (k : List ℕ) (s n : HashSet (String Y) S) (b : Bool) → Has s ks → b ≡ contains_text s k → b ≡ false → (key : String Y) → string_bytes key ≡ k → Updates string_eq s n key true → Finds ks ((k, []) ∷ []) (Ok n)
+new_name ks k s n b has is off key bytes updates = ((ap not (sym (has k) ∙ sym is ∙ off), tt), name_kept ks k s n has key bytes updates)
 
 pub old_name : {Y S : Type 0} (ks : List (List ℕ)) (k : List ℕ) (s : HashSet (String Y) S) (b : Bool) (f : Found) → Has s ks → b ≡ contains_text s k → b ≡ true → f ≡ (DuplicateState, []) → IsFirst (unique_claims ks ((k, []) ∷ [])) f
 old_name ks k s b f has is on t =

@@ -7,6 +7,7 @@ use Rattle.asl_json.specs.Same.{bytes_eq}
 use Rattle.asl_json.specs.Meaning.{value_at, count}
 use Rattle.asl_json_data.specs.Number.{units_of}
 use Rattle.asl_json.specs.Whole.{whole_of}
+use Rattle.asl_json.specs.Access.{members_of_any}
 use Rattle.asl_json_data.specs.Distinct.{Members}
 use Rattle.asl_template.specs.Names.{is_double}
 use Rattle.asl_template.specs.Filling.{is_path}
@@ -211,13 +212,9 @@ is_list s = is_list_form (form_of s) || is_template s
 abbrev pub is_object : Sort → Bool
 is_object s = is_object_form (form_of s) || is_template s
 
-abbrev pub members_in : Option Data → Pairs
-members_in (Some (dict ms)) = ms
-members_in _ = no_members
-
 -- the names of a machine's states
 abbrev pub names_in : Pairs → List ℕ → Bool
-names_in ms k = is_some (value_at k (members_in (value_at (codes "States") ms)))
+names_in ms k = is_some (value_at k (members_of_any (value_at (codes "States") ms)))
 
 -- where the members of an object stand
 abbrev pub inside : Spot → Sort → Pairs → Spot

@@ -2,7 +2,6 @@
 use crate::mocks::is;
 use asl_json_read::read;
 use asl_lint_mocks::{faults_of, has_gap, unused_responses};
-use asl_mock::members_at;
 use std::alloc::Global;
 use std::test::Fail;
 
@@ -41,7 +40,7 @@ fn unused(alloc: Global, file: &str) -> Option<String> {
 fn gap(alloc: Global, answers: &str) -> Option<bool> {
     let file = format!(in alloc; r#"{{"R":{answers}}}"#).ok()?;
     let value = read(alloc, file.as_bytes()).ok()?;
-    Some(has_gap(members_at(&value, "R")))
+    Some(has_gap(value.members_at("R")))
 }
 
 fn has(gap: Option<bool>, wanted: bool) -> bool {

@@ -31,9 +31,16 @@ contains-later ws vs os us o l c = subst (λ (xs : List Outcome). Contains xs o)
 pub whole-later : (o : Orders) (s : Setup) (ws vs : List World) (os us : List Outcome) → IsLater ws os vs us → IsWhole o s os → IsWhole o s us
 whole-later o s ws vs os us l h ps tried over = contains-later ws vs os us (after_order s (opening s) ps).outcome l (h ps tried over)
 
+whole-to-later : (o : Orders) (s : Setup) (ws vs : List World) (os us : List Outcome) (d : ℕ) → IsLater ws os vs us → IsWholeTo d o s os → IsWholeTo d o s us
+whole-to-later o s ws vs os us d l h = λ ps short tried over. contains-later ws vs os us (after_order s (opening s) ps).outcome l (h ps short tried over)
+
+pub depth-later : (o : Orders) (s : Setup) (ws vs : List World) (os us : List Outcome) (depth : Option ℕ) → IsLater ws os vs us → IfSome depth (λ d. (o ≡ Every) × IsWholeTo d o s os) → IfSome depth (λ d. (o ≡ Every) × IsWholeTo d o s us)
+depth-later o s ws vs os us None l h = tt
+depth-later o s ws vs os us (Some d) l h = (h.0, whole-to-later o s ws vs os us d l h.1)
+
 pub to-later : (o : Orders) (s : Setup) (ws vs : List World) (os us : List Outcome) (depth : Option ℕ) → IsLater ws os vs us → IfSome depth (λ d. (o ≡ Every) × IsWholeTo d o s os) → IfSome depth (λ d. IsWholeTo d o s us)
 to-later o s ws vs os us None l h = tt
-to-later o s ws vs os us (Some d) l h = λ ps short tried over. contains-later ws vs os us (after_order s (opening s) ps).outcome l (h.1 ps short tried over)
+to-later o s ws vs os us (Some d) l h = whole-to-later o s ws vs os us d l h.1
 
 one-counted : (n : ℕ) (ws vs : List World) (os us : List Outcome) (cs : List Calls) (o : Outcome) (counts : List ℕ) → IsLater ws os vs us → IsCounted n os cs o counts → IsCounted n us cs o counts
 one-counted n ws vs os us cs o counts l h = record {

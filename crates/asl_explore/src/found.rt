@@ -19,7 +19,8 @@ pub struct Found {
 /// What a search found.
 #[derive(Drop)]
 pub struct Explored {
-    /// The outcomes, each once, in the order in which they were found: those of fewer steps first; behind them that of a late step.
+    /// The outcomes, each once, in the order in which they were found: those of fewer steps first; behind them those of some whole
+    /// orders, where the search was cut, and that of a late step.
     pub found: Vec<Found>,
     /// The numbers, from 1, of those that come only where a branch is late: another one steps at a later moment first. None is among
     /// them where that isn't known.

@@ -2,7 +2,7 @@
 //!
 //! Modules in reading order: `orders` says which orders are tried; `found` is what a search finds; `met` the worlds that it met, which are looked up by `table` and `digest`;
 //! `order` takes steps at their earliest moments; `visiting` takes one step of a search; `settling` knows the Tasks whose answers change no more, and `quiet` takes steps that need no other; `search` takes all of them, and tells `watch` how
-//! far it is; `late` marks outcomes; `time_over` adds that of a late step; `endless` looks for orders that never end, and `lasso` tries one; `clock` looks for the clock in a definition; `states` lists its states; `calls` and `counting` say how often each is
+//! far it is; `sampling` takes some whole orders where that is cut; `late` marks outcomes; `time_over` adds that of a late step; `endless` looks for orders that never end, and `lasso` tries one; `clock` looks for the clock in a definition; `states` lists its states; `calls` and `counting` say how often each is
 //! invoked; `remarks` is what is remarkable beyond the outcomes: `seeing` looks at the branches of one world, `sights` is what was seen of each state in all worlds, and `remarking` what is told of it, by the `answers` of a mock file; `telling` and `report` tell what was found; `laws` says that nothing is
 //! left out, and of which steps remarks speak.
 #![tactic(auto)]
@@ -24,6 +24,7 @@ mod quiet;
 mod remarking;
 mod remarks;
 mod report;
+mod sampling;
 mod search;
 mod seeing;
 mod settling;

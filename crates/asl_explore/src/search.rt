@@ -25,6 +25,7 @@ use crate::order::soonest;
 use crate::orders::Orders;
 use crate::quiet::quietly;
 use crate::remarking::{no_remarks, remarks_on};
+use crate::sampling::put_samples;
 use crate::settling::{Settling, settling_in};
 use crate::sights::sights_in;
 use crate::states::states_in;
@@ -438,7 +439,7 @@ fn try_orders<W: Watch>(
 }
 
 /// The same. Where calls are to be counted, a step of each branch is taken in each world.
-fn search_for<W: Watch>(
+fn search_alone<W: Watch>(
     probe: &mut Probe,
     alloc: Global,
     orders: Orders,
@@ -475,6 +476,50 @@ fn search_for<W: Watch>(
         return search(probe, alloc, orders, false, limit, watch);
     }
     try_orders(probe, alloc, orders, limit, watch)
+}
+
+/// The same. What some whole orders end in stands behind the outcomes of a search that was cut and counts no calls.
+fn search_for<W: Watch>(
+    probe: &mut Probe,
+    alloc: Global,
+    orders: Orders,
+    calls: bool,
+    limit: u32,
+    watch: &W,
+) -> Result<Option<Searched>, AllocError>
+    ensures shown { IfOk result (λ o. IfSome o
+        (λ x. All (Shows orders (setup_of probe.old)) x.found.items)) }
+    ensures once { IfOk result (λ o. IfSome o (λ x. AreDistinct (outcomes_of x.found.items))) }
+    ensures reached { IfOk result (λ o. IfSome o
+        (λ x. All (IsReached orders (setup_of probe.old)) (worlds_of x.met.nodes.items))) }
+    ensures whole { IfOk result (λ o. IfSome o (λ x. x.complete ≡ true
+        → IsWhole orders (setup_of probe.old) (outcomes_of x.found.items))) }
+    ensures expanded { calls ≡ true → IfOk result (λ o. IfSome o (λ x. x.complete ≡ true
+        → AllAreExpanded orders (setup_of probe.old) (worlds_of x.met.nodes.items)
+        (outcomes_of x.found.items))) }
+    ensures plain { calls ≡ true → IfOk result (λ o. IfSome o (λ x. x.reduced ≡ false)) }
+    ensures ending { IfOk result (λ o. IfSome o (λ x. x.reduced ≡ false → x.complete ≡ true
+        → All (CanEnd x.tried (setup_of probe.old)) (worlds_of x.met.nodes.items)
+        → NoneIsEndless orders (setup_of probe.old))) }
+    ensures filling { IfOk result (λ o. IfSome o (λ x. x.complete ≡ true
+        → All (CanEnd x.tried (setup_of probe.old)) (worlds_of x.met.nodes.items)
+        → EachEndsOrFills orders (setup_of probe.old))) }
+    ensures depth { IfOk result (λ o. IfSome o (λ x. IfSome x.depth
+        (λ d. (orders ≡ Every)
+        × IsWholeTo d orders (setup_of probe.old) (outcomes_of x.found.items)))) }
+    ensures cut { IfOk result (λ o. IfSome o (λ x. x.complete ≡ false → x.whole ≡ true
+        → limit ≤ length x.met.nodes.items)) }
+    ensures tried { IfOk result (λ o. IfSome o (λ x. (x.tried ≡ orders) ⊎ (orders ≡ Every))) }
+    ensures setup { setup_of probe.new ≡ setup_of probe.old }
+{
+    let Some(mut searched) = search_alone(probe, alloc, orders, calls, limit, watch)? else {
+        return Ok(None);
+    };
+    if searched.complete || calls {
+        return Ok(Some(searched));
+    }
+    put_samples(probe, alloc, orders, &mut searched.found, limit)?;
+    Ok(Some(searched))
 }
 
 /// How often each state is invoked in the orders that end in each outcome of a search, if that is wanted. The error is that memory ran

@@ -69,6 +69,39 @@ pub(crate) fn enter(probe: &mut Probe, alloc: Global, world: &World) -> Result<b
     }
 }
 
+/// Puts an outcome that wasn't found behind those that were, with steps that led to it, if this is true: unless a run of these steps ends
+/// otherwise, or one of them isn't tried. The error is that memory ran out.
+pub(crate) fn put_found(
+    probe: &mut Probe,
+    alloc: Global,
+    orders: Orders,
+    found: &mut Vec<Found>,
+    outcome: &Outcome,
+    steps: Vec<StepAt>,
+) -> Result<bool, AllocError>
+    requires over { is_over outcome.now ≡ true }
+    requires new { All (λ (o : Outcome). o ≡ outcome.now → ⊥) (outcomes_of found.old.items) }
+    ensures met { IfOk result
+        (λ b. b ≡ true → Contains (outcomes_of found.new.items) outcome.now) }
+    ensures later { (ws : List World)
+        → IsLater ws (outcomes_of found.old.items) ws (outcomes_of found.new.items) }
+    ensures shown { All (Shows orders (setup_of probe.old)) found.old.items
+        → All (Shows orders (setup_of probe.old)) found.new.items }
+    ensures once { AreDistinct (outcomes_of found.old.items)
+        → AreDistinct (outcomes_of found.new.items) }
+    ensures setup { setup_of probe.new ≡ setup_of probe.old }
+{
+    if !replay(probe, alloc, orders, &steps)? {
+        return Ok(false);
+    }
+    if probe.outcome() != outcome {
+        return Ok(false);
+    }
+    let outcome = outcome.try_clone(alloc)?;
+    found.push(Found { outcome, steps })?;
+    Ok(true)
+}
+
 /// An outcome is among those that were found, if this is true: put there if it wasn't, with the steps that led to it, unless a run of
 /// these steps ends otherwise. The error is that memory ran out.
 fn conclude(
@@ -96,15 +129,7 @@ fn conclude(
         return Ok(true);
     }
     let steps = path(alloc, nodes, parent, at)?;
-    if !replay(probe, alloc, orders, &steps)? {
-        return Ok(false);
-    }
-    if probe.outcome() != outcome {
-        return Ok(false);
-    }
-    let outcome = outcome.try_clone(alloc)?;
-    found.push(Found { outcome, steps })?;
-    Ok(true)
+    put_found(probe, alloc, orders, found, outcome, steps)
 }
 
 /// Takes a step in a world that was met: the world that it leads to is met then, if this is true. The error is that memory ran out.

@@ -6,10 +6,12 @@ use Rattle.asl_graph.specs.declared.language.Language.{Language}
 use Rattle.asl_graph.specs.declared.language.Language.TheVariants.{Mermaid, Dot}
 use Rattle.asl_graph.specs.declared.format.Format.{Format}
 use Rattle.asl_graph.specs.declared.edges.Edge.{Edge}
+use Rattle.asl_graph.specs.declared.marking.RunEnd.{RunEnd}
+use Rattle.asl_graph.specs.declared.marking.RunEnd.TheVariants.{Succeeded, Failed, Open}
 use Rattle.asl_graph.specs.Names.{state_id}
-use Rattle.asl_graph.specs.Lines.{ending}
+use Rattle.asl_graph.specs.Lines.{ending, end_mark}
 use Rattle.asl_graph.specs.Formats.{language_of, printed}
-use Rattle.asl_graph.specs.Graphs.{lines_of}
+use Rattle.asl_graph.specs.Graphs.{outer_key, lines_of}
 
 -- Mermaid names the style of marked states once
 unfoldable pub mark_style : Language → List ℕ
@@ -31,9 +33,25 @@ mark_line l name = marked_lead l ++ (state_id name ++ marked_end l)
 abbrev pub mark_lines : Language → List (List ℕ) → List ℕ
 mark_lines l names = mark_style l ++ flat_map (mark_line l) names
 
--- the graph, with these transitions thick, and the states of these names marked behind all others
-abbrev pub marked_in : Language → List (List ℕ) → List Edge → Data → List ℕ
-marked_in l names es d = lines_of l es d ++ (mark_lines l names ++ ending l)
+unfoldable pub failed_end : Language → List ℕ
+failed_end Mermaid = codes " fail" ++ 10 ∷ []
+failed_end Dot = codes " [color=red3];" ++ 10 ∷ []
 
-abbrev pub marked_text : Format → List (List ℕ) → List Edge → Data → List ℕ
-marked_text f names es d = printed f (marked_in (language_of f) names es d)
+unfoldable pub succeeded_end : Language → List ℕ
+succeeded_end Mermaid = codes " succeed" ++ 10 ∷ []
+succeeded_end Dot = codes " [color=green4];" ++ 10 ∷ []
+
+-- the state in which the run failed in red; where it succeeded, the mark where the outermost machine ends in
+-- green
+abbrev pub run_end_line : Language → RunEnd → List ℕ
+run_end_line l Succeeded = marked_lead l ++ (end_mark outer_key ++ succeeded_end l)
+run_end_line l (Failed name) = marked_lead l ++ (state_id name ++ failed_end l)
+run_end_line l Open = []
+
+-- the graph, with these transitions thick, and the states of these names marked behind all others
+-- and with how the run ended
+abbrev pub marked_in : Language → List (List ℕ) → List Edge → RunEnd → Data → List ℕ
+marked_in l names es end d = lines_of l es d ++ (mark_lines l names ++ (run_end_line l end ++ ending l))
+
+abbrev pub marked_text : Format → List (List ℕ) → List Edge → RunEnd → Data → List ℕ
+marked_text f names es end d = printed f (marked_in (language_of f) names es end d)

@@ -9,7 +9,7 @@ use crate::format::Format;
 use crate::language::Language;
 use crate::leading::put_first_lines;
 use crate::lines::{ending, heading};
-use crate::marking::put_mark_lines;
+use crate::marking::{RunEnd, put_mark_lines, put_run_end_line};
 use crate::walking::put_machine_lines;
 use asl_json::Json;
 use std::alloc::{AllocError, Global};
@@ -43,23 +43,25 @@ pub fn graph(alloc: Global, format: Format, definition: &Json) -> Result<String,
     Ok(out)
 }
 
-/// The same graph, with the states of these names marked, as those that a run entered, and these transitions thick, as those that it
-/// took. The error is that memory ran out.
+/// The same graph, with the states of these names marked, as those that a run entered, these transitions thick, as those that it took, and
+/// how it ended. The error is that memory ran out.
 pub fn marked_graph(
     alloc: Global,
     format: Format,
     names: &[String],
     edges: &[Edge],
+    end: &RunEnd,
     definition: &Json,
 ) -> Result<String, AllocError>
     ensures { IfOk result (λ t. string_bytes t
-        ≡ marked_text format (map string_bytes names.now) edges.now (data_of definition.now)) }
+        ≡ marked_text format (map string_bytes names.now) edges.now end.now (data_of definition.now)) }
 {
     let language = format.language();
     let mut out = String::new(alloc);
     out.push_str(format.opening())?;
     put_lines(alloc, &mut out, language, edges, definition)?;
     put_mark_lines(&mut out, language, names)?;
+    put_run_end_line(&mut out, language, end)?;
     let end = ending(language);
     out.push_str(end)?;
     out.push_str(format.closing())?;

@@ -3,7 +3,7 @@
 //!
 //! Modules in reading order: `language` has the languages, and `format` what is printed of them; `naming` writes names so that both languages take them, `lines` the lines of a
 //! graph; `edges` are the transitions that a run took; `members` reads off what members say, `conditions` writes the conditions of rules,
-//! `leading` the lines of a state's transitions, and `walking` those of all states; `marking` marks states, and `drawing` is the whole text.
+//! `leading` the lines of a state's transitions, and `walking` those of all states; `marking` marks states and ends, and `drawing` is the whole text.
 #![tactic(auto)]
 
 mod conditions;
@@ -21,3 +21,4 @@ mod walking;
 pub use drawing::{graph, marked_graph};
 pub use edges::{Edge, Way, is_taken};
 pub use format::Format;
+pub use marking::RunEnd;

@@ -2,7 +2,7 @@
 ghost use Rattle.std.specs.Prelude.{◌≡◌, ◌∷◌, ◌++◌, ◌<◌, [], false, length, option_map, slice_get, IfOk, OnOk, OnErr};
 ghost use Rattle.asl_json.specs.View.{data_of, items_of, members_of};
 ghost use Rattle.asl_json_data.specs.Distinct.{has_key, AreDistinct};
-ghost use Rattle.asl_json.specs.Access.{items_in, key_index, members_in};
+ghost use Rattle.asl_json.specs.Access.{items_in, key_index, members_in, member_list, member_list_at};
 ghost use Rattle.asl_json_data.specs.Data.{chain, pairs};
 ghost use Rattle.asl_json.specs.private.Lending.{LendsValue, LendsItem};
 ghost use Rattle.std.specs.Borrow.{sem};
@@ -14,11 +14,23 @@ impl Json {
     /// The members of an object; any other value has none.
     pub fn members(&self) -> &[Member]
         ensures members { pairs (members_of result.now) ≡ members_in (data_of self.now) }
+        ensures listed { members_of result.now ≡ member_list (data_of self.now) }
         ensures distinct { AreDistinct [] (members_of result.now) }
     {
         match self {
             Json::Dict(members) => members.members(),
             _ => &[],
+        }
+    }
+
+    /// The members of the object under this key; where there is no object, none.
+    pub fn members_at(&self, key: &str) -> &[Member]
+        ensures listed { members_of result.now ≡ member_list_at key.now (data_of self.now) }
+        ensures distinct { AreDistinct [] (members_of result.now) }
+    {
+        match self.get(key) {
+            Some(value) => value.members(),
+            None => &[],
         }
     }
 

@@ -22,5 +22,6 @@ mod wait;
 
 pub use joining::{first_error, outputs};
 pub use kind::StateKind;
+pub use map::item_input;
 pub use pass::result_or;
 pub use task::no_answer;

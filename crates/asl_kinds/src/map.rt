@@ -1,5 +1,5 @@
 // Map (ASL, "Map State").
-ghost use Rattle.std.specs.Prelude.{◌≡◌, ◌≤◌, [], ◌∷◌, ◌++◌, List, ℕ, length, Ok, Some, IfOk, OnOk, codes, option_map};
+ghost use Rattle.std.specs.Prelude.{◌≡◌, ◌≤◌, [], ◌∷◌, ◌++◌, List, length, Ok, Some, IfOk, OnOk, codes, option_map};
 ghost use Rattle.asl_json.specs.View.{data_of};
 ghost use Rattle.asl_json.specs.Meaning.{value_in};
 ghost use Rattle.asl_def_states.specs.Show.{map_object};
@@ -59,8 +59,37 @@ fn listed(alloc: Global, list: Shared) -> Result<SharedItems, Fault>
     }
 }
 
+/// The input that an `ItemSelector` makes for the iteration of this number over this item.
+pub fn item_input(
+    alloc: Global,
+    template: &Template,
+    effective: &Shared,
+    number: u32,
+    item: &Json,
+    visit: &Visit,
+    context: &mut Context,
+) -> Result<Shared, Fault>
+    ensures given { Gives (item_input (Some template.now) effective.now context.old.facts
+        (seen visit.now) number (data_of item.now)) result }
+    ensures facts { context.new.facts ≡ context.old.facts }
+{
+    let visit = Visit {
+        place: visit.place,
+        current: visit.current,
+        children: visit.children,
+        forker: visit.forker,
+        iteration: Some((number, item)),
+        invokes: visit.invokes,
+        count: visit.count,
+        case: visit.case,
+        moment: visit.moment,
+    };
+    let effective = effective.try_clone()?;
+    filled(alloc, Some(template), effective, &visit, context)
+}
+
 /// The input of the iteration of this number over this item.
-fn item_input(
+fn input_of(
     alloc: Global,
     template: Option<&Template>,
     effective: &Shared,
@@ -73,27 +102,20 @@ fn item_input(
         context.old.facts (seen visit.now) number (data_of item)) result }
     ensures facts { context.new.facts ≡ context.old.facts }
 {
-    let Some(template) = template else {
-        return Ok(item);
-    };
-    let visit = Visit {
-        place: visit.place,
-        current: visit.current,
-        children: visit.children,
-        forker: visit.forker,
-        iteration: Some((number, item.get())),
-        invokes: visit.invokes,
-        count: visit.count,
-        case: visit.case,
-        moment: visit.moment,
-    };
-    filled(
-        alloc,
-        Some(template),
-        effective.try_clone()?,
-        &visit,
-        context,
-    )
+    match template {
+        Some(template) => {
+            item_input(
+                alloc,
+                template,
+                effective,
+                number,
+                item.get(),
+                visit,
+                context,
+            )
+        }
+        None => Ok(item),
+    }
 }
 
 /// Adds an iteration that hasn't begun.
@@ -124,7 +146,7 @@ fn iterations(
     let mut list = Vec::with_capacity(alloc, count)?;
     for number in 0..count as u32 {
         let item = items.item(number)?;
-        let input = item_input(alloc, template, effective, number, item, visit, context)?;
+        let input = input_of(alloc, template, effective, number, item, visit, context)?;
         add(&mut list, start, input)?;
     }
     Ok(Records { list })

@@ -9,7 +9,7 @@ use Rattle.asl_json_data.specs.Reads.{ReadsAs}
 use Rattle.asl_mock.specs.Faults.{bad_keys, overlaps}
 use Rattle.asl_mock.specs.Form.{misfits}
 use Rattle.asl_mock.specs.Places.{Place}
-use Rattle.asl_mock.specs.Tables.{members_in}
+use Rattle.asl_json.specs.Access.{member_list}
 use Rattle.asl_mock.specs.declared.shape.Shape.TheVariants.{Top}
 use Rattle.asl_lint_mocks.specs.declared.beside.Known.{Known}
 use Rattle.asl_lint_mocks.specs.declared.beside.NameFault.{NameFault}
@@ -50,9 +50,9 @@ grows_on ms a b c xs ys first second =
     ∙ append_assoc (map (keyed ms) a) xs ys
 
 -- the kinds of findings in a mock file by itself, one behind another
-pub own_grows : (d : Data) (a b c e f g h : List Noted) → Grows (members_in d) a b (each_of mock.Shape (misfits Top d)) → Grows (members_in d) b c (each_of mock.Key (bad_keys d)) → Grows (members_in d) c e (each_of mock.Overlap (overlaps d)) → Grows (members_in d) e f (each_of mock.NoResponse (lost_names d)) → Grows (members_in d) f g (each_of mock.MissingAnswer (gaps d)) → Grows (members_in d) g h (each_of mock.UnusedResponse (unused d)) → Grows (members_in d) a h (own_told d)
+pub own_grows : (d : Data) (a b c e f g h : List Noted) → Grows (member_list d) a b (each_of mock.Shape (misfits Top d)) → Grows (member_list d) b c (each_of mock.Key (bad_keys d)) → Grows (member_list d) c e (each_of mock.Overlap (overlaps d)) → Grows (member_list d) e f (each_of mock.NoResponse (lost_names d)) → Grows (member_list d) f g (each_of mock.MissingAnswer (gaps d)) → Grows (member_list d) g h (each_of mock.UnusedResponse (unused d)) → Grows (member_list d) a h (own_told d)
 own_grows d a b c e f g h shape key overlap lost bare unused_too =
-    let ms = members_in d in
+    let ms = member_list d in
     let last = each_of mock.UnusedResponse (unused d) in
     let five = each_of mock.MissingAnswer (gaps d) in
     let four = each_of mock.NoResponse (lost_names d) in
@@ -64,9 +64,9 @@ own_grows d a b c e f g h shape key overlap lost bare unused_too =
     (grows_on ms e f h four (five ++ last) lost (grows_on ms f g h five last bare unused_too))))
 
 -- and beside states
-pub beside_grows : (w : Option (List ℕ)) (ss : List Stated) (d : Data) (a b c e : List Noted) → Grows (members_in d) a b (each_of mock.NoMachine (unclear w d)) → Grows (members_in d) b c (each_of mock.UnknownState (misnamed w (fits name.Unknown (is_state ss) (is_task ss)) d)) → Grows (members_in d) c e (each_of mock.NotTask (misnamed w (fits name.NoTask (is_state ss) (is_task ss)) d)) → Grows (members_in d) a e (beside_told w ss d)
+pub beside_grows : (w : Option (List ℕ)) (ss : List Stated) (d : Data) (a b c e : List Noted) → Grows (member_list d) a b (each_of mock.NoMachine (unclear w d)) → Grows (member_list d) b c (each_of mock.UnknownState (misnamed w (fits name.Unknown (is_state ss) (is_task ss)) d)) → Grows (member_list d) c e (each_of mock.NotTask (misnamed w (fits name.NoTask (is_state ss) (is_task ss)) d)) → Grows (member_list d) a e (beside_told w ss d)
 beside_grows w ss d a b c e which unknown no_task =
-    let ms = members_in d in
+    let ms = member_list d in
     let two = each_of mock.UnknownState (misnamed w (fits name.Unknown (is_state ss) (is_task ss)) d) in
     let three = each_of mock.NotTask (misnamed w (fits name.NoTask (is_state ss) (is_task ss)) d) in
     grows_on ms a b e (each_of mock.NoMachine (unclear w d)) (two ++ three) which (grows_on ms b c e two three unknown no_task)

@@ -2,7 +2,7 @@
 use Rattle.std.specs.Prelude.{◌≡◌, ◌⊎◌, List, [], ◌∷◌, ◌++◌, ℕ, Option, Some, None, map}
 use Rattle.asl_json_data.specs.Data.{Data}
 use Rattle.asl_json_data.specs.Reads.{ReadsAs}
-use Rattle.asl_mock.specs.Tables.{members_in}
+use Rattle.asl_json.specs.Access.{member_list}
 use Rattle.asl_lint_messages.specs.States.{Stated, states_of}
 use Rattle.asl_lint.specs.declared.rule.Rule.{Rule}
 use Rattle.asl_lint.specs.declared.rule.Rule.TheVariants as rule
@@ -29,7 +29,7 @@ pub record AreMocksJudged (w : Option (List ℕ)) (ss : Option (List Stated)) (b
   pub value : Data
   pub reads : ReadsAs b value
   pub all : List Noted
-  pub found : map (keyed (members_in value)) all ≡ mocks_told w ss value
+  pub found : map (keyed (member_list value)) all ≡ mocks_told w ss value
   pub placed : ArePlaced b value all (map ruled fs)
 
 -- where there is one

@@ -4,7 +4,7 @@ use crate::rule::MockRule;
 use asl_def_schema::Kind;
 use asl_json::{Json, Member};
 use asl_lint_messages::{EFFORT, Search, States, kind_word, put_name, put_separator};
-use asl_mock::{Shape, members_at, members_in};
+use asl_mock::Shape;
 use std::alloc::{AllocError, Global};
 
 /// The most machines that are told one by one.
@@ -32,7 +32,7 @@ struct Spot<'a> {
 
 /// A member of an object, and what it is.
 fn member_at<'a>(spot: Spot<'a>, number: usize) -> Spot<'a> {
-    match members_in(spot.value).get(number) {
+    match spot.value.members().get(number) {
         Some(member) => Spot {
             value: &member.value,
             shape: spot.shape.part(member.key.as_str()),
@@ -133,7 +133,7 @@ fn put_unclear(
     file: &Json,
     machine: Option<&str>,
 ) -> Result<(), AllocError> {
-    let machines = members_at(file, "StateMachines");
+    let machines = file.members_at("StateMachines");
     match machine {
         Some(name) => put_no_machine(alloc, out, name, machines),
         None => put_machines(out, machines),
@@ -227,6 +227,6 @@ pub(crate) fn put_mock(
             out.push_str("no case names the response ")?;
             put_name(out, spot.key)
         }
-        MockRule::MissingAnswer => put_gaps(alloc, out, spot.key, members_in(spot.value)),
+        MockRule::MissingAnswer => put_gaps(alloc, out, spot.key, spot.value.members()),
     }
 }

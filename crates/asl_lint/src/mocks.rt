@@ -6,7 +6,7 @@ ghost use Rattle.asl_json.specs.Same.{bytes_eq};
 ghost use Rattle.asl_json.specs.View.{data_of};
 ghost use Rattle.asl_lint_messages.specs.States.{Stated};
 ghost use Rattle.asl_mock.specs.Places.{Place};
-ghost use Rattle.asl_mock.specs.Tables.{members_in};
+ghost use Rattle.asl_json.specs.Access.{member_list};
 ghost use Rattle.asl_lint_mocks.specs.Places.{AreAt, numbers_of};
 ghost use Rattle.asl_lint.specs.Mocks.{beside_told, each_of, is_a_task, is_state, is_task, keyed, may_be_task, mocks_told, own_told, told_if, unanswered, without_answer};
 ghost use Rattle.asl_lint.specs.private.Founds.{Grows, IsKnown, noted};
@@ -16,7 +16,7 @@ use crate::mock_words::{Beside, put_mock};
 use crate::rule::{MockRule, Rule};
 use asl_def_schema::Kind;
 use asl_json::Json;
-use asl_lint_messages::{EFFORT, State, States, put_name};
+use asl_lint_messages::{EFFORT, State, put_name};
 use asl_lint_mocks::{
     Faults, Known, NameFault, answered, faults_of, gaps, is_unclear, misnamed, unclear,
     unused_responses,
@@ -88,7 +88,7 @@ fn add_own(
     beside: Beside<'_>,
     effort: &mut usize,
 ) -> Result<(), AllocError>
-    ensures { OnOk result (Grows (members_in (data_of file.now)) (map noted found.old.items)
+    ensures { OnOk result (Grows (member_list (data_of file.now)) (map noted found.old.items)
         (map noted found.new.items) (own_told (data_of file.now))) }
 {
     let Faults {
@@ -200,7 +200,7 @@ fn add_misnamed(
     effort: &mut usize,
 ) -> Result<(), AllocError>
     ensures { OnOk result ((ss : List Stated) → IsKnown known.now ss
-        → Grows (members_in (data_of file.now)) (map noted found.old.items)
+        → Grows (member_list (data_of file.now)) (map noted found.old.items)
         (map noted found.new.items)
         (beside_told (option_map (λ k. k.now) beside.entry.machine) ss (data_of file.now))) }
 {
@@ -245,7 +245,7 @@ fn add_beside(
     states: &[State<'_>],
     effort: &mut usize,
 ) -> Result<(), AllocError>
-    ensures { OnOk result (Grows (members_in (data_of file.now)) (map noted found.old.items)
+    ensures { OnOk result (Grows (member_list (data_of file.now)) (map noted found.old.items)
         (map noted found.new.items)
         (beside_told (option_map (λ k. k.now) beside.entry.machine) states.now (data_of file.now))) }
 {
@@ -264,7 +264,7 @@ pub(crate) fn found_in_mocks(
     file: &Json,
     beside: Beside<'_>,
 ) -> Result<Vec<Found>, AllocError>
-    ensures { IfOk result (λ found. map (keyed (members_in (data_of file.now))) (map noted found.items)
+    ensures { IfOk result (λ found. map (keyed (member_list (data_of file.now))) (map noted found.items)
         ≡ mocks_told (option_map (λ k. k.now) beside.entry.machine)
         (option_map (λ s. s.now.list.items) beside.entry.states) (data_of file.now)) }
 {

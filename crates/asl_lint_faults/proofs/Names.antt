@@ -1,18 +1,15 @@
 -- Names of states that come again.
-use Rattle.std.proofs.Common.{◌≡◌, ℕ, ◌+◌, ◌<◌, ◌≤◌, Bool, true, false, cond, ◌||◌, not, List, [], ◌∷◌, ◌++◌, length, get_or, drop, refl, sym, subst, ◌∙◌, ap, append_assoc, inl, inr, arith}
+use Rattle.std.proofs.Common.{◌≡◌, ℕ, ◌+◌, ◌<◌, ◌≤◌, Bool, true, false, not, List, [], ◌∷◌, ◌++◌, length, get_or, drop, refl, sym, subst, ◌∙◌, ap, append_assoc, inl, inr, arith}
 use Rattle.std.specs.Prelude.{Option, Some, None, map, option_to_list, if◌then◌else◌}
 use Rattle.std.specs.Fmt.{decimal}
 use Rattle.std.specs.declared.string.String.{String}
 use Rattle.std.specs.HashSet.{HashSet, contains_text, Updates}
 use Rattle.std.specs.String.{string_eq, string_bytes}
-use Rattle.std.proofs.lemmas.Map.Text.{hash_set_updates_text}
 use Rattle.std.proofs.lemmas.List.{drop_all, append-nil}
 use Rattle.asl_json_data.specs.Data.{chain, pairs}
-use Rattle.asl_json.specs.Same.{bytes_eq}
 use Rattle.asl_json.specs.View.{data_of, items_of, members_of}
 use Rattle.asl_json.specs.declared.value.Json.{Json}
 use Rattle.asl_json.specs.declared.value.Member.{Member}
-use Rattle.asl_json.proofs.Knowing.{bytes_eq-flip}
 use Rattle.asl_def_schema.specs.declared.fault.FaultKind.TheVariants.{DuplicateState}
 use Rattle.asl_def_schema.specs.declared.sort.Sort.{Sort}
 use Rattle.asl_def_schema.specs.Members.{Shape, sort_at, is_among}
@@ -20,7 +17,7 @@ use Rattle.asl_def_schema.specs.Demands.{unique}
 use Rattle.asl_def_schema.specs.Claims.{Claim, step}
 use Rattle.asl_def_schema.specs.First.{Found}
 use Rattle.asl_def_schema.specs.States.{Named, Has, further, own_name, states_in, item_states, member_states, unique_claims}
-use Rattle.asl_def_judge.proofs.Doubles.{items_split, members_split}
+use Rattle.asl_def_judge.proofs.Doubles.{items_split, members_split, name_kept}
 use Rattle.asl_lint_faults.specs.Told.{AreTold}
 use Rattle.asl_lint_faults.proofs.Going.{Goes, goes-start, goes-step, goes-end}
 
@@ -62,27 +59,6 @@ continues-start s rest all none h is e = record { so_far = []; has = h; goes = s
 pub continues-end : {Y S : Type 0} (s : HashSet (String Y) S) (rest all : List Named) (told : List Found) → length rest ≡ 0 → Continues s rest all told → AreTold (unique_claims [] all) told
 continues-end s [] all told e w = goes-end (unique_claims [] all) told w.goes
 continues-end s (n ∷ rest) all told e w = absurd (omega (arith, e))
-
-name_kept : {Y S : Type 0} (ks : List (List ℕ)) (k : List ℕ) (s n : HashSet (String Y) S) → Has s ks → (key : String Y) → string_bytes key ≡ k → Updates string_eq s n key true → Has n (ks ++ k ∷ [])
-name_kept ks k s n has key bytes updates = λ l. hash_set_updates_text (string_bytes key) s n true updates l ∙ ap (λ (m : List ℕ). cond (bytes_eq m l) true (contains_text s l)) bytes ∙ chosen (bytes_eq k l) (contains_text s l) ∙ (λ i. has l i || bytes_eq-flip k l i) ∙ among_push l ks k
-  where
-    chosen : (c x : Bool) → cond c true x ≡ (x || c)
-    chosen true true = refl
-    chosen true false = refl
-    chosen false true = refl
-    chosen false false = refl
-
-    or_false : (c : Bool) → c ≡ (c || false)
-    or_false true = refl
-    or_false false = refl
-
-    or_assoc : (a c d : Bool) → ((a || c) || d) ≡ (a || (c || d))
-    or_assoc true c d = refl
-    or_assoc false c d = refl
-
-    among_push : (l : List ℕ) (ls : List (List ℕ)) (m : List ℕ) → (is_among l ls || bytes_eq l m) ≡ is_among l (ls ++ m ∷ [])
-    among_push l [] m = or_false (bytes_eq l m)
-    among_push l (x ∷ xs) m = or_assoc (bytes_eq l x) (is_among l xs) (bytes_eq l m) ∙ ap (λ (c : Bool). bytes_eq l x || c) (among_push l xs m)
 
 one_name : (n : Named) (b : Bool) (c : Claim) → c ≡ (unique (not b), n.1) → AreTold (c ∷ []) (option_to_list (if b then Some (DuplicateState, n.1) else None))
 one_name n true c e = subst (λ (x : Claim). AreTold (x ∷ []) ((DuplicateState, n.1) ∷ [])) (sym e) (inr (record { others = []; broken = λ h. absurd cc; parts = refl; others_are = refl }))

@@ -1,19 +1,21 @@
 -- Names of responses that aren't there, where all values fit.
 use Rattle.std.proofs.Common.{◌≡◌, ℕ, Bool, true, false, List, [], ◌∷◌, ◌++◌, refl, sym, ap, subst, ◌∙◌}
-use Rattle.std.specs.Prelude.{map, Option, Some, None, if◌then◌else◌, is_some, codes}
+use Rattle.std.specs.Prelude.{Option, Some, None, if◌then◌else◌, codes}
 use Rattle.std.specs.Cmp.Lexicographic.{bytes_decides}
 use Rattle.asl_json_data.specs.Data.{Data, null, boolean, number, text, list, dict, Pairs, no_members, member}
 use Rattle.asl_json.specs.Same.{bytes_eq}
-use Rattle.asl_json.specs.Meaning.{value_in, value_at}
+use Rattle.asl_json.specs.Meaning.{value_at}
 use Rattle.asl_json.specs.View.{unpaired}
-use Rattle.asl_mock.specs.Answers.{Response, responses_of, text_of}
-use Rattle.asl_mock.specs.Faults.{lost_name as all_name, lost_in_case as all_in_case, lost_in_machine as all_in_machine, lost_names as all_lost}
+use Rattle.asl_mock.specs.Answers.{Response, responses_of}
+use Rattle.asl_mock.specs.Faults.{is_response, lost_name, lost_in_case, lost_in_machine, lost_names as all_lost}
 use Rattle.asl_mock.specs.Form.{part_shape, fits, has, unless, misfits, misfits_below}
 use Rattle.asl_mock.specs.Places.{Place, under, in_each}
-use Rattle.asl_mock.specs.Tables.{Named, members_in, members_at, members_of_any, value_for}
+use Rattle.asl_json.specs.Access.{member_list, member_list_at}
+use Rattle.asl_lint_mocks.proofs.Each.{list_of_any}
+use Rattle.asl_mock.specs.Tables.{Named}
 use Rattle.asl_mock.specs.declared.shape.Shape.{Shape}
 use Rattle.asl_mock.specs.declared.shape.Shape.TheVariants.{Text, Top, Machines, Machine, Cases, Case}
-use Rattle.asl_lint_mocks.specs.Lost.{is_known, lost_name, lost_in_case, lost_in_machine, lost_names}
+use Rattle.asl_lint_mocks.specs.Lost.{is_known, lost_names}
 
 front_none : (xs ys : List Place) → xs ++ ys ≡ [] → xs ≡ []
 front_none [] ys e = refl
@@ -57,7 +59,7 @@ at_key s k (member l d ms) v fit at =
 
 -- ---- from the inside out
 
-in_name : (rs : List (Named Response)) (k : List ℕ) (d : Data) → misfits Text d ≡ [] → lost_name rs (k, d) ≡ all_name rs (k, d)
+in_name : (rs : List (Named Response)) (k : List ℕ) (d : Data) → misfits Text d ≡ [] → lost_name (is_known rs) (k, d) ≡ lost_name (is_response rs) (k, d)
 in_name rs k (text t) fit = refl
 in_name rs k null fit = absurd (cc fit)
 in_name rs k (boolean b) fit = absurd (cc fit)
@@ -65,28 +67,28 @@ in_name rs k (number b) fit = absurd (cc fit)
 in_name rs k (list b) fit = absurd (cc fit)
 in_name rs k (dict ms) fit = absurd (cc fit)
 
-in_a_case : (rs : List (Named Response)) (k : List ℕ) (d : Data) → misfits Case d ≡ [] → lost_in_case rs (k, d) ≡ all_in_case rs (k, d)
+in_a_case : (rs : List (Named Response)) (k : List ℕ) (d : Data) → misfits Case d ≡ [] → lost_in_case (is_known rs) (k, d) ≡ lost_in_case (is_response rs) (k, d)
 in_a_case rs k null fit = refl
 in_a_case rs k (boolean b) fit = refl
 in_a_case rs k (number b) fit = refl
 in_a_case rs k (text b) fit = refl
 in_a_case rs k (list b) fit = refl
-in_a_case rs k (dict ms) fit = alike (lost_name rs) (all_name rs) Case ms fit (in_name rs)
+in_a_case rs k (dict ms) fit = alike (lost_name (is_known rs)) (lost_name (is_response rs)) Case ms fit (in_name rs)
 
-in_cases : (rs : List (Named Response)) (d : Data) → misfits Cases d ≡ [] → in_each (lost_in_case rs) (members_in d) ≡ in_each (all_in_case rs) (members_in d)
+in_cases : (rs : List (Named Response)) (d : Data) → misfits Cases d ≡ [] → in_each (lost_in_case (is_known rs)) (member_list d) ≡ in_each (lost_in_case (is_response rs)) (member_list d)
 in_cases rs null fit = refl
 in_cases rs (boolean b) fit = refl
 in_cases rs (number b) fit = refl
 in_cases rs (text b) fit = refl
 in_cases rs (list b) fit = refl
-in_cases rs (dict ms) fit = alike (lost_in_case rs) (all_in_case rs) Cases ms fit (in_a_case rs)
+in_cases rs (dict ms) fit = alike (lost_in_case (is_known rs)) (lost_in_case (is_response rs)) Cases ms fit (in_a_case rs)
 
 -- under a key, where the value there fits
-in_value : (f g : List ℕ × Data → List Place) (o : Option Data) → ((v : Data) → o ≡ Some v → in_each f (members_in v) ≡ in_each g (members_in v)) → in_each f (members_of_any o) ≡ in_each g (members_of_any o)
+in_value : (f g : List ℕ × Data → List Place) (o : Option Data) → ((v : Data) → o ≡ Some v → in_each f (member_list v) ≡ in_each g (member_list v)) → in_each f (list_of_any o) ≡ in_each g (list_of_any o)
 in_value f g None same = refl
 in_value f g (Some v) same = same v refl
 
-in_a_machine : (rs : List (Named Response)) (k : List ℕ) (d : Data) → misfits Machine d ≡ [] → lost_in_machine rs (k, d) ≡ all_in_machine rs (k, d)
+in_a_machine : (rs : List (Named Response)) (k : List ℕ) (d : Data) → misfits Machine d ≡ [] → lost_in_machine (is_known rs) (k, d) ≡ lost_in_machine (is_response rs) (k, d)
 in_a_machine rs k null fit = refl
 in_a_machine rs k (boolean b) fit = refl
 in_a_machine rs k (number b) fit = refl
@@ -94,15 +96,15 @@ in_a_machine rs k (text b) fit = refl
 in_a_machine rs k (list b) fit = refl
 in_a_machine rs k (dict ms) fit =
     let rest = back_none (unless (fits Machine (dict ms))) (misfits_below Machine ms) fit in
-    ap (under (codes "TestCases")) (in_value (lost_in_case rs) (all_in_case rs) (value_at (codes "TestCases") ms) (λ v at. in_cases rs v (at_key Machine (codes "TestCases") ms v rest at)))
+    ap (under (codes "TestCases")) (in_value (lost_in_case (is_known rs)) (lost_in_case (is_response rs)) (value_at (codes "TestCases") ms) (λ v at. in_cases rs v (at_key Machine (codes "TestCases") ms v rest at)))
 
-in_machines : (rs : List (Named Response)) (d : Data) → misfits Machines d ≡ [] → in_each (lost_in_machine rs) (members_in d) ≡ in_each (all_in_machine rs) (members_in d)
+in_machines : (rs : List (Named Response)) (d : Data) → misfits Machines d ≡ [] → in_each (lost_in_machine (is_known rs)) (member_list d) ≡ in_each (lost_in_machine (is_response rs)) (member_list d)
 in_machines rs null fit = refl
 in_machines rs (boolean b) fit = refl
 in_machines rs (number b) fit = refl
 in_machines rs (text b) fit = refl
 in_machines rs (list b) fit = refl
-in_machines rs (dict ms) fit = alike (lost_in_machine rs) (all_in_machine rs) Machines ms fit (in_a_machine rs)
+in_machines rs (dict ms) fit = alike (lost_in_machine (is_known rs)) (lost_in_machine (is_response rs)) Machines ms fit (in_a_machine rs)
 
 pub same_lost : (d : Data) → misfits Top d ≡ [] → lost_names d ≡ all_lost d
 same_lost null fit = refl
@@ -111,5 +113,5 @@ same_lost (number b) fit = refl
 same_lost (text b) fit = refl
 same_lost (list b) fit = refl
 same_lost (dict ms) fit =
-    let rs = responses_of (members_at (codes "MockedResponses") (dict ms)) in
-    ap (under (codes "StateMachines")) (in_value (lost_in_machine rs) (all_in_machine rs) (value_at (codes "StateMachines") ms) (λ v at. in_machines rs v (at_key Top (codes "StateMachines") ms v fit at)))
+    let rs = responses_of (member_list_at (codes "MockedResponses") (dict ms)) in
+    ap (under (codes "StateMachines")) (in_value (lost_in_machine (is_known rs)) (lost_in_machine (is_response rs)) (value_at (codes "StateMachines") ms) (λ v at. in_machines rs v (at_key Top (codes "StateMachines") ms v fit at)))

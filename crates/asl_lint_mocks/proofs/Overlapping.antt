@@ -10,7 +10,7 @@ use Rattle.asl_json.specs.declared.value.Member.{Member}
 use Rattle.asl_mock.specs.Key.{span_in}
 use Rattle.asl_mock.specs.Places.{Place, under}
 use Rattle.asl_mock.specs.Form.{unless}
-use Rattle.asl_mock.specs.Tables.{members_in}
+use Rattle.asl_json.specs.Access.{member_list}
 use Rattle.asl_mock.specs.Faults.{overlap, meets, is_apart, overlaps_behind}
 use Rattle.asl_mock.specs.declared.key.Span.{Span}
 use Rattle.asl_lint_mocks.specs.Places.{keys_of, AreAt}
@@ -18,7 +18,7 @@ use Rattle.asl_lint_mocks.specs.private.Tops.{IsBelow, IsTop, raised}
 use Rattle.asl_lint_mocks.proofs.Each.{keys_under}
 
 -- one key more
-pub overlaps_more : (ms : List Member) (i : ℕ) (m : Member) (old inner new : List (List ℕ)) (all : List Place) → i < length ms → m ≡ get_or ms i m → AreAt (members_in (data_of m.value)) inner (unless (is_apart (span_in m.key) (members_of (take i ms)))) → new ≡ old ++ map (λ (p : List ℕ). i ∷ p) inner → map (keys_of (members_of ms)) old ++ overlaps_behind (members_of (take i ms)) (members_of (drop i ms)) ≡ all → map (keys_of (members_of ms)) new ++ overlaps_behind (members_of (take (i + 1) ms)) (members_of (drop (i + 1) ms)) ≡ all
+pub overlaps_more : (ms : List Member) (i : ℕ) (m : Member) (old inner new : List (List ℕ)) (all : List Place) → i < length ms → m ≡ get_or ms i m → AreAt (member_list (data_of m.value)) inner (unless (is_apart (span_in m.key) (members_of (take i ms)))) → new ≡ old ++ map (λ (p : List ℕ). i ∷ p) inner → map (keys_of (members_of ms)) old ++ overlaps_behind (members_of (take i ms)) (members_of (drop i ms)) ≡ all → map (keys_of (members_of ms)) new ++ overlaps_behind (members_of (take (i + 1) ms)) (members_of (drop (i + 1) ms)) ≡ all
 overlaps_more ms i m old inner new all lt at here more so_far =
     let xs = members_of (take i ms) in
     let ys = members_of (drop (i + 1) ms) in

@@ -6,12 +6,12 @@ use Rattle.asl_json_data.specs.Distinct.{Members, has_key}
 use Rattle.asl_json.specs.Same.{bytes_eq}
 use Rattle.asl_mock.specs.Form.{has, unless}
 use Rattle.asl_mock.specs.Places.{Place, under, in_each}
-use Rattle.asl_mock.specs.Tables.{members_in, members_at}
+use Rattle.asl_json.specs.Access.{member_list, member_list_at}
 use Rattle.asl_lint_mocks.specs.declared.beside.NameFault.{NameFault}
 use Rattle.asl_lint_mocks.specs.declared.beside.NameFault.TheVariants.{Unknown, NoTask}
 
 abbrev pub machines_in : Data → Members
-machines_in d = members_at (codes "StateMachines") d
+machines_in d = member_list_at (codes "StateMachines") d
 
 -- the machine that is meant: that of the name, or the only one
 abbrev pub is_meant : Option (List ℕ) → Members → List ℕ → Bool
@@ -39,12 +39,12 @@ fits Unknown states tasks k = states k
 fits NoTask states tasks k = not (states k) || tasks k
 
 abbrev pub in_case : (List ℕ → Bool) → List ℕ × Data → List Place
-in_case fitting c = in_each (λ s. unless (fitting s.0)) (members_in c.1)
+in_case fitting c = in_each (λ s. unless (fitting s.0)) (member_list c.1)
 
 abbrev pub in_machine : (List ℕ → Bool) → Bool → List ℕ × Data → List Place
 in_machine fitting false m = []
 in_machine fitting true m =
-    under (codes "TestCases") (in_each (in_case fitting) (members_at (codes "TestCases") m.1))
+    under (codes "TestCases") (in_each (in_case fitting) (member_list_at (codes "TestCases") m.1))
 
 -- the states of the cases of the machine that is meant whose names don't fit
 abbrev pub misnamed : Option (List ℕ) → (List ℕ → Bool) → Data → List Place
@@ -55,10 +55,10 @@ misnamed w fitting d =
 -- ---- the states that have an answer in some case of the machine that is meant
 
 abbrev pub case_answers : List ℕ → List ℕ × Data → Bool
-case_answers k c = has_key k (members_in c.1)
+case_answers k c = has_key k (member_list c.1)
 
 abbrev pub machine_answers : List ℕ → List ℕ × Data → Bool
-machine_answers k m = list_any (case_answers k) (members_at (codes "TestCases") m.1)
+machine_answers k m = list_any (case_answers k) (member_list_at (codes "TestCases") m.1)
 
 abbrev pub is_answered : Option (List ℕ) → Data → List ℕ → Bool
 is_answered w d k =

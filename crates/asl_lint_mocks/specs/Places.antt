@@ -4,7 +4,7 @@ use Rattle.std.specs.declared.vec.Vec.{Vec}
 use Rattle.asl_json_data.specs.Data.{Data, null}
 use Rattle.asl_json_data.specs.Distinct.{Members}
 use Rattle.asl_mock.specs.Places.{Place}
-use Rattle.asl_mock.specs.Tables.{members_in}
+use Rattle.asl_json.specs.Access.{member_list}
 
 -- places as the code has them
 abbrev pub numbers_of : {Z : Type 0} → List (Vec ℕ Z) → List (List ℕ)
@@ -17,7 +17,7 @@ nowhere = (256 ∷ [], null)
 -- the keys on the way through the members of these numbers
 abbrev pub keys_of : Members → List ℕ → Place
 keys_of ms [] = []
-keys_of ms (i ∷ is) = (get_or ms i nowhere).0 ∷ keys_of (members_in (get_or ms i nowhere).1) is
+keys_of ms (i ∷ is) = (get_or ms i nowhere).0 ∷ keys_of (member_list (get_or ms i nowhere).1) is
 
 -- these places by numbers, one after another, are those places by keys
 abbrev pub AreAt : Members → List (List ℕ) → List Place → Type 0

@@ -6,14 +6,13 @@ ghost use Rattle.asl_json_data.specs.Distinct.{has_key};
 ghost use Rattle.asl_json.specs.View.{data_of, member_of, members_of};
 ghost use Rattle.asl_mock.specs.Form.{unless};
 ghost use Rattle.asl_mock.specs.Places.{in_each};
-ghost use Rattle.asl_mock.specs.Tables.{members_in};
+ghost use Rattle.asl_json.specs.Access.{member_list};
 ghost use Rattle.asl_lint_mocks.specs.Beside.{case_answers, fits, in_case, in_machine, is_answered, is_meant, is_unclear, machine_answers, machines_in, machines_place, misnamed, unclear};
 ghost use Rattle.asl_lint_mocks.specs.Places.{AreAt, keys_of, numbers_of};
 ghost use Rattle.asl_lint_mocks.specs.private.Fitting.{fitting};
 
 use crate::placing::{add_under, number_at, under_key, unless};
 use asl_json::{Json, Member};
-use asl_mock::{members_at, members_in};
 use std::alloc::{AllocError, Global};
 use std::collections::HashSet;
 
@@ -60,7 +59,7 @@ pub fn is_unclear(file: &Json, machine: Option<&str>) -> bool
     ensures { result ≡ is_unclear (option_map (λ k. k.now) machine.entry)
         (machines_in (data_of file.now)) }
 {
-    is_unclear_among(members_at(file, "StateMachines"), machine)
+    is_unclear_among(file.members_at("StateMachines"), machine)
 }
 
 /// Whether the machine of this name, among these, is the one that is meant.
@@ -76,11 +75,11 @@ fn is_meant(machines: &[Member], machine: Option<&str>, name: &str) -> bool
 
 /// Where the machines stand.
 fn machines_place(alloc: Global, file: &Json) -> Result<Vec<usize>, AllocError>
-    ensures { IfOk result (λ p. keys_of (members_in (data_of file.now)) p.items
+    ensures { IfOk result (λ p. keys_of (member_list (data_of file.now)) p.items
         ≡ machines_place (data_of file.now)) }
 {
     let mut place = Vec::new(alloc);
-    if let Some(at) = number_at(members_in(file), "StateMachines") {
+    if let Some(at) = number_at(file.members(), "StateMachines") {
         place.push(at)?;
     }
     Ok(place)
@@ -93,7 +92,7 @@ pub fn unclear(
     file: &Json,
     machine: Option<&str>,
 ) -> Result<Vec<Vec<usize>>, AllocError>
-    ensures { IfOk result (λ r. AreAt (members_in (data_of file.now)) (numbers_of r.items)
+    ensures { IfOk result (λ r. AreAt (member_list (data_of file.now)) (numbers_of r.items)
         (unclear (option_map (λ k. k.now) machine.entry) (data_of file.now))) }
 {
     let mut all = Vec::new(alloc);
@@ -142,7 +141,7 @@ fn in_cases(
 {
     let mut all = Vec::new(alloc);
     for (i, case) in cases.iter().enumerate() {
-        let inner = in_case(alloc, sort, known, members_in(&case.value))?;
+        let inner = in_case(alloc, sort, known, case.value.members())?;
         add_under(alloc, &mut all, i, inner)?;
     }
     Ok(all)
@@ -156,14 +155,14 @@ fn in_machine(
     is_meant: bool,
     machine: &Json,
 ) -> Result<Vec<Vec<usize>>, AllocError>
-    ensures { IfOk result (λ r. (k : List ℕ) → AreAt (members_in (data_of machine.now))
+    ensures { IfOk result (λ r. (k : List ℕ) → AreAt (member_list (data_of machine.now))
         (numbers_of r.items)
         (in_machine (fitting sort known.now) is_meant (k, data_of machine.now))) }
 {
     if !is_meant {
         return Ok(Vec::new(alloc));
     }
-    let cases = in_cases(alloc, sort, known, members_at(machine, "TestCases"))?;
+    let cases = in_cases(alloc, sort, known, machine.members_at("TestCases"))?;
     under_key(alloc, machine, "TestCases", cases)
 }
 
@@ -198,7 +197,7 @@ pub fn misnamed(
     file: &Json,
     machine: Option<&str>,
 ) -> Result<Vec<Vec<usize>>, AllocError>
-    ensures { IfOk result (λ r. AreAt (members_in (data_of file.now)) (numbers_of r.items)
+    ensures { IfOk result (λ r. AreAt (member_list (data_of file.now)) (numbers_of r.items)
         (misnamed (option_map (λ k. k.now) machine.entry)
         (fits sort (contains_text known.now.states.now) (contains_text known.now.tasks.now))
         (data_of file.now))) }
@@ -208,7 +207,7 @@ pub fn misnamed(
         sort,
         known,
         machine,
-        members_at(file, "StateMachines"),
+        file.members_at("StateMachines"),
     )?;
     under_key(alloc, file, "StateMachines", places)
 }
@@ -238,7 +237,7 @@ fn answer_cases(
         ≡ (contains_text answered.old k || list_any (case_answers k) (members_of cases.now))) }
 {
     for case in cases {
-        answer_states(alloc, answered, members_in(&case.value))?;
+        answer_states(alloc, answered, case.value.members())?;
     }
     Ok(())
 }
@@ -257,7 +256,7 @@ fn answer_machine(
     if !is_meant {
         return Ok(());
     }
-    answer_cases(alloc, answered, members_at(&machine.value, "TestCases"))
+    answer_cases(alloc, answered, machine.value.members_at("TestCases"))
 }
 
 /// The names of the states that have an answer in some case of the machine that is meant, that of the name or the only one. The error is that
@@ -270,7 +269,7 @@ pub fn answered(
     ensures { IfOk result (λ s. (k : List ℕ) → contains_text s k
         ≡ is_answered (option_map (λ k. k.now) machine.entry) (data_of file.now) k) }
 {
-    let machines = members_at(file, "StateMachines");
+    let machines = file.members_at("StateMachines");
     let mut answered = HashSet::new(alloc);
     for member in machines {
         let meant = is_meant(machines, machine, member.key.as_str());

@@ -3,7 +3,7 @@ ghost use Rattle.std.specs.Prelude.{IfOk};
 ghost use Rattle.asl_json.specs.View.{data_of};
 ghost use Rattle.asl_mock.specs.Faults.{bad_keys, overlaps};
 ghost use Rattle.asl_mock.specs.Form.{misfits};
-ghost use Rattle.asl_mock.specs.Tables.{members_in};
+ghost use Rattle.asl_json.specs.Access.{member_list};
 ghost use Rattle.asl_lint_mocks.specs.Lost.{lost_names};
 ghost use Rattle.asl_lint_mocks.specs.Places.{AreAt, numbers_of};
 
@@ -12,7 +12,7 @@ use crate::misfits::misfits;
 use crate::names::{lost_in_machines, response_names};
 use crate::placing::under_key;
 use asl_json::Json;
-use asl_mock::{Shape, members_at};
+use asl_mock::Shape;
 use std::alloc::{AllocError, Global};
 
 /// All faults of a mock file: of each sort the places in document order, each by the numbers of the members on the way, from 0.
@@ -30,20 +30,20 @@ pub struct Faults {
 
 /// All faults of a mock file, of which `Mocks::read` answers the first. The error is that memory ran out.
 pub fn faults_of(alloc: Global, file: &Json) -> Result<Faults, AllocError>
-    ensures misfits { IfOk result (λ r. AreAt (members_in (data_of file.now))
+    ensures misfits { IfOk result (λ r. AreAt (member_list (data_of file.now))
         (numbers_of r.misfits.items) (misfits Shape.Top (data_of file.now))) }
-    ensures bad_keys { IfOk result (λ r. AreAt (members_in (data_of file.now))
+    ensures bad_keys { IfOk result (λ r. AreAt (member_list (data_of file.now))
         (numbers_of r.bad_keys.items) (bad_keys (data_of file.now))) }
-    ensures overlaps { IfOk result (λ r. AreAt (members_in (data_of file.now))
+    ensures overlaps { IfOk result (λ r. AreAt (member_list (data_of file.now))
         (numbers_of r.overlaps.items) (overlaps (data_of file.now))) }
-    ensures lost_names { IfOk result (λ r. AreAt (members_in (data_of file.now))
+    ensures lost_names { IfOk result (λ r. AreAt (member_list (data_of file.now))
         (numbers_of r.lost_names.items) (lost_names (data_of file.now))) }
 {
-    let responses = members_at(file, "MockedResponses");
+    let responses = file.members_at("MockedResponses");
     let names = response_names(alloc, responses)?;
     let bad = all_bad_keys(alloc, responses)?;
     let again = all_overlaps(alloc, responses)?;
-    let lost = lost_in_machines(alloc, &names, members_at(file, "StateMachines"))?;
+    let lost = lost_in_machines(alloc, &names, file.members_at("StateMachines"))?;
     Ok(Faults {
         misfits: misfits(alloc, Shape::Top, file)?,
         bad_keys: under_key(alloc, file, "MockedResponses", bad)?,

@@ -4,7 +4,7 @@ ghost use Rattle.std.specs.List.{list_any};
 ghost use Rattle.asl_json.specs.View.{data_of, member_of, members_of};
 ghost use Rattle.asl_mock.specs.Key.{span_in};
 ghost use Rattle.asl_mock.specs.Places.{in_each};
-ghost use Rattle.asl_mock.specs.Tables.{members_in};
+ghost use Rattle.asl_json.specs.Access.{member_list};
 ghost use Rattle.asl_mock.specs.Faults.{bad_key, bad_keys_in, have_a_number, meets, is_apart, overlaps_behind, overlaps_in};
 ghost use Rattle.asl_lint_mocks.specs.Places.{AreAt, numbers_of};
 ghost use Rattle.asl_lint_mocks.specs.Warnings.{has_number, is_answered, begins_bare, has_gap, gap_in, gaps};
@@ -12,7 +12,7 @@ ghost use Rattle.asl_lint_mocks.specs.private.Tops.{IsTop, raised, reached};
 
 use crate::placing::{add_under, under_key, unless};
 use asl_json::{Json, Member};
-use asl_mock::{Span, members_at, members_in, span_in};
+use asl_mock::{Span, span_in};
 use std::alloc::{AllocError, Global};
 
 /// The keys of a response that stand for no numbers.
@@ -38,7 +38,7 @@ pub(crate) fn all_bad_keys(
 {
     let mut all = Vec::new(alloc);
     for (i, member) in responses.iter().enumerate() {
-        let inner = bad_keys(alloc, members_in(&member.value))?;
+        let inner = bad_keys(alloc, member.value.members())?;
         add_under(alloc, &mut all, i, inner)?;
     }
     Ok(all)
@@ -120,7 +120,7 @@ pub(crate) fn all_overlaps(
 {
     let mut all = Vec::new(alloc);
     for (i, member) in responses.iter().enumerate() {
-        let inner = overlaps(alloc, members_in(&member.value))?;
+        let inner = overlaps(alloc, member.value.members())?;
         add_under(alloc, &mut all, i, inner)?;
     }
     Ok(all)
@@ -195,10 +195,10 @@ pub fn has_gap(answers: &[Member]) -> bool
 /// The places of the responses that leave out a number below their last one, in document order: by the numbers of the members on the way, from
 /// 0. The error is that memory ran out.
 pub fn gaps(alloc: Global, file: &Json) -> Result<Vec<Vec<usize>>, AllocError>
-    ensures { IfOk result (λ r. AreAt (members_in (data_of file.now)) (numbers_of r.items)
+    ensures { IfOk result (λ r. AreAt (member_list (data_of file.now)) (numbers_of r.items)
         (gaps (data_of file.now))) }
 {
-    let places = all_gaps(alloc, members_at(file, "MockedResponses"))?;
+    let places = all_gaps(alloc, file.members_at("MockedResponses"))?;
     under_key(alloc, file, "MockedResponses", places)
 }
 
@@ -209,7 +209,7 @@ fn all_gaps(alloc: Global, responses: &[Member]) -> Result<Vec<Vec<usize>>, Allo
 {
     let mut all = Vec::new(alloc);
     for (i, member) in responses.iter().enumerate() {
-        let own = unless(alloc, !has_gap(members_in(&member.value)))?;
+        let own = unless(alloc, !has_gap(member.value.members()))?;
         add_under(alloc, &mut all, i, own)?;
     }
     Ok(all)

@@ -1,9 +1,9 @@
 // The values of a mock file that don't fit.
 ghost use Rattle.std.specs.Prelude.{IfOk};
 ghost use Rattle.asl_json_data.specs.Data.{pairs};
-ghost use Rattle.asl_json.specs.View.{data_of, members_of};
+ghost use Rattle.asl_json.specs.View.{data_of};
 ghost use Rattle.asl_mock.specs.Form.{misfits, misfits_below};
-ghost use Rattle.asl_mock.specs.Tables.{members_in};
+ghost use Rattle.asl_json.specs.Access.{member_list};
 ghost use Rattle.asl_lint_mocks.specs.Places.{AreAt, numbers_of};
 
 use crate::placing::{add_under, unless};
@@ -18,7 +18,7 @@ pub(crate) fn misfits(
     shape: Shape,
     value: &Json,
 ) -> Result<Vec<Vec<usize>>, AllocError>
-    ensures { IfOk result (λ r. AreAt (members_in (data_of value.now)) (numbers_of r.items)
+    ensures { IfOk result (λ r. AreAt (member_list (data_of value.now)) (numbers_of r.items)
         (misfits shape (data_of value.now))) }
 {
     match value {

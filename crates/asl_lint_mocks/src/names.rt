@@ -7,15 +7,16 @@ ghost use Rattle.asl_json.specs.View.{data_of, members_of};
 ghost use Rattle.asl_mock.specs.Answers.{Response};
 ghost use Rattle.asl_mock.specs.Form.{unless};
 ghost use Rattle.asl_mock.specs.Places.{in_each};
-ghost use Rattle.asl_mock.specs.Tables.{Named, members_in};
-ghost use Rattle.asl_lint_mocks.specs.Lost.{is_known, lost_in_case, lost_in_machine, lost_name};
+ghost use Rattle.asl_json.specs.Access.{member_list};
+ghost use Rattle.asl_mock.specs.Tables.{Named};
+ghost use Rattle.asl_mock.specs.Faults.{lost_in_case, lost_in_machine, lost_name};
+ghost use Rattle.asl_lint_mocks.specs.Lost.{is_known};
 ghost use Rattle.asl_lint_mocks.specs.Places.{AreAt, numbers_of};
 ghost use Rattle.asl_lint_mocks.specs.Warnings.{case_names, is_text, machine_names, unused};
 ghost use Rattle.asl_lint_mocks.specs.private.Known.{HasNames};
 
 use crate::placing::{add_under, under_key, unless};
 use asl_json::{Json, Member};
-use asl_mock::{members_at, members_in};
 use std::alloc::{AllocError, Global};
 use std::collections::HashSet;
 
@@ -52,7 +53,7 @@ fn lost_in_case(
 ) -> Result<Vec<Vec<usize>>, AllocError>
     ensures { IfOk result (λ r. (rs : List (Named Response)) → HasNames names.now rs
         → AreAt (members_of states.now) (numbers_of r.items)
-        (in_each (lost_name rs) (members_of states.now))) }
+        (in_each (lost_name (is_known rs)) (members_of states.now))) }
 {
     let mut all = Vec::new(alloc);
     for (i, state) in states.iter().enumerate() {
@@ -70,11 +71,11 @@ fn lost_in_cases(
 ) -> Result<Vec<Vec<usize>>, AllocError>
     ensures { IfOk result (λ r. (rs : List (Named Response)) → HasNames names.now rs
         → AreAt (members_of cases.now) (numbers_of r.items)
-        (in_each (lost_in_case rs) (members_of cases.now))) }
+        (in_each (lost_in_case (is_known rs)) (members_of cases.now))) }
 {
     let mut all = Vec::new(alloc);
     for (i, case) in cases.iter().enumerate() {
-        let inner = lost_in_case(alloc, names, members_in(&case.value))?;
+        let inner = lost_in_case(alloc, names, case.value.members())?;
         add_under(alloc, &mut all, i, inner)?;
     }
     Ok(all)
@@ -88,11 +89,11 @@ pub(crate) fn lost_in_machines(
 ) -> Result<Vec<Vec<usize>>, AllocError>
     ensures { IfOk result (λ r. (rs : List (Named Response)) → HasNames names.now rs
         → AreAt (members_of machines.now) (numbers_of r.items)
-        (in_each (lost_in_machine rs) (members_of machines.now))) }
+        (in_each (lost_in_machine (is_known rs)) (members_of machines.now))) }
 {
     let mut all = Vec::new(alloc);
     for (i, machine) in machines.iter().enumerate() {
-        let cases = lost_in_cases(alloc, names, members_at(&machine.value, "TestCases"))?;
+        let cases = lost_in_cases(alloc, names, machine.value.members_at("TestCases"))?;
         let inner = under_key(alloc, &machine.value, "TestCases", cases)?;
         add_under(alloc, &mut all, i, inner)?;
     }
@@ -135,7 +136,7 @@ fn name_cases(
         ≡ (contains_text named.old k || list_any (case_names k) (members_of cases.now))) }
 {
     for case in cases {
-        name_states(alloc, named, members_in(&case.value))?;
+        name_states(alloc, named, case.value.members())?;
     }
     Ok(())
 }
@@ -147,7 +148,7 @@ fn named_in(alloc: Global, machines: &[Member]) -> Result<HashSet<String>, Alloc
 {
     let mut named = HashSet::new(alloc);
     for machine in machines {
-        name_cases(alloc, &mut named, members_at(&machine.value, "TestCases"))?;
+        name_cases(alloc, &mut named, machine.value.members_at("TestCases"))?;
     }
     Ok(named)
 }
@@ -172,10 +173,10 @@ fn unnamed(
 /// The places of the responses that no case of any machine names, in document order: by the numbers of the members on the way, from 0. The error
 /// is that memory ran out.
 pub fn unused_responses(alloc: Global, file: &Json) -> Result<Vec<Vec<usize>>, AllocError>
-    ensures { IfOk result (λ r. AreAt (members_in (data_of file.now)) (numbers_of r.items)
+    ensures { IfOk result (λ r. AreAt (member_list (data_of file.now)) (numbers_of r.items)
         (unused (data_of file.now))) }
 {
-    let named = named_in(alloc, members_at(file, "StateMachines"))?;
-    let places = unnamed(alloc, &named, members_at(file, "MockedResponses"))?;
+    let named = named_in(alloc, file.members_at("StateMachines"))?;
+    let places = unnamed(alloc, &named, file.members_at("MockedResponses"))?;
     under_key(alloc, file, "MockedResponses", places)
 }

@@ -1,16 +1,15 @@
 // Places by numbers.
-ghost use Rattle.std.specs.Prelude.{◌≡◌, ◌∷◌, ◌++◌, [], ℕ, List, IfOk, OnOk, map};
+ghost use Rattle.std.specs.Prelude.{◌≡◌, ◌∷◌, ◌++◌, ℕ, List, IfOk, OnOk, map};
 ghost use Rattle.asl_json_data.specs.Data.{Data};
 ghost use Rattle.asl_json.specs.View.{data_of, members_of};
 ghost use Rattle.asl_json_data.specs.Distinct.{Members};
 ghost use Rattle.asl_mock.specs.Form.{unless};
 ghost use Rattle.asl_mock.specs.Places.{Place, under, in_each};
-ghost use Rattle.asl_mock.specs.Tables.{members_in, members_at};
+ghost use Rattle.asl_json.specs.Access.{member_list, member_list_at};
 ghost use Rattle.asl_lint_mocks.specs.Places.{AreAt, numbers_of};
 ghost use Rattle.asl_lint_mocks.specs.private.Spots.{number_at};
 
 use asl_json::{Json, Member};
-use asl_mock::members_in;
 use std::alloc::{AllocError, Global};
 
 /// A place with a number in front.
@@ -70,12 +69,12 @@ pub(crate) fn under_key(
     inner: Vec<Vec<usize>>,
 ) -> Result<Vec<Vec<usize>>, AllocError>
     ensures { IfOk result (λ r. (f : List ℕ × Data → List Place)
-        → AreAt (members_at key.now (data_of value.now)) (numbers_of inner.items)
-        (in_each f (members_at key.now (data_of value.now)))
-        → AreAt (members_in (data_of value.now)) (numbers_of r.items)
-        (under key.now (in_each f (members_at key.now (data_of value.now))))) }
+        → AreAt (member_list_at key.now (data_of value.now)) (numbers_of inner.items)
+        (in_each f (member_list_at key.now (data_of value.now)))
+        → AreAt (member_list (data_of value.now)) (numbers_of r.items)
+        (under key.now (in_each f (member_list_at key.now (data_of value.now))))) }
 {
-    let Some(at) = number_at(members_in(value), key) else {
+    let Some(at) = number_at(value.members(), key) else {
         let none = Vec::new(alloc);
         return Ok(none);
     };

@@ -5,7 +5,8 @@ use Rattle.std.specs.Option.{option_to_list}
 use Rattle.asl_json_data.specs.Data.{Data, text, Chain, no_items, item, Pairs, no_members, member}
 use Rattle.asl_json.specs.Same.{bytes_eq}
 use Rattle.asl_json.specs.Meaning.{value_at, value_in, count}
-use Rattle.asl_def_schema.specs.Claims.{is_true, members_in}
+use Rattle.asl_json.specs.Access.{members_of_any}
+use Rattle.asl_def_schema.specs.Claims.{is_true}
 use Rattle.asl_lint_warnings.specs.Handlers.{items_in}
 
 -- ---- where a state leads
@@ -63,7 +64,7 @@ joins es (suc k) i j = joins es k i j || (joins es k i k && joins es k k j)
 -- ---- where a machine begins and ends
 
 abbrev pub states_of : Pairs → Pairs
-states_of machine = members_in (value_at (codes "States") machine)
+states_of machine = members_of_any (value_at (codes "States") machine)
 
 abbrev pub numbers_below : ℕ → List ℕ
 numbers_below zero = []

@@ -11,9 +11,10 @@ use Rattle.asl_json_read.specs.declared.fault.JsonFault.{JsonFault}
 use Rattle.asl_json_read.specs.declared.fault.JsonFault.TheVariants as json
 use Rattle.asl_mock.specs.Places.{Place, pointer_text, under, in_each, first_of}
 use Rattle.asl_mock.specs.Form.{misfits}
-use Rattle.asl_mock.specs.Tables.{Named, members_at}
+use Rattle.asl_json.specs.Access.{member_list_at}
+use Rattle.asl_mock.specs.Tables.{Named}
 use Rattle.asl_mock.specs.Answers.{Machine, Response, responses_of, machines_of, mocks_of}
-use Rattle.asl_mock.specs.Faults.{bad_keys, bad_keys_in, overlaps, overlaps_in, lost_names, lost_in_machine, numbered, faults}
+use Rattle.asl_mock.specs.Faults.{bad_keys, bad_keys_in, overlaps, overlaps_in, lost_names, lost_in_machine, numbered, faults, is_response}
 use Rattle.asl_mock.specs.Told.{IsMockFile, IsFirstFault, IsFaultIn, IsJudged, IsAnswer, unread}
 use Rattle.asl_mock.specs.declared.shape.Shape.TheVariants.{Top}
 use Rattle.asl_mock.specs.declared.fault.MockFault.{MockFault}
@@ -54,10 +55,10 @@ under_first : (k : List ℕ) (f : List ℕ × Data → List Place) (ms ns : Memb
 under_first k f ms ns p same e = ap (λ (x : Members). first_of (under k (in_each f x))) (sym same) ∙ first-under k (in_each f ms) p e
 
 abbrev pub in_responses : Data → Members
-in_responses d = members_at (codes "MockedResponses") d
+in_responses d = member_list_at (codes "MockedResponses") d
 
 abbrev pub in_machines : Data → Members
-in_machines d = members_at (codes "StateMachines") d
+in_machines d = member_list_at (codes "StateMachines") d
 
 pub first_key : (d : Data) (o q : Option Place) (ms : Members) (p : Place) (t : List ℕ) → o ≡ first_of (misfits Top d) → o ≡ None → ms ≡ in_responses d → q ≡ first_of (in_each bad_keys_in ms) → q ≡ Some p → t ≡ pointer_text (codes "MockedResponses" ∷ p) → IsFirstFault d 3 t
 first_key d o q ms p t fits none same is some text = record {
@@ -85,18 +86,18 @@ up_to_4 d o q ms fits none same keys good apart = up_to_3 d o q ms fits none sam
 table_is : (d : Data) (ms : Members) (rs : List (Named Response)) → ms ≡ in_responses d → rs ≡ responses_of ms → rs ≡ responses_of (in_responses d)
 table_is d ms rs same table = table ∙ ap responses_of same
 
-pub first_lost : (d : Data) (o q : Option Place) (ms ns : Members) (rs : List (Named Response)) (p : Place) (t : List ℕ) → o ≡ first_of (misfits Top d) → o ≡ None → ms ≡ in_responses d → q ≡ first_of (in_each bad_keys_in ms) → q ≡ None → (in_each overlaps_in ms ≡ []) × (rs ≡ responses_of ms) → ns ≡ in_machines d → first_of (in_each (lost_in_machine rs) ns) ≡ Some p → t ≡ pointer_text (codes "StateMachines" ∷ p) → IsFirstFault d 5 t
+pub first_lost : (d : Data) (o q : Option Place) (ms ns : Members) (rs : List (Named Response)) (p : Place) (t : List ℕ) → o ≡ first_of (misfits Top d) → o ≡ None → ms ≡ in_responses d → q ≡ first_of (in_each bad_keys_in ms) → q ≡ None → (in_each overlaps_in ms ≡ []) × (rs ≡ responses_of ms) → ns ≡ in_machines d → first_of (in_each (lost_in_machine (is_response rs)) ns) ≡ Some p → t ≡ pointer_text (codes "StateMachines" ∷ p) → IsFirstFault d 5 t
 first_lost d o q ms ns rs p t fits none same keys good table machines some text = record {
   place = codes "StateMachines" ∷ p;
   first = ap first_of (up_to_4 d o q ms fits none same keys good table.0)
-      ∙ first-numbered 5 (lost_names d) (codes "StateMachines" ∷ p) (ap (λ (x : List (Named Response)). first_of (under (codes "StateMachines") (in_each (lost_in_machine x) (in_machines d)))) (sym (table_is d ms rs same table.1)) ∙ under_first (codes "StateMachines") (lost_in_machine rs) ns (in_machines d) p machines some);
+      ∙ first-numbered 5 (lost_names d) (codes "StateMachines" ∷ p) (ap (λ (x : List (Named Response)). first_of (under (codes "StateMachines") (in_each (lost_in_machine (is_response x)) (in_machines d)))) (sym (table_is d ms rs same table.1)) ∙ under_first (codes "StateMachines") (lost_in_machine (is_response rs)) ns (in_machines d) p machines some);
   text = text;
 }
 
-pub no_fault : (d : Data) (o q : Option Place) (ms ns : Members) (rs : List (Named Response)) (vs : List (Named Machine)) → o ≡ first_of (misfits Top d) → o ≡ None → ms ≡ in_responses d → q ≡ first_of (in_each bad_keys_in ms) → q ≡ None → (in_each overlaps_in ms ≡ []) × (rs ≡ responses_of ms) → ns ≡ in_machines d → (in_each (lost_in_machine rs) ns ≡ []) × (vs ≡ machines_of rs ns) → (faults d ≡ []) × (vs ≡ mocks_of d)
+pub no_fault : (d : Data) (o q : Option Place) (ms ns : Members) (rs : List (Named Response)) (vs : List (Named Machine)) → o ≡ first_of (misfits Top d) → o ≡ None → ms ≡ in_responses d → q ≡ first_of (in_each bad_keys_in ms) → q ≡ None → (in_each overlaps_in ms ≡ []) × (rs ≡ responses_of ms) → ns ≡ in_machines d → (in_each (lost_in_machine (is_response rs)) ns ≡ []) × (vs ≡ machines_of rs ns) → (faults d ≡ []) × (vs ≡ mocks_of d)
 no_fault d o q ms ns rs vs fits none same keys good table machines all =
     let named = table_is d ms rs same table.1 in
-    let nothing : lost_names d ≡ [] = ap (λ (x : List (Named Response)). under (codes "StateMachines") (in_each (lost_in_machine x) (in_machines d))) (sym named) ∙ under_none (codes "StateMachines") (lost_in_machine rs) ns (in_machines d) machines all.0 in (
+    let nothing : lost_names d ≡ [] = ap (λ (x : List (Named Response)). under (codes "StateMachines") (in_each (lost_in_machine (is_response x)) (in_machines d))) (sym named) ∙ under_none (codes "StateMachines") (lost_in_machine (is_response rs)) ns (in_machines d) machines all.0 in (
       up_to_4 d o q ms fits none same keys good table.0 ∙ ap (numbered 5) nothing,
       all.1 ∙ ap (λ (x : List (Named Response)). machines_of x ns) named ∙ ap (machines_of (responses_of (in_responses d))) machines,
     )

@@ -1,11 +1,12 @@
 -- What the answers of a mock file are, and which one is given.
 use Rattle.std.specs.Prelude.{ℕ, List, [], ◌∷◌, Bool, ◌&&◌, nat_le, nat_lt, Option, Some, None, if◌then◌else◌, codes, map, unwrap_or}
-use Rattle.asl_json_data.specs.Data.{Data, number, text}
+use Rattle.asl_json_data.specs.Data.{Data, text}
 use Rattle.asl_json.specs.View.{json_of}
 use Rattle.asl_json_data.specs.Distinct.{Members}
 use Rattle.asl_json.specs.Meaning.{value_in}
 use Rattle.asl_mock.specs.Key.{span_in}
-use Rattle.asl_mock.specs.Tables.{Named, value_for, members_in, members_at}
+use Rattle.asl_json.specs.Access.{member_list, member_list_at}
+use Rattle.asl_mock.specs.Tables.{Named, value_for}
 use Rattle.asl_mock.specs.declared.key.Span.{Span}
 use Rattle.asl_mock.specs.declared.response.Answer.{Answer}
 use Rattle.asl_mock.specs.declared.response.Answer.TheVariants.{Returns, Throws}
@@ -57,7 +58,7 @@ abbrev pub response_of : Members → Response
 response_of ms = answers_on [] ms
 
 abbrev pub named_response : List ℕ × Data → Named Response
-named_response m = (m.0, response_of (members_in m.1))
+named_response m = (m.0, response_of (member_list m.1))
 
 abbrev pub responses_of : Members → List (Named Response)
 responses_of ms = map named_response ms
@@ -73,7 +74,7 @@ abbrev pub case_of : List (Named Response) → Members → Case
 case_of rs ms = map (named_state rs) ms
 
 abbrev pub named_case : List (Named Response) → List ℕ × Data → Named Case
-named_case rs m = (m.0, case_of rs (members_in m.1))
+named_case rs m = (m.0, case_of rs (member_list m.1))
 
 abbrev pub Machine : Type 0
 Machine = List (Named Case)
@@ -82,7 +83,7 @@ abbrev pub machine_of : List (Named Response) → Members → Machine
 machine_of rs ms = map (named_case rs) ms
 
 abbrev pub named_machine : List (Named Response) → List ℕ × Data → Named Machine
-named_machine rs m = (m.0, machine_of rs (members_at (codes "TestCases") m.1))
+named_machine rs m = (m.0, machine_of rs (member_list_at (codes "TestCases") m.1))
 
 abbrev pub machines_of : List (Named Response) → Members → List (Named Machine)
 machines_of rs ms = map (named_machine rs) ms
@@ -93,8 +94,8 @@ Machines = List (Named Machine)
 
 abbrev pub mocks_of : Data → Machines
 mocks_of d =
-    machines_of (responses_of (members_at (codes "MockedResponses") d))
-    (members_at (codes "StateMachines") d)
+    machines_of (responses_of (member_list_at (codes "MockedResponses") d))
+    (member_list_at (codes "StateMachines") d)
 
 -- ---- which answer is given
 

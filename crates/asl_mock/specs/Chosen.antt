@@ -7,7 +7,7 @@ use Rattle.asl_json_data.specs.Distinct.{Members}
 use Rattle.asl_json.specs.Meaning.{value_in}
 use Rattle.asl_json.specs.Same.{bytes_eq}
 use Rattle.asl_json_data.specs.Reads.{ReadsAs}
-use Rattle.asl_mock.specs.Tables.{members_at}
+use Rattle.asl_json.specs.Access.{member_list_at}
 
 -- a name has a #
 abbrev pub has_mark : List ℕ → Bool
@@ -39,7 +39,7 @@ of_machines (m ∷ n ∷ ms) word = word
 
 -- what a word without a # chooses of the machines of a mock file
 abbrev pub chosen_in : Data → List ℕ → List ℕ
-chosen_in mocks word = of_machines (members_at (codes "StateMachines") mocks) word
+chosen_in mocks word = of_machines (member_list_at (codes "StateMachines") mocks) word
 
 -- the bytes are a JSON text, and this is what the word chooses there
 pub record IsChosenIn (b word chosen : List ℕ) : Type 0 where

@@ -6,7 +6,8 @@ use Rattle.asl_json_data.specs.Distinct.{Members}
 use Rattle.asl_mock.specs.Key.{span_in}
 use Rattle.asl_mock.specs.Places.{Place, under, in_each}
 use Rattle.asl_mock.specs.Form.{misfits, unless}
-use Rattle.asl_mock.specs.Tables.{Named, value_for, members_in, members_at}
+use Rattle.asl_json.specs.Access.{member_list, member_list_at}
+use Rattle.asl_mock.specs.Tables.{Named, value_for}
 use Rattle.asl_mock.specs.Answers.{Response, text_of, responses_of}
 use Rattle.asl_mock.specs.declared.key.Span.{Span}
 use Rattle.asl_mock.specs.declared.shape.Shape.TheVariants.{Top}
@@ -17,11 +18,11 @@ abbrev pub bad_key : List ℕ × Data → List Place
 bad_key m = unless (is_some (span_in m.0))
 
 abbrev pub bad_keys_in : List ℕ × Data → List Place
-bad_keys_in r = in_each bad_key (members_in r.1)
+bad_keys_in r = in_each bad_key (member_list r.1)
 
 abbrev pub bad_keys : Data → List Place
 bad_keys d =
-    under (codes "MockedResponses") (in_each bad_keys_in (members_at (codes "MockedResponses") d))
+    under (codes "MockedResponses") (in_each bad_keys_in (member_list_at (codes "MockedResponses") d))
 
 -- M4: a key with a number of an earlier key of the same response
 
@@ -45,29 +46,35 @@ overlaps_behind seen (m ∷ ms) =
     under m.0 (unless (is_apart (span_in m.0) seen)) ++ overlaps_behind (seen ++ m ∷ []) ms
 
 abbrev pub overlaps_in : List ℕ × Data → List Place
-overlaps_in r = overlaps_behind [] (members_in r.1)
+overlaps_in r = overlaps_behind [] (member_list r.1)
 
 abbrev pub overlaps : Data → List Place
 overlaps d =
-    under (codes "MockedResponses") (in_each overlaps_in (members_at (codes "MockedResponses") d))
+    under (codes "MockedResponses") (in_each overlaps_in (member_list_at (codes "MockedResponses") d))
 
--- M5: the name of a response that isn't there
+-- M5: the name of a response that isn't there; `known` says which are
 
-abbrev pub lost_name : List (Named Response) → List ℕ × Data → List Place
-lost_name rs s = unless (is_some (value_for (text_of (Some s.1)) rs))
+abbrev pub lost_name : (Data → Bool) → List ℕ × Data → List Place
+lost_name known s = unless (known s.1)
 
-abbrev pub lost_in_case : List (Named Response) → List ℕ × Data → List Place
-lost_in_case rs c = in_each (lost_name rs) (members_in c.1)
+abbrev pub lost_in_case : (Data → Bool) → List ℕ × Data → List Place
+lost_in_case known c = in_each (lost_name known) (member_list c.1)
 
-abbrev pub lost_in_machine : List (Named Response) → List ℕ × Data → List Place
-lost_in_machine rs m =
-    under (codes "TestCases") (in_each (lost_in_case rs) (members_at (codes "TestCases") m.1))
+abbrev pub lost_in_machine : (Data → Bool) → List ℕ × Data → List Place
+lost_in_machine known m =
+    under (codes "TestCases") (in_each (lost_in_case known) (member_list_at (codes "TestCases") m.1))
+
+abbrev pub lost_but : (List (Named Response) → Data → Bool) → Data → List Place
+lost_but known d =
+    under (codes "StateMachines")
+    (in_each (lost_in_machine (known (responses_of (member_list_at (codes "MockedResponses") d))))
+    (member_list_at (codes "StateMachines") d))
+
+abbrev pub is_response : List (Named Response) → Data → Bool
+is_response rs v = is_some (value_for (text_of (Some v)) rs)
 
 abbrev pub lost_names : Data → List Place
-lost_names d =
-    under (codes "StateMachines")
-    (in_each (lost_in_machine (responses_of (members_at (codes "MockedResponses") d)))
-    (members_at (codes "StateMachines") d))
+lost_names d = lost_but is_response d
 
 -- all faults, a number and a place each: the lowest number first, and of one number in document
 -- order

@@ -1,9 +1,5 @@
 -- Values under names.
 use Rattle.std.specs.Prelude.{ℕ, List, [], ◌∷◌, Option, Some, None, if◌then◌else◌, map, String, string_bytes}
-use Rattle.asl_json_data.specs.Data.{Data, dict}
-use Rattle.asl_json.specs.View.{unpaired}
-use Rattle.asl_json_data.specs.Distinct.{Members}
-use Rattle.asl_json.specs.Meaning.{value_in}
 use Rattle.asl_json.specs.Same.{bytes_eq}
 
 -- a value under its name
@@ -18,16 +14,3 @@ named {X = X} {Z = Z} es = map (λ (e : String Z × X). (string_bytes e.0, e.1))
 abbrev pub value_for : {X : Type 0} → List ℕ → List (Named X) → Option X
 value_for k [] = None
 value_for k (n ∷ ns) = if bytes_eq k n.0 then Some n.1 else value_for k ns
-
--- the members of an object
-abbrev pub members_in : Data → Members
-members_in (dict ms) = unpaired ms
-members_in _ = []
-
-abbrev pub members_of_any : Option Data → Members
-members_of_any None = []
-members_of_any (Some d) = members_in d
-
--- the members of the object under a key of an object
-abbrev pub members_at : List ℕ → Data → Members
-members_at k d = members_of_any (value_in k d)

@@ -6,7 +6,6 @@ ghost use Rattle.asl_mock.specs.Faults.{bad_key, bad_keys_in};
 
 use crate::key::span_in;
 use crate::place::Place;
-use crate::table::members_in;
 use asl_json::Member;
 use std::alloc::{AllocError, Global};
 
@@ -33,7 +32,7 @@ pub(crate) fn first_bad_key(
 {
     for member in responses {
         let key = member.key.as_str();
-        if let Some(place) = bad_key(alloc, members_in(&member.value))? {
+        if let Some(place) = bad_key(alloc, member.value.members())? {
             return Ok(Some(place.under(alloc, key)?));
         }
     }

@@ -5,13 +5,13 @@ ghost use Rattle.asl_json.specs.View.{data_of, members_of};
 ghost use Rattle.asl_mock.specs.Tables.{named, value_for};
 ghost use Rattle.asl_mock.specs.Places.{in_each};
 ghost use Rattle.asl_mock.specs.Answers.{text_of, case_of, machine_of, machines_of, answer_to};
-ghost use Rattle.asl_mock.specs.Faults.{lost_name, lost_in_case, lost_in_machine};
+ghost use Rattle.asl_mock.specs.Faults.{lost_name, lost_in_case, lost_in_machine, is_response};
 ghost use Rattle.asl_mock.specs.Gives.{Gives};
 
 use crate::place::Place;
 use crate::response::Answer;
 use crate::responses::Response;
-use crate::table::{add, find, members_at, members_in};
+use crate::table::{add, find};
 use asl_json::{Json, Member};
 use indexmap::IndexMap;
 use std::alloc::{AllocError, Global};
@@ -190,7 +190,7 @@ fn states(
     requires { AreDistinct [] (members_of members.now) }
     ensures { IfOk result (Gives (λ v. named v.entries)
         (case_of (named responses.now.entries) (members_of members.now))
-        (in_each (lost_name (named responses.now.entries)) (members_of members.now))) }
+        (in_each (lost_name (is_response (named responses.now.entries))) (members_of members.now))) }
 {
     let mut states = IndexMap::new(alloc);
     for member in members {
@@ -212,11 +212,11 @@ fn cases_in(
     requires { AreDistinct [] (members_of members.now) }
     ensures { IfOk result (Gives (λ v. named v.entries)
         (machine_of (named responses.now.entries) (members_of members.now))
-        (in_each (lost_in_case (named responses.now.entries)) (members_of members.now))) }
+        (in_each (lost_in_case (is_response (named responses.now.entries))) (members_of members.now))) }
 {
     let mut cases = IndexMap::new(alloc);
     for member in members {
-        let own = match states(alloc, responses, members_in(&member.value))? {
+        let own = match states(alloc, responses, member.value.members())? {
             Ok(own) => own,
             Err(place) => return Ok(Err(place.under(alloc, member.key.as_str())?)),
         };
@@ -235,11 +235,11 @@ pub(crate) fn machines(
     requires { AreDistinct [] (members_of members.now) }
     ensures { IfOk result (Gives (λ v. named v.entries)
         (machines_of (named responses.now.entries) (members_of members.now))
-        (in_each (lost_in_machine (named responses.now.entries)) (members_of members.now))) }
+        (in_each (lost_in_machine (is_response (named responses.now.entries))) (members_of members.now))) }
 {
     let mut machines = IndexMap::new(alloc);
     for member in members {
-        let own = match cases_in(alloc, responses, members_at(&member.value, "TestCases"))? {
+        let own = match cases_in(alloc, responses, member.value.members_at("TestCases"))? {
             Ok(own) => own,
             Err(place) => {
                 let place = place.under(alloc, "TestCases")?;

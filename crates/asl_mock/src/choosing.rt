@@ -1,9 +1,8 @@
 // Which test case a word chooses.
-ghost use Rattle.std.specs.Prelude.{◌≡◌, ◌∷◌, ◌++◌, IfOk, string_bytes, option_map};
+ghost use Rattle.std.specs.Prelude.{◌≡◌, IfOk, string_bytes, option_map};
 ghost use Rattle.asl_json.specs.View.{data_of, members_of};
-ghost use Rattle.asl_mock.specs.Chosen.{has_mark, has_in, has_case, with_machine, of_machine, of_machines, chosen_in, IsChosen};
+ghost use Rattle.asl_mock.specs.Chosen.{has_mark, has_in, has_case, with_machine, of_machine, of_machines, IsChosen};
 
-use crate::table::members_at;
 use asl_json::{Json, Member};
 use asl_json_read::{JsonFault, read};
 use std::alloc::{AllocError, Global};
@@ -74,7 +73,7 @@ pub fn chosen(alloc: Global, mocks: &[u8], word: &str) -> Result<String, AllocEr
         return String::from_str(alloc, word);
     }
     match read(alloc, mocks) {
-        Ok(file) => of_machines(alloc, members_at(&file, "StateMachines"), word),
+        Ok(file) => of_machines(alloc, file.members_at("StateMachines"), word),
         Err(JsonFault::OutOfMemory) => Err(AllocError),
         Err(_) => String::from_str(alloc, word),
     }

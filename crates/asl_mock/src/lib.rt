@@ -33,4 +33,3 @@ pub use mocks::Mocks;
 pub use response::{Answer, Ranged};
 pub use responses::Response;
 pub use shape::Shape;
-pub use table::{members_at, members_in};

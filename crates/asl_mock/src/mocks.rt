@@ -15,7 +15,7 @@ use crate::form::misfit;
 use crate::place::Place;
 use crate::responses::responses;
 use crate::shape::Shape;
-use crate::table::{find, members_at};
+use crate::table::find;
 use asl_json::Json;
 use asl_json_read::read;
 use asl_json_write::Pointer;
@@ -67,7 +67,7 @@ fn judged(alloc: Global, value: &Json) -> Result<Result<Mocks, MockFault>, Alloc
     if let Some(place) = misfit(alloc, Shape::Top, value)? {
         return Ok(Err(MockFault::Shape(place.pointer(alloc)?)));
     }
-    let members = members_at(value, "MockedResponses");
+    let members = value.members_at("MockedResponses");
     if let Some(place) = first_bad_key(alloc, members)? {
         let place = pointer_below(alloc, "MockedResponses", place)?;
         return Ok(Err(MockFault::Key(place)));
@@ -79,7 +79,7 @@ fn judged(alloc: Global, value: &Json) -> Result<Result<Mocks, MockFault>, Alloc
             return Ok(Err(MockFault::Overlap(place)));
         }
     };
-    match machines(alloc, &table, members_at(value, "StateMachines"))? {
+    match machines(alloc, &table, value.members_at("StateMachines"))? {
         Ok(machines) => Ok(Ok(Mocks { machines })),
         Err(place) => {
             let place = pointer_below(alloc, "StateMachines", place)?;

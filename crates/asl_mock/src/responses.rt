@@ -12,7 +12,7 @@ ghost use Rattle.asl_mock.specs.Gives.{Gives};
 use crate::place::Place;
 use crate::ranges::{added, answer_at};
 use crate::response::{Answer, Ranged};
-use crate::table::{add, members_in};
+use crate::table::add;
 use asl_json::Member;
 use indexmap::IndexMap;
 use std::alloc::{AllocError, Global};
@@ -119,7 +119,7 @@ pub(crate) fn responses(
 {
     let mut responses = IndexMap::new(alloc);
     for member in members {
-        let value = match response_in(alloc, members_in(&member.value))? {
+        let value = match response_in(alloc, member.value.members())? {
             Ok(response) => response,
             Err(place) => return Ok(Err(place.under(alloc, member.key.as_str())?)),
         };

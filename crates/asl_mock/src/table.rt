@@ -1,10 +1,8 @@
 // Values under names.
 ghost use Rattle.std.specs.Prelude.{◌≡◌, ◌∷◌, ◌++◌, [], None, OnOk, OnErr, option_map};
-ghost use Rattle.asl_json_data.specs.Distinct.{AreDistinct};
-ghost use Rattle.asl_json.specs.View.{data_of, members_of};
-ghost use Rattle.asl_mock.specs.Tables.{named, value_for, members_in, members_at};
+ghost use Rattle.asl_mock.specs.Tables.{named, value_for};
 
-use asl_json::{Json, Member, Txt};
+use asl_json::Txt;
 use indexmap::IndexMap;
 use std::alloc::{AllocError, Global};
 
@@ -31,26 +29,4 @@ pub(crate) fn add<T: Drop>(
     let key = copy.into_string();
     drop(values.insert(key, value)?);
     Ok(())
-}
-
-/// The members of an object; any other value has none.
-pub fn members_in(value: &Json) -> &[Member]
-    ensures members { members_of result.now ≡ members_in (data_of value.now) }
-    ensures distinct { AreDistinct [] (members_of result.now) }
-{
-    match value {
-        Json::Dict(members) => members.members(),
-        _ => &[],
-    }
-}
-
-/// The members of the object under this key.
-pub fn members_at<'a>(value: &'a Json, key: &str) -> &'a [Member]
-    ensures members { members_of result.now ≡ members_at key.now (data_of value.now) }
-    ensures distinct { AreDistinct [] (members_of result.now) }
-{
-    match value.get(key) {
-        Some(value) => members_in(value),
-        None => &[],
-    }
 }

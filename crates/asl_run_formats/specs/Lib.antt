@@ -3,5 +3,6 @@ pub mod Trees
 pub mod Invoked
 pub mod Told
 pub mod Entered
+pub mod Ended
 pub mod Edges
 pub mod Marked

@@ -6,6 +6,7 @@ ghost use Rattle.asl_run_input.specs.Views.{texts_of, steps_in};
 ghost use Rattle.asl_run_formats.specs.Marked.{run_graph, IsMarkedRunOf};
 
 use crate::driving::take_by;
+use crate::ending::end_of;
 use crate::entering::entered_in;
 use crate::passing::passed;
 use asl_exec::Execution;
@@ -27,14 +28,15 @@ fn graph_of(
     let mut execution = Execution::open(alloc, setup)?;
     let steps = take_by(alloc, &mut execution, steps, limit)?;
     let names = entered_in(alloc, execution.history().events())?;
+    let end = end_of(alloc, execution.outcome(), execution.history().events())?;
     execution.restart()?;
     let definition = execution.setup().machine.json(alloc)?;
     let edges = passed(alloc, &mut execution, &steps)?;
-    marked_graph(alloc, format, names.as_slice(), &edges, &definition)
+    marked_graph(alloc, format, names.as_slice(), &edges, &end, &definition)
 }
 
 /// Runs an execution as `asl_exec::emulate_texts` does, with its faults, and writes the graph of its definition, in which the states are
-/// marked that it entered, and the transitions that it took.
+/// marked that it entered, the transitions that it took, and how it ended.
 pub fn emulate_marked(
     alloc: Global,
     format: Format,

@@ -1,6 +1,6 @@
 // What is told of a test.
-ghost use Rattle.std.specs.Prelude.{◌≡◌, ◌<◌, length};
-ghost use Rattle.asl_suite.specs.Findings.{is_good};
+ghost use Rattle.std.specs.Prelude.{◌≡◌, ◌<◌, length, IfOk};
+ghost use Rattle.asl_suite.specs.Findings.{is_good, reports_in};
 
 use crate::alone::put_alone;
 use crate::case_report::{CaseReport, Verdict};
@@ -12,13 +12,26 @@ use crate::telling::put_doubt;
 use std::alloc::{AllocError, Global};
 
 /// Where the tests of a suite come from: the names of its files, and which tests of the file of expectations it has: that of the number `first`,
-/// from 1, and each that stands `apart` behind one of them.
+/// from 1, and each that stands `apart` behind one of them; or those of these numbers.
 #[derive(Clone, Copy)]
 pub struct Source<'a> {
     pub definition: &'a str,
     pub mocks: &'a str,
     pub first: usize,
     pub apart: usize,
+    pub numbers: Option<&'a [usize]>,
+}
+
+impl Source<'_> {
+    /// The number of the test at a place of the suite.
+    fn number_at(&self, place: usize) -> usize {
+        if let Some(numbers) = self.numbers
+            && let Some(number) = numbers.get(place)
+        {
+            return *number;
+        }
+        self.first.saturating_add(self.apart.saturating_mul(place))
+    }
 }
 
 /// What is told of a test: its report and, where it isn't `ok`, why, and how it is run alone.
@@ -48,9 +61,12 @@ pub fn findings<'a>(
     source: &Source<'_>,
     suite: &Suite,
     reports: &'a [CaseReport],
-) -> Result<Vec<Finding<'a>>, AllocError> {
+) -> Result<Vec<Finding<'a>>, AllocError>
+    ensures { IfOk result (λ fs. reports_in fs.items ≡ reports.now) }
+{
     let mut findings = Vec::with_capacity(alloc, reports.len())?;
-    for (place, report) in reports.iter().enumerate() {
+    for report in reports {
+        let place = findings.len();
         findings.push(finding_of(alloc, source, suite, place, report)?)?;
     }
     Ok(findings)
@@ -82,10 +98,10 @@ fn finding_of<'a>(
     suite: &Suite,
     place: usize,
     report: &'a CaseReport,
-) -> Result<Finding<'a>, AllocError> {
-    let number = source
-        .first
-        .saturating_add(source.apart.saturating_mul(place));
+) -> Result<Finding<'a>, AllocError>
+    ensures { IfOk result (λ f. f.report.now ≡ report.now) }
+{
+    let number = source.number_at(place);
     let mut difference = String::new(alloc);
     let mut alone = String::new(alloc);
     if !is_passed(report) && place < suite.tests.list.len() {

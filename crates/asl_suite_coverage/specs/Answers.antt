@@ -4,7 +4,7 @@ use Rattle.asl_json_data.specs.Data.{Data, number, text}
 use Rattle.asl_json_data.specs.Distinct.{Members}
 use Rattle.asl_json.specs.Meaning.{value_in}
 use Rattle.asl_mock.specs.Key.{span_in}
-use Rattle.asl_mock.specs.Tables.{members_at}
+use Rattle.asl_json.specs.Access.{member_list_at}
 use Rattle.asl_mock.specs.declared.key.Span.{Span}
 
 abbrev pub under : List ℕ → Option Data → Option Data
@@ -44,7 +44,7 @@ answer_number i n (m ∷ ms) = if has_number m.0 n then Some i else answer_numbe
 
 abbrev pub answer_under : Option Data → List ℕ → ℕ → Option ℕ
 answer_under None response n = None
-answer_under (Some d) response n = answer_number 0 n (members_at response d)
+answer_under (Some d) response n = answer_number 0 n (member_list_at response d)
 
 -- among those of the response of this name
 abbrev pub answer_of : Data → List ℕ → ℕ → Option ℕ

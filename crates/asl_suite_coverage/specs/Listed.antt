@@ -9,7 +9,7 @@ use Rattle.asl_json.specs.Access.{items_in}
 use Rattle.asl_json.specs.Meaning.{value_in}
 use Rattle.asl_def_walk.specs.States.{all_states}
 use Rattle.asl_mock.specs.Key.{span_in}
-use Rattle.asl_mock.specs.Tables.{members_in, members_at}
+use Rattle.asl_json.specs.Access.{member_list, member_list_at}
 use Rattle.asl_suite_coverage.specs.declared.point.Point.{Point}
 use Rattle.asl_suite_coverage.specs.declared.spot.Part.{Part}
 use Rattle.asl_suite_coverage.specs.declared.spot.Part.TheVariants.{State, Next, Rule, Default, Retrier, Catcher, Answer}
@@ -94,7 +94,7 @@ answer_points i r [] = []
 answer_points i r (m ∷ ms) = answer_point i r m.0 ++ answer_points (i + 1) r ms
 
 abbrev pub response_points : List ℕ × Data → List Point
-response_points m = answer_points 0 m.0 (members_in m.1)
+response_points m = answer_points 0 m.0 (member_list m.1)
 
 -- ---- both
 
@@ -102,4 +102,4 @@ response_points m = answer_points 0 m.0 (members_in m.1)
 abbrev pub all_points : Data → Data → List Point
 all_points d mocks =
     flat_map state_points (all_states d)
-    ++ flat_map response_points (members_at (codes "MockedResponses") mocks)
+    ++ flat_map response_points (member_list_at (codes "MockedResponses") mocks)

@@ -4,7 +4,7 @@ ghost use Rattle.asl_json.specs.View.{data_of, members_of};
 ghost use Rattle.asl_suite_coverage.specs.Answers.{case_in, case_named, has_number, answer_number, response_of, answer_of};
 
 use asl_json::{Json, Member};
-use asl_mock::{members_at, span_in};
+use asl_mock::span_in;
 
 /// The case of these names in a mock file, where it has one.
 fn case_named<'a>(mocks: &'a Json, machine: &str, case: &str) -> Option<&'a Json>
@@ -65,7 +65,7 @@ pub(crate) fn answer_number(mocks: &Json, response: &str, number: u32) -> Option
     ensures { result ≡ answer_of (data_of mocks.now) response.now number }
 {
     match mocks.get("MockedResponses") {
-        Some(responses) => number_of(members_at(responses, response), number),
+        Some(responses) => number_of(responses.members_at(response), number),
         None => None,
     }
 }

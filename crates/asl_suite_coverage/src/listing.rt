@@ -12,7 +12,7 @@ use crate::texts::{answering, leading, named, numbered};
 use asl_def_walk::states_in;
 use asl_json::{Json, Member, Txt};
 use asl_json_shared::Name;
-use asl_mock::{members_at, members_in, span_in};
+use asl_mock::span_in;
 use std::alloc::{AllocError, Global};
 
 /// The text of the member with this key, where there is one.
@@ -254,7 +254,7 @@ fn add_response(alloc: Global, points: &mut Vec<Point>, response: &Member) -> Re
         ++ response_points (response.now.key, data_of response.now.value)) }
 {
     let name = Name::new(alloc, response.key.as_str())?;
-    add_answers(alloc, points, &name, members_in(&response.value))
+    add_answers(alloc, points, &name, response.value.members())
 }
 
 fn add_responses(
@@ -282,6 +282,6 @@ pub(crate) fn points_in(
     let mut points = Vec::new(alloc);
     let states = states_in(alloc, definition)?;
     add_states(alloc, &mut points, &states)?;
-    add_responses(alloc, &mut points, members_at(mocks, "MockedResponses"))?;
+    add_responses(alloc, &mut points, mocks.members_at("MockedResponses"))?;
     Ok(points)
 }

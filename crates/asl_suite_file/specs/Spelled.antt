@@ -3,7 +3,7 @@ use Rattle.std.specs.Prelude.{ℕ, ℤ, pos, List, [], ◌∷◌, Option, Some, 
 use Rattle.asl_json_data.specs.Data.{Data, null, number, text, list, Chain, no_items, item, Pairs, no_members, member}
 use Rattle.asl_json.specs.Meaning.{value_in}
 use Rattle.asl_json.specs.Same.{bytes_eq}
-use Rattle.asl_json.specs.Access.{members_in, items_in}
+use Rattle.asl_json.specs.Access.{members_of_any, items_in}
 use Rattle.asl_json.specs.View.{json_of, unchained}
 use Rattle.asl_json.specs.Whole.{whole_of}
 use Rattle.asl_json.specs.declared.value.Json.{Json}
@@ -52,11 +52,6 @@ amount_in o = 0
 abbrev pub count_of : Data → ℕ
 count_of (number n) = amount_in (whole_of n)
 count_of _ = 0
-
--- the members of an object; any other value, and none, has none
-abbrev pub members_of_any : Option Data → Pairs
-members_of_any None = no_members
-members_of_any (Some d) = members_in d
 
 abbrev pub counts_in : Pairs → List StateCount
 counts_in no_members = []

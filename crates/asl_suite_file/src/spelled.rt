@@ -1,9 +1,9 @@
 // The tests that a value spells.
 ghost use Rattle.std.specs.Prelude.{◌≡◌, IfOk, option_map};
 ghost use Rattle.asl_json_data.specs.Data.{pairs};
-ghost use Rattle.asl_json.specs.Access.{items_in};
+ghost use Rattle.asl_json.specs.Access.{items_in, members_of_any};
 ghost use Rattle.asl_json.specs.View.{data_of, members_of, json_of, unchained};
-ghost use Rattle.asl_suite_file.specs.Spelled.{text_of, json_in, name_of, wanted_text, maybe_in, wanted_of, count_of, members_of_any, counts_in, calls_in, end_of, states_of, test_of, tests_of};
+ghost use Rattle.asl_suite_file.specs.Spelled.{text_of, json_in, name_of, wanted_text, maybe_in, wanted_of, count_of, counts_in, calls_in, end_of, states_of, test_of, tests_of};
 
 use crate::expectation::{
     CallsByState, CountsByState, Expectation, StateCalls, StateCount, Wanted, WantedEnd,

@@ -1,5 +1,5 @@
 // Map.
-ghost use Rattle.std.specs.Prelude.{◌≡◌, ◌≤◌, ◌<◌, ◌++◌, ◌∷◌, [], List, ℕ, length, IfOk, OnOk, Some, None, codes, option_map, slice_get};
+ghost use Rattle.std.specs.Prelude.{◌≡◌, ◌≤◌, ◌<◌, ◌++◌, ◌∷◌, [], List, length, IfOk, OnOk, Some, None, codes, option_map, slice_get};
 ghost use Rattle.asl_json.specs.View.{data_of, items_of};
 ghost use Rattle.asl_json_data.specs.Data.{text};
 ghost use Rattle.asl_json_shared.specs.Sharing.{items_in};
@@ -11,7 +11,7 @@ ghost use Rattle.asl_step.specs.Records.{beginning_with};
 ghost use Rattle.asl_step.specs.Seen.{seen};
 ghost use Rattle.asl_step_io.specs.Gives.{Gives};
 ghost use Rattle.asl_step_io.specs.Paths.{taken};
-ghost use Rattle.asl_kinds.specs.Forks.{listed, item_input};
+ghost use Rattle.asl_kinds.specs.Forks.{listed};
 ghost use Rattle.asl_trace_data.specs.Kinds.{list_by, items_given, inputs, inputs_given, selector_stages, items_stages, map_by, settled_of, map_step};
 
 use crate::joining::of_join;
@@ -24,9 +24,10 @@ use asl_def_shared::Completion;
 use asl_def_states::Map;
 use asl_json::{Items, Json};
 use asl_json_shared::Shared;
+use asl_kinds::item_input;
 use asl_path::RefPath;
 use asl_step::{Context, Visit};
-use asl_step_io::{Fault, filled, missing, part_of};
+use asl_step_io::{Fault, missing, part_of};
 use asl_template::Template;
 use std::alloc::{AllocError, Global};
 
@@ -79,35 +80,6 @@ fn items_of(
 {
     let list = list_of(alloc, path, effective, visit, context)?;
     listed(alloc, list)
-}
-
-/// The input of the iteration of this number over this item.
-fn item_input(
-    alloc: Global,
-    template: &Template,
-    effective: &Shared,
-    number: u32,
-    item: &Json,
-    visit: &Visit,
-    context: &mut Context,
-) -> Result<Shared, Fault>
-    ensures given { Gives (item_input (Some template.now) effective.now context.old.facts
-        (seen visit.now) number (data_of item.now)) result }
-    ensures facts { context.new.facts ≡ context.old.facts }
-{
-    let visit = Visit {
-        place: visit.place,
-        current: visit.current,
-        children: visit.children,
-        forker: visit.forker,
-        iteration: Some((number, item)),
-        invokes: visit.invokes,
-        count: visit.count,
-        case: visit.case,
-        moment: visit.moment,
-    };
-    let effective = effective.try_clone()?;
-    filled(alloc, Some(template), effective, &visit, context)
 }
 
 /// The item of this number.

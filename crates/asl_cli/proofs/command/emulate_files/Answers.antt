@@ -15,6 +15,7 @@ returns-in-Ok-clause-emulated g c =
     let texts = c.in_ok-texts.texts in
     let all = texts_of c.of_run-given.result in
     let same = c.of_run-given.ensures ∙ ap (read_texts texts) c.as_deref.ensures.value in
+    let why = c.in-Ok.ensures.note.0 in
     record {
       texts = all;
       given = given-run _ c.args.words.now.setup _ _ texts all same c.in_ok-texts.ensures.given (given-before _ _ _ _ c.in_ok-texts.ensures.kept c.in_ok-steps.ensures.given);
@@ -24,7 +25,9 @@ returns-in-Ok-clause-emulated g c =
         end = c.in_ok-emulated.emulated.end;
         is_lacking = c.in_ok-emulated.ensures.lacking;
         is_end = c.in_ok-emulated.ensures.end;
-        note_is = subst (λ (n : ℕ). string_bytes c.in-Ok.ran.note ≡ note_text all.chosen c.in_ok-emulated.emulated.lacking ++ end_note (steps_name c.args.words.now) n c.in_ok-emulated.emulated.end) c.most_of.ensures c.in-Ok.ensures.note;
+        why = why;
+        failed = λ h. c.in-Ok.ensures.note.1 (ap (λ (e : Emulated). e.good) (sym c.in-Ok.ensures.emulated) ∙ h);
+        note_is = subst (λ (n : ℕ). string_bytes c.in-Ok.ran.note ≡ note_text all.chosen c.in_ok-emulated.emulated.lacking ++ (end_note (steps_name c.args.words.now) n c.in_ok-emulated.emulated.end ++ why)) c.most_of.ensures c.in-Ok.ensures.note.2;
       };
     }
 

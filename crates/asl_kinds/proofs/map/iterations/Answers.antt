@@ -33,7 +33,7 @@ loop-number-preserved c =
     let n = c.loop-number.number in
     let made = made-from c.loop-number.list.items c.args.start.now over c.args.effective.now f v n (data_of c.in_ok-item.item) c.args.items.now c.in_ok-input.input c.in_ok-item.ensures c.in_ok-input.ensures.given in
     record {
-      made = rw (c.in_ok-add.ensures, c.item_input.ensures.facts) (sym made ∙ c.loop-number.invariant.made);
+      made = rw (c.in_ok-add.ensures, c.input_of.ensures.facts) (sym made ∙ c.loop-number.invariant.made);
       long = rw c.in_ok-add.ensures (length_push c.loop-number.list.items (New c.args.start.now c.in_ok-input.input) ∙ ap (λ (z : ℕ). z + 1) c.loop-number.invariant.long);
-      facts = c.item_input.ensures.facts ∙ c.loop-number.invariant.facts;
+      facts = c.input_of.ensures.facts ∙ c.loop-number.invariant.facts;
     }

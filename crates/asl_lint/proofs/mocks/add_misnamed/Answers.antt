@@ -3,7 +3,7 @@ use Rattle.std.specs.Prelude.{map, option_map}
 use Rattle.std.proofs.lemmas.Result.{on_ok_weaker}
 use Rattle.asl_json.specs.View.{data_of}
 use Rattle.asl_mock.specs.Places.{Place}
-use Rattle.asl_mock.specs.Tables.{members_in}
+use Rattle.asl_json.specs.Access.{member_list}
 use Rattle.asl_lint_mocks.specs.declared.beside.NameFault.{NameFault}
 use Rattle.asl_lint_mocks.specs.declared.beside.NameFault.TheVariants.{Unknown, NoTask}
 use Rattle.asl_lint_mocks.specs.Beside.{fits, misnamed, unclear}
@@ -15,7 +15,7 @@ use Rattle.asl_lint.proofs.mocks.add_misnamed.Goals as goal
 pub returns : goal.returns
 returns c =
     let d = data_of c.args.file.now in
-    let ms = members_in d in
+    let ms = member_list d in
     let w = option_map (λ k. k.now) c.args.beside.machine in
     let told : (List ℕ → Bool) → List Place = λ f. misnamed w f d in
     on_ok_weaker c.add-3.result

@@ -1,7 +1,7 @@
 use Rattle.std.proofs.Common.{List, [], ◌++◌, subst, ap, sym, ◌∙◌, Option, Bor, Vec, Global}
 use Rattle.std.specs.Prelude.{map, option_map}
 use Rattle.asl_json.specs.View.{data_of}
-use Rattle.asl_mock.specs.Tables.{members_in}
+use Rattle.asl_json.specs.Access.{member_list}
 use Rattle.asl_lint_messages.specs.States.{Stated}
 use Rattle.asl_lint_messages.specs.declared.states.States.{States}
 use Rattle.asl_lint.specs.declared.finding.Found.{Found}
@@ -14,7 +14,7 @@ use Rattle.asl_lint.proofs.mocks.found_in_mocks.Goals as goal
 pub returns : goal.returns
 returns c =
     let d = data_of c.args.file.now in
-    let ms = members_in d in
+    let ms = member_list d in
     let w = option_map (λ k. k.now) c.args.beside.machine in
     let front = map noted c.add_own.new.found.items in
     let own : Grows ms [] front (own_told d) = subst (λ (fs : List Found). Grows ms (map noted fs) front (own_told d)) c.new-found.ensures.items c.in_ok-add_own.ensures in

@@ -8,9 +8,9 @@ use Rattle.asl_lint_mocks.proofs.beside.machines_place.Goals.{in-Some+in_ok-push
 pub returns : goal.returns
 returns c =
     let d = data_of c.args.file.now in
-    let ms = members_of c.members_in.result.now in
+    let ms = members_of c.members.result.now in
     let k = codes "StateMachines" in
     elim c.match-number_at.branch [
-      | in-Some+in_ok-push w ↦ place_some k d ms c.number_at.result w.in-Some.at c.match-number_at.place.items c.number_at.ensures c.members_in.ensures.members w.in-Some.is (ap (λ v. v.items) w.place-is ∙ w.in_ok-push.ensures.items ∙ ap (λ (is : List ℕ). is ++ w.in-Some.at ∷ []) c.new-place.ensures.items)
-      | in_default w ↦ place_none k d ms c.number_at.result c.match-number_at.place.items c.number_at.ensures c.members_in.ensures.members w.in_default.is (ap (λ v. v.items) w.place-is ∙ c.new-place.ensures.items)
+      | in-Some+in_ok-push w ↦ place_some k d ms c.number_at.result w.in-Some.at c.match-number_at.place.items c.number_at.ensures c.members.ensures.listed w.in-Some.is (ap (λ v. v.items) w.place-is ∙ w.in_ok-push.ensures.items ∙ ap (λ (is : List ℕ). is ++ w.in-Some.at ∷ []) c.new-place.ensures.items)
+      | in_default w ↦ place_none k d ms c.number_at.result c.match-number_at.place.items c.number_at.ensures c.members.ensures.listed w.in_default.is (ap (λ v. v.items) w.place-is ∙ c.new-place.ensures.items)
     ]

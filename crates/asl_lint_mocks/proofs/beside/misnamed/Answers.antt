@@ -15,4 +15,4 @@ returns c =
     let fit = fitting c.args.sort c.args.known.now in
     let w = option_map (λ k. k.now) c.args.machine in
     let told : Members → List ℕ × Data → List Place = λ ms m. in_machine fit (is_meant w ms m.0) m in
-    IfOk-weaker c.under_key.result _ _ (λ r h. h (told (machines_in (data_of c.args.file.now))) (subst (λ (ms : Members). AreAt ms (numbers_of c.in_ok-places.places.items) (in_each (told ms) ms)) c.members_at.ensures.members c.in_ok-places.ensures)) c.under_key.ensures
+    IfOk-weaker c.under_key.result _ _ (λ r h. h (told (machines_in (data_of c.args.file.now))) (subst (λ (ms : Members). AreAt ms (numbers_of c.in_ok-places.places.items) (in_each (told ms) ms)) c.members_at.ensures.listed c.in_ok-places.ensures)) c.under_key.ensures

@@ -7,4 +7,4 @@ use Rattle.std.proofs.lemmas.Result.{IfOk-weaker}
 use Rattle.asl_lint_mocks.proofs.keys.gaps.Goals as goal
 
 pub returns : goal.returns
-returns c = IfOk-weaker c.under_key.result _ _ (λ r h. h gap_in (subst (λ (ms : Members). AreAt ms (numbers_of c.in_ok-places.places.items) (in_each gap_in ms)) c.members_at.ensures.members c.in_ok-places.ensures)) c.under_key.ensures
+returns c = IfOk-weaker c.under_key.result _ _ (λ r h. h gap_in (subst (λ (ms : Members). AreAt ms (numbers_of c.in_ok-places.places.items) (in_each gap_in ms)) c.members_at.ensures.listed c.in_ok-places.ensures)) c.under_key.ensures

@@ -1,9 +1,10 @@
 use Rattle.std.proofs.Common.{◌∙◌, sym, ap, refl}
 use Rattle.asl_json.specs.View.{members_of}
 use Rattle.asl_mock.specs.Places.{first_of, in_each}
-use Rattle.asl_mock.specs.Tables.{named, members_in}
+use Rattle.asl_json.specs.Access.{member_list}
+use Rattle.asl_mock.specs.Tables.{named}
 use Rattle.asl_mock.specs.Answers.{case_of, named_case}
-use Rattle.asl_mock.specs.Faults.{lost_name, lost_in_case}
+use Rattle.asl_mock.specs.Faults.{lost_name, lost_in_case, is_response}
 use Rattle.asl_mock.proofs.Names.{is_new}
 use Rattle.asl_mock.proofs.Each.{found_at, built_more}
 use Rattle.asl_mock.proofs.Giving.{gives_first, gives_value}
@@ -12,16 +13,16 @@ use Rattle.asl_mock.proofs.case.cases_in.Goals as goal
 pub returns-in-Err : goal.returns-in-Err
 returns-in-Err c =
     let rs = named c.args.responses.now.entries in
-    let first = gives_first (λ v. named v.entries) (case_of rs (members_of c.members_in.result.now)) (in_each (lost_name rs) (members_of c.members_in.result.now)) c.in_ok-own.field-0 c.in-Err.place c.in_ok-own.ensures c.in-Err.is in
-    found_at (lost_in_case rs) c.args.members.now c.loop-member.member-index c.member-item.result c.as_str.result.now c.in-Err.place c.in_ok-under-in-Err.field-0 c.loop-member-test.true c.member-item.is c.as_str.ensures (ap (λ z. first_of (in_each (lost_name rs) z)) (sym c.members_in.ensures.members) ∙ first) c.in_ok-under-in-Err.ensures c.loop-member.invariant.1
+    let first = gives_first (λ v. named v.entries) (case_of rs (members_of c.members.result.now)) (in_each (lost_name (is_response rs)) (members_of c.members.result.now)) c.in_ok-own.field-0 c.in-Err.place c.in_ok-own.ensures c.in-Err.is in
+    found_at (lost_in_case (is_response rs)) c.args.members.now c.loop-member.member-index c.member-item.result c.as_str.result.now c.in-Err.place c.in_ok-under-in-Err.field-0 c.loop-member-test.true c.member-item.is c.as_str.ensures (ap (λ z. first_of (in_each (lost_name (is_response rs)) z)) (sym c.members.ensures.listed) ∙ first) c.in_ok-under-in-Err.ensures c.loop-member.invariant.1
 
 pub loop-member-preserved : goal.loop-member-preserved
 loop-member-preserved c =
     let rs = named c.args.responses.now.entries in
-    let own = gives_value (λ v. named v.entries) (case_of rs (members_of c.members_in.result.now)) (in_each (lost_name rs) (members_of c.members_in.result.now)) c.in_ok-own.field-0 c.in-Ok.own c.in_ok-own.ensures c.in-Ok.is in
-    built_more (named_case rs) (lost_in_case rs) c.args.members.now c.loop-member.member-index c.member-item.result (named c.loop-member.cases.entries) (named c.add.new.values.entries) _ c.loop-member-test.true c.member-item.is (ap (in_each (lost_name rs)) (sym c.members_in.ensures.members) ∙ own.0) (ap (λ z. (c.member-item.result.key, z)) (c.in_ok-value.ensures ∙ own.1 ∙ ap (case_of rs) c.members_in.ensures.members)) c.in_ok-add.ensures.ok c.loop-member.invariant
+    let own = gives_value (λ v. named v.entries) (case_of rs (members_of c.members.result.now)) (in_each (lost_name (is_response rs)) (members_of c.members.result.now)) c.in_ok-own.field-0 c.in-Ok.own c.in_ok-own.ensures c.in-Ok.is in
+    built_more (named_case rs) (lost_in_case (is_response rs)) c.args.members.now c.loop-member.member-index c.member-item.result (named c.loop-member.cases.entries) (named c.add.new.values.entries) _ c.loop-member-test.true c.member-item.is (ap (in_each (lost_name (is_response rs))) (sym c.members.ensures.listed) ∙ own.0) (ap (λ z. (c.member-item.result.key, z)) (c.in_ok-value.ensures ∙ own.1 ∙ ap (case_of rs) c.members.ensures.listed)) c.in_ok-add.ensures.ok c.loop-member.invariant
 
 pub add-requires : goal.add-requires
 add-requires c =
     let rs = named c.args.responses.now.entries in
-    is_new (λ m. case_of rs (members_in m.1)) c.args.members.now c.loop-member.member-index c.member-item.result c.member-item.result.key (named c.loop-member.cases.entries) c.requires c.loop-member-test.true c.member-item.is refl c.loop-member.invariant.0
+    is_new (λ m. case_of rs (member_list m.1)) c.args.members.now c.loop-member.member-index c.member-item.result c.member-item.result.key (named c.loop-member.cases.entries) c.requires c.loop-member-test.true c.member-item.is refl c.loop-member.invariant.0
