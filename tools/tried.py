@@ -1,7 +1,7 @@
 """What the must-fail edits of each crate were last tried over: tools/tried.txt has a digest for each crate.
 
-The verdict on an edit depends on the texts of its crate, on its edits, and on the contracts and definitions below: a prover that is sound
-never proves a body that breaks its contract, whatever kit it comes with and however the crates below are proved. So an edit that was refused
+The verdict on an edit depends on the texts of its crate, on its edits, and on those contracts and definitions below that these reach: a prover that
+is sound never proves a body that breaks its contract, whatever kit it comes with and however the crates below are proved. So an edit that was refused
 once is refused until one of these changes.
 """
 import hashlib
@@ -10,7 +10,8 @@ import subprocess
 import threading
 
 from crates import TOP
-from sources import PARTS, Source, files_of, text_of
+from declared import declared, reached
+from sources import PARTS, files_of, text_of
 
 PATH = f"{TOP}/tools/tried.txt"
 HEAD = """# For each crate a digest of what its must-fail edits were last tried over, and refused by the prover. tools/edits writes
@@ -35,19 +36,20 @@ class Tried:
     """The digests that are kept, and those of the crates as they are now."""
 
     def __init__(self, below):
-        self.below, self.interfaces, self.lock = below, {}, threading.RLock()
+        self.below, self.declared, self.lock = below, {}, threading.RLock()
         self.kept = kept()
 
-    def interface(self, crate):
-        """A digest of what a crate's definitions and contracts say."""
-        if crate not in self.interfaces:
-            self.interfaces[crate] = digest_of((Source(crate).interface(), files_of(crate, "specs")))
-        return self.interfaces[crate]
+    def declarations(self, crate):
+        """The declarations of the crates that a crate stands on."""
+        for it in self.below(crate):
+            if it not in self.declared:
+                self.declared[it] = [*declared(it)]
+        return [one for it in sorted(self.below(crate)) for one in self.declared[it]]
 
     def digest(self, crate):
         """A digest of all that the verdicts on a crate's edits depend on, as it is now."""
         with self.lock:
-            below = [(it, self.interface(it)) for it in sorted(self.below(crate))]
+            below = reached(crate, self.declarations(crate))
         return digest_of((files_of(crate, *PARTS, "must-fail"), below))
 
     def has(self, crate):
@@ -57,7 +59,7 @@ class Tried:
     def keep(self, crate, digest):
         """Writes that a crate's edits were refused, if it still is what they were tried over."""
         with self.lock:
-            self.interfaces.clear()
+            self.declared.clear()
             if digest == self.digest(crate):
                 # (another run may have written others meanwhile)
                 self.kept = {**kept(), crate: digest}
