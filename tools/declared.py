@@ -11,7 +11,7 @@ from sources import Source, files_of
 WORD = re.compile(r"[^\W\d][\w'-]*")
 # What begins a declaration in a file of definitions; the lines behind one that define it have none of this.
 BEGINS = re.compile(r"(?:(?:abbrev|unfoldable|pub|private|record|data|module|infixl|infixr|infix)\b *)+(\S+)|(\S+) :(?: |$)")
-RUST_NAME = re.compile(r"\b(?:fn|struct|enum|trait|const|static|type|union) (\w+)")
+RUST_NAME = re.compile(r"\b(?:fn|struct|enum|trait|const(?! fn)|static|type|union) (\w+)")
 
 
 class Place(NamedTuple):
@@ -65,12 +65,12 @@ def items(lines, depth):
 def declared_in_code(place, lines):
     """The declarations of a file of code of which bodies are left out."""
     for item in items(lines, ""):
-        head = next((it for it in item if not it.startswith("#")), "")
+        head = "\n".join(it for it in item if not it.startswith("#")).partition("{")[0]
         if re.match(r"(?:ghost )?(?:pub )?(?:use|mod)\b", head):
             continue
         named = RUST_NAME.findall("\n".join(item) if "trait " in head else head)
         if head.startswith("impl") and " for " not in head:
-            owner = re.match(r"impl(?:<[^{]*?>)? (\w+)", head)[1]
+            owner = re.match(r"impl(?:<[^{]*?>)?\s+(\w+)", head)[1]
             for method in items(item[1:], "    "):
                 name = RUST_NAME.search("\n".join(method))
                 yield Declaration([name[1]] if name else [owner], owner if name else None, place, [head, *method])
