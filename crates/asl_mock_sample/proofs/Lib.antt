@@ -1,0 +1,8 @@
+mod Filling
+mod Items
+mod Some
+mod Cutting
+mod Stripping
+mod Placing
+mod Turning
+mod Joining

@@ -1,3 +1,10 @@
+pub mod Texts
+pub mod Merging
+pub mod Paths
+pub mod Templates
+pub mod Rules
+pub mod Wants
+pub mod View
 pub mod Answers
 pub mod Calls
 pub mod Files

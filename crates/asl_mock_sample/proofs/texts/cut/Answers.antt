@@ -1,0 +1,6 @@
+use Rattle.std.proofs.lemmas.Str.Pattern.{split_once_first}
+use Rattle.asl_mock_sample.proofs.Cutting.{cut_of}
+use Rattle.asl_mock_sample.proofs.texts.cut.Goals as goal
+
+pub returns : goal.returns
+returns c = cut_of c.args.at c.args.text.now c.split_once.result (split_once_first c.args.at c.args.text.now c.split_once.result c.split_once.ensures.cases c.requires)
