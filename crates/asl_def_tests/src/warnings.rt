@@ -161,12 +161,75 @@ fn handlers(rt: HostRuntime) -> Result<(), Fail> {
 fn errors(rt: HostRuntime) -> Result<(), Fail> {
     let out = told(
         rt.alloc(),
-        r#"{"StartAt":"A","States":{"A":{"Type":"Task","Resource":"r","Retry":[{"ErrorEquals":["States.Timeout","States.Timout","Mine.Timout"]}],"End":true}}}"#,
+        r#"{"StartAt":"A","States":{"A":{"Type":"Task","Resource":"r","Retry":[{"ErrorEquals":["States.Timeout","States.Timout","Mine.Timout","State.Permissions","states.runtime","StatesTaskFailed","Status.Timeout","Timeout","States.Http.StatusCode.404","States.Http.StatusCode.40"]}],"End":true}}}"#,
     )?;
     assert_eq!(rt;
         out.as_str(),
-        "unknown-error /States/A/Retry/0/ErrorEquals/1\n"
+        "unknown-error /States/A/Retry/0/ErrorEquals/1\nunknown-error /States/A/Retry/0/ErrorEquals/3\nunknown-error /States/A/Retry/0/ErrorEquals/4\nunknown-error /States/A/Retry/0/ErrorEquals/5\nunknown-error /States/A/Retry/0/ErrorEquals/9\n"
     );
+    Ok(())
+}
+
+#[test]
+fn repeats(rt: HostRuntime) -> Result<(), Fail> {
+    let out = told(
+        rt.alloc(),
+        r#"{"StartAt":"A","States":{"A":{"Type":"Task","Resource":"r","Retry":[{"ErrorEquals":["E","F","E","e"]}],"Catch":[{"ErrorEquals":["E","States.Timout","States.Timout"],"Next":"B"}],"Next":"B"},"B":{"Type":"Succeed"}}}"#,
+    )?;
+    assert_eq!(rt;
+        out.as_str(),
+        "repeated-error /States/A/Retry/0/ErrorEquals/2\nunknown-error /States/A/Catch/0/ErrorEquals/1\nunknown-error /States/A/Catch/0/ErrorEquals/2\n"
+    );
+    Ok(())
+}
+
+#[test]
+fn delays(rt: HostRuntime) -> Result<(), Fail> {
+    let out = told(
+        rt.alloc(),
+        r#"{"StartAt":"A","States":{"A":{"Type":"Task","Resource":"r","Retry":[{"ErrorEquals":["E"],"MaxAttempts":0},{"ErrorEquals":["F"],"MaxAttempts":0e0,"BackoffRate":2},{"ErrorEquals":["G"],"MaxAttempts":1,"IntervalSeconds":6,"MaxDelaySeconds":5},{"ErrorEquals":["H"],"IntervalSeconds":5,"MaxDelaySeconds":5},{"ErrorEquals":["I"],"MaxDelaySeconds":1}],"End":true}}}"#,
+    )?;
+    assert_eq!(rt;
+        out.as_str(),
+        "unused-delay /States/A/Retry/1/MaxAttempts\nmax-delay-below-interval /States/A/Retry/2/MaxDelaySeconds\n"
+    );
+    Ok(())
+}
+
+#[test]
+fn calls(rt: HostRuntime) -> Result<(), Fail> {
+    let out = told(
+        rt.alloc(),
+        r#"{"StartAt":"A","States":{"A":{"Type":"Pass","Parameters":{"a":"$","b":"$$","c":"States.Format('{}', $.x)","d":"States.UUID()","e":"$[0].x","f":"States.Nothing()","g":"States.Format","h":" $.x","i":"$x","j.$":"$.j"},"End":true}}}"#,
+    )?;
+    assert_eq!(rt;
+        out.as_str(),
+        "forgotten-dollar /States/A/Parameters/a\nforgotten-dollar /States/A/Parameters/b\nforgotten-dollar /States/A/Parameters/c\nforgotten-dollar /States/A/Parameters/d\nforgotten-dollar /States/A/Parameters/e\n"
+    );
+    Ok(())
+}
+
+#[test]
+fn constants(rt: HostRuntime) -> Result<(), Fail> {
+    let out = told(
+        rt.alloc(),
+        r#"{"StartAt":"A","States":{"A":{"Type":"Pass","Result":{"a":"$.a","b":["States.UUID()","x"],"c.$":{"d":"$.d"},"e":{"f.$":1,"g":"$5","h$":"a.$","i":"$"}},"Next":"B"},"B":{"Type":"Pass","Result":"$.r","Next":"C"},"C":{"Type":"Fail","Error":"States.Format('{}', $.e)","Cause":"$.c"},"D":{"Type":"Fail","Error":"E","Cause":"about $.c"}}}"#,
+    )?;
+    assert_eq!(rt;
+        out.as_str(),
+        "not-computed /States/A/Result/a\nnot-computed /States/A/Result/b/0\nnot-computed /States/A/Result/c.$\nnot-computed /States/A/Result/e/f.$\nnot-computed /States/B/Result\nnot-computed /States/C/Error\nnot-computed /States/C/Cause\nunreachable-state /States/D\n"
+    );
+    Ok(())
+}
+
+/// What a state of another type has under these names is a fault alone.
+#[test]
+fn no_constants(rt: HostRuntime) -> Result<(), Fail> {
+    let out = told(
+        rt.alloc(),
+        r#"{"StartAt":"A","States":{"A":{"Type":"Wait","Seconds":1,"Result":"$.r","Cause":"$.c","Next":"B"},"B":{"Type":"Fail","Result":"$.r"}}}"#,
+    )?;
+    assert_eq!(rt; out.as_str(), "");
     Ok(())
 }
 
@@ -174,7 +237,7 @@ fn errors(rt: HostRuntime) -> Result<(), Fail> {
 fn dollars(rt: HostRuntime) -> Result<(), Fail> {
     let out = told(
         rt.alloc(),
-        r#"{"StartAt":"A","States":{"A":{"Type":"Pass","Parameters":{"a":"$.a","b.$":"$.b","c":["$$.Execution.Id","$5"],"d":{"e":"$.e"}},"Result":"$.r","End":true}}}"#,
+        r#"{"StartAt":"A","States":{"A":{"Type":"Pass","Parameters":{"a":"$.a","b.$":"$.b","c":["$$.Execution.Id","$5"],"d":{"e":"$.e"}},"End":true}}}"#,
     )?;
     assert_eq!(rt;
         out.as_str(),

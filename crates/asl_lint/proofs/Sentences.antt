@@ -37,7 +37,11 @@ warning_says warning.EndlessWait = refl
 warning_says warning.HeartbeatNotShorter = refl
 warning_says warning.UnaskedHandler = refl
 warning_says warning.UnknownError = refl
+warning_says warning.RepeatedError = refl
+warning_says warning.UnusedDelay = refl
+warning_says warning.MaxDelayBelowInterval = refl
 warning_says warning.ForgottenDollar = refl
+warning_says warning.NotComputed = refl
 warning_says warning.UnknownContextMember = refl
 
 mock_says : (r : MockRule) → has_some (mock_sentence r) ≡ true

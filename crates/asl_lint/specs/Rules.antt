@@ -86,8 +86,14 @@ warning_sentence warning.HeartbeatNotShorter =
 warning_sentence warning.UnaskedHandler =
     codes "Retriers or catchers before it are for all that this one names."
 warning_sentence warning.UnknownError = codes "No error of the language has this name."
+warning_sentence warning.RepeatedError = codes "The list names this error before."
+warning_sentence warning.UnusedDelay =
+    codes "A retrier that never retries says how long it waits."
+warning_sentence warning.MaxDelayBelowInterval =
+    codes "The longest delay of a retrier is shorter than the first one."
 warning_sentence warning.ForgottenDollar =
-    codes "A text of a template looks like a path and is none."
+    codes "A text of a template looks like a path or a call and is none."
+warning_sentence warning.NotComputed = codes "A value that stays as it is looks computed."
 warning_sentence warning.UnknownContextMember =
     codes "The Context Object never has what a path names."
 

@@ -41,7 +41,11 @@ rules =
     ∷ rule.Warning warning.HeartbeatNotShorter
     ∷ rule.Warning warning.UnaskedHandler
     ∷ rule.Warning warning.UnknownError
+    ∷ rule.Warning warning.RepeatedError
+    ∷ rule.Warning warning.UnusedDelay
+    ∷ rule.Warning warning.MaxDelayBelowInterval
     ∷ rule.Warning warning.ForgottenDollar
+    ∷ rule.Warning warning.NotComputed
     ∷ rule.Warning warning.UnknownContextMember
     ∷ rule.Mock mock.Json
     ∷ rule.Mock mock.Shape

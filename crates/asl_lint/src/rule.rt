@@ -191,7 +191,13 @@ fn warning_sentence(kind: WarningKind) -> &'static str
         WarningKind::UnaskedHandler =>
             "Retriers or catchers before it are for all that this one names.",
         WarningKind::UnknownError => "No error of the language has this name.",
-        WarningKind::ForgottenDollar => "A text of a template looks like a path and is none.",
+        WarningKind::RepeatedError => "The list names this error before.",
+        WarningKind::UnusedDelay => "A retrier that never retries says how long it waits.",
+        WarningKind::MaxDelayBelowInterval =>
+            "The longest delay of a retrier is shorter than the first one.",
+        WarningKind::ForgottenDollar =>
+            "A text of a template looks like a path or a call and is none.",
+        WarningKind::NotComputed => "A value that stays as it is looks computed.",
         WarningKind::UnknownContextMember => "The Context Object never has what a path names.",
     }
 }

@@ -56,7 +56,18 @@ pub fn put_warning(
                 effort,
             )
         }
+        WarningKind::RepeatedError => {
+            put_name(out, standing.text())?;
+            out.push_str(" stands in this ErrorEquals before")
+        }
+        WarningKind::UnusedDelay => out.push_str(
+            "MaxAttempts is 0, so this retrier never retries, and its delays are never used",
+        ),
+        WarningKind::MaxDelayBelowInterval => out.push_str(
+            "MaxDelaySeconds is below IntervalSeconds, so IntervalSeconds and BackoffRate have no effect",
+        ),
         WarningKind::ForgottenDollar => put_forgotten(alloc, out, standing),
+        WarningKind::NotComputed => put_not_computed(out, standing),
         WarningKind::UnknownContextMember => put_near_name(
             alloc,
             out,
@@ -101,20 +112,63 @@ fn put_near_name(
 }
 
 /// Appends that a text stays as it is.
+fn put_stays(out: &mut String, standing: &Standing<'_>) -> Result<(), AllocError> {
+    put_subject(out, standing)?;
+    out.push_str(" stays the text ")?;
+    put_name(out, standing.text())
+}
+
+/// What a text is that looks computed.
+fn computed_noun(text: &str) -> &'static str {
+    if text.starts_with('$') {
+        "at this path"
+    } else {
+        "of this call"
+    }
+}
+
+/// Appends that a text of a template stays as it is, and how its value is named.
 fn put_forgotten(
     alloc: Global,
     out: &mut String,
     standing: &Standing<'_>,
 ) -> Result<(), AllocError> {
-    put_subject(out, standing)?;
-    out.push_str(" stays the text ")?;
-    put_name(out, standing.text())?;
+    put_stays(out, standing)?;
     if standing.is_item {
         return out.push_str("; an intrinsic function as States.Array puts values into a list");
     }
-    out.push_str("; the value at this path has the key ")?;
+    if standing.object_sort() == Sort::State {
+        return out.push_str(
+            "; a template is an object, and its keys with \".$\" have values that are computed",
+        );
+    }
+    out.push_str("; the value ")?;
+    out.push_str(computed_noun(standing.text()))?;
+    out.push_str(" has the key ")?;
     let mut key = String::new(alloc);
     key.push_str(standing.key)?;
     key.push_str(".$")?;
     put_name(out, key.as_str())
+}
+
+/// Whether the value is a text that a Fail puts out.
+fn is_of_fail(standing: &Standing<'_>) -> bool {
+    standing.object_sort() == Sort::State && (standing.key == "Error" || standing.key == "Cause")
+}
+
+/// Appends that a value stays as it is, and what computes one.
+fn put_not_computed(out: &mut String, standing: &Standing<'_>) -> Result<(), AllocError> {
+    if is_of_fail(standing) {
+        put_stays(out, standing)?;
+        out.push_str("; ")?;
+        out.push_str(standing.key)?;
+        return out.push_str("Path takes a path or a call");
+    }
+    if !standing.is_item && standing.key.ends_with(".$") {
+        put_subject(out, standing)?;
+        out.push_str(" stays a key")?;
+    } else {
+        put_stays(out, standing)?;
+    }
+    out.push_str(": a Pass puts out its Result as it stands, and what its Parameters compute")
 }

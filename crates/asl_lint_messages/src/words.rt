@@ -58,6 +58,17 @@ fn put_missing(out: &mut String, standing: &Standing<'_>) -> Result<(), AllocErr
     }
 }
 
+/// The one of these members that takes a path where one of this key, which ends in `.$`, has a fixed value: `CausePath` for `Cause.$`.
+fn path_member(absent: &[&'static str], key: &str) -> Option<&'static str> {
+    let bare = key.strip_suffix(".$")?;
+    for name in absent {
+        if name.strip_suffix("Path") == Some(bare) {
+            return Some(*name);
+        }
+    }
+    None
+}
+
 /// Appends that an object may not have a member, and which it may mean.
 fn put_unknown(alloc: Global, out: &mut String, standing: &Standing<'_>) -> Result<(), AllocError> {
     out.push_str(standing.object_noun())?;
@@ -66,6 +77,11 @@ fn put_unknown(alloc: Global, out: &mut String, standing: &Standing<'_>) -> Resu
     let Some(object) = standing.around else {
         return Ok(());
     };
+    if let Some(name) = path_member(&object.absent, standing.key) {
+        out.push_str("; did you mean ")?;
+        put_name(out, name)?;
+        return out.push('?');
+    }
     let mut search = Search::new(alloc, standing.key);
     let mut effort = EFFORT;
     for name in &object.absent {

@@ -1,6 +1,6 @@
--- What the items of a list are warned of: errors that there aren't, retriers and catchers that no
--- error reaches.
-use Rattle.std.specs.Prelude.{ℕ, List, Bool, true, false, ◌||◌, ◌&&◌, not, Option, Some, None, codes}
+-- What the items of a list are warned of: errors that there aren't or that are named twice, retriers
+-- and catchers that no error reaches.
+use Rattle.std.specs.Prelude.{ℕ, List, Bool, true, false, ◌||◌, ◌&&◌, not, Option, Some, None, codes, if◌then◌else◌}
 use Rattle.asl_json_data.specs.Data.{Data, text, list, Chain, no_items, item}
 use Rattle.asl_json.specs.Same.{bytes_eq}
 use Rattle.asl_json.specs.Meaning.{value_in}
@@ -28,6 +28,11 @@ is_text n d = false
 abbrev pub has_text : List ℕ → Chain → Bool
 has_text n no_items = false
 has_text n (item d ds) = is_text n d || has_text n ds
+
+-- an item of a list of this sort brings in a name
+abbrev pub brings : Sort → Data → List ℕ → Bool
+brings sort.ErrorNames d n = is_text n d
+brings s d n = has_text n (names_in d)
 
 -- each error that a name stands for, some of the listed names stand for
 abbrev pub is_taken : (List ℕ → Bool) → List ℕ → Bool
@@ -57,9 +62,19 @@ abbrev pub is_unknown_name : Data → Bool
 is_unknown_name (text t) = is_unknown_error t
 is_unknown_name d = false
 
--- of an item of a list of this sort, behind those that list these names
+abbrev pub is_listed : (List ℕ → Bool) → Data → Bool
+is_listed listed (text t) = listed t
+is_listed listed d = false
+
+-- of a name behind those of its list
+abbrev pub name_kind : (List ℕ → Bool) → Data → Option WarningKind
+name_kind listed d =
+    if is_unknown_name d then Some kind.UnknownError
+    else kind_if (is_listed listed d) kind.RepeatedError
+
+-- of an item of a list of this sort, behind those that bring in these names
 abbrev pub item_kind : Sort → (List ℕ → Bool) → Data → Option WarningKind
-item_kind sort.ErrorNames listed d = kind_if (is_unknown_name d) kind.UnknownError
+item_kind sort.ErrorNames listed d = name_kind listed d
 item_kind sort.Retriers listed d = kind_if (is_unasked listed d) kind.UnaskedHandler
 item_kind sort.Catchers listed d = kind_if (is_unasked listed d) kind.UnaskedHandler
 item_kind s listed d = None

@@ -12,7 +12,11 @@ name_of kind.EndlessWait = codes "endless-wait"
 name_of kind.HeartbeatNotShorter = codes "heartbeat-not-shorter"
 name_of kind.UnaskedHandler = codes "unasked-handler"
 name_of kind.UnknownError = codes "unknown-error"
+name_of kind.RepeatedError = codes "repeated-error"
+name_of kind.UnusedDelay = codes "unused-delay"
+name_of kind.MaxDelayBelowInterval = codes "max-delay-below-interval"
 name_of kind.ForgottenDollar = codes "forgotten-dollar"
+name_of kind.NotComputed = codes "not-computed"
 name_of kind.UnknownContextMember = codes "unknown-context-member"
 
 -- a warning and the steps to its place, the innermost first

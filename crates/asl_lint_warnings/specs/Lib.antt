@@ -4,6 +4,7 @@ pub mod Handlers
 pub mod Graphs
 pub mod Ways
 pub mod States
+pub mod Constants
 pub mod Laws
 pub mod Warnings
 pub mod private

@@ -11,8 +11,9 @@ use Rattle.asl_lint_warnings.specs.declared.warning.WarningKind.{WarningKind}
 use Rattle.asl_lint_warnings.specs.declared.warning.WarningKind.TheVariants as kind
 use Rattle.asl_lint_warnings.specs.Kinds.{Noted, noted, kind_if}
 use Rattle.asl_lint_warnings.specs.Texts.{text_kind}
-use Rattle.asl_lint_warnings.specs.Handlers.{names_in, has_text, item_kind}
-use Rattle.asl_lint_warnings.specs.States.{state_kind, member_kind}
+use Rattle.asl_lint_warnings.specs.Handlers.{brings, item_kind}
+use Rattle.asl_lint_warnings.specs.States.{state_kind, member_kind, retrier_kind}
+use Rattle.asl_lint_warnings.specs.Constants.{result_warnings}
 use Rattle.asl_lint_warnings.specs.Graphs.{is_reached, is_ending}
 
 -- where a value stands: the steps to it, the innermost first, and which states of the machine around it
@@ -51,10 +52,15 @@ standing p i =
     noted p.place (kind_if (not (p.reached i)) kind.UnreachableState)
     ++ noted p.place (kind_if (not (p.ending i)) kind.NoEnd)
 
+-- of a member beside the others of a state
+abbrev pub in_state : Spot → Pairs → List ℕ → Data → List Noted
+in_state p all k d = noted p.place (member_kind all k d) ++ result_warnings p.place all k d
+
 -- of a member beside the others of an object of this sort
 abbrev pub beside : Spot → Sort → Pairs → ℕ → List ℕ → Data → List Noted
 beside p sort.States all i k d = standing p i
-beside p sort.State all i k d = noted p.place (member_kind all k d)
+beside p sort.State all i k d = in_state p all k d
+beside p sort.Retrier all i k d = noted p.place (retrier_kind all k d)
 beside p s all i k d = []
 
 abbrev mutual
@@ -69,13 +75,13 @@ abbrev mutual
       ++ (if is_object s
       then member_warnings (inside p s ms) s (shape_in s ms) ms 0 ms else [])
 
-  -- behind other items of the list, which list these names
+  -- behind other items of the list, which bring in these names
   pub item_warnings : Spot → Sort → (List ℕ → Bool) → ℕ → Chain → List Noted
   item_warnings p s listed i no_items = []
   item_warnings p s listed i (item d ds) =
       noted (step i (decimal i) ∷ p.place) (item_kind s listed d)
       ++ (warnings (further p (step i (decimal i))) (item_sort s) d
-      ++ item_warnings p s (λ n. listed n || has_text n (names_in d)) (suc i) ds)
+      ++ item_warnings p s (λ n. listed n || brings s d n) (suc i) ds)
 
   -- of an object of all these members
   pub member_warnings : Spot → Sort → Shape → Pairs → ℕ → Pairs → List Noted

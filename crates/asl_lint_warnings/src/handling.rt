@@ -1,11 +1,11 @@
-// Retriers and catchers that no error reaches, and errors that there aren't.
+// Retriers and catchers that no error reaches, and errors that there aren't or that are named twice.
 ghost use Rattle.std.specs.Prelude.{◌≡◌, ◌||◌, ℕ, List, OnOk};
 ghost use Rattle.std.specs.HashSet.{contains_text};
 ghost use Rattle.asl_json_data.specs.Data.{chain};
 ghost use Rattle.asl_json.specs.View.{data_of, items_of};
 ghost use Rattle.asl_def_schema.specs.Claims.{is_nonempty};
 ghost use Rattle.asl_handle.specs.Names.{is_beyond};
-ghost use Rattle.asl_lint_warnings.specs.Handlers.{names_in, is_text, has_text, is_taken, is_taken_name, are_taken, are_all_taken, is_unasked, is_unknown_name, item_kind};
+ghost use Rattle.asl_lint_warnings.specs.Handlers.{names_in, is_text, has_text, brings, is_taken, is_taken_name, are_taken, are_all_taken, is_unasked, is_unknown_name, is_listed, name_kind, item_kind};
 
 use crate::naming::is_unknown_error;
 use crate::warning::{WarningKind, kind_if};
@@ -92,12 +92,31 @@ fn is_unknown_name(name: &Json) -> bool
     }
 }
 
-/// What an item of a list of this sort is warned of, behind those that list these names.
+fn is_listed(listed: &HashSet<String>, name: &Json) -> bool
+    ensures { result ≡ is_listed (contains_text listed.now) (data_of name.now) }
+{
+    match name {
+        Json::Text(name) => listed.contains(name.as_str()),
+        _ => false,
+    }
+}
+
+/// What a name is warned of behind those of its list.
+fn name_kind(listed: &HashSet<String>, name: &Json) -> Option<WarningKind>
+    ensures { result ≡ name_kind (contains_text listed.now) (data_of name.now) }
+{
+    if is_unknown_name(name) {
+        return Some(WarningKind::UnknownError);
+    }
+    kind_if(is_listed(listed, name), WarningKind::RepeatedError)
+}
+
+/// What an item of a list of this sort is warned of, behind those that bring in these names.
 pub(crate) fn item_kind(sort: Sort, listed: &HashSet<String>, item: &Json) -> Option<WarningKind>
     ensures { result ≡ item_kind sort (contains_text listed.now) (data_of item.now) }
 {
     match sort {
-        Sort::ErrorNames => kind_if(is_unknown_name(item), WarningKind::UnknownError),
+        Sort::ErrorNames => name_kind(listed, item),
         Sort::Retriers | Sort::Catchers => {
             kind_if(is_unasked(listed, item), WarningKind::UnaskedHandler)
         }
@@ -119,11 +138,7 @@ fn list_name(alloc: Global, listed: &mut HashSet<String>, name: &Json) -> Result
 }
 
 /// Adds the names that a retrier or a catcher lists.
-pub(crate) fn list_names(
-    alloc: Global,
-    listed: &mut HashSet<String>,
-    handler: &Json,
-) -> Result<(), AllocError>
+fn list_names(alloc: Global, listed: &mut HashSet<String>, handler: &Json) -> Result<(), AllocError>
     ensures { OnOk result ((n : List ℕ) → contains_text listed.new n
         ≡ (contains_text listed.old n || has_text n (names_in (data_of handler.now)))) }
 {
@@ -131,4 +146,20 @@ pub(crate) fn list_names(
         list_name(alloc, listed, name)?;
     }
     Ok(())
+}
+
+/// Adds the names that an item of a list of this sort brings in.
+pub(crate) fn list_brought(
+    alloc: Global,
+    listed: &mut HashSet<String>,
+    sort: Sort,
+    item: &Json,
+) -> Result<(), AllocError>
+    ensures { OnOk result ((n : List ℕ) → contains_text listed.new n
+        ≡ (contains_text listed.old n || brings sort (data_of item.now) n)) }
+{
+    match sort {
+        Sort::ErrorNames => list_name(alloc, listed, item),
+        _ => list_names(alloc, listed, item),
+    }
 }

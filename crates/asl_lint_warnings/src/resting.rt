@@ -1,10 +1,11 @@
-// One state by itself.
+// One state by itself, and one retrier.
 ghost use Rattle.std.specs.Prelude.{◌≡◌, option_map};
 ghost use Rattle.asl_json_data.specs.Data.{pairs};
 ghost use Rattle.asl_json.specs.View.{data_of, members_of};
 ghost use Rattle.asl_def_schema.specs.declared.sort.Kind.{Kind};
-ghost use Rattle.asl_lint_warnings.specs.States.{has, is_waiting, is_limited, kind_by, state_kind, heartbeat_kind, member_kind};
+ghost use Rattle.asl_lint_warnings.specs.States.{has, is_waiting, is_limited, kind_by, state_kind, heartbeat_kind, is_fail_text, is_fail, constant_kind, member_kind, has_delay, attempts_kind, delay_kind, retrier_kind};
 
+use crate::naming::seems_computed;
 use crate::warning::{WarningKind, kind_if};
 use asl_def_schema::{Kind, find, kind_named};
 use asl_json::{Json, Member};
@@ -73,12 +74,86 @@ fn heartbeat_kind(heartbeat: &Json, limit: Option<&Json>) -> Option<WarningKind>
     }
 }
 
+/// Whether a Fail puts out the text of this member as it is.
+fn is_fail_text(key: &str) -> bool
+    ensures { result ≡ is_fail_text key.now }
+{
+    key == "Error" || key == "Cause"
+}
+
+fn is_fail(kind: Option<Kind>) -> bool
+    ensures { result ≡ is_fail kind }
+{
+    matches!(kind, Some(Kind::Fail))
+}
+
+/// What a value is warned of that is put out as it is.
+fn constant_kind(value: &Json) -> Option<WarningKind>
+    ensures { result ≡ constant_kind (data_of value.now) }
+{
+    match value {
+        Json::Text(text) => kind_if(seems_computed(text.as_str()), WarningKind::NotComputed),
+        _ => None,
+    }
+}
+
 /// What the member of this key and value is warned of, of a state of these members.
 pub(crate) fn member_kind(members: &[Member], key: &str, value: &Json) -> Option<WarningKind>
     ensures { result ≡ member_kind (pairs (members_of members.now)) key.now (data_of value.now) }
 {
-    if key != "HeartbeatSeconds" {
-        return None;
+    if key == "HeartbeatSeconds" {
+        heartbeat_kind(value, find(members, "TimeoutSeconds"))
+    } else if is_fail_text(key) && is_fail(kind_named(find(members, "Type"))) {
+        constant_kind(value)
+    } else {
+        None
     }
-    heartbeat_kind(value, find(members, "TimeoutSeconds"))
+}
+
+fn has_delay(members: &[Member]) -> bool
+    ensures { result ≡ has_delay (pairs (members_of members.now)) }
+{
+    has(members, "IntervalSeconds")
+        || has(members, "BackoffRate")
+        || has(members, "MaxDelaySeconds")
+        || has(members, "JitterStrategy")
+}
+
+/// What a number of retries is warned of beside the other members of a retrier.
+fn attempts_kind(attempts: &Json, members: &[Member]) -> Option<WarningKind>
+    ensures { result ≡ attempts_kind (data_of attempts.now) (pairs (members_of members.now)) }
+{
+    match attempts {
+        Json::Num(attempts) => {
+            let unused = attempts.units() == 0 && has_delay(members);
+            kind_if(unused, WarningKind::UnusedDelay)
+        }
+        _ => None,
+    }
+}
+
+/// What the longest delay is warned of beside the first one.
+fn delay_kind(most: &Json, first: Option<&Json>) -> Option<WarningKind>
+    ensures { result ≡ delay_kind (data_of most.now) (option_map (λ v. data_of v.now) first.entry) }
+{
+    match (most, first) {
+        (Json::Num(most), Some(Json::Num(first))) => {
+            let shorter = most.units() < first.units();
+            kind_if(shorter, WarningKind::MaxDelayBelowInterval)
+        }
+        _ => None,
+    }
+}
+
+/// What the member of this key and value is warned of, of a retrier of these members.
+pub(crate) fn retrier_kind(members: &[Member], key: &str, value: &Json) -> Option<WarningKind>
+    ensures { result ≡ retrier_kind (pairs (members_of members.now)) key.now (data_of value.now) }
+{
+    if key == "MaxAttempts" {
+        attempts_kind(value, members)
+    } else if key == "MaxDelaySeconds" {
+        delay_kind(value, find(members, "IntervalSeconds"))
+    } else {
+        None
+    }
 }

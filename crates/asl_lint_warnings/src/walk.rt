@@ -4,11 +4,12 @@ ghost use Rattle.asl_json_data.specs.Data.{pairs, chain};
 ghost use Rattle.asl_json.specs.View.{data_of, members_of};
 ghost use Rattle.asl_def_schema.specs.Members.{shape_in};
 ghost use Rattle.asl_lint_warnings.specs.private.Spots.{spot_of};
-ghost use Rattle.asl_lint_warnings.specs.Warnings.{object_kind, own_kind, standing, beside, inside, warnings, item_warnings, member_warnings, object_warnings, warnings_of};
+ghost use Rattle.asl_lint_warnings.specs.Warnings.{object_kind, own_kind, standing, in_state, beside, inside, warnings, item_warnings, member_warnings, object_warnings, warnings_of};
 
-use crate::handling::{item_kind, list_names};
+use crate::constant::tell_result;
+use crate::handling::{item_kind, list_brought};
 use crate::naming::text_kind;
-use crate::resting::{member_kind, state_kind};
+use crate::resting::{member_kind, retrier_kind, state_kind};
 use crate::standing::{Standing, standing_of};
 use crate::trail::{Trail, tell};
 use crate::warning::{Warning, WarningKind, kind_if};
@@ -61,6 +62,23 @@ fn tell_standing(
     tell(alloc, told, spot.trail, endless)
 }
 
+/// Tells what a member is warned of beside the others of a state.
+fn tell_in_state(
+    alloc: Global,
+    told: &mut Vec<Warning>,
+    spot: Spot,
+    members: &[Member],
+    member: &Member,
+) -> Result<(), AllocError>
+    ensures { OnOk result (told.new.items ≡ told.old.items
+        ++ in_state (spot_of spot.entry) (pairs (members_of members.now)) member.now.key
+        (data_of member.now.value)) }
+{
+    let kind = member_kind(members, member.key.as_str(), &member.value);
+    tell(alloc, told, spot.trail, kind)?;
+    tell_result(alloc, told, spot.trail, members, member)
+}
+
 /// Tells what a member is warned of beside the others of an object of this sort.
 fn tell_beside(
     alloc: Global,
@@ -77,8 +95,9 @@ fn tell_beside(
 {
     match sort {
         Sort::States => tell_standing(alloc, told, spot, at),
-        Sort::State => {
-            let kind = member_kind(members, member.key.as_str(), &member.value);
+        Sort::State => tell_in_state(alloc, told, spot, members, member),
+        Sort::Retrier => {
+            let kind = retrier_kind(members, member.key.as_str(), &member.value);
             tell(alloc, told, spot.trail, kind)
         }
         _ => Ok(()),
@@ -136,7 +155,7 @@ fn tell_items(
         };
         tell(alloc, told, inner.trail, item_kind(sort, &listed, item))?;
         tell_value(alloc, told, inner, item_sort(sort), item)?;
-        list_names(alloc, &mut listed, item)?;
+        list_brought(alloc, &mut listed, sort, item)?;
     }
     Ok(())
 }

@@ -22,8 +22,16 @@ pub enum WarningKind {
     UnaskedHandler,
     /// `unknown-error`: no error has this name.
     UnknownError,
-    /// `forgotten-dollar`: a text of a template looks like a path and is none.
+    /// `repeated-error`: the list names this error before.
+    RepeatedError,
+    /// `unused-delay`: a retrier that never retries says how long it waits.
+    UnusedDelay,
+    /// `max-delay-below-interval`: the longest delay is shorter than the first one.
+    MaxDelayBelowInterval,
+    /// `forgotten-dollar`: a text of a template looks like a path or a call and is none.
     ForgottenDollar,
+    /// `not-computed`: a value that stays as it is looks computed.
+    NotComputed,
     /// `unknown-context-member`: the Context Object never has what a path names.
     UnknownContextMember,
 }
@@ -41,7 +49,11 @@ impl WarningKind {
             WarningKind::HeartbeatNotShorter => "heartbeat-not-shorter",
             WarningKind::UnaskedHandler => "unasked-handler",
             WarningKind::UnknownError => "unknown-error",
+            WarningKind::RepeatedError => "repeated-error",
+            WarningKind::UnusedDelay => "unused-delay",
+            WarningKind::MaxDelayBelowInterval => "max-delay-below-interval",
             WarningKind::ForgottenDollar => "forgotten-dollar",
+            WarningKind::NotComputed => "not-computed",
             WarningKind::UnknownContextMember => "unknown-context-member",
         }
     }

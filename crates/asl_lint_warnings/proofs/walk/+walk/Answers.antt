@@ -19,10 +19,10 @@ tell_items-tell_value-requires t c = (omega (arith, item_depth c.values-values.r
 
 pub tell_items-loop-i-preserved : goal.tell_items-loop-i-preserved
 tell_items-loop-i-preserved t c =
-    items_step (spot_of c.args.spot) c.args.sort (contains_text c.loop-i.listed) (contains_text c.list_names.new.listed) c.loop-i.told.items c.tell.new.told.items c.tell_value.new.told.items _ c.values-values.result.now c.loop-i.i c.index-values-i.result c.loop-i-test.true c.index-values-i.is c.loop-i.invariant
+    items_step (spot_of c.args.spot) c.args.sort (contains_text c.loop-i.listed) (contains_text c.list_brought.new.listed) c.loop-i.told.items c.tell.new.told.items c.tell_value.new.told.items _ c.values-values.result.now c.loop-i.i c.index-values-i.result c.loop-i-test.true c.index-values-i.is c.loop-i.invariant
     (c.in_ok-tell.ensures ∙ ap (λ k. c.loop-i.told.items ++ noted (step c.loop-i.i (decimal c.loop-i.i) ∷ (spot_of c.args.spot).place) k) c.item_kind.ensures)
     (c.in_ok-tell_value.ensures ∙ ap (λ (s : Sort). c.tell.new.told.items ++ warnings (further (spot_of c.args.spot) (step c.loop-i.i (decimal c.loop-i.i))) s (data_of c.index-values-i.result)) c.item_sort.ensures)
-    c.in_ok-list_names.ensures
+    c.in_ok-list_brought.ensures
 
 pub tell_members-tell_value-requires : goal.tell_members-tell_value-requires
 tell_members-tell_value-requires t c = (omega (arith, member_depth c.members-pairs.result.now c.loop-i.i c.index-pairs-i.result c.loop-i-test.true c.index-pairs-i.is, ap (λ (vs : List (List ℕ × Data)). members_depth (pairs vs)) c.members-pairs.ensures.members), tt)
