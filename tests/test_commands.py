@@ -128,25 +128,26 @@ NO_CASES = [
 # Words, and what the help for them says.
 HELPS = [
     (["--help"], "Usage: asl <COMMAND>"),
-    (["check", "--help"], "Usage: asl check <DEF>"),
+    (["check", "--help"], "Usage: asl check [OPTIONS] [DEF]"),
     (["print", "--help"], "Usage: asl print [OPTIONS] <DEF>"),
     (["upgrade", "--help"], "Usage: asl upgrade [OPTIONS] <DEF>"),
     (["help"], "Usage: asl <COMMAND>"),
-    (["run", "--help"], "Usage: asl run [OPTIONS] <DEF> [MOCKS] [CHOSEN] [INPUT]"),
-    (["debug", "--help"], "Usage: asl debug [OPTIONS] <DEF> [MOCKS] [CHOSEN] [INPUT] [SCRIPT]"),
+    (["run", "--help"], "Usage: asl run [OPTIONS] [DEF] [MOCKS] [CHOSEN] [INPUT]"),
+    (["debug", "--help"], "Usage: asl debug [OPTIONS] [DEF] [MOCKS] [CHOSEN] [INPUT] [SCRIPT]"),
     (["--version"], "asl "),
 ]
 
 # Wrong words, what is told of them, and whether the usage is (clap leaves it out where an option has no value).
 WRONG = [
     ([], "requires a subcommand", True),
-    (["check"], "<DEF>", True),
+    (["check", "machine", "other"], "unexpected argument 'other'", True),
+    (["run"], "not provided:\n  <DEF>\n  <MOCKS>\n  <CHOSEN>\n  <INPUT>", True),
     (["print"], "<DEF>", True),
     (["upgrade"], "<DEF>", True),
     (["upgrade", "machine", "other"], "unexpected argument 'other'", True),
     (["walk"], "unrecognized subcommand 'walk'", True),
     (["run", "machine", "mocks", "M", "--steps", "steps"], "<INPUT>", True),
-    (["run", "machine", "--case", "M"], "not provided:\n  <MOCKS>\n  <INPUT>\n\nUsage: asl run [OPTIONS] <DEF>", True),
+    (["run", "machine", "--case", "M"], "not provided:\n  <MOCKS>\n  <INPUT>\n\nUsage: asl run [OPTIONS] [DEF]", True),
     (["debug", "machine", "mocks", "M", "input", "script", "--script", "other"], "'[SCRIPT]' cannot be used with '--script <FILE>'", True),
     (["debug", "machine", "mocks", "M", "input", "script", "--format", "tree"], "a script is told as text", True),
     (["graph", "machine", "mocks"], "not provided:\n  --run\n\nUsage: asl graph [OPTIONS] <DEF>", True),

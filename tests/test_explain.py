@@ -9,7 +9,7 @@ import unittest
 from program import PROGRAM, TOP, run_program
 
 FORMATS = f"{TOP}/docs/FORMATS.md"
-FAULT = re.compile(r"^\| ([FMJXESH]\d+) ([A-Z]\w+)", re.M)
+FAULT = re.compile(r"^\| ([FMJXKESH]\d+) ([A-Z]\w+)", re.M)
 EXAMPLES = re.compile(r"\nWrong(?:, beside (.*))?:\n((?:    .*\n)+)Right:\n((?:    .*\n)+)")
 # What files an example is tried with, where it is one of them.
 DEFINITION = """{"StartAt": "Charge", "States": {"Charge": {"Type": "Task", "Resource": "r", "Next": "Paid"},
@@ -63,16 +63,24 @@ class ExplainTest(unittest.TestCase):
         codes = {**dict(FAULT.findall(text)), **dict(re.findall(r"`(H\d) (\w+)", text)), "F16": "OutOfMemory", "F1": "Json"}
         codes.update(re.findall(r"\b(M[78]|E[12]) (\w+)", text))
         self.assertEqual(sorted(codes, key=lambda it: (it[0], int(it[1:]))),
-                         [f"{letter}{number}" for letter, most in zip("EFHJMSX", (2, 16, 6, 7, 8, 9, 3)) for number in range(1, most + 1)])
+                         [f"{letter}{number}" for letter, most in zip("EFHJKMSX", (2, 16, 6, 7, 6, 8, 9, 3)) for number in range(1, most + 1)])
         for code, name in codes.items():
             with self.subTest(code=code):
                 self.assertTrue(self.lines[code].startswith(f"{code} {name}: "), self.lines[code])
 
-    def test_each_rule_of_lint(self):
+    def rules(self):
+        """The rules of lint, as a log in SARIF has them."""
         log = json.loads(self.ran("lint", "d", "--format", "sarif", d=BREAKING).stdout)
-        rules = [rule["id"] for rule in log["runs"][0]["tool"]["driver"]["rules"]]
-        self.assertGreater(len(rules), 30)
+        return [rule["id"] for rule in log["runs"][0]["tool"]["driver"]["rules"]]
+
+    def test_each_rule_of_lint(self):
+        rules = self.rules()
+        self.assertGreater(len(rules), 38)
         self.assertEqual([it for it in rules if it not in self.lines], [])
+
+    def test_each_rule_of_lint_has_a_row(self):
+        rows = re.findall(r"^\| `([a-z]+(?:-[a-z]+)+)` \| ", section("Findings") + section("Warnings"), re.M)
+        self.assertEqual(sorted(rows), sorted(it for it in self.rules() if "-" in it))
 
     def test_each_verdict_and_each_error(self):
         verdicts = re.findall(r"^\| `(\w+)` \| ", section("Reports of a suite"), re.M)
@@ -156,6 +164,8 @@ class ExplainTest(unittest.TestCase):
             return re.findall(r"^fault: input: (\w+)", self.ran("run", "d", "m", "M", "i", d=BREAKING, m="{}", i=text).stderr)
         if re.fullmatch(r"X\d", code):
             return re.findall(r"^fault: expectations: (\w+)", self.ran("test", "d", "m", "e", d=DEFINITION, m=ANSWERED, e=text).stderr)
+        if re.fullmatch(r"K\d", code):
+            return re.findall(r"^fault: project: (\w+)", self.ran("check", "--project", "p", p=text).stderr)
         if code == "E1":
             ran = self.ran("run", "d", "m", "M", "i", "--steps", "s", d=BREAKING, m="{}", i="{}", s=text)
             return re.findall(r"^fault: steps: (\w+)", ran.stderr)

@@ -108,7 +108,7 @@ class MendingTest(ProgramTest):
         good = '{"machine":"order","case":"lost","input":{},"status":"FAILED"'
         for text, place, at, told in [
             ("{}", "", "1:1", "an expectation file is a list of tests"),
-            (f"[{good}}},\n {good},\"Status\":1}}]", "/1", "2:2", "a test is an object with machine, case, input and status"),
+            (f"[{good}}},\n {good},\"Status\":1}}]", "/1", "2:2", "a test is an object with machine, case, status, and input or inputFile"),
             (f'[{good.replace("FAILED", "ABORTED")}}}]', "/0/status", "1:55", "this is SUCCEEDED, FAILED or TIMED_OUT"),
             (f'[{good},"visits":{{"a/b":-1}}}}]', "/0/visits/a~1b", "1:80", "this is a whole number from 0"),
         ]:
@@ -139,6 +139,21 @@ class MendingTest(ProgramTest):
                                    d=PASS, m=MOCKS, i="{}", s=f"{STEP}{line}\n{STEP}")
         commands = 'there are: step PLACE MOMENT, break "NAME", clear "NAME", resume PLACE, show PLACE, back N'
         self.assert_mended(["debug", "d", "m", "order", "i", "s"], "script: E2 ScriptLine 1", [f"s:1:1: error: this is no command; {commands}"], s="break Refund\n")
+
+    def test_quiet_leaves_the_line_of_a_fault_alone(self):
+        run = ["d", "m", "order#none", "i"]
+        for words in (["check", "x"], ["print", "x"], ["upgrade", "x"], ["graph", "x"], ["mocks", "x"], ["run", *run], ["debug", *run], ["debug", *run[:2], "order", "i", "x"],
+                      ["explore", *run], ["graph", "d", "--run", *run[1:]], ["test", "d", "m", "x"], ["explain", "F99"]):
+            with self.subTest(words=words):
+                told, hushed = (self.ran(*words, *more, x="[", d=TASK, m=MOCKS, i="{}") for more in ([], ["--quiet"]))
+                self.assertEqual((hushed.returncode, hushed.stdout, hushed.stderr), (2, "", told.stderr.splitlines(keepends=True)[0]))
+                self.assertTrue(hushed.stderr.startswith("fault: "))
+                self.assertGreater(len(told.stderr), len(hushed.stderr))
+        # A wrong command line, and a file that isn't there, are told as ever.
+        for words in (["explore", *run[:2], "order", "i", "--witness", "9"], ["lint", "none"]):
+            told, hushed = (self.ran(*words, *more, d=PASS, m=MOCKS, i="{}") for more in ([], ["--quiet"]))
+            self.assertEqual((hushed.returncode, hushed.stderr), (2, told.stderr))
+            self.assertNotEqual(told.stderr, "")
 
     def test_names_of_files_do_not_obey_a_terminal(self):
         ran = self.ran("check", "d\u202e", **{"d\u202e": "["})

@@ -43,6 +43,12 @@ class NotesTest(ProgramTest):
                 self.assertEqual((ran.returncode, ran.stderr), (1, 'note: case "c" has no answer 2 of the Task "Charge card"\n'))
                 self.assertNotIn("note:", ran.stdout)
 
+    def test_quiet_tells_no_note(self):
+        for words in (["run", LOOP, MOCKS, "M#c"], ["run", LOOP, MOCKS, "M#c", "--max-steps", "2"], ["explore", RACE, '{"StateMachines":{"M":{"TestCases":{"c":{}}}}}', "M#c"]):
+            told, hushed = self.ran(*words), self.ran(*words, "--quiet")
+            self.assertEqual((hushed.returncode, hushed.stdout, hushed.stderr), (told.returncode, told.stdout, ""), words)
+            self.assertTrue(told.stderr.startswith("note: "), words)
+
     def test_a_run_by_steps_tells_it_too(self):
         steps = self.ran("run", LOOP, MOCKS, "M#c", "--format", "steps").stdout
         ran = self.run_texts(LOOP, MOCKS, "M#c", "{}", steps)

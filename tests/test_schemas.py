@@ -25,7 +25,30 @@ HELLO = f"{TOP}/examples/hello"
 GIVEN = {
     "mocks": (["run", f"{HELLO}/definition.json"], ["Hello", f"{HELLO}/input.json"], r"fault: mocks: M[23] \w+(?: (/.*))?\n"),
     "expectations": (["test", f"{HELLO}/definition.json", f"{HELLO}/mocks.json"], ["--list"], r"fault: expectations: X2 \w+(?: (/.*))?\n"),
+    "project": (["check", "--project"], [], r"fault: project: K[23] \w+ \d+:\d+()\n"),
 }
+
+
+def toml(value):
+    """A value as TOML spells it behind a key; None where TOML has no such value."""
+    if value is None:
+        return None
+    if isinstance(value, list):
+        items = [toml(item) for item in value]
+        return None if None in items else "[%s]" % ", ".join(items)
+    if isinstance(value, dict):
+        members = {json.dumps(name): toml(item) for name, item in value.items()}
+        return None if None in members.values() else "{%s}" % ", ".join(f"{name} = {item}" for name, item in members.items())
+    return json.dumps(value)
+
+
+def spelled(file, text):
+    """The text of a file that has the value of a JSON text; None where there is none."""
+    if file.name != "project":
+        return text
+    value = json.loads(text)
+    members = toml(value) if isinstance(value, dict) else None
+    return None if members is None else "".join(f"{json.dumps(name)} = {toml(item)}\n" for name, item in value.items())
 
 
 def is_of(kind, value):
@@ -37,11 +60,13 @@ def is_of(kind, value):
 
 def fits(schema, value):
     """Whether a value meets a schema. (JSON Schema, draft 2020-12.)"""
-    of_members = {"properties", "patternProperties", "additionalProperties", "required", "minProperties", "maxProperties"}
-    unknown = schema.keys() - SILENT - of_members - {"type", "enum", "items", "minimum", "pattern"}
+    of_members = {"properties", "patternProperties", "additionalProperties", "required", "dependentRequired", "minProperties", "maxProperties"}
+    unknown = schema.keys() - SILENT - of_members - {"type", "enum", "items", "minimum", "pattern", "allOf", "oneOf"}
     assert not unknown, unknown
     kinds = schema.get("type", [])
     meets = not kinds or any(is_of(kind, value) for kind in ([kinds] if isinstance(kinds, str) else kinds))
+    meets = meets and all(fits(part, value) for part in schema.get("allOf", []))
+    meets = meets and ("oneOf" not in schema or sum(fits(part, value) for part in schema["oneOf"]) == 1)
     meets = meets and value in schema.get("enum", [value])
     if isinstance(value, list):
         return meets and all(fits(schema.get("items", {}), item) for item in value)
@@ -63,7 +88,8 @@ def fit_members(schema, value):
 
     has_all = all(name in value for name in schema.get("required", []))
     is_counted = schema.get("minProperties", 0) <= len(value) <= schema.get("maxProperties", len(value))
-    return has_all and is_counted and all(fits_in(name, one) for name, one in value.items())
+    has_others = all(set(others) <= value.keys() for name, others in schema.get("dependentRequired", {}).items() if name in value)
+    return has_all and has_others and is_counted and all(fits_in(name, one) for name, one in value.items())
 
 
 def least(shape):
@@ -78,7 +104,8 @@ def least(shape):
 
 def with_member(shape, name, value):
     """An object of a shape, as a text, with the member of this name; without it, where there is no value."""
-    members = [] if shape.count else [f'"{it.name}":{least(it.shape)}' for it in shape.members if it.is_required and it.name != name]
+    left_out = {name, *(it.stands_for for it in shape.members if it.name == name)}
+    members = [] if shape.count else [f'"{it.name}":{least(it.shape)}' for it in shape.members if (it.is_required or it.name == shape.needs.get(name)) and it.name not in left_out]
     return "{%s}" % ",".join(members + ([] if value is None else [f'"{name}":{value}']))
 
 
@@ -107,7 +134,7 @@ class SchemasTest(unittest.TestCase):
         """The place at which the program says that the text of such a file isn't of its shape, or None."""
         before, behind, fault = GIVEN[file.name]
         with tempfile.NamedTemporaryFile("w", prefix="asl-test-", encoding="utf-8") as given:
-            given.write(text)
+            given.write(spelled(file, text))
             given.flush()
             told = run_program(*before, given.name, *behind).stderr
         found = re.match(fault, told)
@@ -115,10 +142,13 @@ class SchemasTest(unittest.TestCase):
 
     def assert_alike(self, file, text, place):
         """Both take a text, or both refuse it, the program at a place or below it. Whether they take it."""
-        refused = self.refused(file, text)
         takes = fits(self.schemas[file.name], json.loads(text))
+        if spelled(file, text) is None:
+            return takes
+        refused = self.refused(file, text)
         self.assertEqual(takes, refused is None, text)
-        if refused is not None:
+        # A project file has lines and columns, and no pointers.
+        if refused is not None and file.name != "project":
             self.assertEqual(refused[: len(place)], place, text)
         return takes
 
@@ -143,10 +173,10 @@ class SchemasTest(unittest.TestCase):
                 for it in shape.members:
                     with self.subTest(file.name, place=place, member=it.name):
                         takes = self.assert_alike(file, around(with_member(shape, it.name, None)), place)
-                        self.assertEqual(takes, not it.is_required and not shape.count)
+                        self.assertEqual(takes, not it.is_required and not it.stands_for and not shape.count)
                         more = with_member(shape, it.name, least(it.shape))[:-1] + ',"Foo":1}'
                         self.assertEqual(self.assert_alike(file, around(more), place), shape.takes_others)
-                if shape.count:
+                if shape.count or any(it.stands_for for it in shape.members):
                     whole = "{%s}" % ",".join(f'"{it.name}":{least(it.shape)}' for it in shape.members)
                     self.assertFalse(self.assert_alike(file, around(whole), place))
 

@@ -10,6 +10,9 @@ from program import PROGRAM, ProgramTest, run_program, without_mending
 
 ONE_TASK = '{"StartAt":"T","States":{"T":{"Type":"Task","Resource":"r","End":true}}}'
 
+# Its output is its input.
+PASS_ON = '{"StartAt":"P","States":{"P":{"Type":"Pass","End":true}}}'
+
 # The machine M: case A returns 1, B throws, C has no answers.
 MOCKS = """{"StateMachines":{"M":{"TestCases":{"A":{"T":"one"},"B":{"T":"bad"},"C":{}}}},
 "MockedResponses":{"one":{"0":{"Return":1}},"bad":{"0":{"Throw":{"Error":"E","Cause":"why"}}}}}"""
@@ -135,6 +138,9 @@ REFUSED = [
     ('[{"machine":"M","case":"A","input":{},"status":"FAILED","steps":["/1/ 2024-01-01T00:00:00Z"]}]', "X2 Shape /0/steps/0"),
     ('[{"machine":"M","case":"A","input":{},"status":"FAILED","steps":["/1  2024-01-01T00:00:00Z"]}]', "X2 Shape /0/steps/0"),
     ('[{"machine":"M","case":"A","input":{},"status":"FAILED","steps":["/ now"]}]', "X2 Shape /0/steps/0"),
+    ('[{"machine":"M","case":"A","status":"FAILED"}]', "X2 Shape /0"),
+    ('[{"machine":"M","case":"A","input":{},"inputFile":"a","status":"FAILED"}]', "X2 Shape /0"),
+    ('[{"machine":"M","case":"A","inputFile":["a"],"status":"FAILED"}]', "X2 Shape /0/inputFile"),
 ]
 
 # Command lines that are wrong, behind the three files.
@@ -349,6 +355,42 @@ class SuitesTest(ProgramTest):
             'test 4 "M#A": output: wanted 2, came 1',
             'test 5 "M#X": nocase: the mock file has no case "X" of the machine "M"',
             'note: test 3 "M#C": its run lacked an answer: no answer 0 of the Task "T"'])
+
+    def test_quiet_tells_nothing_of_tests(self):
+        ran = self.on_suite(tests(*FIVE), "--quiet")
+        self.assertEqual((ran.returncode, ran.stdout, ran.stderr), (1, FIVE_REPORTS, ""))
+        ran = self.on_suite(tests(*FIVE), "--quiet", "--min", "100")
+        self.assertEqual((ran.returncode, ran.stdout), (1, FIVE_REPORTS))
+        self.assertTrue(ran.stderr.startswith("coverage: "), ran.stderr)
+        self.assertTrue(self.on_suite(tests(*FIVE), "--min", "100").stderr.endswith(ran.stderr))
+
+    def on_files(self, rows, files, *words):
+        """What the command does for tests in a folder `suite`, from the folder above it, in which such files lie."""
+        with tempfile.TemporaryDirectory(prefix="asl-test-") as room:
+            os.mkdir(os.path.join(room, "suite"))
+            for name, text in {"d": PASS_ON, "m": MOCKS, "suite/tests.json": json.dumps(rows), **files}.items():
+                with open(os.path.join(room, name), "w", encoding="utf-8") as out:
+                    out.write(text)
+            return subprocess.run([PROGRAM, "test", "d", "m", "suite/tests.json", *words], cwd=room, capture_output=True, encoding="utf-8", timeout=60, input="7")
+
+    def test_inputs_in_files(self):
+        def test_of(**more):
+            return {"machine": "M", "case": "A", "status": "SUCCEEDED", **more}
+
+        # The name goes from the folder of the tests, unless it begins with a slash; each file is read once.
+        rows = [test_of(inputFile="a", output={"k": 1}), test_of(input=2, output=2), test_of(inputFile="../b", output="b"), test_of(inputFile="a", output={"k": 2}),
+            test_of(inputFile="/dev/stdin", output=7), test_of(inputFile="/dev/stdin", output=7)]
+        ran = self.on_files(rows, {"suite/a": '{"k":1}', "a": "0", "b": '"b"', "suite/b": "0"})
+        self.assertEqual([line.split()[0] for line in ran.stdout.splitlines()[:-1]], ["ok", "ok", "ok", "output", "ok", "ok"])
+        self.assertEqual(ran.stderr, 'test 4 "M#A": output: at /k wanted 2, came 1\n')
+        # The first that can't be had is told; one of a test that isn't run isn't read.
+        lost = [test_of(inputFile="a", name="first"), test_of(inputFile="no", name="second"), test_of(inputFile="bad", name="third")]
+        files = {"suite/a": "1", "suite/bad": "[1,"}
+        for words, told in [([], "fault: file suite/no\n"), (["--filter", "third"], "fault: input: J1 Syntax 3\nsuite/bad:1:4: error"), (["--shard", "1/3"], "")]:
+            ran = self.on_files(lost, files, *words)
+            self.assertEqual(ran.returncode, 2 if told else 0, words)
+            self.assertTrue(ran.stderr.startswith(told), ran.stderr)
+        self.assertEqual(self.on_files(lost, files, "--list").returncode, 0)
 
     def test_json_has_an_object_a_test(self):
         ran = self.on_suite(tests(*FIVE), "--format", "json")

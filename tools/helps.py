@@ -17,6 +17,8 @@ COMMAND = re.compile(r"  (\w+) +(.*)")
 FILES = ("DEF", "MOCKS", "INPUT", "SCRIPT", "EXPECT")
 # The words that each command needs which runs something; an option may stand for each.
 OF_A_RUN = ("MOCKS", "CHOSEN", "INPUT")
+# The words that `test` needs beside a definition.
+OF_A_SUITE = ("MOCKS", "EXPECT")
 
 
 class Option(NamedTuple):
@@ -120,9 +122,10 @@ def parted(words, told):
 def lacking(name, plain, given, told):
     """The first word that a command needs and that is neither there nor given by the option that stands for it, or None."""
     needs_run = name in ("run", "debug", "explore") or "--run" in given
+    needs_suite = name == "test" and plain
     stands = {it.about.rpartition("Stands for the word ")[2]: it.name for it in told.options}
     for it in told.arguments[len(plain) :]:
-        if it.is_required or needs_run and it.name in OF_A_RUN and stands.get(it.name) not in given:
+        if it.is_required or needs_suite and it.name in OF_A_SUITE or needs_run and it.name in OF_A_RUN and stands.get(it.name) not in given:
             return it.name
     return None
 

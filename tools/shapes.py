@@ -1,4 +1,4 @@
-"""The JSON files that are read beside a definition, member by member, as docs/FORMATS.md tells of them.
+"""The files that are read beside a definition, member by member, as docs/FORMATS.md tells of them: JSON texts, and the project file, whose TOML has values as JSON's.
 
 tools/schemas writes them as JSON Schemas; tests/test_schemas.py compares them with what the program reads.
 """
@@ -12,20 +12,22 @@ class Value(NamedTuple):
 
 
 class Member(NamedTuple):
-    """A member of an object: its name, what it holds, which values it may have, and whether it has to be there."""
+    """A member of an object: its name, what it holds, which values it may have, whether it has to be there, and the member that it may stand for."""
 
     name: str
     about: str
     shape: object
     is_required: bool = False
+    stands_for: str | None = None
 
 
 class Object(NamedTuple):
-    """An object with these members: whether others may stand beside them, and how many there are, where that is fixed."""
+    """An object with these members: whether others may stand beside them, how many there are, where that is fixed, and which need another one beside them."""
 
     members: list
     takes_others: bool = False
     count: int | None = None
+    needs: dict = {}
 
 
 class Table(NamedTuple):
@@ -94,6 +96,7 @@ TEST = Object(
         Member("machine", "The machine's name in the mock file", TEXT, True),
         Member("case", "The test case's name; with an empty text no Task has an answer", TEXT, True),
         Member("input", "The execution's input: any value", ANY, True),
+        Member("inputFile", "The name of a file with the execution's input, in place of input; it goes from the folder of this file", TEXT, stands_for="input"),
         Member("status", "How the execution is to end", STATUS, True),
         Member("name", "What the test is called", TEXT),
         Member("steps", "The steps that the execution takes, in place of those that come next", List("A line of a steps file: a place and a moment", STEP)),
@@ -116,7 +119,21 @@ TEST = Object(
 )
 EXPECTATIONS = List("A test: what is run, and how it is to end", TEST)
 
+WORKFLOW = Object(
+    [
+        Member("definition", "The file of its definition", TEXT, True),
+        Member("mocks", "Its mock file", TEXT),
+        Member("machine", "The name of its machine in the mock file; without it, the only one there", TEXT),
+        Member("tests", "Its expectation files", List("An expectation file", TEXT)),
+        Member("input", "The file of the input where one is wanted and none is given", TEXT),
+        Member("ignore", "The rules whose warnings aren't told of it", List("The name of a rule", TEXT)),
+    ],
+    needs={"tests": "mocks"},
+)
+PROJECT = Object([Member("workflow", "The workflows", List("A workflow: its files", WORKFLOW))])
+
 FILES = [
     File("mocks", "Mock file", "What Tasks answer in test cases: the MockConfigFile.json of AWS Step Functions Local.", MOCKS),
     File("expectations", "Expectation file", "The tests of a suite, which `asl test` runs.", EXPECTATIONS),
+    File("project", "Project file", "The files of workflows: asl.toml.", PROJECT),
 ]

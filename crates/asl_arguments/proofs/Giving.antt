@@ -37,6 +37,7 @@ given_too v w g same h = record {
   most_steps = h.most_steps ∙ same (codes "max-steps");
   junit = h.junit ∙ same (codes "junit");
   json = h.json ∙ same (codes "json");
+  project = h.project ∙ same (codes "project");
   strict = h.strict ∙ ap is_set (same (codes "strict"));
   run = h.run ∙ ap is_set (same (codes "run"));
   coverage = h.coverage ∙ ap is_set (same (codes "coverage"));
@@ -44,6 +45,7 @@ given_too v w g same h = record {
   calls = h.calls ∙ ap is_set (same (codes "calls"));
   list = h.list ∙ ap is_set (same (codes "list"));
   pretty = h.pretty ∙ ap is_set (same (codes "pretty"));
+  quiet = h.quiet ∙ ap is_set (same (codes "quiet"));
 }
 
 pub found_given : (app : App) (words : List (List ℕ)) (m : ArgMatches) (g : Given) → is_simple_and_free app ≡ true → HasMatchesOf app words m

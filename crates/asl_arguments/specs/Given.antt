@@ -40,6 +40,7 @@ pub record IsGiven (value : List ℕ → Option (List ℕ)) (g : Given) : Type 0
   pub most_steps : said g.most_steps ≡ value (codes "max-steps")
   pub junit : said g.junit ≡ value (codes "junit")
   pub json : said g.json ≡ value (codes "json")
+  pub project : said g.project ≡ value (codes "project")
   pub strict : g.strict ≡ is_set (value (codes "strict"))
   pub run : g.run ≡ is_set (value (codes "run"))
   pub coverage : g.coverage ≡ is_set (value (codes "coverage"))
@@ -47,6 +48,7 @@ pub record IsGiven (value : List ℕ → Option (List ℕ)) (g : Given) : Type 0
   pub calls : g.calls ≡ is_set (value (codes "calls"))
   pub list : g.list ≡ is_set (value (codes "list"))
   pub pretty : g.pretty ≡ is_set (value (codes "pretty"))
+  pub quiet : g.quiet ≡ is_set (value (codes "quiet"))
 
 -- the values by the arguments' names that clap's grammar gives words, of which the first is the command's name
 abbrev pub values_of : App → List (List ℕ) → List ℕ → Option (List ℕ)

@@ -1,5 +1,5 @@
 -- The command line: which commands there are, what each takes, and what that is to clap.
-use Rattle.std.specs.Prelude.{ℕ, Bool, true, false, List, [], ◌∷◌, Some, map, fold, codes}
+use Rattle.std.specs.Prelude.{ℕ, Bool, true, false, List, [], ◌∷◌, ◌++◌, Some, map, fold, codes}
 use Rattle.clap.specs.Words.{App, Rule, Text, new_app, new_rule, with_rule}
 use Rattle.clap.specs.declared.builder.ArgAction.TheVariants.{SetTrue}
 use Rattle.clap.specs.declared.builder.ValueParser.TheVariants as parser
@@ -44,20 +44,30 @@ free n k = record { name = n; kind = k; required = false; default = [] }
 abbrev pub preset : Text → Kind → Text → Argument
 preset n k value = record { name = n; kind = k; required = false; default = value ∷ [] }
 
--- the three texts of a run, each as a word or as the option that stands for it
-abbrev pub run_arguments : List Argument → List Argument
-run_arguments more =
-    needed (codes "DEF") word ∷ free (codes "MOCKS") word ∷ free (codes "CHOSEN") word ∷ free (codes "INPUT") word
+-- the texts of a run: this one of its definition, and three, each as a word or as the option that stands for it
+abbrev pub run_arguments : Argument → List Argument → List Argument
+run_arguments definition more =
+    definition ∷ free (codes "MOCKS") word ∷ free (codes "CHOSEN") word ∷ free (codes "INPUT") word
     ∷ free (codes "mocks") text ∷ free (codes "case") text ∷ free (codes "input") text ∷ more
+
+-- a definition, or a project in its place
+abbrev pub subject_arguments : List Argument → List Argument
+subject_arguments more = free (codes "DEF") word ∷ more
+
+abbrev pub project_argument : List Argument
+project_argument = free (codes "project") text ∷ []
+
+abbrev pub check_arguments : List Argument
+check_arguments = subject_arguments project_argument
 
 abbrev pub lint_arguments : List Argument
 lint_arguments =
-    needed (codes "DEF") word ∷ free (codes "MOCKS") word ∷ free (codes "MACHINE") word
+    subject_arguments (free (codes "MOCKS") word ∷ free (codes "MACHINE") word
     ∷ preset (codes "format") (choice (codes "text" ∷ codes "json" ∷ codes "sarif" ∷ [])) (codes "text")
-    ∷ free (codes "strict") flag ∷ []
+    ∷ free (codes "strict") flag ∷ project_argument)
 
 abbrev pub graph_arguments : List Argument
-graph_arguments = run_arguments (free (codes "run") flag
+graph_arguments = run_arguments (needed (codes "DEF") word) (free (codes "run") flag
     ∷ preset (codes "format") (choice (codes "mermaid" ∷ codes "markdown" ∷ codes "dot" ∷ []))
     (codes "mermaid") ∷ [])
 
@@ -74,36 +84,40 @@ run_formats =
     codes "text" ∷ codes "json" ∷ codes "aws" ∷ codes "steps" ∷ codes "tree" ∷ codes "data" ∷ []
 
 abbrev pub run_own_arguments : List Argument
-run_own_arguments = run_arguments (free (codes "steps") text
+run_own_arguments = run_arguments (free (codes "DEF") word) (free (codes "steps") text
     ∷ free (codes "max-steps") (number 1 1000000)
-    ∷ preset (codes "format") (choice run_formats) (codes "text") ∷ [])
+    ∷ preset (codes "format") (choice run_formats) (codes "text") ∷ project_argument)
 
 abbrev pub debug_arguments : List Argument
-debug_arguments = run_arguments (free (codes "SCRIPT") word ∷ free (codes "script") text
-    ∷ free (codes "format") (choice (codes "text" ∷ codes "tree" ∷ [])) ∷ [])
+debug_arguments = run_arguments (free (codes "DEF") word) (free (codes "SCRIPT") word ∷ free (codes "script") text
+    ∷ free (codes "format") (choice (codes "text" ∷ codes "tree" ∷ [])) ∷ project_argument)
 
 abbrev pub test_arguments : List Argument
 test_arguments =
-    needed (codes "DEF") word ∷ needed (codes "MOCKS") word ∷ needed (codes "EXPECT") word
+    subject_arguments (free (codes "MOCKS") word ∷ free (codes "EXPECT") word
     ∷ preset (codes "workers") (number 1 64) (codes "1")
     ∷ preset (codes "format") (choice (codes "text" ∷ codes "junit" ∷ codes "json" ∷ [])) (codes "text")
     ∷ free (codes "junit") text ∷ free (codes "json") text
     ∷ free (codes "shard") text ∷ free (codes "filter") text ∷ free (codes "list") flag
     ∷ free (codes "coverage") flag
-    ∷ free (codes "min") (number 0 100) ∷ free (codes "strict") flag ∷ []
+    ∷ free (codes "min") (number 0 100) ∷ free (codes "strict") flag ∷ project_argument)
 
 abbrev pub explore_arguments : List Argument
-explore_arguments = run_arguments (preset (codes "limit") (number 1 1000000) (codes "100000")
+explore_arguments = run_arguments (free (codes "DEF") word) (preset (codes "limit") (number 1 1000000) (codes "100000")
     ∷ free (codes "prompt") flag ∷ free (codes "calls") flag
     ∷ free (codes "witness") (number 1 1000000)
-    ∷ free (codes "format") (choice (codes "steps" ∷ codes "tree" ∷ codes "data" ∷ [])) ∷ [])
+    ∷ free (codes "format") (choice (codes "steps" ∷ codes "tree" ∷ codes "data" ∷ [])) ∷ project_argument)
+
+-- each command may be told to be quiet
+abbrev pub quiet : Argument
+quiet = free (codes "quiet") flag
 
 abbrev pub command : Verb → Text → List Argument → Command
-command v n arguments = record { verb = v; name = n; arguments = arguments }
+command v n arguments = record { verb = v; name = n; arguments = arguments ++ quiet ∷ [] }
 
 unfoldable pub asl_commands : List Command
 asl_commands =
-    command Check (codes "check") (needed (codes "DEF") word ∷ [])
+    command Check (codes "check") check_arguments
     ∷ command Lint (codes "lint") lint_arguments
     ∷ command Print (codes "print") print_arguments
     ∷ command Upgrade (codes "upgrade") print_arguments

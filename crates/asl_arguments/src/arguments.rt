@@ -82,10 +82,10 @@ impl Presence {
     }
 }
 
-const CHECK: &[Argument] = &[DEFINITION];
+const CHECK: &[Argument] = &[DEFINITION_OR_NONE, PROJECT, QUIET];
 
 const LINT: &[Argument] = &[
-    DEFINITION,
+    DEFINITION_OR_NONE,
     Argument {
         name: "MOCKS",
         kind: Word,
@@ -110,11 +110,13 @@ const LINT: &[Argument] = &[
         presence: Optional,
         help: Help::LintStrict,
     },
+    PROJECT,
+    QUIET,
 ];
 
-const PRINT: &[Argument] = &[DEFINITION, PRETTY];
+const PRINT: &[Argument] = &[DEFINITION, PRETTY, QUIET];
 
-const UPGRADE: &[Argument] = &[DEFINITION, PRETTY];
+const UPGRADE: &[Argument] = &[DEFINITION, PRETTY, QUIET];
 
 const GRAPH: &[Argument] = &[
     DEFINITION,
@@ -136,6 +138,7 @@ const GRAPH: &[Argument] = &[
         presence: Default(&["mermaid"]),
         help: Help::GraphFormat,
     },
+    QUIET,
 ];
 
 const MOCKS: &[Argument] = &[
@@ -147,10 +150,11 @@ const MOCKS: &[Argument] = &[
         help: Help::MocksMachine,
     },
     PRETTY,
+    QUIET,
 ];
 
 const RUN: &[Argument] = &[
-    DEFINITION,
+    DEFINITION_OR_CHOSEN,
     MOCKS_WORD,
     CHOSEN_WORD,
     INPUT_WORD,
@@ -175,10 +179,12 @@ const RUN: &[Argument] = &[
         presence: Default(&["text"]),
         help: Help::RunFormat,
     },
+    PROJECT_OF_CHOSEN,
+    QUIET,
 ];
 
 const DEBUG: &[Argument] = &[
-    DEFINITION,
+    DEFINITION_OR_CHOSEN,
     MOCKS_WORD,
     CHOSEN_WORD,
     INPUT_WORD,
@@ -203,20 +209,17 @@ const DEBUG: &[Argument] = &[
         presence: Optional,
         help: Help::DebugFormat,
     },
+    PROJECT_OF_CHOSEN,
+    QUIET,
 ];
 
 const TEST: &[Argument] = &[
-    DEFINITION,
-    Argument {
-        name: "MOCKS",
-        kind: Word,
-        presence: Required,
-        help: Help::Mocks,
-    },
+    DEFINITION_OR_NONE,
+    MOCKS_WORD,
     Argument {
         name: "EXPECT",
         kind: Word,
-        presence: Required,
+        presence: Optional,
         help: Help::TestExpectations,
     },
     Argument {
@@ -279,10 +282,12 @@ const TEST: &[Argument] = &[
         presence: Optional,
         help: Help::TestStrict,
     },
+    PROJECT,
+    QUIET,
 ];
 
 const EXPLORE: &[Argument] = &[
-    DEFINITION,
+    DEFINITION_OR_CHOSEN,
     MOCKS_WORD,
     CHOSEN_WORD,
     INPUT_WORD,
@@ -319,14 +324,19 @@ const EXPLORE: &[Argument] = &[
         presence: Optional,
         help: Help::ExploreFormat,
     },
+    PROJECT_OF_CHOSEN,
+    QUIET,
 ];
 
-const EXPLAIN: &[Argument] = &[Argument {
-    name: "CODE",
-    kind: Word,
-    presence: Optional,
-    help: Help::ExplainCode,
-}];
+const EXPLAIN: &[Argument] = &[
+    Argument {
+        name: "CODE",
+        kind: Word,
+        presence: Optional,
+        help: Help::ExplainCode,
+    },
+    QUIET,
+];
 
 /// The name of a definition's file.
 const DEFINITION: Argument = Argument {
@@ -336,12 +346,52 @@ const DEFINITION: Argument = Argument {
     help: Help::Definition,
 };
 
+/// The same, where the workflows of a project may stand for it.
+const DEFINITION_OR_NONE: Argument = Argument {
+    name: "DEF",
+    kind: Word,
+    presence: Optional,
+    help: Help::DefinitionOrNone,
+};
+
+/// The same, where what is chosen of a project may stand for it.
+const DEFINITION_OR_CHOSEN: Argument = Argument {
+    name: "DEF",
+    kind: Word,
+    presence: Optional,
+    help: Help::DefinitionOrChosen,
+};
+
+/// The name of the file of the project of which something is chosen.
+const PROJECT_OF_CHOSEN: Argument = Argument {
+    name: "project",
+    kind: Text("FILE"),
+    presence: Optional,
+    help: Help::ProjectOfChosen,
+};
+
+/// The name of a project's file.
+const PROJECT: Argument = Argument {
+    name: "project",
+    kind: Text("FILE"),
+    presence: Optional,
+    help: Help::Project,
+};
+
 /// Whether JSON is printed for a person.
 const PRETTY: Argument = Argument {
     name: "pretty",
     kind: Flag,
     presence: Optional,
     help: Help::Pretty,
+};
+
+/// Whether little is told on standard error. Each command takes it.
+const QUIET: Argument = Argument {
+    name: "quiet",
+    kind: Flag,
+    presence: Optional,
+    help: Help::Quiet,
 };
 
 /// The name of the mock file.

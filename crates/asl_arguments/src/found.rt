@@ -87,6 +87,7 @@ fn given_by<'a>(matches: &ArgMatches<'a>) -> Given<'a>
         most_steps: matches.get_str("max-steps"),
         junit: matches.get_str("junit"),
         json: matches.get_str("json"),
+        project: matches.get_str("project"),
         strict: is_set(matches, "strict"),
         run: is_set(matches, "run"),
         coverage: is_set(matches, "coverage"),
@@ -94,6 +95,7 @@ fn given_by<'a>(matches: &ArgMatches<'a>) -> Given<'a>
         calls: is_set(matches, "calls"),
         list: is_set(matches, "list"),
         pretty: is_set(matches, "pretty"),
+        quiet: is_set(matches, "quiet"),
     }
 }
 

@@ -37,7 +37,12 @@ pub enum Help {
     ExploreFormat,
     ExplainCode,
     Definition,
+    DefinitionOrNone,
+    DefinitionOrChosen,
+    Project,
+    ProjectOfChosen,
     Pretty,
+    Quiet,
     Chosen,
     Input,
     MocksOption,
@@ -96,7 +101,16 @@ impl Help {
                 "A code that a command told, as F10, no-default or States.Timeout; without it, all codes are listed",
             Help::Definition =>
                 "The file of the state machine's definition; - is standard input, as for each file",
+            Help::DefinitionOrNone =>
+                "The file of the state machine's definition; without it, each workflow of the project is taken; - is standard input, as for each file",
+            Help::Project =>
+                "The project file, where no definition is named; asl.toml if it isn't given",
+            Help::DefinitionOrChosen =>
+                "The file of the state machine's definition; or, in place of the first four words, Machine#Case of a project, behind which INPUT may stand; - is standard input, as for each file",
+            Help::ProjectOfChosen =>
+                "The project file, where the files of a workflow aren't named; asl.toml if it isn't given",
             Help::Pretty => "Prints a line for each member and item, with spaces in front",
+            Help::Quiet => "Tells a fault in one line, and no notes",
             Help::Chosen =>
                 "The machine's name, the machine's and a case's as Machine#Case, or the case's alone where the mock file has one machine",
             Help::Input => {

@@ -5,7 +5,7 @@ use Rattle.asl_run_input.specs.Emulations.{Texts}
 use Rattle.asl_host.specs.Reading.{Lacks}
 use Rattle.asl_words.specs.declared.words.SetupWords.{SetupWords}
 use Rattle.asl_cli.specs.declared.fault.CommandFault.{CommandFault}
-use Rattle.asl_cli.specs.declared.fault.CommandFault.TheVariants.{File, Definition, Emulation, Script, Expectations, Code, Output, OutOfMemory}
+use Rattle.asl_cli.specs.declared.fault.CommandFault.TheVariants.{File, Definition, Emulation, Script, Expectations, Project, Code, Input, Output, OutOfMemory}
 use Rattle.asl_cli.specs.declared.reading.SetupTexts.{SetupTexts}
 use Rattle.asl_cli.specs.Faults.{IsGiven, read_texts, AreGiven, IsTextsReason, IsRunReason}
 
@@ -33,6 +33,8 @@ refused-run gives lacks w name t (Definition f lines) g h = h
 refused-run gives lacks w name t (Emulation f lines) g h = record { texts = t; given = g; refused = h }
 refused-run gives lacks w name t (Script f lines) g h = h
 refused-run gives lacks w name t (Expectations f lines) g h = h
+refused-run gives lacks w name t (Project f lines) g h = h
 refused-run gives lacks w name t (Code word lines) g h = h
+refused-run gives lacks w name t (Input file why) g h = h
 refused-run gives lacks w name t (Output file why) g h = h
 refused-run gives lacks w name t OutOfMemory g h = h

@@ -1,3 +1,5 @@
+mod Doing
 mod Given
 mod Having
+mod Held
 mod Talks

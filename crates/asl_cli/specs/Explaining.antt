@@ -1,5 +1,5 @@
 -- Codes that are explained.
-use Rattle.std.specs.Prelude.{ℕ, List, Option, Some, None, ◌≡◌, ⊤}
+use Rattle.std.specs.Prelude.{ℕ, Bool, List, Option, Some, None, ◌≡◌, ⊤}
 use Rattle.std.specs.Borrow.{Bor}
 use Rattle.asl_explain.specs.Codes.{code_of, meant, told_of, IsListed}
 use Rattle.asl_explain.specs.declared.saying.Explanation.{Explanation}
@@ -30,8 +30,8 @@ IsUnexplained None r = r ≡ OutOfMemory
 IsUnexplained (Some word) r = IsUnknown word.now r
 
 -- the explanation of these words: it was printed
-abbrev pub IsExplained : {O E : Type 0} → Io O E → ExplainWords → Type 0
-IsExplained io w =
-    IsDone io
+abbrev pub IsExplained : {O E : Type 0} → Io O E → Bool → ExplainWords → Type 0
+IsExplained io quiet w =
+    IsDone io quiet
     (λ text status. IsExplanation w.code text × (status ≡ 0))
     (IsUnexplained w.code)

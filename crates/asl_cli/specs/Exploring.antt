@@ -1,5 +1,5 @@
 -- What the command `explore` finds, prints and tells.
-use Rattle.std.specs.Prelude.{ℕ, zero, suc, Bool, true, false, ◌&&◌, List, Option, Some, None, ◌≡◌, ◌⊎◌, ⊤, slice_get, codes}
+use Rattle.std.specs.Prelude.{ℕ, zero, suc, Bool, true, false, List, Option, Some, None, ◌≡◌, ◌⊎◌, ⊤, slice_get, codes}
 use Rattle.asl_run_input.specs.declared.setup.Setup.{Setup}
 use Rattle.asl_exec.specs.Steps.{opening, world_after}
 use Rattle.asl_run_formats.specs.declared.format.Format.{Format}
@@ -17,7 +17,7 @@ use Rattle.asl_words.specs.declared.words.WitnessFormat.TheVariants as format
 use Rattle.asl_host.specs.Outcomes.{status_of, fault_line, IsUntouched, IsTold}
 use Rattle.asl_cli.specs.Faults.{IsBegun, IsRunReason}
 use Rattle.asl_cli.specs.Formats.{IsShown as IsShownIn}
-use Rattle.asl_cli.specs.Streams.{FileSystem, Io, Prints}
+use Rattle.asl_cli.specs.Streams.{FileSystem, Io, Prints, unless_quiet}
 use Rattle.asl_cli.specs.Noting.{notes_for, IsNoted}
 use Rattle.asl_cli.specs.Answers.{IsRefusedFor}
 
@@ -74,23 +74,24 @@ pub record IsFoundFor (gives : List ℕ → List ℕ → Type 0) (w : ExploreWor
 abbrev pub IsWanting : {O E : Type 0} → Io O E → Type 0
 IsWanting io = IsUntouched io.out × (io.status ≡ 2) × IsTold io.err (fault_line (codes "OutOfMemory"))
 
--- all outcomes were printed, and these notes were told
-abbrev pub AreAllShown : {O E : Type 0} → Io O E → Explored → List ℕ → Type 0
-AreAllShown io x notes =
-    (IsNoted io.err notes × Prints io (explored_text x) (status_of (is_good x))) ⊎ IsWanting io
+-- all outcomes were printed, and these notes were told where they are wanted
+abbrev pub AreAllShown : {O E : Type 0} → Io O E → Bool → Explored → List ℕ → Type 0
+AreAllShown io quiet x notes =
+    (IsNoted io.err (unless_quiet quiet notes) × Prints io (explored_text x) (status_of (is_good x))) ⊎ IsWanting io
 
 -- the outcome that is wanted was printed; or there is none, which was told
 abbrev pub IsOneShown : {O E : Type 0} → Io O E → Option (List ℕ) → Type 0
 IsOneShown io (Some t) = IsUntouched io.err × Prints io t 0
 IsOneShown io None = (t : List ℕ) × IsUntouched io.out × (io.status ≡ 2) × IsTold io.err t
 
-abbrev pub IsShown : {O E : Type 0} → Io O E → Explored → List ℕ → Option (List ℕ) → Option ℕ → Type 0
-IsShown io x notes witness None = AreAllShown io x notes
-IsShown io x notes witness (Some n) = IsOneShown io witness
+abbrev pub IsShown : {O E : Type 0} → Io O E → Bool → Explored → List ℕ → Option (List ℕ) → Option ℕ
+    → Type 0
+IsShown io quiet x notes witness None = AreAllShown io quiet x notes
+IsShown io quiet x notes witness (Some n) = IsOneShown io witness
 
 -- the exploration for these words: what was found was printed; or nothing was tried, which was told
-abbrev pub IsExplored : {O E : Type 0} → FileSystem → Io O E → ExploreWords → Type 0
-IsExplored files io w =
+abbrev pub IsExplored : {O E : Type 0} → FileSystem → Io O E → Bool → ExploreWords → Type 0
+IsExplored files io quiet w =
     ((x : Explored) × (notes : List ℕ) × (witness : Option (List ℕ)) × IsFoundFor files.gives w x notes witness
-    × IsShown io x notes witness w.witness)
-    ⊎ IsRefusedFor io (IsRunReason files.gives files.lacks w.setup None)
+    × IsShown io quiet x notes witness w.witness)
+    ⊎ IsRefusedFor io quiet (IsRunReason files.gives files.lacks w.setup None)

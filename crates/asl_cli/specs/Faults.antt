@@ -10,6 +10,7 @@ use Rattle.asl_check.specs.Lines.{fault_line as definition_fault_line}
 use Rattle.asl_check.specs.declared.fault.Fault.{Fault}
 use Rattle.asl_check.specs.declared.fault.Fault.TheVariants as fault
 use Rattle.asl_suite_file.specs.Lines.{expect_line}
+use Rattle.asl_project.specs.Lines.{project_line}
 use Rattle.asl_run_input.specs.declared.fault.EmulateFault.{EmulateFault}
 use Rattle.asl_run_input.specs.declared.setup.Setup.{Setup}
 use Rattle.asl_mock.specs.Chosen.{IsChosen}
@@ -23,8 +24,9 @@ use Rattle.asl_text.specs.Shown.{shown}
 use Rattle.asl_cli.specs.Layouts.{laid_out}
 use Rattle.asl_cli.specs.Formats.{format_of, IsRunIn}
 use Rattle.asl_cli.specs.Noting.{IsNoteOf}
+use Rattle.asl_cli.specs.Streams.{unless_quiet}
 use Rattle.asl_cli.specs.declared.fault.CommandFault.{CommandFault}
-use Rattle.asl_cli.specs.declared.fault.CommandFault.TheVariants.{File, Definition, Emulation, Script, Expectations, Code, Output, OutOfMemory}
+use Rattle.asl_cli.specs.declared.fault.CommandFault.TheVariants.{File, Definition, Emulation, Script, Expectations, Project, Code, Input, Output, OutOfMemory}
 use Rattle.asl_cli.specs.declared.reading.SetupTexts.{SetupTexts}
 use Rattle.asl_host.specs.Outcomes.{fault_line}
 use Rattle.asl_host.specs.Reading.{Lacks, unreadable_words}
@@ -248,7 +250,9 @@ reason_text (Definition fault lines) = codes "definition: " ++ definition_fault_
 reason_text (Emulation fault lines) = refusal_line fault
 reason_text (Script fault lines) = script_refusal fault
 reason_text (Expectations fault lines) = codes "expectations: " ++ expect_line fault
+reason_text (Project fault lines) = codes "project: " ++ project_line fault
 reason_text (Code word lines) = codes "code " ++ word.now
+reason_text (Input name why) = codes "file " ++ (string_bytes name ++ unreadable_words why)
 reason_text (Output name why) = codes "file " ++ (name.now ++ unwritable_words why)
 reason_text OutOfMemory = codes "OutOfMemory"
 
@@ -258,12 +262,13 @@ mending (Definition fault lines) = string_bytes lines
 mending (Emulation fault lines) = string_bytes lines
 mending (Script fault lines) = string_bytes lines
 mending (Expectations fault lines) = string_bytes lines
+mending (Project fault lines) = string_bytes lines
 mending (Code word lines) = string_bytes lines
 mending _ = []
 
--- what is told: the line of the refusal, of which every character shows, and what stands behind it;
--- or that memory ran out, where it may before they are made
-abbrev pub Tells : CommandFault → List ℕ → Type 0
-Tells r text =
-    (text ≡ fault_line (shown (reason_text r)) ++ mending r)
+-- what is told: the line of the refusal, of which every character shows, and what stands behind it, unless
+-- that isn't wanted; or that memory ran out, where it may before they are made
+abbrev pub Tells : Bool → CommandFault → List ℕ → Type 0
+Tells quiet r text =
+    (text ≡ fault_line (shown (reason_text r)) ++ unless_quiet quiet (mending r))
     ⊎ (text ≡ fault_line (codes "OutOfMemory"))

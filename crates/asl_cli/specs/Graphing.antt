@@ -1,5 +1,5 @@
 -- The graph of a definition that a file holds, or of a run of it.
-use Rattle.std.specs.Prelude.{ℕ, List, ◌≡◌, Option, Some, None}
+use Rattle.std.specs.Prelude.{ℕ, Bool, List, ◌≡◌, Option, Some, None}
 use Rattle.asl_json_data.specs.Data.{Data}
 use Rattle.asl_graph.specs.declared.format.Format.{Format}
 use Rattle.asl_graph.specs.declared.format.Format.TheVariants.{Mermaid, Markdown, Dot}
@@ -55,8 +55,8 @@ abbrev pub IsGraphReason : (List ℕ → List ℕ → Type 0) → Lacks → Grap
 IsGraphReason gives lacks w r = IsGraphReasonBy gives lacks w w.run r
 
 -- the graph of these words: it was printed
-abbrev pub IsDrawn : {O E : Type 0} → FileSystem → Io O E → GraphWords → Type 0
-IsDrawn files io w =
-    IsDone io
+abbrev pub IsDrawn : {O E : Type 0} → FileSystem → Io O E → Bool → GraphWords → Type 0
+IsDrawn files io quiet w =
+    IsDone io quiet
     (λ text status. IsGraph files.gives w text × (status ≡ 0))
     (IsGraphReason files.gives files.lacks w)

@@ -7,8 +7,10 @@ pub mod Faults
 pub mod Exploring
 pub mod Choosing
 pub mod Covers
+pub mod Inputs
 pub mod Suites
 pub mod Explaining
+pub mod Projects
 pub mod Obeyed
 pub mod Talking
 pub mod Graphing

@@ -1,5 +1,5 @@
 -- A mock file for a definition that a file holds.
-use Rattle.std.specs.Prelude.{ℕ, List, ◌≡◌}
+use Rattle.std.specs.Prelude.{ℕ, Bool, List, ◌≡◌}
 use Rattle.asl_json_data.specs.Data.{Data}
 use Rattle.asl_mock_sample.specs.Files.{sample_text}
 use Rattle.asl_words.specs.declared.words.MocksWords.{MocksWords}
@@ -16,8 +16,8 @@ pub record IsSample (gives : List ℕ → List ℕ → Type 0) (w : MocksWords) 
     pub made : IsLaidOut w.pretty (sample_text w.machine.now machine) file
 
 -- the mock file of these words: it was printed
-abbrev pub IsSampled : {O E : Type 0} → FileSystem → Io O E → MocksWords → Type 0
-IsSampled files io w =
-    IsDone io
+abbrev pub IsSampled : {O E : Type 0} → FileSystem → Io O E → Bool → MocksWords → Type 0
+IsSampled files io quiet w =
+    IsDone io quiet
     (λ text status. IsSample files.gives w text × (status ≡ 0))
     (IsDefinitionReason files.gives files.lacks w.definition)

@@ -1,5 +1,5 @@
 -- What the command `test` reads, why nothing is tested, and what is printed and told of a suite.
-use Rattle.std.specs.Prelude.{ℕ, Bool, true, false, codes, not, ◌&&◌, if◌then◌else◌, nat_lt, map, List, [], ◌∷◌, ◌++◌, Option, Some, None, ◌≡◌, ◌⊎◌, ⊤}
+use Rattle.std.specs.Prelude.{ℕ, Bool, true, false, is_some, codes, not, ◌&&◌, if◌then◌else◌, nat_lt, map, List, [], ◌∷◌, ◌++◌, Option, Some, None, ◌≡◌, ◌⊎◌, ⊤}
 use Rattle.std.specs.Borrow.{Bor}
 use Rattle.std.specs.List.{list_all}
 use Rattle.std.specs.Fmt.{decimal}
@@ -8,7 +8,7 @@ use Rattle.asl_mock.specs.Told.{IsMockFile}
 use Rattle.asl_mock.specs.Answers.{Machines}
 use Rattle.asl_suite_file.specs.Told.{IsExpectationsFile, IsAnswer as IsExpectAnswer}
 use Rattle.asl_suite_file.specs.Shards.{every}
-use Rattle.asl_suite_file.specs.declared.expectation.Expectation.{Expectation}
+use Rattle.asl_suite_file.specs.declared.expectation.Draft.{Draft}
 use Rattle.asl_suite_file.specs.declared.fault.ExpectFault.{ExpectFault}
 use Rattle.asl_suite_file.specs.declared.fault.ExpectFault.TheVariants as expect
 use Rattle.asl_run_input.specs.Texts.{IsDefinitionFault, IsMockFault}
@@ -30,9 +30,11 @@ use Rattle.asl_words.specs.declared.words.ReportFormat.TheVariants as format
 use Rattle.asl_host.specs.Reading.{Lacks}
 use Rattle.asl_host.specs.Outcomes.{status_of, IsPrinted, IsTold}
 use Rattle.asl_cli.specs.declared.fault.CommandFault.{CommandFault}
+use Rattle.asl_cli.specs.declared.testing.SpelledSuite.{SpelledSuite}
 use Rattle.asl_cli.specs.declared.fault.CommandFault.TheVariants.{File, Definition, Emulation, Expectations, Output, OutOfMemory}
 use Rattle.asl_cli.specs.Choosing.{list_text, meant}
 use Rattle.asl_cli.specs.Covers.{ArePointsOf}
+use Rattle.asl_cli.specs.Inputs.{AreTestsOn, IsFirstLost, Unless}
 use Rattle.asl_cli.specs.Streams.{FileSystem, OutputUse, IsUnused, Writes, Io, Prints, AreTold}
 use Rattle.asl_cli.specs.Answers.{IsRefusedFor}
 use Rattle.asl_cli.specs.Faults.{AreUnread, Tells}
@@ -53,22 +55,30 @@ suite_names w = w.definition.now ∷ w.mocks.now ∷ w.expectations.now ∷ []
 -- ---- the suite
 
 -- the tests that the words choose: those that the shard has and the word means
-abbrev pub chosen : TestWords → List Expectation → List Expectation
+abbrev pub chosen : TestWords → List Draft → List Draft
 chosen w all = meant w.filter (every w.shard.first w.shard.apart all)
 
--- those of the tests of a file
-pub record AreTestsOf (expectations : List ℕ) (w : TestWords) (tests : List Expectation) : Type 0
-  where
-    pub all : List Expectation
-    pub are_all : IsExpectationsFile expectations all
-    pub are_chosen : tests ≡ chosen w all
+-- those of the tests of a file, of which inputs may stand in files
+pub record AreDraftsOf (expectations : List ℕ) (w : TestWords) (drafts : List Draft) : Type 0 where
+  pub all : List Draft
+  pub are_all : IsExpectationsFile expectations all
+  pub are_chosen : drafts ≡ chosen w all
 
--- the suite that texts spell
-pub record IsSuiteOf (definition mocks expectations : List ℕ) (w : TestWords) (s : Suite) : Type 0
+-- the suite that texts spell, of which inputs may stand in files
+pub record IsSpelled (definition mocks expectations : List ℕ) (w : TestWords) (s : SpelledSuite) : Type 0
   where
     pub is_machine : IsMachineOf definition s.machine
     pub are_mocks : IsMockFile mocks s.mocks
-    pub are_tests : AreTestsOf expectations w s.tests.list.items
+    pub are_drafts : AreDraftsOf expectations w s.drafts.list.items
+
+-- the suite that texts spell, with inputs that files may hold
+pub record IsSuiteOf (gives : List ℕ → List ℕ → Type 0) (definition mocks expectations : List ℕ)
+    (w : TestWords) (s : Suite) : Type 0 where
+  pub is_machine : IsMachineOf definition s.machine
+  pub are_mocks : IsMockFile mocks s.mocks
+  pub drafts : List Draft
+  pub are_drafts : AreDraftsOf expectations w drafts
+  pub are_tests : AreTestsOn gives w.expectations.now drafts s.tests.list.items
 
 -- the suite that the files may give
 pub record IsSuiteIn (gives : List ℕ → List ℕ → Type 0) (w : TestWords) (s : Suite) : Type 0 where
@@ -76,7 +86,7 @@ pub record IsSuiteIn (gives : List ℕ → List ℕ → Type 0) (w : TestWords) 
   pub mocks : List ℕ
   pub expectations : List ℕ
   pub given : AreSuiteTexts gives w definition mocks expectations
-  pub is_suite : IsSuiteOf definition mocks expectations w s
+  pub is_suite : IsSuiteOf gives definition mocks expectations w s
 
 -- ---- why there is none
 
@@ -128,10 +138,31 @@ pub record IsNoSuite (gives : List ℕ → List ℕ → Type 0) (w : TestWords) 
   pub given : AreSuiteTexts gives w definition mocks expectations
   pub reason : IsSuiteTextReason definition mocks expectations r
 
--- why nothing is tested: a file that the words name can't be read, or what was read is no suite
+-- what the files may give is a suite but for the inputs that stand in files, of which one can't be had for
+-- this reason
+pub record IsInputless (gives : List ℕ → List ℕ → Type 0) (lacks : Lacks) (w : TestWords) (r : CommandFault)
+    : Type 0 where
+  pub definition : List ℕ
+  pub mocks : List ℕ
+  pub expectations : List ℕ
+  pub given : AreSuiteTexts gives w definition mocks expectations
+  pub spelled : SpelledSuite
+  pub is_spelled : IsSpelled definition mocks expectations w spelled
+  pub lost : Unless (IsFirstLost gives lacks w.expectations.now spelled.drafts.list.items) r
+
+-- why nothing is listed: a file that the words name can't be read, or what was read is no suite
+abbrev pub IsListReason : (List ℕ → List ℕ → Type 0) → Lacks → TestWords → CommandFault → Type 0
+IsListReason gives lacks w r = AreUnread gives lacks (suite_names w) r ⊎ IsNoSuite gives w r
+
+-- why nothing is tested: the same, or an input that stands in a file can't be had
 abbrev pub IsSuiteReason : (List ℕ → List ℕ → Type 0) → Lacks → TestWords
     → CommandFault → Type 0
-IsSuiteReason gives lacks w r = AreUnread gives lacks (suite_names w) r ⊎ IsNoSuite gives w r
+IsSuiteReason gives lacks w r = IsListReason gives lacks w r ⊎ IsInputless gives lacks w r
+
+-- why nothing is done: one or the other
+abbrev pub IsUndone : Bool → (List ℕ → List ℕ → Type 0) → Lacks → TestWords → CommandFault → Type 0
+IsUndone true gives lacks w r = IsListReason gives lacks w r
+IsUndone false gives lacks w r = IsSuiteReason gives lacks w r
 
 -- ---- what is printed
 
@@ -142,6 +173,11 @@ IsReportText format.JUnit reports text =
     (name : List ℕ) × (fs : List Finding) × (reports_in fs ≡ reports) × text ≡ junit_text name fs
 IsReportText format.Json reports text =
     (fs : List Finding) × (reports_in fs ≡ reports) × text ≡ json_text fs
+
+-- the texts of the reports for the files that are named for them
+pub record AreFileTexts (w : TestWords) (reports : List CaseReport) (junit json : List ℕ) : Type 0 where
+  pub is_junit : is_some w.junit ≡ true → IsReportText format.JUnit reports junit
+  pub is_json : is_some w.json ≡ true → IsReportText format.Json reports json
 
 -- these reports; or those by which a test that may not mean what it says fails
 abbrev pub judged : Bool → List CaseReport → List CaseReport
@@ -170,33 +206,40 @@ lacking percent least = if nat_lt percent least then below percent least else []
 abbrev pub coverage_told : List Point → ℕ → List ℕ
 coverage_told points least = coverage_text points ++ lacking (percent_of points) least
 
--- what is told where a least percent is given: how much the tests of the suite cover stands last, of
--- the mock file that these bytes spell
-pub record IsCovered (mocks : List ℕ) (s : Suite) (least : ℕ) (passed good : Bool) (told : List ℕ)
-    : Type 0 where
-  pub before : List ℕ
+-- what is told where a least percent is given: behind the remarks stands how much the tests of the suite
+-- cover, of the mock file that these bytes spell
+pub record IsCovered (mocks : List ℕ) (s : Suite) (least : ℕ) (remarks : List ℕ) (passed good : Bool)
+    (told : List ℕ) : Type 0 where
   pub points : List Point
   pub are_points : ArePointsOf mocks s points
-  pub last : told ≡ before ++ coverage_told points least
+  pub told_is : told ≡ remarks ++ coverage_told points least
   pub is_good : good ≡ (passed && not (nat_lt (percent_of points) least))
 
 -- whether all is good: all tests passed and, where a least percent is given, they cover no less
-abbrev pub IsGood : List ℕ → Suite → Option ℕ → Bool → Bool → List ℕ → Type 0
-IsGood mocks s None passed good told = good ≡ passed
-IsGood mocks s (Some least) passed good told = IsCovered mocks s least passed good told
+abbrev pub IsGood : List ℕ → Suite → Option ℕ → List ℕ → Bool → Bool → List ℕ → Type 0
+IsGood mocks s None remarks passed good told = (told ≡ remarks) × (good ≡ passed)
+IsGood mocks s (Some least) remarks passed good told = IsCovered mocks s least remarks passed good told
+
+-- what is told of tests is any text; where that isn't wanted, it is none
+abbrev pub AreRemarks : Bool → List ℕ → Type 0
+AreRemarks true remarks = remarks ≡ []
+AreRemarks false remarks = ⊤
 
 -- those of the suite that the files may give, and what is told behind them
-pub record IsReported (gives : List ℕ → List ℕ → Type 0) (w : TestWords) (text told : List ℕ)
-    (good : Bool) : Type 0 where
+pub record IsReported (gives : List ℕ → List ℕ → Type 0) (quiet : Bool) (w : TestWords)
+    (text told : List ℕ) (good : Bool) (junit json : List ℕ) : Type 0 where
   pub suite : Suite
   pub passed : Bool
+  pub remarks : List ℕ
   pub is_in : IsSuiteIn gives w suite
   pub is_report : IsReport w.format w.strict suite text passed
-  pub is_good : IsGood is_in.mocks suite w.coverage passed good told
+  pub are_files : AreFileTexts w (judged w.strict (reports_of suite)) junit json
+  pub are_remarks : AreRemarks quiet remarks
+  pub is_good : IsGood is_in.mocks suite w.coverage remarks passed good told
 
 -- a line for each test of a file that the words choose, which are listed in place of being run
 pub record IsListOf (expectations : List ℕ) (w : TestWords) (text : List ℕ) : Type 0 where
-  pub all : List Expectation
+  pub all : List Draft
   pub are_all : IsExpectationsFile expectations all
   pub is_text : text ≡ list_text w.filter w.shard.first w.shard.apart all
 
@@ -208,10 +251,13 @@ pub record IsListing (gives : List ℕ → List ℕ → Type 0) (w : TestWords) 
   pub given : AreSuiteTexts gives w definition mocks expectations
   pub is_list : IsListOf expectations w text
 
--- what is printed and told, and whether all is good: a list, or the reports
-abbrev pub IsShown : Bool → (List ℕ → List ℕ → Type 0) → TestWords → List ℕ → List ℕ → Bool → Type 0
-IsShown true gives w text told good = IsListing gives w text × (told ≡ []) × (good ≡ true)
-IsShown false gives w text told good = IsReported gives w text told good
+-- what is printed and told, whether all is good, and what stands in the files: a list, or the reports
+abbrev pub IsShown : Bool → (List ℕ → List ℕ → Type 0) → Bool → TestWords → List ℕ → List ℕ → Bool
+    → List ℕ → List ℕ → Type 0
+IsShown true gives quiet w text told good junit json =
+    IsListing gives w text × (told ≡ []) × (good ≡ true)
+IsShown false gives quiet w text told good junit json =
+    IsReported gives quiet w text told good junit json
 
 -- ---- the files that reports are written to
 
@@ -243,25 +289,25 @@ IsKept outputs io w text remarks good junit json =
     Writes outputs (kept_files w junit json) × Prints io text (status_of good) × IsTold io.err remarks
 
 -- a file wasn't written, which was told behind the rest, and the status is 2
-abbrev pub IsKeptInPart : {K O E : Type 0} → OutputUse K → Io O E → TestWords → List ℕ → List ℕ → Bool
-    → List ℕ → Type 0
-IsKeptInPart outputs io w text remarks good junit =
-    (r : CommandFault) × (t : List ℕ) × (printed : ℕ) × IsFirstUnkept outputs w junit r × Tells r t
+abbrev pub IsKeptInPart : {K O E : Type 0} → OutputUse K → Io O E → Bool → TestWords → List ℕ → List ℕ
+    → Bool → List ℕ → Type 0
+IsKeptInPart outputs io quiet w text remarks good junit =
+    (r : CommandFault) × (t : List ℕ) × (printed : ℕ) × IsFirstUnkept outputs w junit r × Tells quiet r t
     × IsPrinted io.out text (status_of good) printed × AreTold io.err remarks t × (io.status ≡ 2)
 
 -- one or the other
-abbrev pub IsLeft : {K O E : Type 0} → OutputUse K → Io O E → TestWords → List ℕ → List ℕ → Bool → List ℕ
-    → List ℕ → Type 0
-IsLeft outputs io w text remarks good junit json =
+abbrev pub IsLeft : {K O E : Type 0} → OutputUse K → Io O E → Bool → TestWords → List ℕ → List ℕ → Bool
+    → List ℕ → List ℕ → Type 0
+IsLeft outputs io quiet w text remarks good junit json =
     IsKept outputs io w text remarks good junit json
-    ⊎ IsKeptInPart outputs io w text remarks good junit
+    ⊎ IsKeptInPart outputs io quiet w text remarks good junit
 
 -- the test of these words: the reports were printed, or the list of the tests, something may have been told
 -- behind them, the reports were written to the files that are named for them, and the status says whether
 -- all tests are `ok`, and cover what they are to; or a fault was told, and the status is 2
-abbrev pub IsTested : {K O E : Type 0} → FileSystem → OutputUse K → Io O E → TestWords → Type 0
-IsTested files outputs io w =
+abbrev pub IsTested : {K O E : Type 0} → FileSystem → OutputUse K → Io O E → Bool → TestWords → Type 0
+IsTested files outputs io quiet w =
     ((text : List ℕ) × (remarks : List ℕ) × (good : Bool) × (junit : List ℕ) × (json : List ℕ)
-    × IsShown w.list files.gives w text remarks good
-    × IsLeft outputs io w text remarks good junit json)
-    ⊎ (IsUnused outputs × IsRefusedFor io (IsSuiteReason files.gives files.lacks w))
+    × IsShown w.list files.gives quiet w text remarks good junit json
+    × IsLeft outputs io quiet w text remarks good junit json)
+    ⊎ (IsUnused outputs × IsRefusedFor io quiet (IsUndone w.list files.gives files.lacks w))

@@ -3,12 +3,12 @@ ghost use Rattle.std.specs.Prelude.{◌≡◌, ◌++◌, ◌∷◌, IfOk, string
 ghost use Rattle.std.specs.Prelude.{ℕ, List, OnOk};
 ghost use Rattle.std.specs.List.{filter, flat_map};
 ghost use Rattle.std.specs.Fmt.{decimal};
-ghost use Rattle.asl_suite_file.specs.declared.expectation.Expectation.{Expectation};
+ghost use Rattle.asl_suite_file.specs.declared.expectation.Draft.{Draft};
 ghost use Rattle.asl_cli.specs.Choosing.{has, is_in_name, is_meant, is_meant_by, list_text, listed, lines, listed_name, maybe_listed, meant, numbered, shown_case};
 
 use asl_json::Txt;
 use asl_json_write::put_quoted;
-use asl_suite_file::{Expectation, Expectations};
+use asl_suite_file::{Draft, Drafts};
 use asl_text::{put_decimal, put_shown};
 use std::alloc::{AllocError, Global};
 use std::mem;
@@ -17,7 +17,7 @@ use std::mem;
 pub(crate) fn keep_meant(
     alloc: Global,
     word: Option<&str>,
-    tests: &mut Expectations,
+    tests: &mut Drafts,
 ) -> Result<(), AllocError>
     ensures { OnOk result (tests.new.list.items ≡ meant word.entry tests.old.list.items) }
 {
@@ -26,11 +26,7 @@ pub(crate) fn keep_meant(
     Ok(())
 }
 
-fn meant(
-    alloc: Global,
-    word: Option<&str>,
-    tests: Vec<Expectation>,
-) -> Result<Vec<Expectation>, AllocError>
+fn meant(alloc: Global, word: Option<&str>, tests: Vec<Draft>) -> Result<Vec<Draft>, AllocError>
     ensures { IfOk result (λ v. v.items ≡ meant word.entry tests.items) }
 {
     match word {
@@ -39,11 +35,7 @@ fn meant(
     }
 }
 
-fn meant_by(
-    alloc: Global,
-    word: &str,
-    tests: Vec<Expectation>,
-) -> Result<Vec<Expectation>, AllocError>
+fn meant_by(alloc: Global, word: &str, tests: Vec<Draft>) -> Result<Vec<Draft>, AllocError>
     ensures { IfOk result (λ v. v.items ≡ filter (is_meant word.now) tests.items) }
 {
     let mut kept = Vec::new(alloc);
@@ -56,7 +48,7 @@ fn meant_by(
 }
 
 /// Whether a word stands in the machine and the case of a test, as `MACHINE#CASE`, or in its name.
-fn is_meant(alloc: Global, word: &str, test: &Expectation) -> Result<bool, AllocError>
+fn is_meant(alloc: Global, word: &str, test: &Draft) -> Result<bool, AllocError>
     ensures { IfOk result (λ b. b ≡ is_meant word.now test.now) }
 {
     let called = called(alloc, test)?;
@@ -64,7 +56,7 @@ fn is_meant(alloc: Global, word: &str, test: &Expectation) -> Result<bool, Alloc
 }
 
 /// The machine and the case of a test, as `MACHINE#CASE`.
-fn called(alloc: Global, test: &Expectation) -> Result<String, AllocError>
+fn called(alloc: Global, test: &Draft) -> Result<String, AllocError>
     ensures { IfOk result (λ t. string_bytes t ≡ test.now.machine ++ 35 ∷ test.now.case) }
 {
     let mut name = String::from_str(alloc, test.machine.as_str())?;
@@ -98,7 +90,7 @@ pub(crate) fn list_of(
     word: Option<&str>,
     first: usize,
     apart: usize,
-    tests: &[Expectation],
+    tests: &[Draft],
 ) -> Result<String, AllocError>
     ensures { IfOk result (λ t. string_bytes t ≡ list_text word.entry first apart tests.now) }
 {
@@ -126,9 +118,9 @@ fn put_next(
     apart: usize,
     skipped: usize,
     number: u64,
-    test: &Expectation,
+    test: &Draft,
 ) -> Result<usize, AllocError>
-    ensures { (rest : List (ℕ × Expectation)) → IfOk result (λ s. string_bytes out.new
+    ensures { (rest : List (ℕ × Draft)) → IfOk result (λ s. string_bytes out.new
         ++ lines word.entry s apart rest ≡ string_bytes out.old
         ++ lines word.entry skipped apart ((number, test.now) ∷ rest)) }
 {
@@ -145,7 +137,7 @@ fn put_maybe_listed(
     out: &mut String,
     word: Option<&str>,
     number: u64,
-    test: &Expectation,
+    test: &Draft,
 ) -> Result<(), AllocError>
     ensures { OnOk result (string_bytes out.new ≡ string_bytes out.old ++ maybe_listed word.entry (number, test.now)) }
 {
@@ -155,7 +147,7 @@ fn put_maybe_listed(
     Ok(())
 }
 
-fn is_meant_by(alloc: Global, word: Option<&str>, test: &Expectation) -> Result<bool, AllocError>
+fn is_meant_by(alloc: Global, word: Option<&str>, test: &Draft) -> Result<bool, AllocError>
     ensures { IfOk result (λ b. b ≡ is_meant_by word.entry test.now) }
 {
     match word {
@@ -165,7 +157,7 @@ fn is_meant_by(alloc: Global, word: Option<&str>, test: &Expectation) -> Result<
 }
 
 /// Appends the number of a test in its file, its machine and its case, and its name.
-fn put_listed(out: &mut String, number: u64, test: &Expectation) -> Result<(), AllocError>
+fn put_listed(out: &mut String, number: u64, test: &Draft) -> Result<(), AllocError>
     ensures { OnOk result (string_bytes out.new ≡ string_bytes out.old ++ listed (number, test.now)) }
 {
     put_decimal(out, number)?;
@@ -176,7 +168,7 @@ fn put_listed(out: &mut String, number: u64, test: &Expectation) -> Result<(), A
 }
 
 /// Appends the machine and the case of a test, as `MACHINE#CASE`.
-fn put_shown_case(out: &mut String, test: &Expectation) -> Result<(), AllocError>
+fn put_shown_case(out: &mut String, test: &Draft) -> Result<(), AllocError>
     ensures { OnOk result (string_bytes out.new ≡ string_bytes out.old ++ shown_case test.now) }
 {
     put_shown(out, test.machine.as_str())?;
@@ -203,7 +195,7 @@ pub(crate) fn numbers_of(
     word: Option<&str>,
     first: usize,
     apart: usize,
-    tests: &[Expectation],
+    tests: &[Draft],
 ) -> Result<Vec<usize>, AllocError> {
     let mut numbers = Vec::new(alloc);
     let mut skipped = first.saturating_sub(1);

@@ -5,15 +5,16 @@ ghost use Rattle.asl_command_line.specs.Read.{IsRead, IsUnread};
 ghost use Rattle.asl_run_input.specs.Views.{texts_of};
 ghost use Rattle.asl_exec.specs.Emulations.{IsEndIn};
 ghost use Rattle.asl_exec.specs.Lacking.{IsLackingIn};
-ghost use Rattle.asl_cli.specs.Streams.{file_system, input_use, output_use, io};
+ghost use Rattle.asl_cli.specs.Streams.{file_system, file_use, input_use, output_use, io, unless_quiet};
 ghost use Rattle.asl_cli.specs.Answers.{IsRan, IsAnswered, text_told};
 ghost use Rattle.asl_cli.specs.Formats.{format_of, IsRunIn};
 ghost use Rattle.asl_cli.specs.Faults.{most_of, steps_name, IsEmulated, IsTextsReason, IsRunReason};
 ghost use Rattle.asl_cli.specs.Noting.{IsNoted};
-ghost use Rattle.asl_cli.specs.Obeyed.{IsObeyed};
+ghost use Rattle.asl_cli.specs.Obeyed.{AreObeyed, IsObeyed};
 
 use crate::checking::check;
 use crate::debugging::debug;
+use crate::executing::{debug_in, explore_in, run_in};
 use crate::explaining::explain;
 use crate::exploring::explore;
 use crate::fault::CommandFault;
@@ -24,7 +25,9 @@ use crate::mending::of_run;
 use crate::mocking::mocks;
 use crate::noting::{Ran, tell_notes, with_note};
 use crate::printing::print;
+use crate::projects::{check_all, lint_all};
 use crate::reading::{read_named, read_texts};
+use crate::suites::test_all;
 use crate::testing::test;
 use crate::upgrading::upgrade;
 use asl_command_line::{Answer, malformed_word, read_words};
@@ -34,7 +37,7 @@ use asl_history::Sink;
 use asl_host::{Files, GivenFault, Input, Outputs, tell_fault, write_piece};
 use asl_run_input::{EmulateFault, RunTexts};
 use asl_threads_base::Gate;
-use asl_words::{RunWords, Screen, Words};
+use asl_words::{Asked, RunWords, Screen, Words};
 use std::alloc::{AllocError, Global};
 use std::convert::AsStr;
 use std::sync::Wait;
@@ -71,18 +74,18 @@ pub fn run_words<
     err: &mut E,
 ) -> u8
     // What the words ask for was done; or they ask for nothing, or memory ran out: they were answered, and no file was read.
-    ensures { ((w : Words) × IsRead (map S.text words.now) screen w
-        × IsObeyed (file_system (F.gives files.old) (F.lacks files.old))
+    ensures { ((a : Asked) × IsRead (map S.text words.now) screen a
+        × IsObeyed (file_use F.gives F.lacks files.old)
         (input_use I.given input.old input.new)
         (output_use K.written outputs.old outputs.new)
         (io (sink_use O.taken O.failures out.old out.new)
-        (sink_use E.taken E.failures err.old err.new) result) w)
+        (sink_use E.taken E.failures err.old err.new) result) a)
         ⊎ ((a : Answer) × ((a ≡ Answer.OutOfMemory) ⊎ IsUnread (map S.text words.now) screen)
         × (files.new ≡ files.old) × (outputs.new ≡ outputs.old) × IsAnswered (io (sink_use O.taken O.failures out.old out.new)
         (sink_use E.taken E.failures err.old err.new) result) a) }
 {
     match read_words(alloc, words, screen) {
-        Ok(words) => obey(rt, gate, alloc, &words, files, input, outputs, out, err),
+        Ok(asked) => obey(rt, gate, alloc, &asked, files, input, outputs, out, err),
         Err(answer) => answer_words(&answer, out, err),
     }
 }
@@ -100,31 +103,38 @@ pub fn obey<
     rt: &R,
     gate: &G,
     alloc: Global,
-    words: &Words<'_>,
+    asked: &Asked<'_>,
     files: &mut F,
     input: &mut I,
     outputs: &mut K,
     out: &mut O,
     err: &mut E,
 ) -> u8
-    ensures { IsObeyed (file_system (F.gives files.old) (F.lacks files.old))
+    ensures { IsObeyed (file_use F.gives F.lacks files.old)
         (input_use I.given input.old input.new)
         (output_use K.written outputs.old outputs.new)
         (io (sink_use O.taken O.failures out.old out.new)
-        (sink_use E.taken E.failures err.old err.new) result) words.now }
+        (sink_use E.taken E.failures err.old err.new) result) asked.now }
 {
-    match words {
-        Words::Check(words) => check(alloc, words, files, out, err),
-        Words::Lint(words) => lint(alloc, words, files, out, err),
-        Words::Print(words) => print(alloc, words, files, out, err),
-        Words::Upgrade(words) => upgrade(alloc, words, files, out, err),
-        Words::Graph(words) => graph(alloc, words, files, out, err),
-        Words::Mocks(words) => mocks(alloc, words, files, out, err),
-        Words::Run(words) => run(alloc, words, files, out, err),
-        Words::Debug(words) => debug(alloc, words, files, input, out, err),
-        Words::Test(words) => test(rt, gate, alloc, words, files, outputs, out, err),
-        Words::Explore(words) => explore(gate, alloc, words, files, out, err),
-        Words::Explain(words) => explain(alloc, words, out, err),
+    let quiet = asked.quiet;
+    match &asked.words {
+        Words::Check(words) => check(alloc, words, quiet, files, out, err),
+        Words::CheckAll(words) => check_all(alloc, words, quiet, files, out, err),
+        Words::Lint(words) => lint(alloc, words, quiet, files, out, err),
+        Words::LintAll(words) => lint_all(alloc, words, quiet, files, out, err),
+        Words::Print(words) => print(alloc, words, quiet, files, out, err),
+        Words::Upgrade(words) => upgrade(alloc, words, quiet, files, out, err),
+        Words::Graph(words) => graph(alloc, words, quiet, files, out, err),
+        Words::Mocks(words) => mocks(alloc, words, quiet, files, out, err),
+        Words::Run(words) => run(alloc, words, quiet, files, out, err),
+        Words::RunIn(words) => run_in(alloc, words, quiet, files, out, err),
+        Words::Debug(words) => debug(alloc, words, quiet, files, input, out, err),
+        Words::DebugIn(words) => debug_in(alloc, words, quiet, files, input, out, err),
+        Words::Test(words) => test(rt, gate, alloc, words, quiet, files, outputs, out, err),
+        Words::TestAll(words) => test_all(rt, gate, alloc, words, quiet, files, out, err),
+        Words::Explore(words) => explore(gate, alloc, words, quiet, files, out, err),
+        Words::ExploreIn(words) => explore_in(gate, alloc, words, quiet, files, out, err),
+        Words::Explain(words) => explain(alloc, words, quiet, out, err),
     }
 }
 
@@ -144,18 +154,19 @@ pub fn refuse_words<E: Sink>(alloc: Global, fault: GivenFault, err: &mut E) -> u
 pub fn run<F: Files, O: Sink, E: Sink>(
     alloc: Global,
     words: &RunWords<'_>,
+    quiet: bool,
     files: &mut F,
     out: &mut O,
     err: &mut E,
 ) -> u8
     ensures { IsRan (file_system (F.gives files.old) (F.lacks files.old))
         (io (sink_use O.taken O.failures out.old out.new)
-        (sink_use E.taken E.failures err.old err.new) result) words.now }
+        (sink_use E.taken E.failures err.old err.new) result) quiet words.now }
 {
     match emulate_files(alloc, words, files) {
-        Ok(ran) => show(&ran, out, err),
+        Ok(ran) => show(&ran, quiet, out, err),
         Err(refusal) => {
-            refusal.write(alloc, err);
+            refusal.write(alloc, quiet, err);
             REFUSED
         }
     }
@@ -212,13 +223,14 @@ fn emulate_given<'a>(
 }
 
 /// Prints what was emulated, tells what is to be told of it, and whether it ended in success.
-fn show<O: Sink, E: Sink>(ran: &Ran, out: &mut O, err: &mut E) -> u8
+fn show<O: Sink, E: Sink>(ran: &Ran, quiet: bool, out: &mut O, err: &mut E) -> u8
     ensures printed { IsPrinted (sink_use O.taken O.failures out.old out.new) (string_bytes ran.now.emulated.text)
         (status_of ran.now.emulated.good) result }
-    ensures noted { IsNoted (sink_use E.taken E.failures err.old err.new) (string_bytes ran.now.note) }
+    ensures noted { IsNoted (sink_use E.taken E.failures err.old err.new)
+        (unless_quiet quiet (string_bytes ran.now.note)) }
 {
     let status = print_run(&ran.emulated, out);
-    tell_notes(ran.note.as_str(), err);
+    tell_notes(ran.note.as_str(), quiet, err);
     status
 }
 

@@ -27,6 +27,7 @@ use std::alloc::{AllocError, Global};
 pub fn debug<F: Files, I: Input, O: Sink, E: Sink>(
     alloc: Global,
     words: &DebugWords<'_>,
+    quiet: bool,
     files: &mut F,
     input: &mut I,
     out: &mut O,
@@ -35,13 +36,13 @@ pub fn debug<F: Files, I: Input, O: Sink, E: Sink>(
     ensures { IsDebugged (file_system (F.gives files.old) (F.lacks files.old))
         (input_use I.given input.old input.new)
         (io (sink_use O.taken O.failures out.old out.new)
-        (sink_use E.taken E.failures err.old err.new) result) words.now }
+        (sink_use E.taken E.failures err.old err.new) result) quiet words.now }
 {
     match words.script {
-        Some(script) => debug_by(alloc, &words.setup, script, files, out, err),
+        Some(script) => debug_by(alloc, &words.setup, quiet, script, files, out, err),
         None => {
             let look = look_of(words.format, words.coloured);
-            debug_typed(alloc, &words.setup, look, files, input, out, err)
+            debug_typed(alloc, &words.setup, quiet, look, files, input, out, err)
         }
     }
 }
@@ -61,6 +62,7 @@ fn look_of(format: DebugFormat, coloured: bool) -> Look
 fn debug_by<F: Files, O: Sink, E: Sink>(
     alloc: Global,
     words: &SetupWords<'_>,
+    quiet: bool,
     script: &str,
     files: &mut F,
     out: &mut O,
@@ -68,12 +70,12 @@ fn debug_by<F: Files, O: Sink, E: Sink>(
 ) -> u8
     ensures { IsScripted (file_system (F.gives files.old) (F.lacks files.old))
         (io (sink_use O.taken O.failures out.old out.new)
-        (sink_use E.taken E.failures err.old err.new) result) words.now script.now }
+        (sink_use E.taken E.failures err.old err.new) result) quiet words.now script.now }
 {
     match debug_files(alloc, words, script, files) {
         Ok(text) => print_good(text.as_str(), out),
         Err(refusal) => {
-            refusal.write(alloc, err);
+            refusal.write(alloc, quiet, err);
             REFUSED
         }
     }
@@ -124,6 +126,7 @@ fn run_by<'a>(
 fn debug_typed<F: Files, I: Input, O: Sink, E: Sink>(
     alloc: Global,
     words: &SetupWords<'_>,
+    quiet: bool,
     look: Look,
     files: &mut F,
     input: &mut I,
@@ -133,12 +136,12 @@ fn debug_typed<F: Files, I: Input, O: Sink, E: Sink>(
     ensures { IsTyped (file_system (F.gives files.old) (F.lacks files.old))
         (input_use I.given input.old input.new)
         (io (sink_use O.taken O.failures out.old out.new)
-        (sink_use E.taken E.failures err.old err.new) result) words.now look }
+        (sink_use E.taken E.failures err.old err.new) result) quiet words.now look }
 {
     match open_session(alloc, words, files) {
         Ok(console) => converse(alloc, console, look, input, out, err),
         Err(fault) => {
-            fault.write(alloc, err);
+            fault.write(alloc, quiet, err);
             REFUSED
         }
     }

@@ -16,16 +16,17 @@ use std::alloc::{AllocError, Global};
 pub fn explain<O: Sink, E: Sink>(
     alloc: Global,
     words: &ExplainWords<'_>,
+    quiet: bool,
     out: &mut O,
     err: &mut E,
 ) -> u8
     ensures { IsExplained (io (sink_use O.taken O.failures out.old out.new)
-        (sink_use E.taken E.failures err.old err.new) result) words.now }
+        (sink_use E.taken E.failures err.old err.new) result) quiet words.now }
 {
     match explanation_for(alloc, words) {
         Ok(text) => print_good(text.as_str(), out),
         Err(refusal) => {
-            refusal.write(alloc, err);
+            refusal.write(alloc, quiet, err);
             REFUSED
         }
     }

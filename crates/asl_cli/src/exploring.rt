@@ -32,18 +32,19 @@ pub fn explore<W: Watch, F: Files, O: Sink, E: Sink>(
     watch: &W,
     alloc: Global,
     words: &ExploreWords<'_>,
+    quiet: bool,
     files: &mut F,
     out: &mut O,
     err: &mut E,
 ) -> u8
     ensures { IsExplored (file_system (F.gives files.old) (F.lacks files.old))
         (io (sink_use O.taken O.failures out.old out.new)
-        (sink_use E.taken E.failures err.old err.new) result) words.now }
+        (sink_use E.taken E.failures err.old err.new) result) quiet words.now }
 {
     match explore_files(watch, alloc, words, files) {
-        Ok(searched) => show(alloc, &searched, words.witness, out, err),
+        Ok(searched) => show(alloc, &searched, quiet, words.witness, out, err),
         Err(refusal) => {
-            refusal.write(alloc, err);
+            refusal.write(alloc, quiet, err);
             REFUSED
         }
     }
@@ -193,30 +194,37 @@ fn has_colours(format: WitnessFormat, coloured: bool) -> bool
 fn show<O: Sink, E: Sink>(
     alloc: Global,
     searched: &Searched,
+    quiet: bool,
     witness: Option<u32>,
     out: &mut O,
     err: &mut E,
 ) -> u8
     ensures { IsShown (io (sink_use O.taken O.failures out.old out.new)
-        (sink_use E.taken E.failures err.old err.new) result) searched.now.explored
+        (sink_use E.taken E.failures err.old err.new) result) quiet searched.now.explored
         (string_bytes searched.now.notes) (option_map string_bytes searched.now.witness) witness }
 {
     match witness {
-        None => show_all(alloc, searched, out, err),
+        None => show_all(alloc, searched, quiet, out, err),
         Some(_) => show_one(alloc, &searched.witness, out, err),
     }
 }
 
 /// Prints all outcomes and tells the notes on them, and whether nothing was left out, each is a success and no order is endless.
-fn show_all<O: Sink, E: Sink>(alloc: Global, searched: &Searched, out: &mut O, err: &mut E) -> u8
+fn show_all<O: Sink, E: Sink>(
+    alloc: Global,
+    searched: &Searched,
+    quiet: bool,
+    out: &mut O,
+    err: &mut E,
+) -> u8
     ensures { AreAllShown (io (sink_use O.taken O.failures out.old out.new)
-        (sink_use E.taken E.failures err.old err.new) result) searched.now.explored
+        (sink_use E.taken E.failures err.old err.new) result) quiet searched.now.explored
         (string_bytes searched.now.notes) }
 {
     match report_of(alloc, &searched.explored) {
         Ok(text) => {
             let status = print_all(text.as_str(), is_good(&searched.explored), out);
-            tell_notes(searched.notes.as_str(), err);
+            tell_notes(searched.notes.as_str(), quiet, err);
             status
         }
         Err(AllocError) => {

@@ -4,9 +4,11 @@ ghost use Rattle.asl_host.specs.Outcomes.{sink_use, fault_line, IsTold, IsBroken
 ghost use Rattle.asl_text.specs.Shown.{shown};
 ghost use Rattle.asl_cli.specs.Faults.{mending, reason_text, Tells};
 
+use crate::noting::unless_quiet;
 use asl_check::Fault;
 use asl_history::{Sink, SinkFault};
 use asl_host::{Unreadable, Unwritable, tell_fault, write_fault, write_piece};
+use asl_project::ProjectFault;
 use asl_run_input::EmulateFault;
 use asl_session::ScriptFault;
 use asl_suite_file::ExpectFault;
@@ -46,21 +48,25 @@ pub enum CommandFault<'a> {
     Script(ScriptFault, String),
     /// What was read is no file of expectations.
     Expectations(ExpectFault, String),
+    /// What was read is no project.
+    Project(ProjectFault, String),
     /// Nothing is explained under this word.
     Code(&'a str, String),
+    /// The file of this name can't be read, in which the input of a test stands.
+    Input(String, Unreadable),
     /// The file of this name can't be written.
     Output(&'a str, Unwritable),
     OutOfMemory,
 }
 
 impl<'a> CommandFault<'a> {
-    /// Writes the refusal's line, and what stands behind it.
-    pub fn write<E: Sink>(&self, alloc: Global, err: &mut E)
-        ensures { (t : List ℕ) × Tells self.now t
+    /// Writes the refusal's line, and what stands behind it, unless that isn't wanted.
+    pub fn write<E: Sink>(&self, alloc: Global, quiet: bool, err: &mut E)
+        ensures { (t : List ℕ) × Tells quiet self.now t
             × IsTold (sink_use E.taken E.failures err.old err.new) t }
     {
         match self.text(alloc) {
-            Ok(text) => tell(err, text.as_str(), self.mending()),
+            Ok(text) => tell(err, text.as_str(), unless_quiet(quiet, self.mending())),
             Err(_) => tell_fault(err, "OutOfMemory"),
         }
     }
@@ -74,8 +80,12 @@ impl<'a> CommandFault<'a> {
             | CommandFault::Emulation(_, lines)
             | CommandFault::Script(_, lines)
             | CommandFault::Expectations(_, lines)
+            | CommandFault::Project(_, lines)
             | CommandFault::Code(_, lines) => lines.as_str(),
-            CommandFault::File(_, _) | CommandFault::Output(_, _) | CommandFault::OutOfMemory => "",
+            CommandFault::File(_, _)
+            | CommandFault::Input(_, _)
+            | CommandFault::Output(_, _)
+            | CommandFault::OutOfMemory => "",
         }
     }
 
@@ -87,6 +97,17 @@ impl<'a> CommandFault<'a> {
         let mut text = String::new(alloc);
         put_shown(&mut text, reason.as_str())?;
         Ok(text)
+    }
+}
+
+impl From<AllocError> for CommandFault<'_> {
+    ghost use Rattle.std.specs.Prelude.{◌≡◌};
+    ghost use Rattle.asl_cli.specs.declared.fault.CommandFault.TheVariants.{OutOfMemory};
+
+    ghost from_gives = { λ _ e. e ≡ OutOfMemory };
+
+    fn from(_: AllocError) -> Self {
+        CommandFault::OutOfMemory
     }
 }
 
@@ -102,7 +123,9 @@ impl fmt::Display for CommandFault<'_> {
             CommandFault::Emulation(fault, _) => write!(f, "{fault}"),
             CommandFault::Script(fault, _) => write!(f, "{fault}"),
             CommandFault::Expectations(fault, _) => write!(f, "expectations: {fault}"),
+            CommandFault::Project(fault, _) => write!(f, "project: {fault}"),
             CommandFault::Code(word, _) => write!(f, "code {word}"),
+            CommandFault::Input(name, why) => write!(f, "file {name}{}", why.words()),
             CommandFault::Output(name, why) => write!(f, "file {name}{}", why.words()),
             CommandFault::OutOfMemory => f.write_str("OutOfMemory"),
         }

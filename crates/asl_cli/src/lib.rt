@@ -2,8 +2,8 @@
 //!
 //! Modules in reading order: `fault` is why a command isn't done, and its line; `mending` has the lines for people behind it, for which `pointing` finds places and `recognizing` says what a file is; `reading` reads the files that words name; `checking` is
 //! the command `check`, `linting` the command `lint`, `printing` the command `print`, `upgrading` the command `upgrade`, for which `layouts` lays JSON out, `graphing` the command `graph`, `mocking` the command `mocks`,
-//! `debugging` the command `debug`, for which `talking` answers lines, `testing` the command `test`, for which `choosing` has the tests that are run, `progress` how far it is,
-//! `failing` why executions of tests failed and `covering` what is covered; `exploring` the command `explore`; `explaining` the command `explain`; `noting` tells of answers that were lacking; `formatting` runs in the format that is asked for; `command` has the command `run`, and all that a command line may
+//! `debugging` the command `debug`, for which `talking` answers lines, `testing` the command `test`, for which `choosing` has the tests that are run, `inputs` reads their inputs, `progress` how far it is,
+//! `failing` why executions of tests failed and `covering` what is covered; `projects` does a command for each workflow of a project, and `suites` the command `test`; `executing` does `run`, `debug` and `explore` for one of them; `exploring` the command `explore`; `explaining` the command `explain`; `noting` tells of answers that were lacking; `formatting` runs in the format that is asked for; `command` has the command `run`, and all that a command line may
 //! ask for.
 #![tactic(auto)]
 
@@ -12,12 +12,14 @@ mod choosing;
 mod command;
 mod covering;
 mod debugging;
+mod executing;
 mod explaining;
 mod exploring;
 mod failing;
 mod fault;
 mod formatting;
 mod graphing;
+mod inputs;
 mod layouts;
 mod linting;
 mod mending;
@@ -27,8 +29,10 @@ mod noting;
 mod pointing;
 mod printing;
 mod progress;
+mod projects;
 mod reading;
 mod recognizing;
+mod suites;
 mod talking;
 mod testing;
 mod upgrading;
@@ -44,5 +48,7 @@ pub use linting::lint;
 pub use mocking::mocks;
 pub use printing::print;
 pub use progress::Progress;
+pub use projects::{check_all, lint_all};
+pub use suites::test_all;
 pub use testing::test;
 pub use upgrading::upgrade;

@@ -1,8 +1,10 @@
 // The command `lint`.
 ghost use Rattle.std.specs.Prelude.{◌≡◌, ◌∷◌, [], option_map, unwrap_or, IfOk, IfErr, string_bytes};
+ghost use Rattle.std.specs.List.{list_any};
+ghost use Rattle.std.specs.Str.{bytes_eq};
 ghost use Rattle.asl_host.specs.Outcomes.{sink_use, status_of, IsPrinted};
 ghost use Rattle.asl_cli.specs.Streams.{file_system, io};
-ghost use Rattle.asl_cli.specs.Linting.{mocks_name, text_in, IsJudged, IsLintOf, IsLinted};
+ghost use Rattle.asl_cli.specs.Linting.{mocks_name, text_in, is_ignored, heeded, AreHeeded, IsTold, IsJudged, IsLintOf, IsLintedBut, IsLinted};
 ghost use Rattle.asl_cli.specs.Faults.{AreUnread, named};
 
 use crate::command::{FAILED, GOOD, REFUSED};
@@ -10,7 +12,8 @@ use crate::fault::CommandFault;
 use crate::reading::{read_file, read_named};
 use asl_history::Sink;
 use asl_host::{Files, write_piece};
-use asl_lint::{Report, Source, json, sarif, text};
+use asl_json::Txt;
+use asl_lint::{Finding, Report, Source, json, sarif, text};
 use asl_words::{LintFormat, LintWords};
 use std::alloc::{AllocError, Global};
 
@@ -25,18 +28,36 @@ pub struct Linted {
 pub fn lint<F: Files, O: Sink, E: Sink>(
     alloc: Global,
     words: &LintWords<'_>,
+    quiet: bool,
     files: &mut F,
     out: &mut O,
     err: &mut E,
 ) -> u8
     ensures { IsLinted (file_system (F.gives files.old) (F.lacks files.old))
         (io (sink_use O.taken O.failures out.old out.new)
-        (sink_use E.taken E.failures err.old err.new) result) words.now }
+        (sink_use E.taken E.failures err.old err.new) result) quiet words.now }
 {
-    match lint_files(alloc, words, files) {
+    lint_but(alloc, words, &[], quiet, files, out, err)
+}
+
+/// The same without the warnings of rules that are ignored.
+pub(crate) fn lint_but<F: Files, O: Sink, E: Sink>(
+    alloc: Global,
+    words: &LintWords<'_>,
+    rules: &[Txt],
+    quiet: bool,
+    files: &mut F,
+    out: &mut O,
+    err: &mut E,
+) -> u8
+    ensures { IsLintedBut rules.now (file_system (F.gives files.old) (F.lacks files.old))
+        (io (sink_use O.taken O.failures out.old out.new)
+        (sink_use E.taken E.failures err.old err.new) result) quiet words.now }
+{
+    match lint_files(alloc, words, rules, files) {
         Ok(linted) => print_linted(&linted, out),
         Err(refusal) => {
-            refusal.write(alloc, err);
+            refusal.write(alloc, quiet, err);
             REFUSED
         }
     }
@@ -46,16 +67,17 @@ pub fn lint<F: Files, O: Sink, E: Sink>(
 fn lint_files<'a, F: Files>(
     alloc: Global,
     words: &LintWords<'a>,
+    rules: &[Txt],
     files: &mut F,
 ) -> Result<Linted, CommandFault<'a>>
-    ensures linted { IfOk result (IsLintOf (F.gives files.old) words.now) }
+    ensures linted { IfOk result (IsLintOf (F.gives files.old) words.now rules.now) }
     ensures unread { IfErr result (AreUnread (F.gives files.old) (F.lacks files.old)
         (words.now.definition.now ∷ named (mocks_name words.now))) }
 {
     let definition = read_file(alloc, files, words.definition)?;
     let mocks = read_named(alloc, files, words.mocks)?;
     let source = source_of(definition.as_slice(), mocks.as_deref(), words.machine);
-    match lint_texts(alloc, words, &source) {
+    match lint_texts(alloc, words, rules, &source) {
         Ok(linted) => Ok(linted),
         Err(AllocError) => Err(CommandFault::OutOfMemory),
     }
@@ -84,15 +106,69 @@ fn source_of<'a>(
 fn lint_texts(
     alloc: Global,
     words: &LintWords<'_>,
+    rules: &[Txt],
     source: &Source<'_>,
 ) -> Result<Linted, AllocError>
-    ensures { IfOk result (IsJudged words.now (option_map (λ k. k.now) source.now.machine)
+    ensures { IfOk result (IsJudged words.now rules.now (option_map (λ k. k.now) source.now.machine)
         source.now.definition.now (option_map (λ b. b.now) source.now.mocks)) }
 {
-    let report = asl_lint::lint(alloc, source)?;
+    let all = asl_lint::lint(alloc, source)?;
+    let report = heeded(alloc, rules, all)?;
+    told(alloc, words, &report)
+}
+
+/// What is printed of a report, and whether nothing is wrong.
+fn told(alloc: Global, words: &LintWords<'_>, report: &Report) -> Result<Linted, AllocError>
+    ensures { IfOk result (IsTold words.now report.now) }
+{
     let good = report.is_good(words.strict);
-    let text = text_of(alloc, words, &report)?;
+    let text = text_of(alloc, words, report)?;
     Ok(Linted { text, good })
+}
+
+/// A report without the warnings of rules that are ignored. The error is that memory ran out.
+fn heeded(alloc: Global, rules: &[Txt], report: Report) -> Result<Report, AllocError>
+    ensures { IfOk result (AreHeeded rules.now report) }
+{
+    let Report { definition, mocks } = report;
+    Ok(Report {
+        definition: heeded_of(alloc, rules, definition)?,
+        mocks: heeded_of(alloc, rules, mocks)?,
+    })
+}
+
+fn heeded_of(
+    alloc: Global,
+    rules: &[Txt],
+    findings: Vec<Finding>,
+) -> Result<Vec<Finding>, AllocError>
+    ensures { IfOk result (λ v. v.items ≡ heeded rules.now findings.items) }
+{
+    let mut kept = Vec::new(alloc);
+    for finding in findings {
+        if !is_ignored(rules, &finding) {
+            kept.push(finding)?;
+        }
+    }
+    Ok(kept)
+}
+
+/// Whether a finding is a warning of one of these rules.
+fn is_ignored(rules: &[Txt], finding: &Finding) -> bool
+    ensures { result ≡ is_ignored rules.now finding.now }
+{
+    !finding.rule.is_error() && is_among(rules, finding.rule.name())
+}
+
+fn is_among(rules: &[Txt], name: &str) -> bool
+    ensures { result ≡ list_any (λ r. bytes_eq r name.now) rules.now }
+{
+    for rule in rules {
+        if rule.as_str() == name {
+            return true;
+        }
+    }
+    false
 }
 
 /// The name of the mock file; empty where there is none.

@@ -4,13 +4,16 @@ use crate::recognizing::{Role, put_if_other};
 use asl_explain::{Explanation, families};
 use asl_json::{Json, Member};
 use asl_json_read::{JsonFault, read};
+use asl_json_spans::Position;
 use asl_lint::{Finding, Source, errors, lint, unread_in};
 use asl_lint_messages::{put_name, put_near};
+use asl_project::{ProjectFault, Workflow};
 use asl_run_input::{EmulateFault, RunTexts};
 use asl_suite_file::ExpectFault;
 use asl_text::put_shown;
 use asl_words::SetupWords;
 use std::alloc::{AllocError, Global};
+use std::convert::AsStr;
 
 /// So many names are told at most.
 const MOST_NAMES: usize = 20;
@@ -61,9 +64,49 @@ pub(crate) fn of_mocks<'a>(
 }
 
 /// Why a text is no JSON, if it isn't. The error is that memory ran out.
-fn of_json(alloc: Global, file: &str, text: &[u8]) -> Result<String, AllocError> {
+pub(crate) fn of_json(alloc: Global, file: &str, text: &[u8]) -> Result<String, AllocError> {
     let findings: Vec<Finding> = unread_in(alloc, text)?;
     errors(alloc, file, &findings)
+}
+
+// ---- project files
+
+/// What is wrong at the place of a fault of a project.
+fn wrong_at(fault: &ProjectFault) -> Option<(&Position, &'static str)> {
+    match fault {
+        ProjectFault::Syntax(place) => Some((place, "this is no TOML")),
+        ProjectFault::Key(place) => Some((
+            place,
+            "a project has workflows, as [[workflow]], and a workflow has definition; it may have mocks, machine, tests, input and ignore, and no other key; where it has tests, it has mocks, too",
+        )),
+        ProjectFault::WrongType(place) => Some((
+            place,
+            "definition, mocks, machine and input are texts, tests and ignore lists of texts",
+        )),
+        ProjectFault::Machine(place) => {
+            Some((place, "another workflow is of this machine, too"))
+        }
+        ProjectFault::File(place) => Some((place, "this file can't be read")),
+        ProjectFault::OutOfMemory => None,
+    }
+}
+
+/// The line on a project file that is refused. The error is that memory ran out.
+pub(crate) fn of_project(
+    alloc: Global,
+    file: &str,
+    fault: &ProjectFault,
+) -> Result<String, AllocError> {
+    let mut out = String::new(alloc);
+    let Some((place, wrong)) = wrong_at(fault) else {
+        return Ok(out);
+    };
+    let (line, column) = (place.lines as u128 + 1, place.characters as u128 + 1);
+    put_shown(&mut out, file)?;
+    write!(out, ":{line}:{column}: error: ")?;
+    out.push_str(wrong)?;
+    out.push('\n')?;
+    Ok(out)
 }
 
 // ---- expectation files
@@ -73,9 +116,10 @@ fn wanted_at(depth: usize, member: &str) -> &'static str {
     match (depth, member) {
         (0, _) => "an expectation file is a list of tests",
         (1, _) => {
-            "a test is an object with machine, case, input and status; it may have name, output, match, error, cause, visits, invocations, calls and steps, and no other member"
+            "a test is an object with machine, case, status, and input or inputFile; it may have name, output, match, error, cause, visits, invocations, calls and steps, and no other member"
         }
         (2, "machine" | "case" | "name") => "this is a text",
+        (2, "inputFile") => "this is a text, the name of a file",
         (2, "status") => "this is SUCCEEDED, FAILED or TIMED_OUT",
         (2, "error" | "cause") => "this is a text, or null",
         (2, "calls") => "this is an object, from names of Tasks to lists of inputs",
@@ -144,7 +188,7 @@ fn cases_in(alloc: Global, mocks: &Json) -> Result<Vec<String>, AllocError> {
 }
 
 /// Appends the first of these names, and whether there are more.
-fn put_names(out: &mut String, names: &[String]) -> Result<(), AllocError> {
+fn put_names<S: AsStr>(out: &mut String, names: &[S]) -> Result<(), AllocError> {
     for (number, name) in names.iter().enumerate() {
         if number >= MOST_NAMES {
             return out.push_str(", ..");
@@ -190,6 +234,40 @@ fn lost_case(alloc: Global, file: &str, mocks: &[u8], chosen: &str) -> Result<St
         Err(JsonFault::OutOfMemory) => Err(AllocError),
         Err(_) => Ok(out),
     }
+}
+
+/// The line on what is chosen of a project that has no such machine. The error is that memory ran out.
+pub(crate) fn of_machine(
+    alloc: Global,
+    file: &str,
+    chosen: &str,
+    workflows: &[Workflow],
+) -> Result<String, AllocError> {
+    let mut names = Vec::new(alloc);
+    for workflow in workflows {
+        add_machine(&mut names, workflow)?;
+    }
+    let mut out = String::new(alloc);
+    put_file(&mut out, file)?;
+    out.push_str("error: no workflow with mocks is of the machine of ")?;
+    put_name(&mut out, chosen)?;
+    put_near(alloc, &mut out, chosen, &names)?;
+    if names.is_empty() {
+        out.push_str("; none names its machine\n")?;
+        return Ok(out);
+    }
+    out.push_str("; there are ")?;
+    put_names(&mut out, &names)?;
+    out.push('\n')?;
+    Ok(out)
+}
+
+/// Appends the machine of a workflow, where that is named.
+fn add_machine<'a>(names: &mut Vec<&'a str>, workflow: &'a Workflow) -> Result<(), AllocError> {
+    if let Some(machine) = &workflow.machine {
+        names.push(machine.as_str())?;
+    }
+    Ok(())
 }
 
 /// The line on a word under which nothing is explained. The error is that memory ran out.

@@ -22,18 +22,19 @@ use std::alloc::{AllocError, Global};
 pub fn mocks<F: Files, O: Sink, E: Sink>(
     alloc: Global,
     words: &MocksWords<'_>,
+    quiet: bool,
     files: &mut F,
     out: &mut O,
     err: &mut E,
 ) -> u8
     ensures { IsSampled (file_system (F.gives files.old) (F.lacks files.old))
         (io (sink_use O.taken O.failures out.old out.new)
-        (sink_use E.taken E.failures err.old err.new) result) words.now }
+        (sink_use E.taken E.failures err.old err.new) result) quiet words.now }
 {
     match sample_in(alloc, words, files) {
         Ok(text) => print_good(text.as_str(), out),
         Err(refusal) => {
-            refusal.write(alloc, err);
+            refusal.write(alloc, quiet, err);
             REFUSED
         }
     }

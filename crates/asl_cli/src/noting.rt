@@ -4,6 +4,7 @@ ghost use Rattle.std.specs.Fmt.{decimal};
 ghost use Rattle.asl_run_notes.specs.Notes.{note_text};
 ghost use Rattle.asl_host.specs.Outcomes.{sink_use};
 ghost use Rattle.asl_cli.specs.Noting.{full_note, limit_lead, limit_end, limit_note, end_note, IsNoted};
+ghost use Rattle.asl_cli.specs.Streams.{unless_quiet};
 
 use crate::command::tell_text;
 use asl_exec::{Emulated, Ended};
@@ -130,8 +131,21 @@ pub(crate) fn with_note(
     Ok(Ran { emulated, note })
 }
 
-/// Tells what is to be told; of nothing, nothing.
-pub(crate) fn tell_notes<E: Sink>(notes: &str, err: &mut E)
+/// A text, unless it isn't wanted.
+pub(crate) fn unless_quiet<'a>(quiet: bool, text: &'a str) -> &'a str
+    ensures { result.now ≡ unless_quiet quiet text.now }
+{
+    if quiet { "" } else { text }
+}
+
+/// Tells what is to be told, unless that isn't wanted; of nothing, nothing.
+pub(crate) fn tell_notes<E: Sink>(notes: &str, quiet: bool, err: &mut E)
+    ensures { IsNoted (sink_use E.taken E.failures err.old err.new) (unless_quiet quiet notes.now) }
+{
+    tell_all(unless_quiet(quiet, notes), err);
+}
+
+fn tell_all<E: Sink>(notes: &str, err: &mut E)
     ensures { IsNoted (sink_use E.taken E.failures err.old err.new) notes.now }
 {
     if notes.is_empty() {

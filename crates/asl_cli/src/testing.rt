@@ -1,22 +1,26 @@
 // The command `test`.
-ghost use Rattle.std.specs.Prelude.{◌≡◌, [], true, is_some, IfOk, IfErr, OnOk, OnErr, string_bytes};
+ghost use Rattle.std.specs.Prelude.{◌≡◌, ℕ, List, [], true, is_some, IfOk, IfErr, OnOk, OnErr, string_bytes};
 ghost use Rattle.std.specs.List.{list_all};
 ghost use Rattle.asl_check.specs.Judged.{IsMachineOf};
 ghost use Rattle.asl_mock.specs.Told.{IsMockFile};
 ghost use Rattle.asl_suite_file.specs.Told.{IsExpectationsFile};
+ghost use Rattle.asl_suite.specs.Cases.{reports_of};
 ghost use Rattle.asl_suite.specs.Findings.{reports_in};
 ghost use Rattle.asl_suite.specs.Reports.{is_passed};
 ghost use Rattle.asl_host.specs.Outcomes.{status_of, sink_use, IsTold, IsPrinted};
 ghost use Rattle.asl_cli.specs.Streams.{file_system, output_use, Writes, io};
 ghost use Rattle.asl_cli.specs.Choosing.{list_text, meant};
+ghost use Rattle.asl_host.specs.declared.files.Unreadable.{Unreadable};
+ghost use Rattle.asl_cli.specs.Inputs.{AreTestsOn, IsFirstLost, Unless};
 ghost use Rattle.asl_cli.specs.Faults.{AreUnread};
-ghost use Rattle.asl_cli.specs.Suites.{AreSuiteTexts, suite_names, AreTestsOf, IsListOf, IsListing, IsShown, IsSuiteOf, IsGood, IsCovered, chosen, IsDefinitionTextReason, IsMocksTextReason, IsTestsTextReason, IsSuiteTextReason, IsSuiteReason, IsReportText, judged, IsReport, IsReported, kept_file, kept_files, IsUnkept, IsFirstUnkept, IsLeft, IsTested};
+ghost use Rattle.asl_cli.specs.Suites.{AreSuiteTexts, suite_names, AreDraftsOf, IsSpelled, IsListOf, IsListReason, IsUndone, IsListing, IsShown, IsSuiteOf, AreRemarks, IsGood, IsCovered, chosen, IsDefinitionTextReason, IsMocksTextReason, IsTestsTextReason, IsSuiteTextReason, IsSuiteReason, IsReportText, AreFileTexts, judged, IsReport, IsReported, kept_file, kept_files, IsUnkept, IsFirstUnkept, IsLeft, IsTested};
 
 use crate::choosing::{keep_meant, list_of, numbers_of};
 use crate::command::{FAILED, GOOD, REFUSED};
 use crate::covering::{coverage_of, coverage_told};
 use crate::failing::failures;
 use crate::fault::CommandFault;
+use crate::inputs::with_inputs;
 use crate::mending::{of_definition, of_expectations, of_mocks};
 use crate::misnaming::misnamed;
 use crate::reading::read_file;
@@ -27,10 +31,10 @@ use asl_host::{Files, Outputs, write_piece};
 use asl_mock::{MockFault, Mocks};
 use asl_run_input::EmulateFault;
 use asl_suite::{
-    CaseReport, Finding, Source, Suite, all_passed, findings, json, junit, notes, remarks, report,
-    strictly,
+    CaseReport, Finding, Source, Suite, all_passed, findings, json, junit, notes,
+    remarks as remarks_of, report, strictly,
 };
-use asl_suite_file::{ExpectFault, Expectations};
+use asl_suite_file::{Drafts, ExpectFault};
 use asl_suite_workers::{SuiteFault, run_suite};
 use asl_threads_base::Gate;
 use asl_words::{ReportFormat, TestWords};
@@ -44,7 +48,7 @@ const MOST_WORKERS: usize = 64;
 /// What is printed of a suite, what is written to files in JUnit's format and in JSON, where that is asked for, what is told of the tests
 /// that aren't `ok` and of what they cover, and whether all is good: all tests are `ok`, and they cover as much as they are to.
 #[derive(Drop)]
-struct Reported {
+pub(crate) struct Reported {
     text: String,
     junit: String,
     json: String,
@@ -59,6 +63,7 @@ pub fn test<R: Threads + Wait + Sync, G: Gate + Sync, F: Files, K: Outputs, O: S
     gate: &G,
     alloc: Global,
     words: &TestWords<'_>,
+    quiet: bool,
     files: &mut F,
     outputs: &mut K,
     out: &mut O,
@@ -67,12 +72,12 @@ pub fn test<R: Threads + Wait + Sync, G: Gate + Sync, F: Files, K: Outputs, O: S
     ensures { IsTested (file_system (F.gives files.old) (F.lacks files.old))
         (output_use K.written outputs.old outputs.new)
         (io (sink_use O.taken O.failures out.old out.new)
-        (sink_use E.taken E.failures err.old err.new) result) words.now }
+        (sink_use E.taken E.failures err.old err.new) result) quiet words.now }
 {
-    match report_files(rt, gate, alloc, words, files) {
-        Ok(reported) => leave(alloc, words, &reported, outputs, out, err),
+    match report_files(rt, gate, alloc, words, quiet, files) {
+        Ok(reported) => leave(alloc, words, quiet, &reported, outputs, out, err),
         Err(refusal) => {
-            refusal.write(alloc, err);
+            refusal.write(alloc, quiet, err);
             REFUSED
         }
     }
@@ -82,6 +87,7 @@ pub fn test<R: Threads + Wait + Sync, G: Gate + Sync, F: Files, K: Outputs, O: S
 fn leave<K: Outputs, O: Sink, E: Sink>(
     alloc: Global,
     words: &TestWords<'_>,
+    quiet: bool,
     reported: &Reported,
     outputs: &mut K,
     out: &mut O,
@@ -89,7 +95,7 @@ fn leave<K: Outputs, O: Sink, E: Sink>(
 ) -> u8
     ensures { IsLeft (output_use K.written outputs.old outputs.new)
         (io (sink_use O.taken O.failures out.old out.new)
-        (sink_use E.taken E.failures err.old err.new) result) words.now
+        (sink_use E.taken E.failures err.old err.new) result) quiet words.now
         (string_bytes reported.now.text) (string_bytes reported.now.remarks) reported.now.good
         (string_bytes reported.now.junit) (string_bytes reported.now.json) }
 {
@@ -98,7 +104,7 @@ fn leave<K: Outputs, O: Sink, E: Sink>(
     match kept {
         Ok(()) => status,
         Err(refusal) => {
-            refusal.write(alloc, err);
+            refusal.write(alloc, quiet, err);
             REFUSED
         }
     }
@@ -143,7 +149,7 @@ fn keep_file<'a, K: Outputs>(
 }
 
 /// Prints the reports, and tells what is wrong; the status says whether all tests are `ok`.
-fn show_reports<O: Sink, E: Sink>(reported: &Reported, out: &mut O, err: &mut E) -> u8
+pub(crate) fn show_reports<O: Sink, E: Sink>(reported: &Reported, out: &mut O, err: &mut E) -> u8
     ensures printed { IsPrinted (sink_use O.taken O.failures out.old out.new) (string_bytes reported.now.text)
         (status_of reported.now.good) result }
     ensures told { IsTold (sink_use E.taken E.failures err.old err.new) (string_bytes reported.now.remarks) }
@@ -159,22 +165,23 @@ fn show_reports<O: Sink, E: Sink>(reported: &Reported, out: &mut O, err: &mut E)
 }
 
 /// Reads the files, in the order of the words, and runs the tests, or lists them.
-fn report_files<'a, R: Threads + Wait + Sync, G: Gate + Sync, F: Files>(
+pub(crate) fn report_files<'a, R: Threads + Wait + Sync, G: Gate + Sync, F: Files>(
     rt: &R,
     gate: &G,
     alloc: Global,
     words: &TestWords<'a>,
+    quiet: bool,
     files: &mut F,
 ) -> Result<Reported, CommandFault<'a>>
-    ensures reported { IfOk result (λ r. IsShown words.now.list (F.gives files.old) words.now
-        (string_bytes r.text) (string_bytes r.remarks) r.good) }
+    ensures reported { IfOk result (λ r. IsShown words.now.list (F.gives files.old) quiet words.now
+        (string_bytes r.text) (string_bytes r.remarks) r.good (string_bytes r.junit) (string_bytes r.json)) }
     ensures refused { IfErr result
-        (IsSuiteReason (F.gives files.old) (F.lacks files.old) words.now) }
+        (IsUndone words.now.list (F.gives files.old) (F.lacks files.old) words.now) }
 {
     if words.list {
         list_files(alloc, words, files)
     } else {
-        run_files(rt, gate, alloc, words, files)
+        run_files(rt, gate, alloc, words, quiet, files)
     }
 }
 
@@ -187,7 +194,7 @@ fn list_files<'a, F: Files>(
     ensures listed { IfOk result (λ r. IsListing (F.gives files.old) words.now (string_bytes r.text)
         × (string_bytes r.remarks ≡ []) × (r.good ≡ true)) }
     ensures refused { IfErr result
-        (IsSuiteReason (F.gives files.old) (F.lacks files.old) words.now) }
+        (IsListReason (F.gives files.old) (F.lacks files.old) words.now) }
 {
     let texts = read_suite_texts(alloc, files, words)?;
     let text = list_in(alloc, words, &texts)?;
@@ -223,7 +230,7 @@ fn list_text_of<'a>(
     ensures list { IfOk result (λ t. IsListOf text.now words.now (string_bytes t)) }
     ensures refused { IfErr result (IsTestsTextReason text.now) }
 {
-    let tests = all_tests_of(alloc, words.expectations, text)?;
+    let tests = all_drafts_of(alloc, words.expectations, text)?;
     let (first, apart) = (words.shard.first, words.shard.apart);
     match list_of(alloc, words.filter, first, apart, tests.list.as_slice()) {
         Ok(list) => Ok(list),
@@ -237,16 +244,18 @@ fn run_files<'a, R: Threads + Wait + Sync, G: Gate + Sync, F: Files>(
     gate: &G,
     alloc: Global,
     words: &TestWords<'a>,
+    quiet: bool,
     files: &mut F,
 ) -> Result<Reported, CommandFault<'a>>
-    ensures reported { IfOk result (λ r. IsReported (F.gives files.old) words.now
-        (string_bytes r.text) (string_bytes r.remarks) r.good) }
+    ensures reported { IfOk result (λ r. IsReported (F.gives files.old) quiet words.now
+        (string_bytes r.text) (string_bytes r.remarks) r.good (string_bytes r.junit) (string_bytes r.json)) }
     ensures refused { IfErr result
         (IsSuiteReason (F.gives files.old) (F.lacks files.old) words.now) }
 {
     let texts = read_suite_texts(alloc, files, words)?;
-    let suite = suite_of(alloc, words, &texts)?;
-    let Ok(reported) = reported_of(rt, gate, alloc, words, &texts, &suite) else {
+    let spelled = spelled_of(alloc, words, &texts)?;
+    let suite = suite_of(alloc, words, files, spelled)?;
+    let Ok(reported) = reported_of(rt, gate, alloc, words, quiet, &texts, &suite) else {
         return Err(CommandFault::OutOfMemory);
     };
     match covered(alloc, words.coverage, reported, &suite, &texts) {
@@ -265,8 +274,10 @@ fn covered(
     texts: &SuiteTexts,
 ) -> Result<Reported, AllocError>
     ensures text { IfOk result (λ r. string_bytes r.text ≡ string_bytes reported.text) }
-    ensures good { IfOk result (λ r. IsGood texts.now.mocks.items suite.now least reported.good
-        r.good (string_bytes r.remarks)) }
+    ensures good { IfOk result (λ r. IsGood texts.now.mocks.items suite.now least
+        (string_bytes reported.remarks) reported.good r.good (string_bytes r.remarks)) }
+    ensures files { IfOk result (λ r. (string_bytes r.junit ≡ string_bytes reported.junit)
+        × (string_bytes r.json ≡ string_bytes reported.json)) }
 {
     match least {
         Some(least) => {
@@ -286,8 +297,10 @@ fn with_coverage(
     mocks: &[u8],
 ) -> Result<Reported, AllocError>
     ensures text { IfOk result (λ r. string_bytes r.text ≡ string_bytes reported.text) }
-    ensures good { IfOk result (λ r. IsCovered mocks.now suite.now least reported.good r.good
-        (string_bytes r.remarks)) }
+    ensures good { IfOk result (λ r. IsCovered mocks.now suite.now least (string_bytes reported.remarks)
+        reported.good r.good (string_bytes r.remarks)) }
+    ensures files { IfOk result (λ r. (string_bytes r.junit ≡ string_bytes reported.junit)
+        × (string_bytes r.json ≡ string_bytes reported.json)) }
 {
     let coverage = coverage_of(alloc, suite, mocks)?;
     let percent = coverage.percent();
@@ -315,16 +328,20 @@ fn reported_of<R: Threads + Wait + Sync, G: Gate + Sync>(
     gate: &G,
     alloc: Global,
     words: &TestWords<'_>,
+    quiet: bool,
     texts: &SuiteTexts,
     suite: &Suite,
 ) -> Result<Reported, SuiteFault>
-    ensures { IfOk result (λ r. IsReport words.now.format words.now.strict suite.now (string_bytes r.text) r.good) }
+    ensures report { IfOk result (λ r. IsReport words.now.format words.now.strict suite.now (string_bytes r.text) r.good) }
+    ensures files { IfOk result (λ r. AreFileTexts words.now (judged words.now.strict (reports_of suite.now))
+        (string_bytes r.junit) (string_bytes r.json)) }
+    ensures remarks { IfOk result (λ r. AreRemarks quiet (string_bytes r.remarks)) }
 {
     // The command line's reader takes no other number.
     let workers = words.workers.clamp(1, MOST_WORKERS);
     let reports = run_suite(rt, alloc, suite, workers, gate)?;
     let reports = judged(alloc, words.strict, reports)?;
-    Ok(told_of(alloc, words, texts, suite, &reports)?)
+    Ok(told_of(alloc, words, quiet, texts, suite, &reports)?)
 }
 
 /// These reports; where that is asked, a test that may not mean what it says fails. The error is that memory ran out.
@@ -345,28 +362,52 @@ fn judged(
 fn told_of(
     alloc: Global,
     words: &TestWords<'_>,
+    quiet: bool,
     texts: &SuiteTexts,
     suite: &Suite,
     reports: &[CaseReport],
 ) -> Result<Reported, AllocError>
-    ensures { IfOk result (λ r. IsReportText words.now.format reports.now (string_bytes r.text)
+    ensures report { IfOk result (λ r. IsReportText words.now.format reports.now (string_bytes r.text)
         × (r.good ≡ list_all is_passed reports.now)) }
+    ensures files { IfOk result (λ r. AreFileTexts words.now reports.now (string_bytes r.junit) (string_bytes r.json)) }
+    ensures remarks { IfOk result (λ r. AreRemarks quiet (string_bytes r.remarks)) }
 {
     let numbers = numbers_in(alloc, words, texts)?;
     let source = source_of(words, numbers.as_deref());
     let findings = findings(alloc, &source, suite, reports)?;
-    let mut remarks = remarks(alloc, &findings)?;
-    remarks.push_str(notes(alloc, &findings)?.as_str())?;
-    remarks.push_str(misnamed(alloc, suite, texts.definition.as_slice(), &findings)?.as_str())?;
-    remarks.push_str(failures(alloc, suite, &findings)?.as_str())?;
-    let text = text_of(alloc, words.format, words, reports, &findings)?;
+    // Why tests aren't `ok`, what may be other than it is meant, and which names no state has.
+    let mut remarks = String::new(alloc);
+    if !quiet {
+        remarks.push_str(remarks_of(alloc, &findings)?.as_str())?;
+        remarks.push_str(notes(alloc, &findings)?.as_str())?;
+        remarks.push_str(misnamed(alloc, suite, texts.definition.as_slice(), &findings)?.as_str())?;
+        remarks.push_str(failures(alloc, suite, &findings)?.as_str())?;
+    }
+    reported_in(alloc, words, remarks, reports, &findings)
+}
+
+/// The texts of reports of which these are the findings. The error is that memory ran out.
+fn reported_in(
+    alloc: Global,
+    words: &TestWords<'_>,
+    remarks: String,
+    reports: &[CaseReport],
+    findings: &[Finding<'_>],
+) -> Result<Reported, AllocError>
+    requires { reports_in findings.now ≡ reports.now }
+    ensures report { IfOk result (λ r. IsReportText words.now.format reports.now (string_bytes r.text)
+        × (r.good ≡ list_all is_passed reports.now)) }
+    ensures files { IfOk result (λ r. AreFileTexts words.now reports.now (string_bytes r.junit) (string_bytes r.json)) }
+    ensures remarks { IfOk result (λ r. string_bytes r.remarks ≡ string_bytes remarks) }
+{
+    let text = text_of(alloc, words.format, words, reports, findings)?;
     let junit = text_if(
         alloc,
         words.junit,
         ReportFormat::JUnit,
         words,
         reports,
-        &findings,
+        findings,
     )?;
     let json = text_if(
         alloc,
@@ -374,7 +415,7 @@ fn told_of(
         ReportFormat::Json,
         words,
         reports,
-        &findings,
+        findings,
     )?;
     Ok(Reported {
         text,
@@ -394,7 +435,7 @@ fn numbers_in(
     if words.filter.is_none() {
         return Ok(None);
     }
-    let tests = match Expectations::read(alloc, texts.expectations.as_slice()) {
+    let tests = match Drafts::read(alloc, texts.expectations.as_slice()) {
         Ok(tests) => tests,
         Err(ExpectFault::OutOfMemory) => return Err(AllocError),
         // It isn't so: the suite's tests were read from these bytes.
@@ -468,6 +509,9 @@ fn read_suite_texts<'a, F: Files>(
 ) -> Result<SuiteTexts, CommandFault<'a>>
     ensures given { IfOk result (λ t. AreSuiteTexts (F.gives files.old) words.now
         t.definition.items t.mocks.items t.expectations.items) }
+    ensures kept { (n b : List ℕ) → F.gives files.new n b → F.gives files.old n b }
+    ensures lacking { (n : List ℕ) (u : Unreadable) → F.lacks files.new n u
+        → F.lacks files.old n u }
     ensures unread { IfErr result
         (AreUnread (F.gives files.old) (F.lacks files.old) (suite_names words.now)) }
 {
@@ -481,20 +525,55 @@ fn read_suite_texts<'a, F: Files>(
     })
 }
 
+/// A suite of which inputs may stand in files.
+#[derive(Drop)]
+pub(crate) struct SpelledSuite {
+    pub(crate) machine: Machine,
+    pub(crate) mocks: Mocks,
+    pub(crate) drafts: Drafts,
+}
+
 /// The suite that texts spell.
-fn suite_of<'a>(
+fn spelled_of<'a>(
     alloc: Global,
     words: &TestWords<'_>,
     texts: &SuiteTexts,
-) -> Result<Suite, CommandFault<'a>>
-    ensures suite { IfOk result (IsSuiteOf texts.now.definition.items texts.now.mocks.items
+) -> Result<SpelledSuite, CommandFault<'a>>
+    ensures spelled { IfOk result (IsSpelled texts.now.definition.items texts.now.mocks.items
         texts.now.expectations.items words.now) }
     ensures refused { IfErr result (IsSuiteTextReason texts.now.definition.items
         texts.now.mocks.items texts.now.expectations.items) }
 {
     let machine = machine_of(alloc, words, texts.definition.as_slice())?;
     let mocks = mocks_of(alloc, words, texts)?;
-    let tests = tests_of(alloc, words, texts.expectations.as_slice())?;
+    let drafts = drafts_of(alloc, words, texts.expectations.as_slice())?;
+    Ok(SpelledSuite {
+        machine,
+        mocks,
+        drafts,
+    })
+}
+
+/// The same with its inputs, of which each file is read.
+fn suite_of<'a, F: Files>(
+    alloc: Global,
+    words: &TestWords<'_>,
+    files: &mut F,
+    spelled: SpelledSuite,
+) -> Result<Suite, CommandFault<'a>>
+    ensures machine { IfOk result (λ s. s.machine ≡ spelled.machine) }
+    ensures mocks { IfOk result (λ s. s.mocks ≡ spelled.mocks) }
+    ensures tests { IfOk result (λ s. AreTestsOn (F.gives files.old) words.now.expectations.now
+        spelled.drafts.list.items s.tests.list.items) }
+    ensures lost { IfErr result (Unless (IsFirstLost (F.gives files.old) (F.lacks files.old)
+        words.now.expectations.now spelled.drafts.list.items)) }
+{
+    let SpelledSuite {
+        machine,
+        mocks,
+        drafts,
+    } = spelled;
+    let tests = with_inputs(alloc, files, words.expectations, drafts)?;
     Ok(Suite {
         machine,
         mocks,
@@ -539,15 +618,11 @@ fn mocks_of<'a>(
     }
 }
 
-fn all_tests_of<'a>(
-    alloc: Global,
-    file: &str,
-    text: &[u8],
-) -> Result<Expectations, CommandFault<'a>>
+fn all_drafts_of<'a>(alloc: Global, file: &str, text: &[u8]) -> Result<Drafts, CommandFault<'a>>
     ensures tests { IfOk result (λ t. IsExpectationsFile text.now t.list.items) }
     ensures refused { IfErr result (IsTestsTextReason text.now) }
 {
-    match Expectations::read(alloc, text) {
+    match Drafts::read(alloc, text) {
         Ok(tests) => Ok(tests),
         Err(ExpectFault::OutOfMemory) => Err(CommandFault::OutOfMemory),
         Err(fault) => match of_expectations(alloc, file, text, &fault) {
@@ -558,15 +633,15 @@ fn all_tests_of<'a>(
 }
 
 /// The tests of a file that the words choose.
-fn tests_of<'a>(
+fn drafts_of<'a>(
     alloc: Global,
     words: &TestWords<'_>,
     text: &[u8],
-) -> Result<Expectations, CommandFault<'a>>
-    ensures tests { IfOk result (λ t. AreTestsOf text.now words.now t.list.items) }
+) -> Result<Drafts, CommandFault<'a>>
+    ensures drafts { IfOk result (λ t. AreDraftsOf text.now words.now t.list.items) }
     ensures refused { IfErr result (IsTestsTextReason text.now) }
 {
-    let mut tests = all_tests_of(alloc, words.expectations, text)?;
+    let mut tests = all_drafts_of(alloc, words.expectations, text)?;
     match keep_chosen(alloc, words, &mut tests) {
         Ok(()) => Ok(tests),
         Err(_) => Err(CommandFault::OutOfMemory),
@@ -574,11 +649,7 @@ fn tests_of<'a>(
 }
 
 /// Keeps the tests that the words choose. The error is that memory ran out.
-fn keep_chosen(
-    alloc: Global,
-    words: &TestWords<'_>,
-    tests: &mut Expectations,
-) -> Result<(), AllocError>
+fn keep_chosen(alloc: Global, words: &TestWords<'_>, tests: &mut Drafts) -> Result<(), AllocError>
     ensures { OnOk result (tests.new.list.items ≡ chosen words.now tests.old.list.items) }
 {
     tests.keep_every(alloc, words.shard.first, words.shard.apart)?;

@@ -6,7 +6,7 @@ ghost use Rattle.asl_command_line.specs.Read.{command_named, IsRead, IsReadBehin
 
 use crate::answers::{Answer, answer_to, help_of, refusal_of};
 use asl_arguments::{CommandRow, Ungiven, commands, given_in};
-use asl_words::{Misuse, Screen, Words, asked, misuse_of};
+use asl_words::{Asked, Misuse, Screen, asked, misuse_of};
 use std::alloc::Global;
 use std::convert::AsStr;
 
@@ -16,7 +16,7 @@ pub fn read_words<'a, S: AsStr>(
     alloc: Global,
     words: &'a [S],
     screen: Screen,
-) -> Result<Words<'a>, Answer>
+) -> Result<Asked<'a>, Answer>
     ensures ok { IfOk result (IsRead (map S.text words.entry.now) screen) }
     ensures err { IfErr result (λ a. (a ≡ Answer.OutOfMemory)
         ⊎ IsUnread (map S.text words.entry.now) screen) }
@@ -32,7 +32,7 @@ fn read_behind<'a, S: AsStr>(
     alloc: Global,
     words: &'a [S],
     screen: Screen,
-) -> Result<Words<'a>, Answer>
+) -> Result<Asked<'a>, Answer>
     ensures ok { IfOk result (IsReadBehind (map S.text words.entry.now) screen) }
     ensures err { IfErr result (λ a. (a ≡ Answer.OutOfMemory)
         ⊎ IsUnreadBehind (map S.text words.entry.now) screen) }
@@ -63,7 +63,7 @@ fn read_command<'a, S: AsStr>(
     row: &CommandRow,
     words: &'a [S],
     screen: Screen,
-) -> Result<Words<'a>, Answer>
+) -> Result<Asked<'a>, Answer>
     requires { is_simple_and_free (app_for row.now) ≡ true }
     ensures ok { IfOk result (IsReadBy row.now (map S.text words.entry.now) screen) }
     ensures err { IfErr result (λ a. (a ≡ Answer.OutOfMemory)
@@ -71,7 +71,7 @@ fn read_command<'a, S: AsStr>(
 {
     match given_in(alloc, row, words) {
         Ok(given) => match asked(row.verb, &given, screen) {
-            Some(words) => Ok(words),
+            Some(asked) => Ok(asked),
             None => Err(refusal_of(alloc, Some(row), misuse_of(row.verb, &given))),
         },
         Err(Ungiven::OutOfMemory) => Err(Answer::OutOfMemory),

@@ -69,6 +69,16 @@ expectation_codes =
     ∷ numbered (codes "X3") (codes "OutOfMemory")
     ∷ []
 
+unfoldable pub project_codes : List Code
+project_codes =
+    numbered (codes "K1") (codes "Syntax")
+    ∷ numbered (codes "K2") (codes "Key")
+    ∷ numbered (codes "K3") (codes "Type")
+    ∷ numbered (codes "K4") (codes "Machine")
+    ∷ numbered (codes "K5") (codes "File")
+    ∷ numbered (codes "K6") (codes "OutOfMemory")
+    ∷ []
+
 unfoldable pub line_codes : List Code
 line_codes =
     numbered (codes "E1") (codes "StepLine")
@@ -110,7 +120,11 @@ warning_codes =
     ∷ plain (codes "heartbeat-not-shorter")
     ∷ plain (codes "unasked-handler")
     ∷ plain (codes "unknown-error")
+    ∷ plain (codes "repeated-error")
+    ∷ plain (codes "unused-delay")
+    ∷ plain (codes "max-delay-below-interval")
     ∷ plain (codes "forgotten-dollar")
+    ∷ plain (codes "not-computed")
     ∷ plain (codes "unknown-context-member")
     ∷ plain (codes "unknown-state")
     ∷ plain (codes "not-a-task")
@@ -148,8 +162,8 @@ error_codes =
     ∷ []
 
 abbrev pub asl_codes : List (List Code)
-asl_codes = definition_codes ∷ mock_codes ∷ json_codes ∷ expectation_codes ∷ line_codes
-    ∷ refusal_codes ∷ closing_codes ∷ warning_codes ∷ verdict_codes ∷ error_codes ∷ []
+asl_codes = definition_codes ∷ mock_codes ∷ json_codes ∷ expectation_codes
+    ∷ project_codes ∷ line_codes ∷ refusal_codes ∷ closing_codes ∷ warning_codes ∷ verdict_codes ∷ error_codes ∷ []
 
 -- ---- what a word means
 

@@ -5,12 +5,13 @@ ghost use Rattle.asl_explain.specs.Codes.{asl_codes, code_of, codes_of, family_l
 
 use crate::saying::Explanation;
 use crate::{
-    closings, definitions, errors, expectations, json, lines, mocks, refusals, verdicts, warnings,
+    closings, definitions, errors, expectations, json, lines, mocks, projects, refusals, verdicts,
+    warnings,
 };
 use std::alloc::{AllocError, Global};
 
 /// All codes, a family each, in order.
-pub fn families() -> [&'static [Explanation]; 10]
+pub fn families() -> [&'static [Explanation]; 11]
     ensures { codes_of result ≡ asl_codes }
 {
     [
@@ -18,6 +19,7 @@ pub fn families() -> [&'static [Explanation]; 10]
         mocks::all(),
         json::all(),
         expectations::all(),
+        projects::all(),
         lines::all(),
         refusals::all(),
         closings::all(),

@@ -115,9 +115,10 @@ Told by lint.
     Explanation {
         code: "unknown-error",
         name: None,
-        sentence: "a name that begins with States. is no error of the language",
+        sentence: "a name that begins with States., or is near such a name, is no error of the language",
         text: r#"Names that begin with States. are reserved, so this one is never raised. (Amazon States Language,
-"Error representation" and appendix A.) Correct it, as States.Timeout or States.TaskFailed; names
+"Error representation" and appendix A.) Near is what differs in one letter more or less, as
+State.ALL, or in upper and lower case. Correct it, as States.Timeout or States.TaskFailed; names
 of your own begin otherwise.
 
 Wrong:
@@ -131,11 +132,66 @@ Told by lint.
 "#,
     },
     Explanation {
+        code: "repeated-error",
+        name: None,
+        sentence: "an ErrorEquals names an error twice",
+        text: r#"An error is one of a list or isn't, so the second name says nothing. (Amazon States Language,
+"Retrying after error", "Fallback States".) Take it out, or name the other error that you mean.
+
+Wrong:
+    {"StartAt": "A", "States": {"A": {"Type": "Task", "Resource": "r", "End": true,
+      "Retry": [{"ErrorEquals": ["Busy", "States.Timeout", "Busy"]}]}}}
+Right:
+    {"StartAt": "A", "States": {"A": {"Type": "Task", "Resource": "r", "End": true,
+      "Retry": [{"ErrorEquals": ["Busy", "States.Timeout", "Down"]}]}}}
+
+Told by lint.
+"#,
+    },
+    Explanation {
+        code: "unused-delay",
+        name: None,
+        sentence: "a retrier that never retries says how long it waits",
+        text: r#"A MaxAttempts of 0 lets an error through without a retry, so that IntervalSeconds, BackoffRate,
+MaxDelaySeconds and JitterStrategy beside it say nothing. (Amazon States Language, "Retrying after
+error".) Raise MaxAttempts, or take them out.
+
+Wrong:
+    {"StartAt": "A", "States": {"A": {"Type": "Task", "Resource": "r", "End": true,
+      "Retry": [{"ErrorEquals": ["Busy"], "MaxAttempts": 0, "BackoffRate": 2}]}}}
+Right:
+    {"StartAt": "A", "States": {"A": {"Type": "Task", "Resource": "r", "End": true,
+      "Retry": [{"ErrorEquals": ["Busy"], "MaxAttempts": 0}]}}}
+
+Told by lint.
+"#,
+    },
+    Explanation {
+        code: "max-delay-below-interval",
+        name: None,
+        sentence: "MaxDelaySeconds is below IntervalSeconds",
+        text: r#"IntervalSeconds is the delay before the first retry, and MaxDelaySeconds the longest one. (Amazon
+States Language, "Retrying after error".) With a shorter limit each retry comes when the limit
+says, and IntervalSeconds and BackoffRate have no effect. Raise MaxDelaySeconds, or lower
+IntervalSeconds.
+
+Wrong:
+    {"StartAt": "A", "States": {"A": {"Type": "Task", "Resource": "r", "End": true, "Retry":
+      [{"ErrorEquals": ["Busy"], "IntervalSeconds": 60, "MaxDelaySeconds": 30}]}}}
+Right:
+    {"StartAt": "A", "States": {"A": {"Type": "Task", "Resource": "r", "End": true, "Retry":
+      [{"ErrorEquals": ["Busy"], "IntervalSeconds": 30, "MaxDelaySeconds": 60}]}}}
+
+Told by lint.
+"#,
+    },
+    Explanation {
         code: "forgotten-dollar",
         name: None,
-        sentence: "a text of a template looks like a path and stays a plain text",
-        text: r#"Only a member whose name ends in .$ is replaced by what its path names. (Amazon States Language,
-"Payload Template".) Add .$ to the name.
+        sentence: "a text of a template looks like a path or a call and stays a plain text",
+        text: r#"Only a member whose name ends in .$ is replaced by what its path names or its call gives. (Amazon
+States Language, "Payload Template".) Add .$ to the name. A text looks like a path if it is $ or
+$$, or begins with $., $[, $$. or $$[, and like a call if it begins as States.Format( does.
 
 Wrong:
     {"StartAt": "A",
@@ -143,6 +199,24 @@ Wrong:
 Right:
     {"StartAt": "A",
       "States": {"A": {"Type": "Pass", "Parameters": {"id.$": "$.order.id"}, "End": true}}}
+
+Told by lint.
+"#,
+    },
+    Explanation {
+        code: "not-computed",
+        name: None,
+        sentence: "a path, a call or a name with .$ stands where nothing is computed",
+        text: r#"A Fail puts out Error and Cause as they stand, and a Pass its Result. (Amazon States Language,
+"Fail State", "Pass State".) Use ErrorPath and CausePath; in a Pass give the value to Parameters,
+whose members with .$ are computed.
+
+Wrong:
+    {"StartAt": "A", "States": {"A": {"Type": "Pass", "Result": {"id.$": "$.id"}, "Next": "B"},
+      "B": {"Type": "Fail", "Cause": "$.reason"}}}
+Right:
+    {"StartAt": "A", "States": {"A": {"Type": "Pass", "Parameters": {"id.$": "$.id"}, "Next": "B"},
+      "B": {"Type": "Fail", "CausePath": "$.reason"}}}
 
 Told by lint.
 "#,

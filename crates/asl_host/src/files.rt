@@ -131,7 +131,7 @@ impl<'a, R: rt::Files, I: Read + Drop> Files for HostFiles<'a, R, I> {
 }
 
 /// Whether a JSON text stands in place of a file's name.
-fn is_text(name: &str) -> bool
+pub(crate) fn is_text(name: &str) -> bool
     ensures { result ≡ is_text name.now }
 {
     matches!(name.as_bytes().first(), Some(b'{' | b'[' | b'"'))

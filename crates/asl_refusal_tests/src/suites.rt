@@ -6,7 +6,7 @@ use asl_check::{Fault, accept};
 use asl_def::Machine;
 use asl_mock::{MockFault, Mocks};
 use asl_suite::{CaseReport, Suite, report, run_case};
-use asl_suite_file::{ExpectFault, Expectations};
+use asl_suite_file::{Drafts, ExpectFault, Expectations, InputSource};
 use asl_suite_workers::{SuiteFault, run_suite};
 use asl_threads_base::{Gate, NoGate};
 use std::alloc::{AllocError, Global};
@@ -46,12 +46,32 @@ fn mocks(alloc: Global) -> Result<Mocks, Fail> {
     Ok(mocks.map_err(|_| "no mocks")?)
 }
 
-fn tests(alloc: Global) -> Result<Expectations, Fail> {
-    let tests = match Expectations::read(alloc, TESTS.as_bytes()) {
-        Err(ExpectFault::OutOfMemory) => Expectations::read(alloc, TESTS.as_bytes()),
-        tests => tests,
+fn drafts(alloc: Global) -> Result<Drafts, Fail> {
+    let drafts = match Drafts::read(alloc, TESTS.as_bytes()) {
+        Err(ExpectFault::OutOfMemory) => Drafts::read(alloc, TESTS.as_bytes()),
+        drafts => drafts,
     };
-    Ok(tests.map_err(|_| "no tests")?)
+    Ok(drafts.map_err(|_| "no tests")?)
+}
+
+/// The tests of drafts in which inputs stand.
+fn whole(alloc: Global, drafts: Drafts) -> Result<Expectations, AllocError> {
+    let mut list = Vec::with_capacity(alloc, drafts.list.len())?;
+    for draft in drafts.into_list() {
+        let InputSource::Here(input) = &draft.input else {
+            continue;
+        };
+        let input = input.try_clone()?;
+        list.push(draft.with_input(input))?;
+    }
+    Ok(Expectations { list })
+}
+
+fn tests(alloc: Global) -> Result<Expectations, Fail> {
+    match whole(alloc, drafts(alloc)?) {
+        Ok(tests) => Ok(tests),
+        Err(AllocError) => Ok(whole(alloc, drafts(alloc)?)?),
+    }
 }
 
 fn suite(alloc: Global) -> Result<Suite, Fail> {

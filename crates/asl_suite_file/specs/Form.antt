@@ -1,5 +1,5 @@
 -- What an expectations file is made of: a list of tests, each an object. Which values don't fit, and where they stand.
-use Rattle.std.specs.Prelude.{ℕ, ◌+◌, ℤ, pos, List, [], ◌∷◌, ◌++◌, Bool, true, false, ◌&&◌, ◌||◌, if◌then◌else◌, codes, is_some, map, Option, Some, None}
+use Rattle.std.specs.Prelude.{ℕ, ◌+◌, ℤ, pos, List, [], ◌∷◌, ◌++◌, Bool, true, false, not, ◌&&◌, ◌||◌, if◌then◌else◌, codes, is_some, map, Option, Some, None}
 use Rattle.asl_json_data.specs.Data.{Data, null, number, text, list, dict, Chain, no_items, item, Pairs, no_members, member}
 use Rattle.asl_json.specs.Access.{is_list}
 use Rattle.asl_json.specs.Same.{bytes_eq}
@@ -92,10 +92,11 @@ abbrev pub bad_steps : Data → List Place
 bad_steps (list ds) = bad_steps_from 0 ds
 bad_steps d = [] ∷ []
 
--- whether the value of another member fits; any input and any output does
+-- whether the value of another member fits; any input and any output does, and of a file with the input any name
 abbrev pub is_fit : List ℕ → Data → Bool
 is_fit k d =
-    if bytes_eq k (codes "machine") || (bytes_eq k (codes "case") || bytes_eq k (codes "name"))
+    if bytes_eq k (codes "machine") || (bytes_eq k (codes "case") || (bytes_eq k (codes "name")
+    || bytes_eq k (codes "inputFile")))
     then is_text d
     else if bytes_eq k (codes "error") || bytes_eq k (codes "cause") then is_maybe_text d
     else if bytes_eq k (codes "status") then is_status d else true
@@ -114,10 +115,10 @@ bad_members (member k d ms) = under (name_part k) (bad_member k d) ++ bad_member
 abbrev pub is_known : List ℕ → Bool
 is_known k =
     bytes_eq k (codes "machine") || (bytes_eq k (codes "case") || (bytes_eq k (codes "name")
-    || (bytes_eq k (codes "input") || (bytes_eq k (codes "status")
+    || (bytes_eq k (codes "input") || (bytes_eq k (codes "inputFile") || (bytes_eq k (codes "status")
     || (bytes_eq k (codes "output") || (bytes_eq k (codes "match")
     || (bytes_eq k (codes "error") || (bytes_eq k (codes "cause")
-    || (bytes_eq k (codes "steps") || is_by_state k)))))))))
+    || (bytes_eq k (codes "steps") || is_by_state k))))))))))
 
 abbrev pub are_known : Pairs → Bool
 are_known no_members = true
@@ -126,11 +127,14 @@ are_known (member k d ms) = is_known k && are_known ms
 abbrev pub has : List ℕ → Data → Bool
 has k d = is_some (value_in k d)
 
--- it has the four members that each test has
+-- its input stands in it or in a file, and not in both
+abbrev pub has_input : Data → Bool
+has_input d = if has (codes "input") d then not (has (codes "inputFile") d) else has (codes "inputFile") d
+
+-- it has the members that each test has
 abbrev pub has_all : Data → Bool
 has_all d =
-    has (codes "machine") d && (has (codes "case") d && (has (codes "input") d
-    && has (codes "status") d))
+    has (codes "machine") d && (has (codes "case") d && (has_input d && has (codes "status") d))
 
 -- a test that lacks a member, or has one that isn't known, stands where it begins
 abbrev pub bad_test : Data → List Place

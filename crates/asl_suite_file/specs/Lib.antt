@@ -1,5 +1,6 @@
 pub mod Steps
 pub mod Form
+pub mod Drafts
 pub mod Spelled
 pub mod Told
 pub mod Lines

@@ -1,4 +1,4 @@
--- The tests that an expectations file spells. What a value is that doesn't fit is of no use: such a file is refused.
+-- The tests that an expectations file spells, with the files in which their inputs stand. What a value is that doesn't fit is of no use: such a file is refused.
 use Rattle.std.specs.Prelude.{ℕ, ℤ, pos, List, [], ◌∷◌, Option, Some, None, option_map, if◌then◌else◌, codes}
 use Rattle.asl_json_data.specs.Data.{Data, null, number, text, list, Chain, no_items, item, Pairs, no_members, member}
 use Rattle.asl_json.specs.Meaning.{value_in}
@@ -7,9 +7,10 @@ use Rattle.asl_json.specs.Access.{members_of_any, items_in}
 use Rattle.asl_json.specs.View.{json_of, unchained}
 use Rattle.asl_json.specs.Whole.{whole_of}
 use Rattle.asl_json.specs.declared.value.Json.{Json}
-use Rattle.asl_json.specs.declared.value.Json.TheVariants.{Null}
 use Rattle.asl_suite_file.specs.Steps.{steps_of}
-use Rattle.asl_suite_file.specs.declared.expectation.Expectation.{Expectation}
+use Rattle.asl_suite_file.specs.declared.expectation.Draft.{Draft}
+use Rattle.asl_suite_file.specs.declared.expectation.InputSource.{InputSource}
+use Rattle.asl_suite_file.specs.declared.expectation.InputSource.TheVariants.{Here, File}
 use Rattle.asl_suite_file.specs.declared.expectation.StateCount.{StateCount}
 use Rattle.asl_suite_file.specs.declared.expectation.StateCalls.{StateCalls}
 use Rattle.asl_suite_file.specs.declared.expectation.WantedEnd.{WantedEnd}
@@ -22,10 +23,6 @@ use Rattle.asl_suite_file.specs.declared.expectation.Wanted.TheVariants.{Succeed
 abbrev pub text_of : Option Data → List ℕ
 text_of (Some (text t)) = t
 text_of _ = []
-
-abbrev pub json_in : Option Data → Json
-json_in (Some d) = json_of d
-json_in None = Null
 
 abbrev pub maybe_in : Option Data → Option Json
 maybe_in o = option_map json_of o
@@ -77,22 +74,27 @@ states_of d = record {
   calls = calls_in (members_of_any (value_in (codes "calls") d));
 }
 
-abbrev pub test_of : Data → Expectation
+-- in the test, if it has an input; else in a file
+abbrev pub input_by : Option Data → Option Data → InputSource
+input_by (Some v) file = Here (json_of v)
+input_by None file = File (text_of file)
+
+abbrev pub test_of : Data → Draft
 test_of d = record {
   machine = text_of (value_in (codes "machine") d);
   case = text_of (value_in (codes "case") d);
   name = name_of (value_in (codes "name") d);
-  input = json_in (value_in (codes "input") d);
+  input = input_by (value_in (codes "input") d) (value_in (codes "inputFile") d);
   steps = steps_of (value_in (codes "steps") d);
   end = end_of d;
   states = states_of d;
 }
 
-abbrev pub tests_in : Chain → List Expectation
+abbrev pub tests_in : Chain → List Draft
 tests_in no_items = []
 tests_in (item d ds) = test_of d ∷ tests_in ds
 
 -- its items in order
-abbrev pub tests_of : Data → List Expectation
+abbrev pub tests_of : Data → List Draft
 tests_of (list ds) = tests_in ds
 tests_of _ = []

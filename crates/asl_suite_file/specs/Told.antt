@@ -7,17 +7,17 @@ use Rattle.asl_json_read.specs.declared.fault.JsonFault.{JsonFault}
 use Rattle.asl_json_read.specs.declared.fault.JsonFault.TheVariants as json
 use Rattle.asl_suite_file.specs.Form.{misfits, first_of}
 use Rattle.asl_suite_file.specs.Spelled.{tests_of}
-use Rattle.asl_suite_file.specs.declared.expectation.Expectation.{Expectation}
+use Rattle.asl_suite_file.specs.declared.expectation.Draft.{Draft}
 use Rattle.asl_suite_file.specs.declared.fault.ExpectFault.{ExpectFault}
 use Rattle.asl_suite_file.specs.declared.fault.ExpectFault.TheVariants.{Json, Shape, OutOfMemory}
 
 -- all of the value fits, and it spells these tests
-pub record AreSpelled (d : Data) (xs : List Expectation) : Type 0 where
+pub record AreSpelled (d : Data) (xs : List Draft) : Type 0 where
   pub fits : misfits d ≡ []
   pub tests : xs ≡ tests_of d
 
 -- the bytes are a JSON text of a value that spells these tests
-pub record IsExpectationsFile (b : List ℕ) (xs : List Expectation) : Type 0 where
+pub record IsExpectationsFile (b : List ℕ) (xs : List Draft) : Type 0 where
   pub value : Data
   pub reads : ReadsAs b value
   pub spelled : AreSpelled value xs

@@ -1,5 +1,6 @@
 // What a test of a suite is.
 ghost use Rattle.std.specs.Prelude.{◌≡◌, IfOk};
+ghost use Rattle.asl_suite_file.specs.Drafts.{test_on};
 
 use asl_json::{Items, Json, Txt};
 use asl_json_shared::Shared;
@@ -246,6 +247,81 @@ impl Steps {
         ensures { result.now ≡ self.now }
     {
         &self.steps
+    }
+}
+
+/// Where the input of a test stands.
+pub enum InputSource {
+    /// In the test: this value.
+    Here(Shared),
+    /// In the file of this name, which goes from the folder of the test's file: its value.
+    File(Txt),
+}
+
+impl Drop for InputSource {
+    fn drop(self) {
+        match self {
+            InputSource::Here(_input) => {}
+            InputSource::File(_name) => {}
+        }
+    }
+}
+
+/// A test as it is spelled: its input may stand in a file that isn't read yet.
+pub struct Draft {
+    /// The machine's name in the mock file.
+    pub machine: Txt,
+    /// The case's name. Where it is empty, nothing is looked up, and no task has an answer.
+    pub case: Txt,
+    /// What the test is called, if it has a name.
+    pub name: Option<Txt>,
+    /// Where the execution's input stands.
+    pub input: InputSource,
+    /// The steps that it takes; without them, those that come next are taken.
+    pub steps: Option<Steps>,
+    /// How the execution is to end.
+    pub end: WantedEnd,
+    /// What its states are to do.
+    pub states: WantedStates,
+}
+
+impl Drop for Draft {
+    fn drop(self) {
+        let Draft {
+            machine: _machine,
+            case: _case,
+            name: _name,
+            input: _input,
+            steps: _steps,
+            end: _end,
+            states: _states,
+        } = self;
+    }
+}
+
+impl Draft {
+    /// The test on this input.
+    pub fn with_input(self, input: Shared) -> Expectation
+        ensures { result ≡ test_on self input }
+    {
+        let Draft {
+            machine,
+            case,
+            name,
+            input: _source,
+            steps,
+            end,
+            states,
+        } = self;
+        Expectation {
+            machine,
+            case,
+            name,
+            input,
+            steps,
+            end,
+            states,
+        }
     }
 }
 

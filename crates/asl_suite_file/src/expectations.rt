@@ -7,7 +7,7 @@ ghost use Rattle.asl_suite_file.specs.Form.{misfits};
 ghost use Rattle.asl_suite_file.specs.Told.{IsExpectationsFile, AreSpelled, IsFaultIn, IsAnswer};
 ghost use Rattle.asl_suite_file.specs.declared.fault.ExpectFault.TheVariants.{OutOfMemory};
 
-use crate::expectation::Expectation;
+use crate::expectation::{Draft, Expectation};
 use crate::fault::{ExpectFault, unread};
 use crate::form::misfit;
 use crate::spelled::tests_of;
@@ -28,8 +28,20 @@ impl Drop for Expectations {
     }
 }
 
+/// The tests of a suite as they are spelled: of some only the file is known in which the input stands.
+pub struct Drafts {
+    /// The tests, in order.
+    pub list: Vec<Draft>,
+}
+
+impl Drop for Drafts {
+    fn drop(self) {
+        let Drafts { list: _list } = self;
+    }
+}
+
 /// The tests that a value spells, or its first fault. The error is that memory ran out.
-fn judged(alloc: Global, value: &Json) -> Result<Result<Vec<Expectation>, ExpectFault>, AllocError>
+fn judged(alloc: Global, value: &Json) -> Result<Result<Vec<Draft>, ExpectFault>, AllocError>
     ensures found { IfOk result (λ r. IfOk r (λ v. AreSpelled (data_of value.now) v.items)) }
     ensures fault { IfOk result (λ r. IfErr r (IsFaultIn (data_of value.now))) }
 {
@@ -39,10 +51,18 @@ fn judged(alloc: Global, value: &Json) -> Result<Result<Vec<Expectation>, Expect
     Ok(Ok(tests_of(alloc, value)?))
 }
 
-impl Expectations {
-    /// The tests that bytes spell: a list of objects with `machine`, `case`, `input` and `status`, and maybe with
+impl Drafts {
+    /// The tests.
+    pub fn into_list(self) -> Vec<Draft>
+        ensures { result ≡ self.list }
+    {
+        let Drafts { list } = self;
+        list
+    }
+
+    /// The tests that bytes spell: a list of objects with `machine`, `case`, `input` or `inputFile`, and `status`, and maybe with
     /// `name`, `steps`, `output`, `match`, `error`, `cause`, `visits`, `invocations` and `calls`.
-    pub fn read(alloc: Global, bytes: &[u8]) -> Result<Expectations, ExpectFault>
+    pub fn read(alloc: Global, bytes: &[u8]) -> Result<Drafts, ExpectFault>
         // What is read is a file in which all fits, and has the tests that it spells.
         ensures found { IfOk result (λ x. IsExpectationsFile bytes.now x.list.items) }
         // Each file in which all fits is read, unless memory runs out.
@@ -56,7 +76,7 @@ impl Expectations {
             Err(fault) => return Err(unread(fault)),
         };
         match judged(alloc, &value) {
-            Ok(Ok(list)) => Ok(Expectations { list }),
+            Ok(Ok(list)) => Ok(Drafts { list }),
             Ok(Err(fault)) => Err(fault),
             Err(AllocError) => Err(ExpectFault::OutOfMemory),
         }

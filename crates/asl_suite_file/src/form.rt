@@ -4,7 +4,7 @@ ghost use Rattle.asl_json_data.specs.Data.{chain, pairs};
 ghost use Rattle.asl_json_write.specs.Pointers.{name_part, index_part};
 ghost use Rattle.asl_json.specs.Access.{is_list};
 ghost use Rattle.asl_json.specs.View.{data_of, members_of};
-ghost use Rattle.asl_suite_file.specs.Form.{under, first_of, is_text, is_status_name, is_status, is_maybe_text, is_count, is_of_state, is_by_state, is_step, has_steps, is_fit, bad_steps_from, bad_steps, bad_of_states, bad_states, bad_member, bad_members, is_known, are_known, has_all, bad_test, misfits};
+ghost use Rattle.asl_suite_file.specs.Form.{under, first_of, is_text, is_status_name, is_status, is_maybe_text, is_count, is_of_state, is_by_state, is_step, has_steps, is_fit, bad_steps_from, bad_steps, bad_of_states, bad_states, bad_member, bad_members, is_known, are_known, has_input, has_all, bad_test, misfits};
 
 use crate::stepping::step_of;
 use asl_json::{Items, Json, Member, Members};
@@ -110,7 +110,7 @@ fn is_fit(key: &str, value: &Json) -> bool
     ensures { result ≡ is_fit key.now (data_of value.now) }
 {
     match key {
-        "machine" | "case" | "name" => is_text(value),
+        "machine" | "case" | "name" | "inputFile" => is_text(value),
         "error" | "cause" => is_maybe_text(value),
         "status" => is_status(value),
         _ => true,
@@ -121,7 +121,7 @@ fn is_known(key: &str) -> bool
     ensures { result ≡ is_known key.now }
 {
     match key {
-        "machine" | "case" | "name" | "input" | "status" => true,
+        "machine" | "case" | "name" | "input" | "inputFile" | "status" => true,
         "output" | "match" | "error" | "cause" | "steps" => true,
         _ => is_by_state(key),
     }
@@ -138,13 +138,24 @@ fn are_known(members: &[Member]) -> bool
     true
 }
 
-/// Whether a test has the four members that each has.
+/// Whether the input of a test stands in it or in a file, and not in both.
+fn has_input(value: &Json) -> bool
+    ensures { result ≡ has_input (data_of value.now) }
+{
+    if value.get("input").is_some() {
+        value.get("inputFile").is_none()
+    } else {
+        value.get("inputFile").is_some()
+    }
+}
+
+/// Whether a test has the members that each has.
 fn has_all(value: &Json) -> bool
     ensures { result ≡ has_all (data_of value.now) }
 {
     value.get("machine").is_some()
         && value.get("case").is_some()
-        && value.get("input").is_some()
+        && has_input(value)
         && value.get("status").is_some()
 }
 

@@ -1,6 +1,6 @@
 //! Expectations: the tests of a suite, and how the execution of each is to end.
 //!
-//! Modules in reading order: `fault` is why a file is refused, `expectation` what a test is. `form` finds the first value that
+//! Modules in reading order: `fault` is why a file is refused, `expectation` what a test is, and what it is while the file with its input isn't read. `form` finds the first value that
 //! doesn't fit, `stepping` reads the steps of a test, `spelled` makes the tests that a file spells, and `expectations` reads the whole file. `holding` says
 //! whether an output is like the one that is wanted, and `difference` where it differs.
 //!
@@ -20,10 +20,10 @@ mod stepping;
 
 pub use difference::{Difference, first_difference, list_difference};
 pub use expectation::{
-    CallsByState, CountsByState, Expectation, StateCalls, StateCount, Steps, Wanted, WantedEnd,
-    WantedStates, WantedText,
+    CallsByState, CountsByState, Draft, Expectation, InputSource, StateCalls, StateCount, Steps,
+    Wanted, WantedEnd, WantedStates, WantedText,
 };
-pub use expectations::Expectations;
+pub use expectations::{Drafts, Expectations};
 pub use fault::ExpectFault;
 pub use holding::{Likeness, is_like};
 pub use stepping::lines_spell_their_steps;

@@ -2,12 +2,12 @@
 ghost use Rattle.std.specs.Prelude.{◌≡◌, ◌≤◌, [], OnOk, OnErr, vec_len, vec_capacity};
 ghost use Rattle.asl_suite_file.specs.Shards.{every};
 
-use crate::expectation::Expectation;
-use crate::expectations::Expectations;
+use crate::expectation::Draft;
+use crate::expectations::Drafts;
 use std::alloc::{AllocError, Global};
 use std::mem;
 
-impl Expectations {
+impl Drafts {
     /// Keeps the tests of these numbers, counted from 1: `first`, and each that stands `apart` behind one of them. The error is that memory
     /// ran out, and all are kept.
     pub fn keep_every(
@@ -27,7 +27,7 @@ impl Expectations {
 }
 
 /// Puts the tests of these numbers into a list that has room for all.
-fn pick(all: Vec<Expectation>, first: usize, apart: usize, kept: &mut Vec<Expectation>)
+fn pick(all: Vec<Draft>, first: usize, apart: usize, kept: &mut Vec<Draft>)
     requires none { kept.old.items ≡ [] }
     requires len { vec_len kept.old ≡ 0 }
     requires room { vec_len all ≤ vec_capacity kept.old }

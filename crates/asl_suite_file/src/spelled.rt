@@ -3,10 +3,10 @@ ghost use Rattle.std.specs.Prelude.{◌≡◌, IfOk, option_map};
 ghost use Rattle.asl_json_data.specs.Data.{pairs};
 ghost use Rattle.asl_json.specs.Access.{items_in, members_of_any};
 ghost use Rattle.asl_json.specs.View.{data_of, members_of, json_of, unchained};
-ghost use Rattle.asl_suite_file.specs.Spelled.{text_of, json_in, name_of, wanted_text, maybe_in, wanted_of, count_of, counts_in, calls_in, end_of, states_of, test_of, tests_of};
+ghost use Rattle.asl_suite_file.specs.Spelled.{text_of, input_by, name_of, wanted_text, maybe_in, wanted_of, count_of, counts_in, calls_in, end_of, states_of, test_of, tests_of};
 
 use crate::expectation::{
-    CallsByState, CountsByState, Expectation, StateCalls, StateCount, Wanted, WantedEnd,
+    CallsByState, CountsByState, Draft, InputSource, StateCalls, StateCount, Wanted, WantedEnd,
     WantedStates, WantedText,
 };
 use crate::stepping::steps_of;
@@ -29,16 +29,6 @@ pub(crate) fn copy(alloc: Global, value: &Json) -> Result<Json, AllocError>
     ensures { IfOk result (λ v. v ≡ json_of (data_of value.now)) }
 {
     Ok(value.try_clone(alloc)?)
-}
-
-/// A copy of a value; `null` of none. The error is that memory ran out.
-fn json_in(alloc: Global, value: Option<&Json>) -> Result<Json, AllocError>
-    ensures { IfOk result (λ v. v ≡ json_in (option_map (λ v. data_of v.now) value.entry)) }
-{
-    match value {
-        Some(value) => copy(alloc, value),
-        None => Ok(Json::Null),
-    }
 }
 
 fn wanted_of(name: &str) -> Wanted
@@ -84,7 +74,7 @@ fn maybe_of(alloc: Global, value: Option<&Json>) -> Result<Option<Json>, AllocEr
     ensures { IfOk result (λ o. o ≡ maybe_in (option_map (λ v. data_of v.now) value.entry)) }
 {
     match value {
-        Some(_) => Ok(Some(json_in(alloc, value)?)),
+        Some(value) => Ok(Some(copy(alloc, value)?)),
         None => Ok(None),
     }
 }
@@ -175,15 +165,30 @@ fn states_of(alloc: Global, value: &Json) -> Result<WantedStates, AllocError>
     })
 }
 
+/// Where the input of a test stands that has one of these members. The error is that memory ran out.
+fn input_by(
+    alloc: Global,
+    input: Option<&Json>,
+    file: Option<&Json>,
+) -> Result<InputSource, AllocError>
+    ensures { IfOk result (λ x. x ≡ input_by (option_map (λ v. data_of v.now) input.entry)
+        (option_map (λ v. data_of v.now) file.entry)) }
+{
+    match input {
+        Some(input) => Ok(InputSource::Here(Shared::new(alloc, copy(alloc, input)?)?)),
+        None => Ok(InputSource::File(text_of(alloc, file)?)),
+    }
+}
+
 /// The test that a value spells. The error is that memory ran out.
-fn test_of(alloc: Global, value: &Json) -> Result<Expectation, AllocError>
+fn test_of(alloc: Global, value: &Json) -> Result<Draft, AllocError>
     ensures { IfOk result (λ x. x ≡ test_of (data_of value.now)) }
 {
-    Ok(Expectation {
+    Ok(Draft {
         machine: text_of(alloc, value.get("machine"))?,
         case: text_of(alloc, value.get("case"))?,
         name: name_of(alloc, value.get("name"))?,
-        input: Shared::new(alloc, json_in(alloc, value.get("input"))?)?,
+        input: input_by(alloc, value.get("input"), value.get("inputFile"))?,
         steps: steps_of(alloc, value.get("steps"))?,
         end: end_of(alloc, value)?,
         states: states_of(alloc, value)?,
@@ -191,7 +196,7 @@ fn test_of(alloc: Global, value: &Json) -> Result<Expectation, AllocError>
 }
 
 /// The tests that a value spells. The error is that memory ran out.
-pub(crate) fn tests_of(alloc: Global, value: &Json) -> Result<Vec<Expectation>, AllocError>
+pub(crate) fn tests_of(alloc: Global, value: &Json) -> Result<Vec<Draft>, AllocError>
     ensures { IfOk result (λ v. v.items ≡ tests_of (data_of value.now)) }
 {
     let Json::List(items) = value else {

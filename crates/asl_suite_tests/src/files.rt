@@ -3,7 +3,7 @@ use asl_json::Json;
 use asl_json_write::write;
 use asl_run_input::StepAt;
 use asl_suite_file::{
-    CallsByState, CountsByState, ExpectFault, Expectation, Expectations, Wanted, WantedText,
+    CallsByState, CountsByState, Draft, Drafts, ExpectFault, InputSource, Wanted, WantedText,
 };
 use asl_time::put_stamp;
 use std::alloc::{AllocError, Global};
@@ -75,9 +75,16 @@ fn put_steps(out: &mut String, steps: &[StepAt]) -> Result<(), AllocError> {
     Ok(())
 }
 
-fn put_test(alloc: Global, out: &mut String, test: &Expectation) -> Result<(), AllocError> {
+fn put_input(alloc: Global, out: &mut String, input: &InputSource) -> Result<(), AllocError> {
+    match input {
+        InputSource::Here(input) => put_value(alloc, out, input.get()),
+        InputSource::File(name) => write!(out, " of {}", name.as_str()),
+    }
+}
+
+fn put_test(alloc: Global, out: &mut String, test: &Draft) -> Result<(), AllocError> {
     write!(out, "{}#{}", test.machine.as_str(), test.case.as_str())?;
-    put_value(alloc, out, test.input.get())?;
+    put_input(alloc, out, &test.input)?;
     if let Some(name) = &test.name {
         write!(out, " \"{}\"", name.as_str())?;
     }
@@ -95,7 +102,7 @@ fn put_test(alloc: Global, out: &mut String, test: &Expectation) -> Result<(), A
     out.push(';')
 }
 
-fn told_tests(alloc: Global, tests: &[Expectation]) -> Result<String, AllocError> {
+fn told_tests(alloc: Global, tests: &[Draft]) -> Result<String, AllocError> {
     let mut text = String::new(alloc);
     for test in tests {
         put_test(alloc, &mut text, test)?;
@@ -109,7 +116,7 @@ fn told_fault(alloc: Global, fault: &ExpectFault) -> Result<String, AllocError> 
 
 /// The tests that a file spells, or its fault.
 fn told(alloc: Global, file: &str) -> Result<String, AllocError> {
-    match Expectations::read(alloc, file.as_bytes()) {
+    match Drafts::read(alloc, file.as_bytes()) {
         Ok(tests) => told_tests(alloc, &tests.list),
         Err(fault) => told_fault(alloc, &fault),
     }
@@ -146,6 +153,10 @@ fn tests_with_their_members(rt: HostRuntime) -> Result<(), Fail> {
               {"machine":"M","case":"A","input":{},"steps":[],"status":"FAILED"}]"#,
             "M#A {} / 2024-01-01T00:00:00.000Z,/12/0 2024-01-01T00:00:00.500Z, FAILED output - match - error any cause any visits invocations calls;\
              M#A {}  FAILED output - match - error any cause any visits invocations calls;",
+        ),
+        (
+            r#"[{"machine":"M","case":"A","inputFile":"a/b.json","status":"SUCCEEDED"}]"#,
+            "M#A of a/b.json SUCCEEDED output - match - error any cause any visits invocations calls;",
         ),
     ];
     for (file, wanted) in rows {
@@ -204,6 +215,18 @@ fn the_first_fault_at_its_place(rt: HostRuntime) -> Result<(), Fail> {
         (
             r#"[{"machine":"M","case":"A","input":{},"status":"FAILED","steps":["/ 2024-01-01T00:00:00Z","/0"],"name":2}]"#,
             "X2 Shape /0/steps/1",
+        ),
+        (
+            r#"[{"machine":"M","case":"A","status":"FAILED"}]"#,
+            "X2 Shape /0",
+        ),
+        (
+            r#"[{"machine":"M","case":"A","input":{},"inputFile":"a.json","status":"FAILED"}]"#,
+            "X2 Shape /0",
+        ),
+        (
+            r#"[{"machine":"M","case":"A","inputFile":{},"status":"FAILED"}]"#,
+            "X2 Shape /0/inputFile",
         ),
     ];
     for (file, wanted) in rows {

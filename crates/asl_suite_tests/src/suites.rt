@@ -2,7 +2,7 @@
 use asl_check::accept;
 use asl_mock::Mocks;
 use asl_suite::{CaseReport, Suite, report};
-use asl_suite_file::Expectations;
+use asl_suite_file::{Drafts, Expectations, InputSource};
 use std::alloc::Global;
 use std::test::Fail;
 
@@ -15,11 +15,25 @@ const MOCKS: &str =
     r#"{"StateMachines":{"M":{"TestCases":{"A":{"T":"One"},"B":{"T":"Bad"},"C":{}}}},
  "MockedResponses":{"One":{"0":{"Return":1}},"Bad":{"0":{"Throw":{"Error":"E"}}}}}"#;
 
+/// The tests of a file in which all inputs stand.
+fn tests_in(alloc: Global, file: &str) -> Option<Expectations> {
+    let drafts = Drafts::read(alloc, file.as_bytes()).ok()?;
+    let mut list = Vec::new(alloc);
+    for draft in drafts.into_list() {
+        let input = match &draft.input {
+            InputSource::Here(input) => input.try_clone().ok()?,
+            InputSource::File(_) => return None,
+        };
+        list.push(draft.with_input(input)).ok()?;
+    }
+    Some(Expectations { list })
+}
+
 /// A suite of these tests of a definition.
 pub(crate) fn suite_for(alloc: Global, definition: &str, tests: &str) -> Option<Suite> {
     let machine = accept(alloc, definition.as_bytes()).ok()?;
     let mocks = Mocks::read(alloc, MOCKS.as_bytes()).ok()?;
-    let tests = Expectations::read(alloc, tests.as_bytes()).ok()?;
+    let tests = tests_in(alloc, tests)?;
     Some(Suite {
         machine,
         mocks,

@@ -3,7 +3,7 @@
 //!
 //! `json`, `cases`, `second_reader` and `deep` try values, `outlines` where they stand in a text; `calls` and `functions` the calls of
 //! intrinsic functions, `templates` what stands on them; `paths`, `time` and `history` the crate of that subject; `formats` what is written
-//! for other programs. They stand here since the tests of a crate have it proved once more: here only they are. What the program prints is
+//! for other programs, `projects` project files. They stand here since the tests of a crate have it proved once more: here only they are. What the program prints is
 //! tested on the built program, beside the crates.
 #![tactic(auto)]
 
@@ -25,6 +25,8 @@ mod json;
 mod outlines;
 #[cfg(test)]
 mod paths;
+#[cfg(test)]
+mod projects;
 #[cfg(test)]
 mod second_reader;
 #[cfg(test)]

@@ -11,11 +11,18 @@ use Rattle.asl_words.specs.declared.verbs.Verb.{Verb}
 use Rattle.asl_words.specs.declared.verbs.Verb.TheVariants as verb
 use Rattle.asl_words.specs.declared.given.Given.{Given}
 use Rattle.asl_words.specs.declared.screen.Screen.{Screen}
+use Rattle.asl_words.specs.declared.words.Asked.{Asked}
 use Rattle.asl_words.specs.declared.words.Words.{Words}
 use Rattle.asl_words.specs.declared.words.Words.TheVariants as words
 use Rattle.asl_words.specs.declared.words.DefinitionWords.{DefinitionWords}
+use Rattle.asl_words.specs.declared.words.ProjectWords.{ProjectWords}
+use Rattle.asl_words.specs.declared.words.Subject.{Subject}
+use Rattle.asl_words.specs.declared.words.Subject.TheVariants as subject
 use Rattle.asl_words.specs.declared.words.PrintWords.{PrintWords}
 use Rattle.asl_words.specs.declared.words.SetupWords.{SetupWords}
+use Rattle.asl_words.specs.declared.words.Begin.{Begin}
+use Rattle.asl_words.specs.declared.words.Begin.TheVariants as begin
+use Rattle.asl_words.specs.declared.words.ChosenWords.{ChosenWords}
 use Rattle.asl_words.specs.declared.words.Shard.{Shard}
 use Rattle.asl_words.specs.declared.words.LintFormat.{LintFormat}
 use Rattle.asl_words.specs.declared.words.LintFormat.TheVariants as lint
@@ -116,6 +123,22 @@ shard_asked (Some w) = shard_in w.now
 abbrev pub definition_asked : Given → Option DefinitionWords
 definition_asked g = option_map (λ d. record { definition = d }) g.definition
 
+-- a definition, or else a project; both aren't named
+abbrev pub subject_named : Word → Word → Option Subject
+subject_named (Some d) None = Some (subject.Definition (record { definition = d }))
+subject_named (Some d) (Some p) = None
+subject_named None p = Some (subject.Project (record { project = p }))
+
+abbrev pub subject_asked : Given → Option Subject
+subject_asked g = subject_named g.definition g.project
+
+abbrev pub check_of : Subject → Option Words
+check_of (subject.Definition d) = Some (words.Check d)
+check_of (subject.Project p) = Some (words.CheckAll p)
+
+abbrev pub check_asked : Given → Option Words
+check_asked g = option_and_then check_of (subject_asked g)
+
 abbrev pub print_asked : Given → Option PrintWords
 print_asked g = option_map (λ d. record { definition = d; pretty = g.pretty }) (definition_asked g)
 
@@ -130,14 +153,64 @@ setup_asked g = option_and_then (λ definition. option_and_then (λ mocks.
     }) (option_xor g.input g.input_option)) (option_xor g.chosen g.case_option))
     (option_xor g.mocks g.mocks_option)) g.definition
 
-abbrev pub lint_asked : Given → Option Words
-lint_asked g = option_and_then (λ definition. option_map (λ format. words.Lint (record {
-  definition = definition;
+-- the word or the option, and not both; neither need be there
+abbrev pub either_asked : Word → Word → Option Word
+either_asked (Some word) (Some option) = None
+either_asked word option = Some (option_or word option)
+
+-- the number sign, which stands between a machine and a case of it
+abbrev pub is_case_mark : ℕ → Bool
+is_case_mark c = c == 35
+
+abbrev pub has_case : Word → Bool
+has_case None = false
+has_case (Some w) = list_any is_case_mark w.now
+
+-- a workflow of a project is meant: the project is named, or the first word is a case of a machine and
+-- nothing else is chosen
+abbrev pub names_chosen : Given → Bool
+names_chosen g =
+    is_some g.project || (not (is_some g.chosen) && (not (is_some g.case_option) && has_case g.definition))
+
+-- something is named that a project names
+abbrev pub names_more : Given → Bool
+names_more g = is_some g.chosen || (is_some g.input || is_some g.mocks_option)
+
+-- what is chosen of a project is the first word, or the option; the input may stand behind it
+abbrev pub chosen_asked : Given → Option ChosenWords
+chosen_asked g = if names_more g then None else option_and_then (λ chosen. option_map (λ input. record {
+  project = record { project = g.project };
+  chosen = chosen;
+  input = input;
+}) (either_asked g.mocks g.input_option)) (option_xor g.definition g.case_option)
+
+-- what a run begins with
+abbrev pub begin_asked : Given → Option Begin
+begin_asked g =
+    if names_chosen g then option_map begin.Project (chosen_asked g) else option_map begin.Files (setup_asked g)
+
+abbrev pub lint_one_asked : Given → DefinitionWords → Option Words
+lint_one_asked g d = option_map (λ format. words.Lint (record {
+  definition = d.definition;
   mocks = g.mocks;
   machine = g.machine;
   format = format;
   strict = g.strict;
-})) (format_asked lint_formats g.format)) g.definition
+})) (format_asked lint_formats g.format)
+
+abbrev pub lint_all_asked : Given → ProjectWords → Option Words
+lint_all_asked g p = option_map (λ format. words.LintAll (record {
+  project = p;
+  format = format;
+  strict = g.strict;
+})) (format_asked lint_formats g.format)
+
+abbrev pub lint_of : Given → Subject → Option Words
+lint_of g (subject.Definition d) = lint_one_asked g d
+lint_of g (subject.Project p) = lint_all_asked g p
+
+abbrev pub lint_asked : Given → Option Words
+lint_asked g = option_and_then (lint_of g) (subject_asked g)
 
 -- something is named that only a run needs
 abbrev pub names_run : Given → Bool
@@ -168,19 +241,36 @@ abbrev pub most_asked : Word → Word → Option (Option ℕ)
 most_asked (Some steps) (Some w) = None
 most_asked steps w = number_if_asked 1 1000000 w
 
-abbrev pub run_asked : Given → Screen → Option Words
-run_asked g s = option_and_then (λ setup. option_and_then (λ format. option_map (λ most. words.Run (record {
+-- how many steps are taken at most, how the run is printed, and whether in colours
+abbrev pub run_options : Given → Screen → Option (Option ℕ × RunFormat × Bool)
+run_options g s = option_and_then (λ format.
+    option_map (λ most. (most, format, s.coloured && tells_of_states format)) (most_asked g.steps g.most_steps))
+    (format_asked run_formats g.format)
+
+abbrev pub run_one_asked : Given → Screen → SetupWords → Option Words
+run_one_asked g s setup = option_map (λ o. words.Run (record {
   setup = setup;
   steps = g.steps;
-  most_steps = most;
-  format = format;
-  coloured = s.coloured && tells_of_states format;
-})) (most_asked g.steps g.most_steps)) (format_asked run_formats g.format)) (setup_asked g)
+  most_steps = o.0;
+  format = o.1;
+  coloured = o.2;
+})) (run_options g s)
 
--- the word or the option, and not both
-abbrev pub script_asked : Word → Word → Option Word
-script_asked (Some word) (Some option) = None
-script_asked word option = Some (option_or word option)
+abbrev pub run_in_asked : Given → Screen → ChosenWords → Option Words
+run_in_asked g s chosen = option_map (λ o. words.RunIn (record {
+  chosen = chosen;
+  steps = g.steps;
+  most_steps = o.0;
+  format = o.1;
+  coloured = o.2;
+})) (run_options g s)
+
+abbrev pub run_of : Given → Screen → Begin → Option Words
+run_of g s (begin.Files setup) = run_one_asked g s setup
+run_of g s (begin.Project chosen) = run_in_asked g s chosen
+
+abbrev pub run_asked : Given → Screen → Option Words
+run_asked g s = option_and_then (run_of g s) (begin_asked g)
 
 -- a script is told as text; without one it is the tree where a person types and reads, and nothing
 -- else is named
@@ -190,10 +280,34 @@ debug_format (Some w) typed has_script =
     if bytes_eq w.now (codes "text") then Some debug.Text
     else (if bytes_eq w.now (codes "tree") && not has_script then Some debug.Tree else None)
 
+-- the script, where there is one, and how the steps of lines are told
+abbrev pub debug_options : Given → Screen → Option (Word × DebugFormat)
+debug_options g s = option_and_then (λ script.
+    option_map (λ format. (script, format)) (debug_format g.format s.typed (is_some script)))
+    (either_asked g.script g.script_option)
+
+abbrev pub debug_one_asked : Given → Screen → SetupWords → Option Words
+debug_one_asked g s setup = option_map (λ o. words.Debug (record {
+  setup = setup;
+  script = o.0;
+  format = o.1;
+  coloured = s.coloured;
+})) (debug_options g s)
+
+abbrev pub debug_in_asked : Given → Screen → ChosenWords → Option Words
+debug_in_asked g s chosen = option_map (λ o. words.DebugIn (record {
+  chosen = chosen;
+  script = o.0;
+  format = o.1;
+  coloured = s.coloured;
+})) (debug_options g s)
+
+abbrev pub debug_of : Given → Screen → Begin → Option Words
+debug_of g s (begin.Files setup) = debug_one_asked g s setup
+debug_of g s (begin.Project chosen) = debug_in_asked g s chosen
+
 abbrev pub debug_asked : Given → Screen → Option Words
-debug_asked g s = option_and_then (λ setup. option_and_then (λ script. option_map (λ format.
-    words.Debug (record { setup = setup; script = script; format = format; coloured = s.coloured }))
-    (debug_format g.format s.typed (is_some script))) (script_asked g.script g.script_option)) (setup_asked g)
+debug_asked g s = option_and_then (debug_of g s) (begin_asked g)
 
 -- the least percent that is to be covered; 0 where only the flag is there
 abbrev pub coverage_asked : Word → Bool → Option (Option ℕ)
@@ -204,11 +318,11 @@ coverage_asked None flag = Some (if flag then Some 0 else None)
 abbrev pub lists_reports : Given → Bool
 lists_reports g = g.list && (is_some g.junit || is_some g.json)
 
-abbrev pub test_asked : Given → Option Words
-test_asked g = if lists_reports g then None else option_and_then (λ definition. option_and_then (λ mocks. option_and_then (λ expectations.
+abbrev pub test_one_asked : Given → DefinitionWords → Option Words
+test_one_asked g d = option_and_then (λ mocks. option_and_then (λ expectations.
     option_and_then (λ workers. option_and_then (λ format. option_and_then (λ shard. option_map (λ coverage.
     words.Test (record {
-      definition = definition;
+      definition = d.definition;
       mocks = mocks;
       expectations = expectations;
       workers = workers;
@@ -221,7 +335,36 @@ test_asked g = if lists_reports g then None else option_and_then (λ definition.
       coverage = coverage;
       strict = g.strict;
     })) (coverage_asked g.least g.coverage)) (shard_asked g.shard)) (format_asked report_formats g.format))
-    (number_asked 1 64 g.workers)) g.expectations) g.mocks) g.definition
+    (number_asked 1 64 g.workers)) g.expectations) g.mocks
+
+abbrev pub is_junit : Word → Bool
+is_junit None = false
+is_junit (Some w) = bytes_eq w.now (codes "junit")
+
+-- reports are to be one text: that of a file, or of a format that isn't one of lines
+abbrev pub joins_reports : Given → Bool
+joins_reports g = is_some g.junit || (is_some g.json || is_junit g.format)
+
+abbrev pub test_all_asked : Given → ProjectWords → Option Words
+test_all_asked g p = if joins_reports g then None else option_and_then (λ workers. option_and_then (λ format.
+    option_and_then (λ shard. option_map (λ coverage. words.TestAll (record {
+      project = p;
+      workers = workers;
+      format = format;
+      shard = shard;
+      filter = g.filter;
+      list = g.list;
+      coverage = coverage;
+      strict = g.strict;
+    })) (coverage_asked g.least g.coverage)) (shard_asked g.shard)) (format_asked report_formats g.format))
+    (number_asked 1 64 g.workers)
+
+abbrev pub test_of : Given → Subject → Option Words
+test_of g (subject.Definition d) = test_one_asked g d
+test_of g (subject.Project p) = test_all_asked g p
+
+abbrev pub test_asked : Given → Option Words
+test_asked g = if lists_reports g then None else option_and_then (test_of g) (subject_asked g)
 
 -- how the steps of one outcome are printed; nothing is said of it where all outcomes are
 abbrev pub witness_format : Word → Word → Option WitnessFormat
@@ -229,29 +372,57 @@ witness_format number None = Some witness.Steps
 witness_format None (Some w) = None
 witness_format (Some n) (Some w) = named witness_formats w.now
 
-abbrev pub explore_asked : Given → Screen → Option Words
-explore_asked g s = option_and_then (λ setup. option_and_then (λ limit. option_and_then (λ number. option_map (λ format.
-    words.Explore (record {
-      setup = setup;
-      limit = limit;
-      prompt = g.prompt;
-      calls = g.calls;
-      witness = number;
-      format = format;
-      coloured = s.coloured;
-    })) (witness_format g.witness g.format)) (number_if_asked 1 1000000 g.witness)) (number_asked 1 1000000 g.limit)) (setup_asked g)
+-- how many worlds are tried at most, and the number of the outcome whose steps are to be printed, if one
+-- is, and how
+abbrev pub explore_options : Given → Option (ℕ × Option ℕ × WitnessFormat)
+explore_options g = option_and_then (λ limit. option_and_then (λ number.
+    option_map (λ format. (limit, number, format)) (witness_format g.witness g.format))
+    (number_if_asked 1 1000000 g.witness)) (number_asked 1 1000000 g.limit)
 
--- what a command asks for, where answers are read on this screen; nothing where what is given doesn't
+abbrev pub explore_one_asked : Given → Screen → SetupWords → Option Words
+explore_one_asked g s setup = option_map (λ o. words.Explore (record {
+  setup = setup;
+  limit = o.0;
+  prompt = g.prompt;
+  calls = g.calls;
+  witness = o.1;
+  format = o.2;
+  coloured = s.coloured;
+})) (explore_options g)
+
+abbrev pub explore_in_asked : Given → Screen → ChosenWords → Option Words
+explore_in_asked g s chosen = option_map (λ o. words.ExploreIn (record {
+  chosen = chosen;
+  limit = o.0;
+  prompt = g.prompt;
+  calls = g.calls;
+  witness = o.1;
+  format = o.2;
+  coloured = s.coloured;
+})) (explore_options g)
+
+abbrev pub explore_of : Given → Screen → Begin → Option Words
+explore_of g s (begin.Files setup) = explore_one_asked g s setup
+explore_of g s (begin.Project chosen) = explore_in_asked g s chosen
+
+abbrev pub explore_asked : Given → Screen → Option Words
+explore_asked g s = option_and_then (explore_of g s) (begin_asked g)
+
+-- what a command is to do, where answers are read on this screen; nothing where what is given doesn't
 -- fit together
-abbrev pub asked : Verb → Given → Screen → Option Words
-asked verb.Check g s = option_map words.Check (definition_asked g)
-asked verb.Lint g s = lint_asked g
-asked verb.Print g s = option_map words.Print (print_asked g)
-asked verb.Upgrade g s = option_map words.Upgrade (print_asked g)
-asked verb.Graph g s = graph_asked g
-asked verb.Mocks g s = mocks_asked g
-asked verb.Run g s = run_asked g s
-asked verb.Debug g s = debug_asked g s
-asked verb.Test g s = test_asked g
-asked verb.Explore g s = explore_asked g s
-asked verb.Explain g s = Some (words.Explain (record { code = g.code }))
+abbrev pub words_asked : Verb → Given → Screen → Option Words
+words_asked verb.Check g s = check_asked g
+words_asked verb.Lint g s = lint_asked g
+words_asked verb.Print g s = option_map words.Print (print_asked g)
+words_asked verb.Upgrade g s = option_map words.Upgrade (print_asked g)
+words_asked verb.Graph g s = graph_asked g
+words_asked verb.Mocks g s = mocks_asked g
+words_asked verb.Run g s = run_asked g s
+words_asked verb.Debug g s = debug_asked g s
+words_asked verb.Test g s = test_asked g
+words_asked verb.Explore g s = explore_asked g s
+words_asked verb.Explain g s = Some (words.Explain (record { code = g.code }))
+
+-- the same, and how much is told beside that
+abbrev pub asked : Verb → Given → Screen → Option Asked
+asked verb g s = option_map (λ w. record { words = w; quiet = g.quiet }) (words_asked verb g s)

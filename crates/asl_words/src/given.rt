@@ -27,6 +27,7 @@ pub struct Given<'a> {
     pub most_steps: Option<&'a str>,
     pub junit: Option<&'a str>,
     pub json: Option<&'a str>,
+    pub project: Option<&'a str>,
     pub strict: bool,
     pub run: bool,
     pub coverage: bool,
@@ -34,4 +35,5 @@ pub struct Given<'a> {
     pub calls: bool,
     pub list: bool,
     pub pretty: bool,
+    pub quiet: bool,
 }

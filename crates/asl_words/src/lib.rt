@@ -17,7 +17,8 @@ pub use misuse::{Misuse, misuse_of, put_misuse};
 pub use screen::Screen;
 pub use verbs::Verb;
 pub use words::{
-    DebugFormat, DebugWords, DefinitionWords, ExplainWords, ExploreWords, GraphFormat, GraphWords,
-    LintFormat, LintWords, MocksWords, PrintWords, ReportFormat, RunFormat, RunWords, SetupWords,
-    Shard, TestWords, WitnessFormat, Words,
+    Asked, Begin, ChosenWords, DebugFormat, DebugInWords, DebugWords, DefinitionWords,
+    ExplainWords, ExploreInWords, ExploreWords, GraphFormat, GraphWords, LintAllWords, LintFormat,
+    LintWords, MocksWords, PrintWords, ProjectWords, ReportFormat, RunFormat, RunInWords, RunWords,
+    SetupWords, Shard, Subject, TestAllWords, TestWords, WitnessFormat, Words,
 };

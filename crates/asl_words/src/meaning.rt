@@ -1,27 +1,41 @@
 // What is asked for by what is given.
 ghost use Rattle.std.specs.Prelude.{◌≡◌};
+ghost use Rattle.std.specs.List.{list_any};
 ghost use Rattle.std.specs.Str.{all_ascii_digits};
-ghost use Rattle.asl_words.specs.Asked.{asked, definition_asked, print_asked, setup_asked, lint_asked, graph_asked, mocks_asked};
+ghost use Rattle.asl_words.specs.Asked.{subject_asked, check_asked, lint_all_asked, lint_one_asked, joins_reports, is_junit, test_all_asked, test_one_asked};
+ghost use Rattle.asl_words.specs.Asked.{asked, words_asked, definition_asked, print_asked, setup_asked, lint_asked, graph_asked, mocks_asked};
 ghost use Rattle.asl_words.specs.Asked.{run_asked, debug_asked, test_asked, explore_asked, names_run, marked_run, most_asked, lists_reports};
 ghost use Rattle.asl_words.specs.Asked.{format_asked, lint_formats, graph_formats, run_formats, report_formats, witness_formats, witness_format};
-ghost use Rattle.asl_words.specs.Asked.{tells_of_states, script_asked, debug_format, coverage_asked};
+ghost use Rattle.asl_words.specs.Asked.{tells_of_states, either_asked, debug_format, coverage_asked};
+ghost use Rattle.asl_words.specs.Asked.{has_case, is_case_mark, names_chosen, names_more, chosen_asked, begin_asked, run_options, run_one_asked, run_in_asked, debug_options, debug_one_asked, debug_in_asked, explore_options, explore_one_asked, explore_in_asked};
 ghost use Rattle.asl_words.specs.Asked.{number_in, number_asked, number_if_asked, digits_in, shard_between, shard_by, shard_in, shard_asked};
 
 use crate::given::Given;
 use crate::screen::Screen;
 use crate::verbs::Verb;
 use crate::words::{
-    DebugFormat, DebugWords, DefinitionWords, ExplainWords, ExploreWords, GraphFormat, GraphWords,
-    LintFormat, LintWords, MocksWords, PrintWords, ReportFormat, RunFormat, RunWords, SetupWords,
-    Shard, TestWords, WitnessFormat, Words,
+    Asked, Begin, ChosenWords, DebugFormat, DebugInWords, DebugWords, DefinitionWords,
+    ExplainWords, ExploreInWords, ExploreWords, GraphFormat, GraphWords, LintAllWords, LintFormat,
+    LintWords, MocksWords, PrintWords, ProjectWords, ReportFormat, RunFormat, RunInWords, RunWords,
+    SetupWords, Shard, Subject, TestAllWords, TestWords, WitnessFormat, Words,
 };
 
 /// What a command asks for, where answers are read on this screen; none where what is given doesn't fit together.
-pub fn asked<'a>(verb: Verb, given: &Given<'a>, screen: Screen) -> Option<Words<'a>>
+pub fn asked<'a>(verb: Verb, given: &Given<'a>, screen: Screen) -> Option<Asked<'a>>
     ensures { result ≡ asked verb given.now screen }
 {
+    Some(Asked {
+        words: words_of(verb, given, screen)?,
+        quiet: given.quiet,
+    })
+}
+
+/// What it is to do.
+fn words_of<'a>(verb: Verb, given: &Given<'a>, screen: Screen) -> Option<Words<'a>>
+    ensures { result ≡ words_asked verb given.now screen }
+{
     match verb {
-        Verb::Check => Some(Words::Check(definition_of(given)?)),
+        Verb::Check => check_of(given),
         Verb::Lint => lint_of(given),
         Verb::Print => Some(Words::Print(print_of(given)?)),
         Verb::Upgrade => Some(Words::Upgrade(print_of(given)?)),
@@ -32,6 +46,26 @@ pub fn asked<'a>(verb: Verb, given: &Given<'a>, screen: Screen) -> Option<Words<
         Verb::Test => test_of(given),
         Verb::Explore => explore_of(given, screen),
         Verb::Explain => Some(Words::Explain(ExplainWords { code: given.code })),
+    }
+}
+
+/// What is named: a definition, or else a project; not both.
+fn subject_of<'a>(given: &Given<'a>) -> Option<Subject<'a>>
+    ensures { result ≡ subject_asked given.now }
+{
+    match (given.definition, given.project) {
+        (Some(definition), None) => Some(Subject::Definition(DefinitionWords { definition })),
+        (Some(_), Some(_)) => None,
+        (None, project) => Some(Subject::Project(ProjectWords { project })),
+    }
+}
+
+fn check_of<'a>(given: &Given<'a>) -> Option<Words<'a>>
+    ensures { result ≡ check_asked given.now }
+{
+    match subject_of(given)? {
+        Subject::Definition(definition) => Some(Words::Check(definition)),
+        Subject::Project(project) => Some(Words::CheckAll(project)),
     }
 }
 
@@ -64,11 +98,91 @@ fn setup_of<'a>(given: &Given<'a>) -> Option<SetupWords<'a>>
     })
 }
 
+/// What a run begins with, where a project may name the files.
+fn begin_of<'a>(given: &Given<'a>) -> Option<Begin<'a>>
+    ensures { result ≡ begin_asked given.now }
+{
+    if names_chosen(given) {
+        return Some(Begin::Project(chosen_of(given)?));
+    }
+    Some(Begin::Files(setup_of(given)?))
+}
+
+/// Whether a workflow of a project is meant: the project is named, or the first word is a case of a machine and nothing else is chosen.
+pub(crate) fn names_chosen(given: &Given<'_>) -> bool
+    ensures { result ≡ names_chosen given.now }
+{
+    given.project.is_some()
+        || given.chosen.is_none() && given.case_option.is_none() && has_case(given.definition)
+}
+
+/// Whether a word has the mark that stands between a machine and a case.
+fn has_case(word: Option<&str>) -> bool
+    ensures { result ≡ has_case word.entry }
+{
+    match word {
+        Some(text) => has_case_mark(text.as_bytes()),
+        None => false,
+    }
+}
+
+fn has_case_mark(bytes: &[u8]) -> bool
+    ensures { result ≡ list_any is_case_mark bytes.now }
+{
+    match bytes {
+        [] => false,
+        [first, rest @ ..] => *first == b'#' || has_case_mark(rest),
+    }
+}
+
+/// What is chosen of a project: the first word, behind which the input may stand.
+fn chosen_of<'a>(given: &Given<'a>) -> Option<ChosenWords<'a>>
+    ensures { result ≡ chosen_asked given.now }
+{
+    if names_more(given) {
+        return None;
+    }
+    Some(ChosenWords {
+        project: ProjectWords {
+            project: given.project,
+        },
+        chosen: given.definition.xor(given.case_option)?,
+        input: either_of(given.mocks, given.input_option)?,
+    })
+}
+
+/// Whether something is named that a project names.
+pub(crate) fn names_more(given: &Given<'_>) -> bool
+    ensures { result ≡ names_more given.now }
+{
+    given.chosen.is_some() || given.input.is_some() || given.mocks_option.is_some()
+}
+
 fn lint_of<'a>(given: &Given<'a>) -> Option<Words<'a>>
     ensures { result ≡ lint_asked given.now }
 {
+    match subject_of(given)? {
+        Subject::Definition(definition) => lint_one(given, definition),
+        Subject::Project(project) => lint_all(given, project),
+    }
+}
+
+/// All workflows of a project.
+fn lint_all<'a>(given: &Given<'a>, project: ProjectWords<'a>) -> Option<Words<'a>>
+    ensures { result ≡ lint_all_asked given.now project.entry }
+{
+    Some(Words::LintAll(LintAllWords {
+        project,
+        format: lint_format_of(given.format)?,
+        strict: given.strict,
+    }))
+}
+
+fn lint_one<'a>(given: &Given<'a>, definition: DefinitionWords<'a>) -> Option<Words<'a>>
+    ensures { result ≡ lint_one_asked given.now definition.entry }
+{
     Some(Words::Lint(LintWords {
-        definition: given.definition?,
+        definition: definition.definition,
         mocks: given.mocks,
         machine: given.machine,
         format: lint_format_of(given.format)?,
@@ -146,16 +260,50 @@ fn mocks_of<'a>(given: &Given<'a>) -> Option<Words<'a>>
 fn run_of<'a>(given: &Given<'a>, screen: Screen) -> Option<Words<'a>>
     ensures { result ≡ run_asked given.now screen }
 {
-    let setup = setup_of(given)?;
-    let format = run_format_of(given.format)?;
-    let most_steps = most_of(given.steps, given.most_steps)?;
+    match begin_of(given)? {
+        Begin::Files(setup) => run_one(given, screen, setup),
+        Begin::Project(chosen) => run_in(given, screen, chosen),
+    }
+}
+
+fn run_one<'a>(given: &Given<'a>, screen: Screen, setup: SetupWords<'a>) -> Option<Words<'a>>
+    ensures { result ≡ run_one_asked given.now screen setup.entry }
+{
+    let (most_steps, format, coloured) = run_options(given, screen)?;
     Some(Words::Run(RunWords {
         setup,
         steps: given.steps,
         most_steps,
         format,
-        coloured: screen.coloured && tells_of_states(format),
+        coloured,
     }))
+}
+
+/// The same of a workflow of a project.
+fn run_in<'a>(given: &Given<'a>, screen: Screen, chosen: ChosenWords<'a>) -> Option<Words<'a>>
+    ensures { result ≡ run_in_asked given.now screen chosen.entry }
+{
+    let (most_steps, format, coloured) = run_options(given, screen)?;
+    Some(Words::RunIn(RunInWords {
+        chosen,
+        steps: given.steps,
+        most_steps,
+        format,
+        coloured,
+    }))
+}
+
+/// How many steps are taken at most, how a run is printed, and whether in colours.
+fn run_options(given: &Given<'_>, screen: Screen) -> Option<(Option<u32>, RunFormat, bool)>
+    ensures { result ≡ run_options given.now screen }
+{
+    let format = run_format_of(given.format)?;
+    let most_steps = most_of(given.steps, given.most_steps)?;
+    Some((
+        most_steps,
+        format,
+        screen.coloured && tells_of_states(format),
+    ))
 }
 
 /// How many of the steps that come next are taken at most, where that is said; it can't be where a file names the steps.
@@ -192,19 +340,49 @@ fn tells_of_states(format: RunFormat) -> bool
 fn debug_of<'a>(given: &Given<'a>, screen: Screen) -> Option<Words<'a>>
     ensures { result ≡ debug_asked given.now screen }
 {
-    let setup = setup_of(given)?;
-    let script = script_of(given.script, given.script_option)?;
+    match begin_of(given)? {
+        Begin::Files(setup) => debug_one(given, screen, setup),
+        Begin::Project(chosen) => debug_in(given, screen, chosen),
+    }
+}
+
+fn debug_one<'a>(given: &Given<'a>, screen: Screen, setup: SetupWords<'a>) -> Option<Words<'a>>
+    ensures { result ≡ debug_one_asked given.now screen setup.entry }
+{
+    let (script, format) = debug_options(given, screen)?;
     Some(Words::Debug(DebugWords {
         setup,
         script,
-        format: debug_format_of(given.format, screen.typed, script.is_some())?,
+        format,
         coloured: screen.coloured,
     }))
 }
 
-/// The script of `debug`, where one is named: by the word or by the option.
-fn script_of<'a>(word: Option<&'a str>, option: Option<&'a str>) -> Option<Option<&'a str>>
-    ensures { result ≡ script_asked word.entry option.entry }
+/// The same of a workflow of a project.
+fn debug_in<'a>(given: &Given<'a>, screen: Screen, chosen: ChosenWords<'a>) -> Option<Words<'a>>
+    ensures { result ≡ debug_in_asked given.now screen chosen.entry }
+{
+    let (script, format) = debug_options(given, screen)?;
+    Some(Words::DebugIn(DebugInWords {
+        chosen,
+        script,
+        format,
+        coloured: screen.coloured,
+    }))
+}
+
+/// The script, where there is one, and how the steps of lines are told.
+fn debug_options<'a>(given: &Given<'a>, screen: Screen) -> Option<(Option<&'a str>, DebugFormat)>
+    ensures { result ≡ debug_options given.now screen }
+{
+    let script = either_of(given.script, given.script_option)?;
+    let format = debug_format_of(given.format, screen.typed, script.is_some())?;
+    Some((script, format))
+}
+
+/// What is named by a word or by the option that stands for it, where it may be left out.
+fn either_of<'a>(word: Option<&'a str>, option: Option<&'a str>) -> Option<Option<&'a str>>
+    ensures { result ≡ either_asked word.entry option.entry }
 {
     match (word, option) {
         (Some(_), Some(_)) => None,
@@ -239,11 +417,63 @@ fn test_of<'a>(given: &Given<'a>) -> Option<Words<'a>>
     if lists_reports(given) {
         return None;
     }
+    match subject_of(given)? {
+        Subject::Definition(definition) => test_one(given, definition),
+        Subject::Project(project) => test_all(given, project),
+    }
+}
+
+/// Whether reports are to be one text: that of a file, or of a format that isn't one of lines.
+pub(crate) fn joins_reports(given: &Given<'_>) -> bool
+    ensures { result ≡ joins_reports given.now }
+{
+    given.junit.is_some() || given.json.is_some() || is_junit(given.format)
+}
+
+fn is_junit(word: Option<&str>) -> bool
+    ensures { result ≡ is_junit word.entry }
+{
+    match word {
+        Some(text) => text == "junit",
+        None => false,
+    }
+}
+
+/// The tests of all workflows of a project: reports stand one behind another, and are no one text.
+fn test_all<'a>(given: &Given<'a>, project: ProjectWords<'a>) -> Option<Words<'a>>
+    ensures { result ≡ test_all_asked given.now project.entry }
+{
+    if joins_reports(given) {
+        return None;
+    }
+    let (filter, list) = (given.filter, given.list);
+    Some(Words::TestAll(TestAllWords {
+        project,
+        workers: workers_of(given.workers)?,
+        format: report_format_of(given.format)?,
+        shard: shard_of(given.shard)?,
+        filter,
+        list,
+        coverage: coverage_of(given.least, given.coverage)?,
+        strict: given.strict,
+    }))
+}
+
+/// How many workers run tests.
+fn workers_of(word: Option<&str>) -> Option<usize>
+    ensures { result ≡ number_asked 1 64 word.entry }
+{
+    Some(number_of(word, 1, 64)? as usize)
+}
+
+fn test_one<'a>(given: &Given<'a>, definition: DefinitionWords<'a>) -> Option<Words<'a>>
+    ensures { result ≡ test_one_asked given.now definition.entry }
+{
     Some(Words::Test(TestWords {
-        definition: given.definition?,
+        definition: definition.definition,
         mocks: given.mocks?,
         expectations: given.expectations?,
-        workers: number_of(given.workers, 1, 64)? as usize,
+        workers: workers_of(given.workers)?,
         format: report_format_of(given.format)?,
         junit: given.junit,
         json: given.json,
@@ -340,15 +570,51 @@ fn are_digits(bytes: &[u8]) -> bool
 fn explore_of<'a>(given: &Given<'a>, screen: Screen) -> Option<Words<'a>>
     ensures { result ≡ explore_asked given.now screen }
 {
+    match begin_of(given)? {
+        Begin::Files(setup) => explore_one(given, screen, setup),
+        Begin::Project(chosen) => explore_in(given, screen, chosen),
+    }
+}
+
+fn explore_one<'a>(given: &Given<'a>, screen: Screen, setup: SetupWords<'a>) -> Option<Words<'a>>
+    ensures { result ≡ explore_one_asked given.now screen setup.entry }
+{
+    let (limit, witness, format) = explore_options(given)?;
     Some(Words::Explore(ExploreWords {
-        setup: setup_of(given)?,
-        limit: number_of(given.limit, 1, 1_000_000)?,
+        setup,
+        limit,
         prompt: given.prompt,
         calls: given.calls,
-        witness: number_if(given.witness, 1, 1_000_000)?,
-        format: witness_format_of(given.witness, given.format)?,
+        witness,
+        format,
         coloured: screen.coloured,
     }))
+}
+
+/// The same of a workflow of a project.
+fn explore_in<'a>(given: &Given<'a>, screen: Screen, chosen: ChosenWords<'a>) -> Option<Words<'a>>
+    ensures { result ≡ explore_in_asked given.now screen chosen.entry }
+{
+    let (limit, witness, format) = explore_options(given)?;
+    Some(Words::ExploreIn(ExploreInWords {
+        chosen,
+        limit,
+        prompt: given.prompt,
+        calls: given.calls,
+        witness,
+        format,
+        coloured: screen.coloured,
+    }))
+}
+
+/// How many worlds are tried at most, and the number of the outcome whose steps are to be printed, if one is, and how.
+fn explore_options(given: &Given<'_>) -> Option<(u32, Option<u32>, WitnessFormat)>
+    ensures { result ≡ explore_options given.now }
+{
+    let limit = number_of(given.limit, 1, 1_000_000)?;
+    let witness = number_if(given.witness, 1, 1_000_000)?;
+    let format = witness_format_of(given.witness, given.format)?;
+    Some((limit, witness, format))
 }
 
 /// The format that a word names for the steps of one outcome; there is no such word where all outcomes are printed.

@@ -1,16 +1,20 @@
 // What is wrong with words that clap takes.
 use crate::given::Given;
-use crate::meaning::{lists_reports, names_run};
+use crate::meaning::{joins_reports, lists_reports, names_chosen, names_more, names_run};
 use crate::verbs::Verb;
 use std::alloc::AllocError;
 
 /// Why nothing is asked for.
 #[derive(Clone, Copy)]
 pub enum Misuse {
-    /// Texts of a run are lacking: the mock file, what is chosen, the input.
-    Lacking(bool, bool, bool),
+    /// Texts of a run are lacking: the definition, the mock file, what is chosen, the input.
+    Lacking(bool, bool, bool, bool),
     /// Two words are both there of which one excludes the other, as a word and the option that stands for it.
     Twice(&'static str, &'static str),
+    /// Texts of a suite are lacking: the mock file, the expectations.
+    Suiteless(bool, bool),
+    /// The reports of a project's tests are to be one text, by this argument.
+    Joined(&'static str),
     /// Texts of a run are named, and none is asked for.
     Runless,
     /// A shard isn't two numbers.
@@ -29,12 +33,18 @@ pub enum Misuse {
 pub fn misuse_of(verb: Verb, given: &Given<'_>) -> Misuse {
     match verb {
         Verb::Test if lists_reports(given) => misuse_of_list(given),
+        Verb::Check | Verb::Lint | Verb::Test if are_both(given.definition, given.project) => {
+            Misuse::Twice("[DEF]", "--project <FILE>")
+        }
+        Verb::Test if given.definition.is_some() => misuse_of_suite(given),
+        Verb::Test if joins_reports(given) => misuse_of_joined(given),
         Verb::Test => Misuse::Shard,
         Verb::Explore if given.witness.is_none() && given.format.is_some() => Misuse::Witnessless,
         Verb::Run if are_both(given.steps, given.most_steps) => {
             Misuse::Twice("--steps <FILE>", "--max-steps <N>")
         }
         Verb::Graph if !given.run && names_run(given) => Misuse::Runless,
+        Verb::Run | Verb::Debug | Verb::Explore if names_chosen(given) => misuse_of_chosen(given),
         _ => misuse_of_run(given),
     }
 }
@@ -43,6 +53,47 @@ fn misuse_of_list(given: &Given<'_>) -> Misuse {
     match given.junit {
         Some(_) => Misuse::Twice("--list", "--junit <FILE>"),
         None => Misuse::Twice("--list", "--json <FILE>"),
+    }
+}
+
+fn misuse_of_suite(given: &Given<'_>) -> Misuse {
+    let mocks = given.mocks.is_none();
+    let expectations = given.expectations.is_none();
+    if mocks || expectations {
+        Misuse::Suiteless(mocks, expectations)
+    } else {
+        Misuse::Shard
+    }
+}
+
+fn misuse_of_joined(given: &Given<'_>) -> Misuse {
+    match (given.junit, given.json) {
+        (Some(_), _) => Misuse::Joined("--junit <FILE>"),
+        (None, Some(_)) => Misuse::Joined("--json <FILE>"),
+        (None, None) => Misuse::Joined("--format junit"),
+    }
+}
+
+fn misuse_of_chosen(given: &Given<'_>) -> Misuse {
+    if names_more(given) {
+        misuse_of_more(given)
+    } else if are_both(given.definition, given.case_option) {
+        Misuse::Twice("[DEF]", "--case <CHOSEN>")
+    } else if are_both(given.mocks, given.input_option) {
+        Misuse::Twice("[MOCKS]", "--input <FILE>")
+    } else if are_both(given.script, given.script_option) {
+        Misuse::Twice("[SCRIPT]", "--script <FILE>")
+    } else if is_neither(given.definition, given.case_option) {
+        Misuse::Lacking(false, false, true, false)
+    } else {
+        Misuse::TreeOfScript
+    }
+}
+
+fn misuse_of_more(given: &Given<'_>) -> Misuse {
+    match (given.chosen, given.mocks_option) {
+        (None, Some(_)) => Misuse::Twice("--mocks <FILE>", "--project <FILE>"),
+        _ => Misuse::Twice("[CHOSEN]", "--project <FILE>"),
     }
 }
 
@@ -69,8 +120,9 @@ fn lacking_in(given: &Given<'_>) -> Misuse {
     let mocks = is_neither(given.mocks, given.mocks_option);
     let chosen = is_neither(given.chosen, given.case_option);
     let input = is_neither(given.input, given.input_option);
-    if mocks || chosen || input {
-        Misuse::Lacking(mocks, chosen, input)
+    let definition = given.definition.is_none();
+    if definition || mocks || chosen || input {
+        Misuse::Lacking(definition, mocks, chosen, input)
     } else {
         Misuse::TreeOfScript
     }
@@ -84,10 +136,17 @@ fn is_neither(word: Option<&str>, option: Option<&str>) -> bool {
 /// Appends what is wrong.
 pub fn put_misuse(out: &mut String, misuse: Misuse) -> Result<(), AllocError> {
     match misuse {
-        Misuse::Lacking(mocks, chosen, input) => put_lacking(out, mocks, chosen, input),
+        Misuse::Lacking(definition, mocks, chosen, input) => {
+            put_lacking(out, definition, mocks, chosen, input)
+        }
         Misuse::Twice(word, option) => {
             write!(out, "the argument '{word}' cannot be used with '{option}'")
         }
+        Misuse::Suiteless(mocks, expectations) => put_suiteless(out, mocks, expectations),
+        Misuse::Joined(word) => write!(
+            out,
+            "the argument '{word}' is for the tests of one definition: name DEF, MOCKS and EXPECT"
+        ),
         Misuse::Runless => out.push_str(
             "the following required arguments were not provided:\n  --run",
         ),
@@ -105,11 +164,24 @@ pub fn put_misuse(out: &mut String, misuse: Misuse) -> Result<(), AllocError> {
     }
 }
 
-fn put_lacking(out: &mut String, mocks: bool, chosen: bool, input: bool) -> Result<(), AllocError> {
+fn put_lacking(
+    out: &mut String,
+    definition: bool,
+    mocks: bool,
+    chosen: bool,
+    input: bool,
+) -> Result<(), AllocError> {
     out.push_str("the following required arguments were not provided:")?;
+    put_if(out, definition, "\n  <DEF>")?;
     put_if(out, mocks, "\n  <MOCKS>")?;
     put_if(out, chosen, "\n  <CHOSEN>")?;
     put_if(out, input, "\n  <INPUT>")
+}
+
+fn put_suiteless(out: &mut String, mocks: bool, expectations: bool) -> Result<(), AllocError> {
+    out.push_str("the following required arguments were not provided:")?;
+    put_if(out, mocks, "\n  <MOCKS>")?;
+    put_if(out, expectations, "\n  <EXPECT>")
 }
 
 /// Appends a text where it is wanted.

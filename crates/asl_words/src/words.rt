@@ -1,12 +1,24 @@
 // What the words of a command line ask for.
 
-/// What a command line asks for.
+/// What a command line asks for, and how much is told beside that.
+#[derive(Clone, Copy)]
+pub struct Asked<'a> {
+    pub words: Words<'a>,
+    /// Whether neither notes nor lines for a person behind that of a fault are told.
+    pub quiet: bool,
+}
+
+/// What a command is to do.
 #[derive(Clone, Copy)]
 pub enum Words<'a> {
     /// A definition is to be judged.
     Check(DefinitionWords<'a>),
+    /// The same of each workflow of a project.
+    CheckAll(ProjectWords<'a>),
     /// All that is wrong with a definition and its mock file is to be told.
     Lint(LintWords<'a>),
+    /// The same of each workflow of a project.
+    LintAll(LintAllWords<'a>),
     /// A definition is to be printed in its canonical form.
     Print(PrintWords<'a>),
     /// A definition is to be printed in the newer spelling of Map states.
@@ -17,12 +29,20 @@ pub enum Words<'a> {
     Mocks(MocksWords<'a>),
     /// An execution is to be emulated.
     Run(RunWords<'a>),
+    /// The same of a workflow of a project.
+    RunIn(RunInWords<'a>),
     /// An execution is to be debugged.
     Debug(DebugWords<'a>),
+    /// The same of a workflow of a project.
+    DebugIn(DebugInWords<'a>),
     /// The tests of a suite are to be run.
     Test(TestWords<'a>),
+    /// The tests of each workflow of a project are to be run.
+    TestAll(TestAllWords<'a>),
     /// Every order of an execution is to be tried.
     Explore(ExploreWords<'a>),
+    /// The same of a workflow of a project.
+    ExploreIn(ExploreInWords<'a>),
     /// A code is to be explained, or all are to be listed.
     Explain(ExplainWords<'a>),
 }
@@ -31,6 +51,22 @@ pub enum Words<'a> {
 #[derive(Clone, Copy)]
 pub struct DefinitionWords<'a> {
     pub definition: &'a str,
+}
+
+/// The word of a command on a project.
+#[derive(Clone, Copy)]
+pub struct ProjectWords<'a> {
+    /// The name of the project's file; none where it is the usual one.
+    pub project: Option<&'a str>,
+}
+
+/// What a command is done for.
+#[derive(Clone, Copy)]
+pub enum Subject<'a> {
+    /// The definition in the file of this name.
+    Definition(DefinitionWords<'a>),
+    /// Each workflow of a project.
+    Project(ProjectWords<'a>),
 }
 
 /// The words of `print` and of `upgrade`.
@@ -60,6 +96,15 @@ pub struct LintWords<'a> {
     pub mocks: Option<&'a str>,
     /// The name that the machine has in the mock file; none where that has only one.
     pub machine: Option<&'a str>,
+    pub format: LintFormat,
+    /// Whether warnings count as errors.
+    pub strict: bool,
+}
+
+/// The words of `lint` on a project.
+#[derive(Clone, Copy)]
+pub struct LintAllWords<'a> {
+    pub project: ProjectWords<'a>,
     pub format: LintFormat,
     /// Whether warnings count as errors.
     pub strict: bool,
@@ -104,6 +149,23 @@ pub struct SetupWords<'a> {
     pub input: &'a str,
 }
 
+/// What an execution of a workflow of a project begins with.
+#[derive(Clone, Copy)]
+pub struct ChosenWords<'a> {
+    pub project: ProjectWords<'a>,
+    /// The machine, or the machine and a case of it, as `Machine#Case`.
+    pub chosen: &'a str,
+    /// The input, or the name of its file; none where it is the workflow's.
+    pub input: Option<&'a str>,
+}
+
+/// What an execution begins with: the files themselves are named, or a project that names them.
+#[derive(Clone, Copy)]
+pub enum Begin<'a> {
+    Files(SetupWords<'a>),
+    Project(ChosenWords<'a>),
+}
+
 /// How a run is printed.
 #[derive(Clone, Copy)]
 pub enum RunFormat {
@@ -134,6 +196,16 @@ pub struct RunWords<'a> {
     pub coloured: bool,
 }
 
+/// The words of `run` on a project.
+#[derive(Clone, Copy)]
+pub struct RunInWords<'a> {
+    pub chosen: ChosenWords<'a>,
+    pub steps: Option<&'a str>,
+    pub most_steps: Option<u32>,
+    pub format: RunFormat,
+    pub coloured: bool,
+}
+
 /// How the debugger tells what the steps of a line do.
 #[derive(Clone, Copy)]
 pub enum DebugFormat {
@@ -152,6 +224,15 @@ pub struct DebugWords<'a> {
     /// How lines that are typed are answered; a script is told as text.
     pub format: DebugFormat,
     /// Whether what happened at each state is told in colours.
+    pub coloured: bool,
+}
+
+/// The words of `debug` on a project.
+#[derive(Clone, Copy)]
+pub struct DebugInWords<'a> {
+    pub chosen: ChosenWords<'a>,
+    pub script: Option<&'a str>,
+    pub format: DebugFormat,
     pub coloured: bool,
 }
 
@@ -197,6 +278,19 @@ pub struct TestWords<'a> {
     pub strict: bool,
 }
 
+/// The words of `test` on a project. What they say holds for each file of tests by itself.
+#[derive(Clone, Copy)]
+pub struct TestAllWords<'a> {
+    pub project: ProjectWords<'a>,
+    pub workers: usize,
+    pub format: ReportFormat,
+    pub shard: Shard,
+    pub filter: Option<&'a str>,
+    pub list: bool,
+    pub coverage: Option<u32>,
+    pub strict: bool,
+}
+
 /// How the steps of one outcome of a search are printed.
 #[derive(Clone, Copy)]
 pub enum WitnessFormat {
@@ -223,6 +317,18 @@ pub struct ExploreWords<'a> {
     /// How these are printed.
     pub format: WitnessFormat,
     /// Whether what happened at each state is told in colours.
+    pub coloured: bool,
+}
+
+/// The words of `explore` on a project.
+#[derive(Clone, Copy)]
+pub struct ExploreInWords<'a> {
+    pub chosen: ChosenWords<'a>,
+    pub limit: u32,
+    pub prompt: bool,
+    pub calls: bool,
+    pub witness: Option<u32>,
+    pub format: WitnessFormat,
     pub coloured: bool,
 }
 

@@ -1,0 +1,3 @@
+mod Folders
+mod Keys
+mod Prefixes

@@ -1,0 +1,195 @@
+"""The project file: what check, lint and test do for its workflows, and what is told of one that is refused."""
+import json
+import os
+import subprocess
+import tempfile
+import unittest
+
+from program import PROGRAM
+
+TASK = '{"StartAt":"T","States":{"T":{"Type":"Task","Resource":"r","End":true}}}'
+# A warning, and no error: no-default.
+CHOICE = """{"StartAt":"C","States":{"C":{"Type":"Choice","Choices":[{"Variable":"$.a","BooleanEquals":true,"Next":"S"}]},
+"S":{"Type":"Succeed"}}}"""
+FAULTY = '{"StartAt":"A","States":{"A":{"Type":"Pass","Next":"B"}}}'
+MOCKS = '{"StateMachines":{"M":{"TestCases":{"A":{"T":"one"}}}},"MockedResponses":{"one":{"0":{"Return":1}}}}'
+PASSES = [{"machine": "M", "case": "A", "input": {}, "status": "SUCCEEDED", "output": 1}]
+FAILS = [{"machine": "M", "case": "A", "input": {}, "status": "FAILED"}]
+
+TWO = """\
+[[workflow]]
+definition = "task.json"
+mocks = "mocks.json"
+machine = "M"
+tests = ["passes.json", "fails.json"]
+
+[[workflow]]
+definition = "choice.json"
+"""
+
+# Texts that are no project, and the faults that are told.
+REFUSED = [
+    ("x = ", "K1 Syntax 1:5"),
+    ("[[workflow]]\ndefinition = order\n", "K1 Syntax 2:14"),
+    ("[[workflow]]\ndefinition = \"a\"\n  mock = \"b\"\n", "K2 Key 3:3"),
+    ("title = \"a\"\n", "K2 Key 1:1"),
+    ("[[workflow]]\ndefinition = \"a\"\n[[workflow]]\n", "K2 Key 3:1"),
+    ("[[workflow]]\ndefinition = \"a\"\ntests = []\n", "K2 Key 1:1"),
+    ("[[workflow]]\ndefinition = 1\n", "K3 Type 2:1"),
+    ("[workflow]\ndefinition = \"a\"\n", "K3 Type 1:1"),
+    ("[[workflow]]\ndefinition = \"a\"\nmachine = \"A\"\n[[workflow]]\ndefinition = \"b\"\nmachine = 'A'\n", "K4 Machine 6:1"),
+    # Of several the least number.
+    ("[[workflow]]\ndefinition = 1\n[[workflow]]\nmock = 1\n", "K2 Key 4:1"),
+]
+
+
+class ProjectTest(unittest.TestCase):
+    maxDiff = None
+
+    def setUp(self):
+        room = tempfile.TemporaryDirectory(prefix="asl-test-")
+        self.addCleanup(room.cleanup)
+        self.room = room.name
+        self.write("task.json", TASK)
+        self.write("choice.json", CHOICE)
+        self.write("faulty.json", FAULTY)
+        self.write("mocks.json", MOCKS)
+        self.write("passes.json", json.dumps(PASSES))
+        self.write("fails.json", json.dumps(FAILS))
+
+    def write(self, name, text):
+        os.makedirs(os.path.dirname(os.path.join(self.room, name)), exist_ok=True)
+        with open(os.path.join(self.room, name), "w", encoding="utf-8") as file:
+            file.write(text)
+
+    def ran(self, *words):
+        ran = subprocess.run([PROGRAM, *words], cwd=self.room, stdin=subprocess.DEVNULL, capture_output=True, encoding="utf-8", timeout=60)
+        return ran.returncode, ran.stdout, ran.stderr
+
+    def one_after_another(self, *lines):
+        """What these command lines print and tell, and the highest status."""
+        all_ran = [self.ran(*words) for words in lines]
+        return max(it[0] for it in all_ran), "".join(it[1] for it in all_ran), "".join(it[2] for it in all_ran)
+
+    def test_each_workflow(self):
+        """Each command does what it does for the files of one workflow after another."""
+        self.write("asl.toml", TWO)
+        self.assertEqual(self.ran("check"), self.one_after_another(["check", "task.json"], ["check", "choice.json"]))
+        for options in ([], ["--strict"], ["--format", "json"], ["--strict", "--format", "json"]):
+            with self.subTest(options=options):
+                wanted = self.one_after_another(["lint", "task.json", "mocks.json", "M", *options], ["lint", "choice.json", *options])
+                self.assertEqual(self.ran("lint", *options), wanted)
+        for options in ([], ["--list"], ["--workers", "4"], ["--filter", "nothing"], ["--format", "json"], ["--coverage"], ["--min", "100"], ["--shard", "1/2"]):
+            with self.subTest(options=options):
+                files = ("passes.json", "fails.json")
+                wanted = self.one_after_another(*(["test", "task.json", "mocks.json", file, *options] for file in files))
+                self.assertEqual(self.ran("test", *options), wanted)
+
+    def test_highest_status(self):
+        self.write("asl.toml", '[[workflow]]\ndefinition = "faulty.json"\n[[workflow]]\ndefinition = "task.json"\n')
+        status, printed, told = self.ran("check")
+        self.assertEqual((status, printed), (2, "ok\n"))
+        self.assertTrue(told.startswith("fault: definition: F10 NoTarget /States/A/Next\nfaulty.json:1:"), told)
+        self.assertEqual(self.ran("lint")[0], 1)
+        self.write("asl.toml", '[[workflow]]\ndefinition = "task.json"\nmocks = "mocks.json"\ntests = ["passes.json"]\n')
+        self.assertEqual(self.ran("test")[0], 0)
+        self.write("asl.toml", '[[workflow]]\ndefinition = "missing.json"\n')
+        self.assertEqual(self.ran("check"), (2, "", "fault: file missing.json\n"))
+
+    def test_ignored_rules(self):
+        """Warnings of these rules aren't told, and errors are."""
+        self.write("asl.toml", '[[workflow]]\ndefinition = "choice.json"\n')
+        self.assertEqual(self.ran("lint", "--strict")[0], 1)
+        self.write("asl.toml", '[[workflow]]\ndefinition = "choice.json"\nignore = ["no-default"]\n')
+        self.assertEqual(self.ran("lint", "--strict"), (0, "no findings\n", ""))
+        self.write("asl.toml", '[[workflow]]\ndefinition = "faulty.json"\nignore = ["F10"]\n')
+        self.assertEqual(self.ran("lint"), self.ran("lint", "faulty.json"))
+
+    def test_one_workflow(self):
+        """run, debug and explore find the files of the workflow that is of a machine."""
+        self.write("asl.toml", TWO + '\n[[workflow]]\ndefinition = "task.json"\nmocks = "mocks.json"\nmachine = "N"\ninput = "passes.json"\n')
+        self.write("script.txt", "step / 2024-01-01T00:00:00Z\n")
+        for command, options in (
+            ("run", []),
+            ("run", ["--format", "tree"]),
+            ("run", ["--max-steps", "1"]),
+            ("debug", ["--script", "script.txt"]),
+            ("explore", ["--prompt", "--calls"]),
+            ("explore", ["--witness", "1", "--format", "tree"]),
+        ):
+            for given, wanted in (
+                (["M#A"], ["M#A", "{}"]),
+                (["M"], ["M", "{}"]),
+                (["M#A", '{"a":1}'], ["M#A", '{"a":1}']),
+                (["--case", "M#A", "--input", "passes.json"], ["M#A", "passes.json"]),
+            ):
+                with self.subTest(command=command, options=options, given=given):
+                    named = self.ran(command, "task.json", "mocks.json", *wanted, *options)
+                    self.assertEqual(self.ran(command, *given, "--project", "asl.toml", *options), named)
+                    if "#" in given[0]:
+                        self.assertEqual(self.ran(command, *given, *options), named)
+        # Its machine isn't in the mock file.
+        self.assertEqual(self.ran("run", "N#A"), self.ran("run", "task.json", "mocks.json", "N#A", "passes.json"))
+
+    def test_machine_without_a_name(self):
+        """A workflow that doesn't say of which machine it is stands behind those that do."""
+        self.write("asl.toml", '[[workflow]]\ndefinition = "choice.json"\n[[workflow]]\ndefinition = "task.json"\nmocks = "mocks.json"\nmachine = "M"\n')
+        self.assertEqual(self.ran("run", "M#A")[0], 0)
+        self.write("asl.toml", '[[workflow]]\ndefinition = "task.json"\nmocks = "mocks.json"\n')
+        self.assertEqual(self.ran("run", "M#A")[0], 0)
+        self.write("asl.toml", '[[workflow]]\ndefinition = "choice.json"\n')
+        for command in ("run", "debug", "explore"):
+            self.assertEqual(self.ran(command, "M#A", "--quiet"), (2, "", "fault: case: M7 NoMachine\n"))
+        self.write("asl.toml", TWO)
+        self.assertEqual(
+            self.ran("run", "N#A"),
+            (2, "", 'fault: case: M7 NoMachine\nasl.toml: error: no workflow with mocks is of the machine of "N#A"; there are "M"\n'),
+        )
+
+    def test_another_file(self):
+        """Paths go from its folder."""
+        self.write("below/deep/my.toml", '[[workflow]]\ndefinition = "../../faulty.json"\n')
+        status, printed, told = self.ran("check", "--project", "below/deep/my.toml")
+        self.assertEqual((status, printed), (2, ""))
+        self.assertTrue(told.startswith("fault: definition: F10 NoTarget /States/A/Next\nbelow/deep/../../faulty.json:1:"), told)
+        self.assertEqual(self.ran("check", "--project", "my.toml"), (2, "", "fault: file my.toml\n"))
+        for command in ("check", "lint", "test"):
+            self.assertEqual(self.ran(command), (2, "", "fault: file asl.toml\n"))
+
+    def test_refused(self):
+        for text, fault in REFUSED:
+            for command in ("check", "lint", "test"):
+                with self.subTest(text=text, command=command):
+                    self.write("asl.toml", text)
+                    status, printed, told = self.ran(command)
+                    self.assertEqual((status, printed), (2, ""))
+                    place = fault.rpartition(" ")[2]
+                    self.assertRegex(told, rf"\Afault: project: {fault}\nasl\.toml:{place}: error: [^\n]+\n\Z")
+
+    def test_misuse(self):
+        self.write("asl.toml", TWO)
+        for words in (
+            ["check", "task.json", "--project", "asl.toml"],
+            ["lint", "task.json", "--project", "asl.toml"],
+            ["test", "task.json"],
+            ["test", "task.json", "mocks.json"],
+            ["test", "--junit", "report.xml"],
+            ["test", "--json", "report.jsonl"],
+            ["test", "--format", "junit"],
+            ["run", "task.json", "mocks.json", "M#A", "{}", "--project", "asl.toml"],
+            ["run", "M#A", "--project", "asl.toml", "--mocks", "mocks.json"],
+            ["run", "M#A", "--project", "asl.toml", "--case", "M#A"],
+            ["debug", "M#A", "{}", "--input", "{}"],
+            ["explore", "--project", "asl.toml"],
+            ["run", "task.json", "mocks.json"],
+            ["run"],
+        ):
+            with self.subTest(words=words):
+                status, printed, told = self.ran(*words)
+                self.assertEqual((status, printed), (2, ""))
+                self.assertTrue(told.startswith("error: "), told)
+        self.assertFalse(os.path.exists(os.path.join(self.room, "report.xml")))
+
+
+if __name__ == "__main__":
+    unittest.main()
