@@ -15,7 +15,7 @@ WRONG = [
     (["rnu", *RUN], "there is no command 'rnu'"),
     (["--frobnicate"], "there is no command '--frobnicate'"),
     (["help", "rnu"], "there is no command 'rnu'"),
-    (["check"], "DEF is missing"),
+    (["print"], "DEF is missing"),
     (["check", DEFINITION, DEFINITION], f"{DEFINITION!r} is one word too many"),
     (["run", DEFINITION], "MOCKS is missing"),
     (["run", DEFINITION, "--mocks", MOCKS, "--case", "Hello"], "INPUT is missing"),
