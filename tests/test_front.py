@@ -9,6 +9,7 @@ import unittest
 from program import TOP, run_program
 
 DEFINITION, MOCKS, INPUT = (f"{TOP}/examples/hello/{it}.json" for it in ("definition", "mocks", "input"))
+PROJECT = f"{TOP}/examples/asl.toml"
 RUN = [DEFINITION, MOCKS, "Hello", INPUT]
 
 WRONG = [
@@ -32,6 +33,8 @@ MISSING = [
     ["run", DEFINITION, "nowhere.json", "Hello", INPUT],
     ["run", DEFINITION, MOCKS, "--case", "Hello", "--input", "nowhere.json"],
     ["run", *RUN, "--steps=nowhere.json"],
+    ["run", "order#shipped", "--project", "nowhere.json"],
+    ["check", "--project=nowhere.json"],
     ["test", DEFINITION, MOCKS, "nowhere.json"],
 ]
 
@@ -79,7 +82,7 @@ class FrontTest(unittest.TestCase):
                 self.assertEqual(run_program(*words).stderr, ran.stderr)
 
     def test_right_command_lines_are_compiled(self):
-        for words in (["run", *RUN], ["check", "-"], ["graph", DEFINITION], ["lint", DEFINITION, "--strict"]):
+        for words in (["run", *RUN], ["check", "-"], ["run", "order#shipped", "--project", PROJECT], ["test", "--project", PROJECT], ["graph", DEFINITION], ["lint", DEFINITION, "--strict"]):
             with self.subTest(words=words):
                 self.assertRegex(self.front(*words).stderr, "(?s)^asl: .*compiling the sources .*called")
 

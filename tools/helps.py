@@ -17,6 +17,8 @@ COMMAND = re.compile(r"  (\w+) +(.*)")
 FILES = ("DEF", "MOCKS", "INPUT", "SCRIPT", "EXPECT")
 # The words that each command needs which runs something; an option may stand for each.
 OF_A_RUN = ("MOCKS", "CHOSEN", "INPUT")
+# Options that name files that are written.
+WRITTEN = ("--junit", "--json")
 # The words that `test` needs beside a definition.
 OF_A_SUITE = ("MOCKS", "EXPECT")
 
@@ -119,9 +121,14 @@ def parted(words, told):
     return None, plain, given
 
 
+def is_chosen(name, plain, given):
+    """Whether a workflow of a project is meant: the project is named, or the first word is a case of a machine and nothing else is chosen."""
+    return name in ("run", "debug", "explore") and ("--project" in given or "--case" not in given and len(plain) < 3 and "#" in "".join(plain[:1]))
+
+
 def lacking(name, plain, given, told):
     """The first word that a command needs and that is neither there nor given by the option that stands for it, or None."""
-    needs_run = name in ("run", "debug", "explore") or "--run" in given
+    needs_run = name in ("run", "debug", "explore") and not is_chosen(name, plain, given) or "--run" in given
     needs_suite = name == "test" and plain
     stands = {it.about.rpartition("Stands for the word ")[2]: it.name for it in told.options}
     for it in told.arguments[len(plain) :]:
@@ -147,8 +154,11 @@ def complaint(words):
         wrong = f"{plain[len(told.arguments)]!r} is one word too many"
     if wrong:
         return f"asl: {wrong}\nUsage: {told.usage}"
-    files = [word for word, it in zip(plain, told.arguments) if it.name in FILES]
-    files += [value for it in told.options if it.value == "FILE" and (value := given.get(it.name)) is not None]
+    if is_chosen(name, plain, given) or name in ("check", "lint", "test") and not plain:
+        files = [given.get("--project", "asl.toml"), *plain[1:2]]
+    else:
+        files = [word for word, it in zip(plain, told.arguments) if it.name in FILES]
+    files += [value for it in told.options if it.value == "FILE" and it.name not in WRITTEN and (value := given.get(it.name)) is not None]
     # A JSON text in place of a name is the file's text itself.
     named = [it for it in files if it != "-" and not it.startswith(("{", "[", '"'))]
     missing = next((it for it in named if it.isprintable() and not os.path.lexists(it)), None)
