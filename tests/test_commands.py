@@ -228,6 +228,12 @@ class CommandTest(ProgramTest):
         for word in ("0", "1000001", "x", ""):
             self.assertEqual(run_program("run", loop, *self.files[1:], "--max-steps", word).returncode, 2, word)
 
+    def test_a_region_is_named_for_the_format_of_the_service(self):
+        for words in ([], ["--format", "json"], ["--format", "text"]):
+            ran = run_program("run", *self.files, "--region", "eu-west-1", *words)
+            self.assertEqual((ran.returncode, ran.stdout), (2, ""), words)
+            self.assertIn("the argument '--region <NAME>' is for --format aws\n", ran.stderr)
+
     def test_definitions_are_judged_and_printed(self):
         for text, judged, printed in JUDGED:
             with self.subTest(text):

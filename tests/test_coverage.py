@@ -131,7 +131,7 @@ EXAMPLES = {
 }
 
 # Command lines that are wrong, behind the three files.
-WRONG = [["--min"], ["--min", "101"], ["--min", "-1"], ["--min", "x"], ["--min", "50%"], ["--coverage", "--coverage"], ["--coverage=1"]]
+WRONG = [["--coverage-format", "json"], ["--coverage", "--coverage-format", "xml"], ["--coverage", "--coverage-format"], ["--min"], ["--min", "101"], ["--min", "-1"], ["--min", "x"], ["--min", "50%"], ["--coverage", "--coverage"], ["--coverage=1"]]
 
 
 def tests(cases, status="SUCCEEDED"):
@@ -151,6 +151,53 @@ def told(points, numbers):
     for file, is_in in (("definition", lambda point: not point.startswith("answer ")), ("mock file", lambda point: point.startswith("answer "))):
         text += f"{file}: " + share([number for number in numbers if is_in(points[number])], [point for point in points if is_in(point)])
     return text + "".join(f"not covered: {point}\n" for number, point in enumerate(points) if number not in numbers)
+
+
+def part_at(value, pointer):
+    """The part of a value at a JSON Pointer."""
+    for step in pointer.split("/")[1:]:
+        key = step.replace("~1", "/").replace("~0", "~")
+        value = value[int(key)] if isinstance(value, list) else value[key]
+    return value
+
+
+def lines_of(text, pointer):
+    """The lines, from 1, on which values begin that are equal to that at a JSON Pointer."""
+    wanted = part_at(json.loads(text), pointer)
+    lines = set()
+    for at, sign in enumerate(text):
+        if sign in '{["':
+            try:
+                if json.JSONDecoder().raw_decode(text, at)[0] == wanted:
+                    lines.add(text.count("\n", 0, at) + 1)
+            except ValueError:
+                pass
+    return lines
+
+
+def lcov_read(text):
+    """A tracefile of LCOV as a program reads it: for each file the counts of its lines and of its branches, with the totals that it tells."""
+    files, here = {}, None
+    for line in text.splitlines():
+        key, _, value = line.partition(":")
+        if key == "SF":
+            here = files[value] = {"DA": {}, "BRDA": [], "totals": {}}
+        elif key == "DA":
+            number, count = map(int, value.split(","))
+            assert number not in here["DA"], line
+            here["DA"][number] = count
+        elif key == "BRDA":
+            number, block, branch, taken = map(int, value.split(","))
+            assert block == 0 and taken in (0, 1), line
+            here["BRDA"].append((number, branch, taken))
+        elif key in ("LF", "LH", "BRF", "BRH"):
+            here["totals"][key] = int(value)
+        elif line == "end_of_record":
+            here = None
+        else:
+            assert line == "TN:", line
+    assert here is None
+    return files
 
 
 class CoverageTest(ProgramTest):
@@ -209,6 +256,74 @@ class CoverageTest(ProgramTest):
             steps = ["/7 2024-01-01T00:00:00Z"] + ["/ 2024-01-01T00:00:00Z"] * count
             suite = json.dumps([{"machine": "M", "case": "", "input": {"v": 1}, "status": "SUCCEEDED", "steps": steps}])
             self.assertEqual(self.told_of(suite, "--coverage"), told(CHOICE_POINTS, numbers), count)
+
+    def test_json_tells_the_same(self):
+        for definition, mocks, points, suites in SUITES:
+            for cases, numbers in suites:
+                with self.subTest(points=points[0], cases=cases):
+                    value = json.loads(self.told_of(tests(cases), "--coverage", "--coverage-format", "json", definition=definition, mocks=mocks))
+                    found = [point for file in value["files"] for point in file["list"]]
+                    self.assertEqual([point["point"] for point in found], points)
+                    self.assertEqual([at for at, point in enumerate(found) if point["covered"]], numbers)
+                    self.assertEqual((value["covered"], value["points"]), (len(numbers), len(points)))
+                    self.assertEqual(value["percent"], 100 * len(numbers) // len(points) if points else 100)
+                    self.assertEqual([file["role"] for file in value["files"]], ["definition", "mocks"])
+                    for file, text in zip(value["files"], (definition, mocks)):
+                        self.assertEqual((file["points"], file["covered"]), (len(file["list"]), sum(point["covered"] for point in file["list"])))
+                        self.assertEqual(file["percent"], 100 * file["covered"] // file["points"] if file["points"] else 100)
+                        for point in file["list"]:
+                            self.assertIn(point["line"], lines_of(text, point["pointer"]), point)
+
+    def test_each_point_has_its_pointer(self):
+        value = json.loads(self.told_of("[]", "--coverage", "--coverage-format", "json", definition=NESTED, mocks=NESTED_MOCKS))
+        inner = "/States/P/Branches/0/States/M"
+        self.assertEqual([point["pointer"] for file in value["files"] for point in file["list"]], [
+            "/States/P", "/States/P/Next", "/States/P/Catch/0", "/States/P/Catch/1", inner, f"{inner}/Retry/0", f"{inner}/Catch/0",
+            f"{inner}/ItemProcessor/States/T", "/States/P/Branches/0/States/N", "/States/P/Branches/1/States/W", "/States/P/Branches/1/States/W/Next",
+            "/States/P/Branches/1/States/V", "/States/Y", "/States/Z", *(f"/MockedResponses/good/{key}" for key in "012"), "/MockedResponses/bad/0-5",
+        ])
+
+    def test_lcov_tells_of_the_same_lines(self):
+        for definition, mocks, _points, suites in SUITES:
+            for cases, _numbers in suites:
+                with self.subTest(cases=cases):
+                    given = {"definition": definition, "mocks": mocks}
+                    value = json.loads(self.told_of(tests(cases), "--coverage", "--coverage-format", "json", **given))
+                    files = lcov_read(self.told_of(tests(cases), "--coverage", "--coverage-format", "lcov", **given))
+                    self.assertEqual(len(files), 2)
+                    for (name, found), file in zip(files.items(), value["files"]):
+                        self.assertEqual(name.rpartition("/")[2], f"{file['role']}.json")
+                        here = file["list"]
+                        lines = {point["line"]: 0 for point in here}
+                        for point in here:
+                            lines[point["line"]] += point["covered"]
+                        self.assertEqual(found["DA"], lines)
+                        ways = [
+                            (point["line"], at, int(point["covered"])) for at, point in enumerate(here)
+                            if point["point"].startswith(("rule ", "Default ", "retrier ", "catcher "))
+                        ]
+                        self.assertEqual(found["BRDA"], ways)
+                        self.assertEqual(found["totals"], {
+                            "LF": len(lines), "LH": sum(count > 0 for count in lines.values()), "BRF": len(ways), "BRH": sum(way[2] for way in ways),
+                        })
+
+    def test_a_format_for_other_programs_is_told_alone(self):
+        suite = tests([("", {"v": 1}), ("", {})])
+        for name in ("json", "lcov"):
+            ran = self.on_suite(suite, "--min", "100", "--quiet", "--coverage-format", name)
+            self.assertEqual(ran.returncode, 1)
+            self.assertNotIn("is below", ran.stderr)
+            if name == "json":
+                self.assertEqual(ran.stderr.count("\n"), 1)
+                json.loads(ran.stderr)
+            else:
+                lcov_read(ran.stderr)
+        plain = self.on_suite(suite, "--coverage").stderr
+        self.assertEqual(self.on_suite(suite, "--coverage", "--coverage-format", "text").stderr.splitlines()[-9:], plain.splitlines()[-9:])
+
+    def test_a_format_of_what_is_not_told(self):
+        ran = self.on_suite("[]", "--coverage-format", "lcov")
+        self.assertIn("the following required arguments were not provided:\n  --coverage\n", ran.stderr)
 
     def test_wrong_command_lines(self):
         for words in WRONG:

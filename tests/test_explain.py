@@ -63,7 +63,7 @@ class ExplainTest(unittest.TestCase):
         codes = {**dict(FAULT.findall(text)), **dict(re.findall(r"`(H\d) (\w+)", text)), "F16": "OutOfMemory", "F1": "Json"}
         codes.update(re.findall(r"\b(M[78]|E[12]) (\w+)", text))
         self.assertEqual(sorted(codes, key=lambda it: (it[0], int(it[1:]))),
-                         [f"{letter}{number}" for letter, most in zip("EFHJKMSX", (2, 16, 6, 7, 6, 8, 9, 3)) for number in range(1, most + 1)])
+                         [f"{letter}{number}" for letter, most in zip("EFHJKMSX", (2, 16, 6, 7, 6, 8, 9, 4)) for number in range(1, most + 1)])
         for code, name in codes.items():
             with self.subTest(code=code):
                 self.assertTrue(self.lines[code].startswith(f"{code} {name}: "), self.lines[code])
@@ -175,6 +175,9 @@ class ExplainTest(unittest.TestCase):
             ran = self.ran("run", "d", "m", "M", "i", "--steps", "s", d=WAIT, m="{}", i="{}", s=text)
             self.assertEqual(ran.stdout.count("\nstep ") + 1, text.count("\n"), ran)
             return re.findall(r"^step \S+ (S\d)", ran.stdout, re.M)
+        if code == "kind":
+            texts = {"definition.json": DEFINITION, "mocks.json": ANSWERED, "input.json": "{}"}
+            return re.findall(r"error (kind): ", self.ran(*text.split()[1:], **texts).stdout)
         if code in ("unknown-state", "not-a-task", "unanswered-task", "unused-response", "missing-answer"):
             return re.findall(r"(?:error|warning) ([\w-]+): ", self.ran("lint", "d", "m", d=DEFINITION, m=text).stdout)
         if "-" in code:

@@ -106,8 +106,8 @@ class FormatsTest(ProgramTest):
         self.assertEqual((ran.returncode, ran.stderr), (wanted, ""))
         return ran.stdout
 
-    def told_of_a_task(self, resource, members=""):
-        """What a run of one Task of this resource prints, in the shape of the service. Its state has these members, too, each with a comma behind."""
+    def told_of_a_task(self, resource, members="", words=()):
+        """What a run of one Task of this resource prints, in the shape of the service. Its state has these members, too, each with a comma behind; the command has these words, too."""
         texts = {
             "definition": '{"StartAt":"T","States":{"T":{"Type":"Task","Resource":"%s",%s"End":true}}}' % (resource, members),
             "mocks": '{"StateMachines":{"m":{"TestCases":{"c":{"T":"R"}}}},"MockedResponses":{"R":{"0":{"Return":1}}}}',
@@ -117,7 +117,7 @@ class FormatsTest(ProgramTest):
             for name, text in texts.items():
                 with open(f"{folder}/{name}", "w", encoding="utf-8") as file:
                     file.write(text)
-            return self.formatted([f"{folder}/definition", f"{folder}/mocks", "m#c", f"{folder}/input"], "status SUCCEEDED ", "aws")
+            return self.formatted([f"{folder}/definition", f"{folder}/mocks", "m#c", f"{folder}/input", *words], "status SUCCEEDED ", "aws")
 
     def test_lines_of_json(self):
         for words, text in self.cases():
@@ -158,6 +158,13 @@ class FormatsTest(ProgramTest):
                 told = json.loads(self.told_of_a_task(resource))
                 found = [event["taskScheduledEventDetails"] for event in told["events"] if event["type"] == "TaskScheduled"]
                 self.assertEqual([(one["resourceType"], one["resource"], one["region"]) for one in found], [(kind, called_so, "us-east-1")])
+
+    def test_the_region_is_told(self):
+        for words, region in ((["--region", "eu-central-1"], "eu-central-1"), (["--region", 'a "b"'], 'a "b"'), (["--region", ""], ""), ([], "us-east-1")):
+            with self.subTest(words):
+                plain = self.told_of_a_task("arn:aws:states:::lambda:invoke")
+                told = self.told_of_a_task("arn:aws:states:::lambda:invoke", words=words)
+                self.assertEqual(told, plain.replace('"region":"us-east-1"', f'"region":{json.dumps(region)}'))
 
     def test_how_long_a_task_may_take(self):
         for members, wanted in (

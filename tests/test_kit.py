@@ -14,7 +14,7 @@ sys.path.insert(0, f"{TOP}/tools")
 from crates import Crates  # pylint: disable=wrong-import-position
 
 # So many ways lead down from the program at most. A kit's rt takes each of them where tools/rt doesn't help (docs/DECISIONS.md).
-MOST_WAYS = 660_000
+MOST_WAYS = 700_000
 
 # It writes down each call, and answers those that `rt help` of each kit has. Its `rt ci` leaves what `rt ci` leaves.
 STAND_IN = """\
@@ -70,11 +70,33 @@ def need(crate):
     return 1_000_000_000 * (int(crate.folder) + 1)
 
 
+def in_lanes(tasks):
+    given = {}
+    for key, (waits, *_, call) in tasks.items():
+        assert all(it in given for it in waits)
+        given[key] = call(given, 1)
+    return given
+
+
+def checks():
+    # a crate without tests; its edits ask for what came of both
+    ran, both = [], [("0", "proof"), ("0", "tests")]
+    tasks = {
+        both[0]: ([], 9, 1, lambda given, jobs: ran.append("proof") or True),
+        both[1]: ([], 0, 1, lambda given, jobs: ran.append("tests") or True),
+        ("0", "edits"): (both, 0, 1, lambda given, jobs: ran.append("edits") or all(given[it] for it in both)),
+    }
+    given = in_lanes(tasks)
+    # tasks of another kit's parts are left as they are
+    other = in_lanes({"0": ([], lambda given, jobs: True)})
+    return [str(len(ran)), str(sum(given.values()) + sum(other.values()))]
+
+
 def main(words):
     top = low = Crate("0")
     for it in range(1, 8):
         low, top = top, Crate(str(it), low, top)
-    print(len(top.stamp()), len(top.below()), need(low), need(top), len(asked), *words)
+    print(len(top.stamp()), len(top.below()), need(low), need(top), len(asked), *checks(), *words)
     return 3
 
 
@@ -192,7 +214,9 @@ class KitTest(unittest.TestCase):
             self.assertEqual((plain.returncode, quick.returncode), (3, 3))
             # the same sum and names, by one question a crate in place of one a way; no check is reckoned with more memory than any takes
             self.assertEqual(said[2:4], ["7000000000", "8000000000"])
-            self.assertEqual(quick.stdout.split(), [*said[:2], "4500000000", "4500000000", "8", "ci"])
+            # and tests of a crate that has none aren't run, but passed
+            self.assertEqual(said[5:], ["3", "4", "ci"])
+            self.assertEqual(quick.stdout.split(), [*said[:2], "4500000000", "4500000000", "8", "2", "4", "ci"])
             self.assertGreater(int(said[4]), 30)
 
     def test_crates_name_what_their_texts_name(self):

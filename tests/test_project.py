@@ -4,6 +4,7 @@ import os
 import subprocess
 import tempfile
 import unittest
+from xml.etree import ElementTree
 
 from program import PROGRAM
 
@@ -82,8 +83,43 @@ class ProjectTest(unittest.TestCase):
         for options in ([], ["--list"], ["--workers", "4"], ["--filter", "nothing"], ["--format", "json"], ["--coverage"], ["--min", "100"], ["--shard", "1/2"]):
             with self.subTest(options=options):
                 files = ("passes.json", "fails.json")
-                wanted = self.one_after_another(*(["test", "task.json", "mocks.json", file, *options] for file in files))
-                self.assertEqual(self.ran("test", *options), wanted)
+                status, printed, told = self.one_after_another(*(["test", "task.json", "mocks.json", file, *options] for file in files))
+                self.assertEqual(self.ran("test", *options), (status, printed + self.counts(options, files), told))
+
+    def counts(self, options, files):
+        """How many of these files passed and failed, which stands behind reports for people."""
+        if "--list" in options or "json" in options:
+            return ""
+        statuses = [self.ran("test", "task.json", "mocks.json", file, *options)[0] for file in files]
+        return f"files: {statuses.count(0)} passed, {statuses.count(1)} failed, {statuses.count(2)} refused\n"
+
+    def read(self, name):
+        with open(os.path.join(self.room, name), encoding="utf-8") as file:
+            return file.read()
+
+    def test_one_report(self):
+        """The reports of all files are one document of JUnit's, and one of lines, printed or written."""
+        self.write("asl.toml", TWO)
+        status, printed, told = self.ran("test", "--junit", "all.xml", "--json", "all.jsonl")
+        self.assertEqual((status, printed, told), self.ran("test"))
+        self.assertEqual(self.read("all.jsonl"), self.ran("test", "--format", "json")[1])
+        self.assertEqual(self.read("all.xml"), self.ran("test", "--format", "junit")[1])
+        root = ElementTree.fromstring(self.read("all.xml"))
+        self.assertEqual(("testsuites", {}, ["passes.json", "fails.json"]), (root.tag, root.attrib, [it.get("name") for it in root]))
+        for suite, file in zip(root, ("passes.json", "fails.json")):
+            alone = ElementTree.fromstring(self.ran("test", "task.json", "mocks.json", file, "--format", "junit")[1])
+            self.assertEqual(ElementTree.tostring(alone[0]).rstrip(), ElementTree.tostring(suite).rstrip())
+        # A file that is refused has no tests in them; what is told of it stands where the others' reasons do.
+        self.write("asl.toml", TWO.replace('"passes.json", ', '"lost.json", '))
+        status, printed, told = self.ran("test", "--junit", "all.xml")
+        self.assertEqual((2, True, True), (status, printed.endswith("\nfiles: 0 passed, 1 failed, 1 refused\n"), told.startswith("fault: file lost.json\n")))
+        self.assertEqual(["fails.json"], [it.get("name") for it in ElementTree.fromstring(self.read("all.xml"))])
+        # Of one file there is no line behind its report, and of none no report.
+        self.write("asl.toml", TWO.replace('"passes.json", ', ""))
+        self.assertEqual(self.ran("test"), self.ran("test", "task.json", "mocks.json", "fails.json"))
+        self.write("asl.toml", '[[workflow]]\ndefinition = "choice.json"\n')
+        self.assertEqual(self.ran("test"), (0, "", ""))
+        self.assertEqual(self.ran("test", "--junit", "no/all.xml"), (2, "", "fault: file no/all.xml: there is no folder for it\n"))
 
     def test_highest_status(self):
         self.write("asl.toml", '[[workflow]]\ndefinition = "faulty.json"\n[[workflow]]\ndefinition = "task.json"\n')
@@ -173,9 +209,7 @@ class ProjectTest(unittest.TestCase):
             ["lint", "task.json", "--project", "asl.toml"],
             ["test", "task.json"],
             ["test", "task.json", "mocks.json"],
-            ["test", "--junit", "report.xml"],
-            ["test", "--json", "report.jsonl"],
-            ["test", "--format", "junit"],
+            ["test", "--list", "--junit", "report.xml"],
             ["run", "task.json", "mocks.json", "M#A", "{}", "--project", "asl.toml"],
             ["run", "M#A", "--project", "asl.toml", "--mocks", "mocks.json"],
             ["run", "M#A", "--project", "asl.toml", "--case", "M#A"],

@@ -58,6 +58,40 @@ class TerminalTest(ProgramTest):
             and line.split(" ", 1)[1].split(" ", 2)[2:] == end.split(" ", 2)[2:])
         return told.splitlines()[:first]
 
+    def strictly(self, definition, lines, *words):
+        """What `debug --strict` does where these lines come from a pipe."""
+        with tempfile.TemporaryDirectory(prefix="asl-test-") as room:
+            names = [os.path.join(room, name) for name in ("definition", "mocks", "input")]
+            for name, text in zip(names, (definition, "{}", "{}")):
+                with open(name, "w", encoding="utf-8") as out:
+                    out.write(text)
+            return subprocess.run(
+                [PROGRAM, "debug", "--strict", *words, *names[:2], "M", names[2]], input=lines, capture_output=True, encoding="utf-8", timeout=60, check=False)
+
+    def test_a_strict_talk_ends_at_a_line_that_is_not_carried_out(self):
+        for wrong in (
+            "", "nonsense", "next x", "step", "step /7", "step / 1969-12-31T23:59:59.000Z", 'break "X"', "break /9", 'clear "X"', "back 9", "resume", "data /9", "until x",
+        ):
+            for before in ([], ["next"], ["places", "next", "help"]):
+                with self.subTest(wrong=wrong, before=before):
+                    lines = "".join(f"{line}\n" for line in (*before, wrong))
+                    ran = self.strictly(FORK, f"{lines}next 2\n")
+                    # What stands behind the line isn't read; all else is printed as without the option.
+                    self.assertEqual(ran.stdout, self.typed(FORK, lines))
+                    self.assertEqual(ran.stderr, f"debug: line {len(before) + 1}: not carried out, and --strict ends here\n")
+                    self.assertEqual(ran.returncode, 1)
+
+    def test_a_strict_talk_is_as_any_other_where_each_line_is_carried_out(self):
+        lines = 'next\nplaces\nbreak "A2"\ncontinue\nresume /0\nstep /0\nback 1\ndata /0\nevents\nsteps\nhelp\nnext 99\nnext\nquit\nnonsense\n'
+        ran = self.strictly(FORK, lines)
+        self.assertEqual((ran.stdout, ran.stderr, ran.returncode), (self.typed(FORK, lines), "", 0))
+
+    def test_a_strict_talk_and_a_script(self):
+        for words, option in ((["--script", "none"], "--script <FILE>"),):
+            ran = self.strictly(FORK, "", *words)
+            self.assertEqual((ran.returncode, ran.stdout), (2, ""))
+            self.assertIn(f"the argument '--strict' cannot be used with '{option}'", ran.stderr)
+
     def test_nothing_typed(self):
         self.assertEqual(self.typed(FORK, ""), f'1 0 {START} / ExecutionStarted "" {{}}\nstatus RUNNING\n')
 

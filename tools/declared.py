@@ -11,6 +11,8 @@ from sources import Source, files_of
 WORD = re.compile(r"[^\W\d][\w'-]*")
 # What begins a declaration in a file of definitions; the lines behind one that define it have none of this.
 BEGINS = re.compile(r"(?:(?:abbrev|unfoldable|pub|private|record|data|module|infixl|infixr|infix)\b *)+(\S+)|(\S+) :(?: |$)")
+# A name that a `use` brings, and the one that it has here, if that is another.
+NAMED = re.compile(rf"({WORD.pattern})(?:\s+as\s+({WORD.pattern}))?")
 RUST_NAME = re.compile(r"\b(?:fn|struct|enum|trait|const(?! fn)|static|type|union) (\w+)")
 
 
@@ -42,8 +44,9 @@ def place_of(crate, path, text):
     found = {}
     for statement in re.findall(r"^ *(?:ghost )?(?:pub )?use ([^;\n{]+(?:\{[^}]*\})?)", text, re.M):
         source, _, names = statement.partition("{")
-        for name in WORD.findall(names) or WORD.findall(source)[-1:]:
-            found[name] = source.strip()
+        for name, alias in NAMED.findall(names) or [(it, "") for it in WORD.findall(source)[-1:]]:
+            # (what has another name here is looked up by its own)
+            found[alias or name] = f"{source.strip()}.{name}" if alias else source.strip()
     return Place(crate, path, found)
 
 
@@ -71,7 +74,8 @@ def declared_in_code(place, lines):
         named = RUST_NAME.findall("\n".join(item) if "trait " in head else head)
         if head.startswith("impl") and " for " not in head:
             owner = re.match(r"impl(?:<[^{]*?>)?\s+(\w+)", head)[1]
-            for method in items(item[1:], "    "):
+            within = [it for it in item[1:] if it != "}"]
+            for method in items(within, "    "):
                 name = RUST_NAME.search("\n".join(method))
                 yield Declaration([name[1]] if name else [owner], owner if name else None, place, [head, *method])
         elif head.startswith("impl"):
@@ -95,81 +99,106 @@ def declared_in_definitions(place, lines):
         yield Declaration([name, *within], None, place, part)
 
 
-def declared(crate):
-    """The declarations of a crate that others may rest on."""
+def declared(crate, is_own=False):
+    """The declarations of a crate that others may rest on; or those that its own functions may."""
     source = Source(crate)
-    for path, lines in source.interface().items():
+    for path, lines in source.interface(is_own).items():
         yield from declared_in_code(place_of(crate, path, source.texts[path]), lines)
     for path, text in files_of(crate, "specs").items():
         yield from declared_in_definitions(place_of(crate, path, text), text.splitlines())
 
 
-class Reach:
-    """What is reached of the declarations of some crates."""
+class Words(NamedTuple):
+    """What the names in a text reach by themselves, and those of methods, which are reached once their type is."""
+
+    named: list
+    methods: frozenset
+
+
+class Index:
+    """Declarations by the names that reach them, and methods by their types."""
 
     def __init__(self, declarations):
-        self.found, self.types, self.methods, self.waiting, self.new = {}, set(), set(), {}, []
-        self.of_crate, self.of_file, self.of_type, self.named = {}, {}, {}, {}
+        self.of_crate, self.of_file, self.named, self.of_type, self.of_method, self.known = {}, {}, {}, {}, {}, {}
+        self.crates = {it.place.crate for it in declarations}
+        # an operator stands between its arguments, in parts: it counts always
+        self.operators = [it for it in declarations if any("◌" in name for name in it.names)]
         for it in declarations:
             for name in it.names:
-                self.of_crate.setdefault((it.place.crate, name), []).append(it)
-                self.of_file.setdefault((it.place.crate, it.place.path, name), []).append(it)
-                self.named.setdefault(name, []).append(it)
                 if it.owner:
-                    self.of_type.setdefault((it.owner, name), []).append(it)
-            if any("◌" in name for name in it.names):
-                self.add(it)  # an operator stands between its arguments, in parts
+                    self.of_type.setdefault((it.place.crate, it.owner), []).append((name, it))
+                    self.of_method.setdefault(name, []).append(((it.place.crate, it.owner), it))
+                else:
+                    self.of_crate.setdefault((it.place.crate, name), []).append(it)
+                    self.of_file.setdefault((it.place.crate, it.place.path, name), []).append(it)
+                    self.named.setdefault(name, []).append(it)
 
-    def add(self, declaration):
-        if id(declaration) not in self.found:
-            self.found[id(declaration)] = declaration
-            self.new.append(declaration)
+    def of_declaration(self, it):
+        """What the names in a declaration reach."""
+        if id(it) not in self.known:
+            self.known[id(it)] = self.of_words(it.place, it.words)
+        return self.known[id(it)]
+
+    def of_words(self, place, words):
+        """What these words of a file reach."""
+        named = []
+        for word in words:
+            source = place.sources.get(word)
+            named += self.imported(source.replace("crate::", f"{place.crate}::"), word) if source else self.of_file.get((place.crate, place.path, word), [])
+        return Words(named, frozenset() if place.path.endswith(".antt") else words & self.of_method.keys())
+
+    def imported(self, source, word):
+        path = WORD.findall(re.sub(r"[.:]", " ", source))
+        crate, *path = path[1:] if path[0] == "Rattle" else path
+        if crate not in self.crates:
+            return []
+        # (a variant or a member stands behind its type)
+        names = {word, *path[-1:], *(it for it in path if it[0].isupper())}
+        found = [it for name in names for it in self.of_crate.get((crate, name), [])]
+        # a crate may hand on what another one declares
+        return found if any((crate, name) in self.of_crate for name in (word, *path)) else found + self.named.get(word, [])
+
+
+class Reach:
+    """What is reached of some declarations."""
+
+    def __init__(self, index):
+        self.index, self.found, self.types, self.methods, self.new = index, {}, set(), set(), []
+        self.add_all(index.operators)
 
     def add_all(self, declarations):
         for it in declarations:
-            if not it.owner:
-                self.add(it)
+            if id(it) not in self.found:
+                self.found[id(it)] = it
+                self.new.append(it)
 
-    def read(self, place, words, is_code):
-        """Reaches what these words of a file name."""
-        for word in words:
-            source = place.sources.get(word)
-            if source:
-                self.import_from(source.replace("crate::", f"{place.crate}::"), word)
-            else:
-                self.add_all(self.of_file.get((place.crate, place.path, word), []))
-        if is_code:
-            self.methods |= words
-        self.types |= words | {it for word in words for it in WORD.findall(place.sources.get(word, ""))}
+    def read(self, words):
+        """Reaches what these words do."""
+        self.add_all(words.named)
+        methods = words.methods - self.methods
+        self.methods |= methods
+        for it in methods:
+            self.add_all(method for owner, method in self.index.of_method[it] if owner in self.types)
 
-    def import_from(self, source, word):
-        path = WORD.findall(re.sub(r"[.:]", " ", source))
-        for crate in path[:2]:
-            here = [it for name in {word, *path[1:]} for it in self.of_crate.get((crate, name), [])]
-            self.add_all(here)
-            # a crate may hand on what another one declares
-            if any((crate, name) in self.of_crate for name in (word, *path[2:])):
-                return
-        if path[0] not in ("std", "core"):
-            self.add_all(self.named.get(word, []))
+    def read_types(self, declaration):
+        """Reaches the methods of what is declared, where their names stand."""
+        types = {(declaration.place.crate, it) for it in declaration.names} & self.index.of_type.keys() - self.types
+        self.types |= types
+        for it in types:
+            self.add_all(method for name, method in self.index.of_type[it] if name in self.methods)
 
-    def settle(self):
-        """Goes on from what is reached until nothing more is."""
-        while True:
-            while self.new:
-                it = self.new.pop()
-                self.read(it.place, it.words, it.place.path.startswith("src"))
-            for (owner, name), methods in self.of_type.items():
-                if owner in self.types and name in self.methods:
-                    for it in methods:
-                        self.add(it)
-            if not self.new:
-                return sorted(it.text for it in self.found.values())
+    def settled(self):
+        """The texts of what is reached, once nothing more is."""
+        while self.new:
+            it = self.new.pop()
+            self.read_types(it)
+            self.read(self.index.of_declaration(it))
+        return sorted(it.text for it in self.found.values())
 
 
-def reached(crate, declarations):
-    """The texts of those declarations that the texts of a crate, and its must-fail edits, reach."""
-    reach = Reach(declarations)
-    for path, text in files_of(crate, "src", "specs", "proofs", "must-fail").items():
-        reach.read(place_of(crate, path, text), words_of(text), not path.endswith(".antt"))
-    return reach.settle()
+def reached(index, texts):
+    """The texts of those declarations that some texts reach, each a file and a text of it."""
+    reach = Reach(index)
+    for place, text in texts:
+        reach.read(index.of_words(place, words_of(text)))
+    return reach.settled()

@@ -11,12 +11,14 @@ from typing import NamedTuple
 
 HELPS = f"{os.path.dirname(os.path.realpath(__file__))}/help"
 OPTION = re.compile(r" +(?:(-\w), |    )(--[\w-]+)(?: <([^>]+)>)? +(.*)")
-ARGUMENT = re.compile(r" +([<\[])([A-Z]+)[>\]] +(.*)")
+ARGUMENT = re.compile(r" +([<\[])([A-Z]+)[>\]](\.\.\.)? +(.*)")
 COMMAND = re.compile(r"  (\w+) +(.*)")
 # The words that name files. Each option whose value is a FILE does, too.
-FILES = ("DEF", "MOCKS", "INPUT", "SCRIPT", "EXPECT")
-# The words that each command needs which runs something; an option may stand for each.
+FILES = ("DEF", "MOCKS", "INPUT", "SCRIPT", "EXPECT", "FILE")
+# The words that each command needs which runs something; an option may stand for each, and a test for the last two.
 OF_A_RUN = ("MOCKS", "CHOSEN", "INPUT")
+# Options of lint that say what a file is.
+ROLES = ("--mocks", "--expect", "--input", "--steps", "--script")
 # Options that name files that are written.
 WRITTEN = ("--junit", "--json")
 # The words that `test` needs beside a definition.
@@ -34,10 +36,11 @@ class Option(NamedTuple):
 
 
 class Argument(NamedTuple):
-    """A word without a dash: what it is called, whether it has to be there, and what it is."""
+    """A word without a dash: what it is called, whether it has to be there, whether there may be more of it, and what it is."""
 
     name: str
     is_required: bool
+    may_repeat: bool
     about: str
 
 
@@ -75,7 +78,7 @@ def help_of(name):
     with open(f"{HELPS}/{name}.txt", encoding="utf-8") as file:
         lines = [line for line in file.read().splitlines() if line]
     parts = parts_of(lines)
-    arguments = [Argument(it[2], it[1] == "<", it[3]) for it in map(ARGUMENT.fullmatch, parts.get("Arguments", []))]
+    arguments = [Argument(it[2], it[1] == "<", bool(it[3]), it[4]) for it in map(ARGUMENT.fullmatch, parts.get("Arguments", []))]
     commands = dict(COMMAND.fullmatch(line).groups() for line in parts.get("Commands", []))
     usage = next(line for line in lines if line.startswith("Usage: "))[len("Usage: ") :]
     return Help(parts[""][0], usage, commands, arguments, [*map(option_of, parts["Options"])], [line.strip() for line in parts.get("Examples", [])])
@@ -123,16 +126,24 @@ def parted(words, told):
 
 def is_chosen(name, plain, given):
     """Whether a workflow of a project is meant: the project is named, or the first word is a case of a machine and nothing else is chosen."""
+    if "--test" in given:
+        return False
     return name in ("run", "debug", "explore") and ("--project" in given or "--case" not in given and len(plain) < 3 and "#" in "".join(plain[:1]))
+
+
+def is_machine(plain, given):
+    """Whether the last of the words of lint names a machine: the third of three, if it can't be the name of a file and none is named besides."""
+    return len(plain) == 3 and "--machine" not in given and plain[2] != "-" and not set(plain[2]) & set('./{["')
 
 
 def lacking(name, plain, given, told):
     """The first word that a command needs and that is neither there nor given by the option that stands for it, or None."""
     needs_run = name in ("run", "debug", "explore") and not is_chosen(name, plain, given) or "--run" in given
     needs_suite = name == "test" and plain
+    of_a_run = OF_A_RUN[:1] if "--test" in given else OF_A_RUN
     stands = {it.about.rpartition("Stands for the word ")[2]: it.name for it in told.options}
     for it in told.arguments[len(plain) :]:
-        if it.is_required or needs_suite and it.name in OF_A_SUITE or needs_run and it.name in OF_A_RUN and stands.get(it.name) not in given:
+        if it.is_required or needs_suite and it.name in OF_A_SUITE or needs_run and it.name in of_a_run and stands.get(it.name) not in given:
             return it.name
     return None
 
@@ -150,14 +161,17 @@ def complaint(words):
     lacks = None if wrong else lacking(words[0], plain, given, told)
     if lacks:
         wrong = f"{lacks} is missing"
-    elif not wrong and len(plain) > len(told.arguments):
+    elif not wrong and len(plain) > len(told.arguments) and not any(it.may_repeat for it in told.arguments):
         wrong = f"{plain[len(told.arguments)]!r} is one word too many"
     if wrong:
         return f"asl: {wrong}\nUsage: {told.usage}"
-    if is_chosen(name, plain, given) or name in ("check", "lint", "test") and not plain:
+    if is_chosen(name, plain, given) or name in ("check", "test") and not plain or name == "lint" and not plain and given.keys().isdisjoint(ROLES):
         files = [given.get("--project", "asl.toml"), *plain[1:2]]
+    elif name == "lint":
+        files = plain[:2] if is_machine(plain, given) else plain
     else:
         files = [word for word, it in zip(plain, told.arguments) if it.name in FILES]
+    files += [given["--test"].partition("#")[0]] if given.get("--test") else []
     files += [value for it in told.options if it.value == "FILE" and it.name not in WRITTEN and (value := given.get(it.name)) is not None]
     # A JSON text in place of a name is the file's text itself.
     named = [it for it in files if it != "-" and not it.startswith(("{", "[", '"'))]

@@ -91,14 +91,15 @@ class Source:
         body = next((number for number in range(head, len(lines)) if opens(number)), len(lines))
         return body, next((number for number in range(body, len(lines)) if lines[number] == f"{depth}}}"), body)
 
-    def interface(self):
-        """The code by which crates above may be judged, by its files: all but comments, the bodies of functions, and functions that are private."""
-        return {path: self.without_bodies(path, text.splitlines()) for path, text in self.texts.items()}
+    def interface(self, is_own=False):
+        """The code by which crates above may be judged, by its files: all but comments, the bodies of functions, and functions that are private,
+        unless it is for the crate's own functions."""
+        return {path: self.without_bodies(path, text.splitlines(), is_own) for path, text in self.texts.items()}
 
-    def without_bodies(self, path, lines):
+    def without_bodies(self, path, lines, is_own):
         gone = set()
         for it in self.functions[path]:
-            if it.is_public or it.of_trait:
+            if is_own or it.is_public or it.of_trait:
                 gone.update(range(it.body + 1, it.last))
             elif sum(map(bool, map(FUNCTION.match, lines[it.head : it.body]))) == 1:
                 gone.update(range(it.head, it.last + 1))
@@ -114,6 +115,13 @@ class Source:
         """The names of the functions that are proved together with this one."""
         others = {it.name for every in self.functions.values() for it in every if it.cycle and it.cycle == function.cycle}
         return frozenset(others | {function.name})
+
+    def text(self, function):
+        """The text of a function, behind the line of the impl or trait that it is in."""
+        lines = self.texts[function.path].splitlines()
+        depth = lines[function.head].startswith(" ")
+        within = [next(it for it in reversed(lines[: function.head]) if it[:1].isalpha())] if depth else []
+        return "\n".join([*within, *lines[function.head : function.last + 1]])
 
     def copy(self, function, number, pairs):
         """The lines of a copy of a function with these changes, or None where one of their texts doesn't stand there exactly once."""

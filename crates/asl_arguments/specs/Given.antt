@@ -1,10 +1,9 @@
 -- What is given for each argument of a command.
-use Rattle.std.specs.Prelude.{Bool, false, List, ℕ, Option, Some, None, ◌≡◌, option_map, codes}
+use Rattle.std.specs.Prelude.{Bool, false, List, [], ℕ, Option, Some, None, ◌≡◌, map, option_map, codes}
 use Rattle.std.specs.Borrow.{Bor}
 use Rattle.std.specs.Str.{bytes_eq}
-use Rattle.clap.specs.Words.{App, first_of, matches_of}
-use Rattle.asl_arguments.specs.Grammar.{app_for}
-use Rattle.asl_arguments.specs.declared.arguments.CommandRow.{CommandRow}
+use Rattle.clap.specs.Words.{App, all_of, first_of, matches_of}
+use Rattle.asl_arguments.specs.declared.found.Taken.{Taken}
 use Rattle.asl_words.specs.declared.given.Given.{Given}
 
 abbrev pub said : Option (Bor (List ℕ)) → Option (List ℕ)
@@ -23,12 +22,15 @@ pub record IsGiven (value : List ℕ → Option (List ℕ)) (g : Given) : Type 0
   pub input : said g.input ≡ value (codes "INPUT")
   pub script : said g.script ≡ value (codes "SCRIPT")
   pub machine : said g.machine ≡ value (codes "MACHINE")
+  pub file : said g.file ≡ value (codes "FILE")
   pub expectations : said g.expectations ≡ value (codes "EXPECT")
   pub code : said g.code ≡ value (codes "CODE")
   pub mocks_option : said g.mocks_option ≡ value (codes "mocks")
   pub case_option : said g.case_option ≡ value (codes "case")
   pub input_option : said g.input_option ≡ value (codes "input")
   pub script_option : said g.script_option ≡ value (codes "script")
+  pub expect_option : said g.expect_option ≡ value (codes "expect")
+  pub machine_option : said g.machine_option ≡ value (codes "machine")
   pub steps : said g.steps ≡ value (codes "steps")
   pub format : said g.format ≡ value (codes "format")
   pub shard : said g.shard ≡ value (codes "shard")
@@ -40,7 +42,10 @@ pub record IsGiven (value : List ℕ → Option (List ℕ)) (g : Given) : Type 0
   pub most_steps : said g.most_steps ≡ value (codes "max-steps")
   pub junit : said g.junit ≡ value (codes "junit")
   pub json : said g.json ≡ value (codes "json")
+  pub region : said g.region ≡ value (codes "region")
+  pub coverage_format : said g.coverage_format ≡ value (codes "coverage-format")
   pub project : said g.project ≡ value (codes "project")
+  pub test : said g.test ≡ value (codes "test")
   pub strict : g.strict ≡ is_set (value (codes "strict"))
   pub run : g.run ≡ is_set (value (codes "run"))
   pub coverage : g.coverage ≡ is_set (value (codes "coverage"))
@@ -54,5 +59,15 @@ pub record IsGiven (value : List ℕ → Option (List ℕ)) (g : Given) : Type 0
 abbrev pub values_of : App → List (List ℕ) → List ℕ → Option (List ℕ)
 values_of app words n = first_of n (matches_of app words)
 
-abbrev pub values_in : CommandRow → List (List ℕ) → List ℕ → Option (List ℕ)
-values_in c = values_of (app_for c)
+-- all that they give one name; none where there are none
+abbrev pub files_in : Option (List (List ℕ)) → List (List ℕ)
+files_in None = []
+files_in (Some fs) = fs
+
+abbrev pub said_all : List (Bor (List ℕ)) → List (List ℕ)
+said_all = map (λ s. s.now)
+
+-- what words give, and the files that they name one after another
+pub record IsTaken (a : App) (words : List (List ℕ)) (t : Taken) : Type 0 where
+  pub given : IsGiven (values_of a words) t.given
+  pub files : said_all t.files.items ≡ files_in (all_of (codes "FILE") (matches_of a words))

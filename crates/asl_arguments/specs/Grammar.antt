@@ -1,7 +1,7 @@
 -- The command line: which commands there are, what each takes, and what that is to clap.
 use Rattle.std.specs.Prelude.{ℕ, Bool, true, false, List, [], ◌∷◌, ◌++◌, Some, map, fold, codes}
 use Rattle.clap.specs.Words.{App, Rule, Text, new_app, new_rule, with_rule}
-use Rattle.clap.specs.declared.builder.ArgAction.TheVariants.{SetTrue}
+use Rattle.clap.specs.declared.builder.ArgAction.TheVariants.{Append, SetTrue}
 use Rattle.clap.specs.declared.builder.ValueParser.TheVariants as parser
 use Rattle.asl_arguments.specs.declared.arguments.Argument.{Argument as CodeArgument}
 use Rattle.asl_arguments.specs.declared.arguments.CommandRow.{CommandRow}
@@ -14,10 +14,11 @@ use Rattle.asl_words.specs.declared.verbs.Verb.TheVariants.{Check, Lint, Print, 
 
 -- ---- what there is
 
--- an argument is a word, known by its place, or an option of two hyphens and a name: without a value, with a
+-- an argument is a word, known by its place, or all words from there on, or an option of two hyphens and a name: without a value, with a
 -- text, with one of some words, or with a number from a least to a greatest
 pub data Kind : Type 0 where
   word : Kind
+  words : Kind
   flag : Kind
   text : Kind
   choice : List Text → Kind
@@ -50,6 +51,10 @@ run_arguments definition more =
     definition ∷ free (codes "MOCKS") word ∷ free (codes "CHOSEN") word ∷ free (codes "INPUT") word
     ∷ free (codes "mocks") text ∷ free (codes "case") text ∷ free (codes "input") text ∷ more
 
+-- the same, where a project may stand for all, and a test for its case and its input
+abbrev pub begin_arguments : List Argument → List Argument
+begin_arguments more = run_arguments (free (codes "DEF") word) (free (codes "test") text ∷ more)
+
 -- a definition, or a project in its place
 abbrev pub subject_arguments : List Argument → List Argument
 subject_arguments more = free (codes "DEF") word ∷ more
@@ -62,9 +67,11 @@ check_arguments = subject_arguments project_argument
 
 abbrev pub lint_arguments : List Argument
 lint_arguments =
-    subject_arguments (free (codes "MOCKS") word ∷ free (codes "MACHINE") word
+    free (codes "FILE") words ∷ free (codes "mocks") text ∷ free (codes "expect") text
+    ∷ free (codes "input") text ∷ free (codes "steps") text ∷ free (codes "script") text
+    ∷ free (codes "machine") text
     ∷ preset (codes "format") (choice (codes "text" ∷ codes "json" ∷ codes "sarif" ∷ [])) (codes "text")
-    ∷ free (codes "strict") flag ∷ project_argument)
+    ∷ free (codes "strict") flag ∷ project_argument
 
 abbrev pub graph_arguments : List Argument
 graph_arguments = run_arguments (needed (codes "DEF") word) (free (codes "run") flag
@@ -84,13 +91,13 @@ run_formats =
     codes "text" ∷ codes "json" ∷ codes "aws" ∷ codes "steps" ∷ codes "tree" ∷ codes "data" ∷ []
 
 abbrev pub run_own_arguments : List Argument
-run_own_arguments = run_arguments (free (codes "DEF") word) (free (codes "steps") text
+run_own_arguments = begin_arguments (free (codes "steps") text
     ∷ free (codes "max-steps") (number 1 1000000)
-    ∷ preset (codes "format") (choice run_formats) (codes "text") ∷ project_argument)
+    ∷ preset (codes "format") (choice run_formats) (codes "text") ∷ free (codes "region") text ∷ project_argument)
 
 abbrev pub debug_arguments : List Argument
-debug_arguments = run_arguments (free (codes "DEF") word) (free (codes "SCRIPT") word ∷ free (codes "script") text
-    ∷ free (codes "format") (choice (codes "text" ∷ codes "tree" ∷ [])) ∷ project_argument)
+debug_arguments = begin_arguments (free (codes "SCRIPT") word ∷ free (codes "script") text
+    ∷ free (codes "format") (choice (codes "text" ∷ codes "tree" ∷ [])) ∷ free (codes "strict") flag ∷ project_argument)
 
 abbrev pub test_arguments : List Argument
 test_arguments =
@@ -100,10 +107,12 @@ test_arguments =
     ∷ free (codes "junit") text ∷ free (codes "json") text
     ∷ free (codes "shard") text ∷ free (codes "filter") text ∷ free (codes "list") flag
     ∷ free (codes "coverage") flag
-    ∷ free (codes "min") (number 0 100) ∷ free (codes "strict") flag ∷ project_argument)
+    ∷ free (codes "min") (number 0 100)
+    ∷ free (codes "coverage-format") (choice (codes "text" ∷ codes "json" ∷ codes "lcov" ∷ []))
+    ∷ free (codes "strict") flag ∷ project_argument)
 
 abbrev pub explore_arguments : List Argument
-explore_arguments = run_arguments (free (codes "DEF") word) (preset (codes "limit") (number 1 1000000) (codes "100000")
+explore_arguments = begin_arguments (preset (codes "limit") (number 1 1000000) (codes "100000")
     ∷ free (codes "prompt") flag ∷ free (codes "calls") flag
     ∷ free (codes "witness") (number 1 1000000)
     ∷ free (codes "format") (choice (codes "steps" ∷ codes "tree" ∷ codes "data" ∷ [])) ∷ project_argument)
@@ -134,6 +143,7 @@ asl_commands =
 
 abbrev pub kind_seen : CodeKind → Kind
 kind_seen kind.Word = word
+kind_seen kind.Words = words
 kind_seen kind.Flag = flag
 kind_seen (kind.Text value) = text
 kind_seen (kind.Choice names) = choice (map (λ n. n.now) names.now)
@@ -168,6 +178,7 @@ command_seen c = record {
 
 abbrev pub kind_rule : Text → CodeKind → Rule
 kind_rule name kind.Word = new_rule name
+kind_rule name kind.Words = record (new_rule name) { action = Some Append }
 kind_rule name kind.Flag = record (new_rule name) { long = Some name; action = Some SetTrue }
 kind_rule name (kind.Text value) =
     record (new_rule name) { long = Some name; value_names = 1; parser = Some parser.String }

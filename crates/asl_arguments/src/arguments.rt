@@ -4,7 +4,7 @@ ghost use Rattle.std.specs.List.{list_all};
 ghost use Rattle.clap.specs.Faults.{is_simple_and_free};
 ghost use Rattle.asl_arguments.specs.Grammar.{asl_commands, app_for, command_seen, default_of, is_required};
 
-use crate::arguments::Kind::{Choice, Flag, Number, Text, Word};
+use crate::arguments::Kind::{Choice, Flag, Number, Text, Word, Words};
 use crate::arguments::Presence::{Default, Optional, Required};
 use crate::helps::Help;
 use asl_words::Verb;
@@ -34,6 +34,8 @@ pub struct Argument {
 pub enum Kind {
     /// A word, known by its place.
     Word,
+    /// Words behind all others, as many as there are.
+    Words,
     /// An option without a value.
     Flag,
     /// An option with a text, and what help calls that.
@@ -85,16 +87,45 @@ impl Presence {
 const CHECK: &[Argument] = &[DEFINITION_OR_NONE, PROJECT, QUIET];
 
 const LINT: &[Argument] = &[
-    DEFINITION_OR_NONE,
     Argument {
-        name: "MOCKS",
-        kind: Word,
+        name: "FILE",
+        kind: Words,
+        presence: Optional,
+        help: Help::LintFiles,
+    },
+    Argument {
+        name: "mocks",
+        kind: Text("FILE"),
         presence: Optional,
         help: Help::LintMocks,
     },
     Argument {
-        name: "MACHINE",
-        kind: Word,
+        name: "expect",
+        kind: Text("FILE"),
+        presence: Optional,
+        help: Help::LintExpectations,
+    },
+    Argument {
+        name: "input",
+        kind: Text("FILE"),
+        presence: Optional,
+        help: Help::LintInput,
+    },
+    Argument {
+        name: "steps",
+        kind: Text("FILE"),
+        presence: Optional,
+        help: Help::LintSteps,
+    },
+    Argument {
+        name: "script",
+        kind: Text("FILE"),
+        presence: Optional,
+        help: Help::LintScript,
+    },
+    Argument {
+        name: "machine",
+        kind: Text("NAME"),
         presence: Optional,
         help: Help::LintMachine,
     },
@@ -110,7 +141,7 @@ const LINT: &[Argument] = &[
         presence: Optional,
         help: Help::LintStrict,
     },
-    PROJECT,
+    PROJECT_OF_FILES,
     QUIET,
 ];
 
@@ -161,6 +192,7 @@ const RUN: &[Argument] = &[
     MOCKS_OPTION,
     CASE_OPTION,
     INPUT_OPTION,
+    TEST_OPTION,
     Argument {
         name: "steps",
         kind: Text("FILE"),
@@ -179,6 +211,12 @@ const RUN: &[Argument] = &[
         presence: Default(&["text"]),
         help: Help::RunFormat,
     },
+    Argument {
+        name: "region",
+        kind: Text("NAME"),
+        presence: Optional,
+        help: Help::RunRegion,
+    },
     PROJECT_OF_CHOSEN,
     QUIET,
 ];
@@ -191,6 +229,7 @@ const DEBUG: &[Argument] = &[
     MOCKS_OPTION,
     CASE_OPTION,
     INPUT_OPTION,
+    TEST_OPTION,
     Argument {
         name: "SCRIPT",
         kind: Word,
@@ -208,6 +247,12 @@ const DEBUG: &[Argument] = &[
         kind: Choice(&["text", "tree"]),
         presence: Optional,
         help: Help::DebugFormat,
+    },
+    Argument {
+        name: "strict",
+        kind: Flag,
+        presence: Optional,
+        help: Help::DebugStrict,
     },
     PROJECT_OF_CHOSEN,
     QUIET,
@@ -277,6 +322,12 @@ const TEST: &[Argument] = &[
         help: Help::TestMin,
     },
     Argument {
+        name: "coverage-format",
+        kind: Choice(&["text", "json", "lcov"]),
+        presence: Optional,
+        help: Help::TestCoverageFormat,
+    },
+    Argument {
         name: "strict",
         kind: Flag,
         presence: Optional,
@@ -294,6 +345,7 @@ const EXPLORE: &[Argument] = &[
     MOCKS_OPTION,
     CASE_OPTION,
     INPUT_OPTION,
+    TEST_OPTION,
     Argument {
         name: "limit",
         kind: Number("N", 1, 1_000_000),
@@ -378,6 +430,14 @@ const PROJECT: Argument = Argument {
     help: Help::Project,
 };
 
+/// The same, where other files may be named in its place.
+const PROJECT_OF_FILES: Argument = Argument {
+    name: "project",
+    kind: Text("FILE"),
+    presence: Optional,
+    help: Help::ProjectOfFiles,
+};
+
 /// Whether JSON is printed for a person.
 const PRETTY: Argument = Argument {
     name: "pretty",
@@ -437,6 +497,14 @@ const INPUT_OPTION: Argument = Argument {
     kind: Text("FILE"),
     presence: Optional,
     help: Help::InputOption,
+};
+
+/// A test that names its case and its input.
+const TEST_OPTION: Argument = Argument {
+    name: "test",
+    kind: Text("SUITE#N"),
+    presence: Optional,
+    help: Help::TestOption,
 };
 
 const COMMANDS: &[CommandRow] = &[

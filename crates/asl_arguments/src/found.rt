@@ -1,16 +1,23 @@
 // What is given for each argument of a command, as clap finds it.
-ghost use Rattle.std.specs.Prelude.{◌≡◌, ◌≢◌, [], true, Err, IfOk, map};
-ghost use Rattle.clap.specs.Words.{app_of, kind_of, fault_of, first_value, found_of, is_simple_and_free};
+ghost use Rattle.std.specs.Prelude.{◌≡◌, ◌≢◌, [], true, codes, Err, IfOk, map, option_map};
+ghost use Rattle.clap.specs.Words.{app_of, kind_of, fault_of, first_value, found_of, is_simple_and_free, matched_of, raw_values};
 ghost use Rattle.asl_arguments.specs.Grammar.{app_for};
-ghost use Rattle.asl_arguments.specs.Given.{IsGiven, is_set, values_in, values_of};
+ghost use Rattle.asl_arguments.specs.Given.{IsGiven, IsTaken, files_in, is_set, said_all};
 
 use crate::arguments::CommandRow;
 use crate::lines::command_of;
 use asl_words::Given;
 use clap::error::ErrorKind;
 use clap::{ArgMatches, Command, Error};
-use std::alloc::Global;
+use std::alloc::{AllocError, Global};
 use std::convert::AsStr;
+
+/// What is given, and the files that are named one after another.
+#[derive(Drop)]
+pub struct Taken<'a> {
+    pub given: Given<'a>,
+    pub files: Vec<&'a str>,
+}
 
 /// Why nothing is given.
 #[derive(Clone, Copy)]
@@ -25,30 +32,71 @@ pub fn given_in<'a, S: AsStr>(
     alloc: Global,
     row: &CommandRow,
     words: &'a [S],
-) -> Result<Given<'a>, Ungiven>
+) -> Result<Taken<'a>, Ungiven>
     requires { is_simple_and_free (app_for row.now) ≡ true }
-    ensures ok { IfOk result (λ g. (fault_of (app_for row.now) (map S.text words.entry.now) ≡ [])
-        × IsGiven (values_in row.now (map S.text words.entry.now)) g) }
+    ensures ok { IfOk result (λ t. (fault_of (app_for row.now) (map S.text words.entry.now) ≡ [])
+        × IsTaken (app_for row.now) (map S.text words.entry.now) t) }
     ensures err { result ≡ Err Ungiven.Refused
         → fault_of (app_for row.now) (map S.text words.entry.now) ≢ [] }
 {
     match command_of(alloc, row) {
-        Ok(command) => given_to(command, words),
+        Ok(command) => given_to(alloc, command, words),
         Err(_) => Err(Ungiven::OutOfMemory),
     }
 }
 
-fn given_to<'a, S: AsStr>(command: Command<'a>, words: &'a [S]) -> Result<Given<'a>, Ungiven>
+fn given_to<'a, S: AsStr>(
+    alloc: Global,
+    command: Command<'a>,
+    words: &'a [S],
+) -> Result<Taken<'a>, Ungiven>
     requires { is_simple_and_free (app_of command) ≡ true }
-    ensures ok { IfOk result (λ g. (fault_of (app_of command.entry) (map S.text words.entry.now) ≡ [])
-        × IsGiven (values_of (app_of command.entry) (map S.text words.entry.now)) g) }
+    ensures ok { IfOk result (λ t. (fault_of (app_of command.entry) (map S.text words.entry.now) ≡ [])
+        × IsTaken (app_of command.entry) (map S.text words.entry.now) t) }
     ensures err { result ≡ Err Ungiven.Refused
         → fault_of (app_of command.entry) (map S.text words.entry.now) ≢ [] }
 {
     match command.try_get_matches_from(words) {
-        Ok(matches) => Ok(given_by(&matches)),
+        Ok(matches) => taken_by(alloc, &matches),
         Err(error) => Err(ungiven_by(&error)),
     }
+}
+
+/// What is given by these matches.
+fn taken_by<'a>(alloc: Global, matches: &ArgMatches<'a>) -> Result<Taken<'a>, Ungiven>
+    ensures ok { IfOk result (λ t. IsGiven (first_value (found_of matches.now)) t.given
+        × (said_all t.files.items ≡ files_in (option_map raw_values
+        (matched_of (found_of matches.now) (codes "FILE"))))) }
+    ensures err { result ≢ Err Ungiven.Refused }
+{
+    match files_by(alloc, matches) {
+        Ok(files) => Ok(Taken {
+            given: given_by(matches),
+            files,
+        }),
+        Err(AllocError) => Err(Ungiven::OutOfMemory),
+    }
+}
+
+/// The files that are named one after another.
+fn files_by<'a>(alloc: Global, matches: &ArgMatches<'a>) -> Result<Vec<&'a str>, AllocError>
+    ensures { IfOk result (λ fs. said_all fs.items ≡ files_in (option_map raw_values
+        (matched_of (found_of matches.now) (codes "FILE")))) }
+{
+    match matches.get_strs("FILE") {
+        Some(files) => copied(alloc, files),
+        None => Ok(Vec::new(alloc)),
+    }
+}
+
+fn copied<'a>(alloc: Global, names: &[&'a str]) -> Result<Vec<&'a str>, AllocError>
+    ensures { IfOk result (λ fs. said_all fs.items ≡ said_all names.now) }
+{
+    let mut all = Vec::with_capacity(alloc, names.len())?;
+    for name in names {
+        all.push(*name)?;
+    }
+    Ok(all)
 }
 
 fn ungiven_by(error: &Error) -> Ungiven
@@ -70,12 +118,15 @@ fn given_by<'a>(matches: &ArgMatches<'a>) -> Given<'a>
         input: matches.get_str("INPUT"),
         script: matches.get_str("SCRIPT"),
         machine: matches.get_str("MACHINE"),
+        file: matches.get_str("FILE"),
         expectations: matches.get_str("EXPECT"),
         code: matches.get_str("CODE"),
         mocks_option: matches.get_str("mocks"),
         case_option: matches.get_str("case"),
         input_option: matches.get_str("input"),
         script_option: matches.get_str("script"),
+        expect_option: matches.get_str("expect"),
+        machine_option: matches.get_str("machine"),
         steps: matches.get_str("steps"),
         format: matches.get_str("format"),
         shard: matches.get_str("shard"),
@@ -87,7 +138,10 @@ fn given_by<'a>(matches: &ArgMatches<'a>) -> Given<'a>
         most_steps: matches.get_str("max-steps"),
         junit: matches.get_str("junit"),
         json: matches.get_str("json"),
+        region: matches.get_str("region"),
+        coverage_format: matches.get_str("coverage-format"),
         project: matches.get_str("project"),
+        test: matches.get_str("test"),
         strict: is_set(matches, "strict"),
         run: is_set(matches, "run"),
         coverage: is_set(matches, "coverage"),

@@ -5,7 +5,12 @@ use asl_words::Verb;
 /// What help tells of an argument.
 #[derive(Clone, Copy)]
 pub enum Help {
+    LintFiles,
     LintMocks,
+    LintExpectations,
+    LintInput,
+    LintSteps,
+    LintScript,
     LintMachine,
     LintFormat,
     LintStrict,
@@ -15,9 +20,11 @@ pub enum Help {
     RunSteps,
     RunMostSteps,
     RunFormat,
+    RunRegion,
     DebugScript,
     ScriptOption,
     DebugFormat,
+    DebugStrict,
     Mocks,
     TestExpectations,
     TestWorkers,
@@ -29,6 +36,7 @@ pub enum Help {
     TestList,
     TestCoverage,
     TestMin,
+    TestCoverageFormat,
     TestStrict,
     ExploreLimit,
     ExplorePrompt,
@@ -41,6 +49,7 @@ pub enum Help {
     DefinitionOrChosen,
     Project,
     ProjectOfChosen,
+    ProjectOfFiles,
     Pretty,
     Quiet,
     Chosen,
@@ -48,13 +57,20 @@ pub enum Help {
     MocksOption,
     CaseOption,
     InputOption,
+    TestOption,
 }
 
 impl Help {
     /// Its text.
     pub(crate) fn text(self) -> &'static str {
         match self {
-            Help::LintMocks => "The file of the mocked tasks, to be judged beside it",
+            Help::LintFiles =>
+                "Definitions, mock files, expectation files, steps files and scripts, which are told apart by what stands in them; without any, each workflow of the project is taken; - is standard input, as for each file",
+            Help::LintMocks => "A mock file, also where that doesn't show",
+            Help::LintExpectations => "An expectation file, also where that doesn't show",
+            Help::LintInput => "An input of an execution",
+            Help::LintSteps => "A steps file, also where that doesn't show",
+            Help::LintScript => "A script, also where that doesn't show",
             Help::LintMachine =>
                 "The machine's name in the mock file, where that has more than one",
             Help::LintFormat => "How the findings are printed",
@@ -67,11 +83,14 @@ impl Help {
             Help::RunMostSteps =>
                 "How many steps are taken at most where no file names them, from 1 to 1000000; 10000 if it isn't given",
             Help::RunFormat => "How the run is printed",
+            Help::RunRegion => "The region that --format aws tells of; us-east-1 if it isn't given",
             Help::DebugScript =>
                 "The file of the commands to carry out; without it, lines are read from standard input and answered at once",
             Help::ScriptOption => "Stands for the word SCRIPT",
             Help::DebugFormat =>
                 "How the steps of a line are told: by their replies, or by what happened at each state, which is the default at a terminal",
+            Help::DebugStrict =>
+                "Ends with status 1 at the first line that is typed and not carried out",
             Help::Mocks => "The file of the mocked tasks",
             Help::TestExpectations => "The file of the tests: what each runs, and how it is to end",
             Help::TestWorkers => "How many workers run the tests side by side, from 1 to 64",
@@ -86,6 +105,8 @@ impl Help {
             Help::TestCoverage => "Tells on standard error how much the tests cover",
             Help::TestMin =>
                 "The least that the tests are to cover, from 0 to 100; it implies --coverage",
+            Help::TestCoverageFormat =>
+                "How it is told what the tests cover: as text, which is the default, as JSON, or as a tracefile of LCOV",
             Help::TestStrict =>
                 "Fails a test that is ok though its run lacked an answer, or failed by accident",
             Help::ExploreLimit => "How many worlds are tried at most, from 1 to 1000000",
@@ -109,6 +130,8 @@ impl Help {
                 "The file of the state machine's definition; or, in place of the first four words, Machine#Case of a project, behind which INPUT may stand; - is standard input, as for each file",
             Help::ProjectOfChosen =>
                 "The project file, where the files of a workflow aren't named; asl.toml if it isn't given",
+            Help::ProjectOfFiles =>
+                "The project file, where no file is named; asl.toml if it isn't given",
             Help::Pretty => "Prints a line for each member and item, with spaces in front",
             Help::Quiet => "Tells a fault in one line, and no notes",
             Help::Chosen =>
@@ -119,6 +142,8 @@ impl Help {
             Help::MocksOption => "Stands for the word MOCKS",
             Help::CaseOption => "Stands for the word CHOSEN",
             Help::InputOption => "Stands for the word INPUT",
+            Help::TestOption =>
+                "Stands for the words CHOSEN and INPUT: those of the test of this number, from 1, in the file SUITE",
         }
     }
 }
@@ -130,7 +155,7 @@ pub(crate) fn examples_of(verb: Verb) -> &'static str {
             "Examples:\n  asl check examples/order/definition.json\n  asl check - < examples/order/definition.json"
         }
         Verb::Lint => {
-            "Examples:\n  asl lint examples/order/definition.json examples/order/mocks.json\n  asl lint --strict --format sarif examples/refused.json"
+            "Examples:\n  asl lint examples/order/definition.json examples/order/mocks.json\n  asl lint examples/order/definition.json examples/order/mocks.json examples/order/expectations.json --input examples/order/input.json"
         }
         Verb::Print => {
             "Examples:\n  asl print examples/order/definition.json\n  asl print --pretty examples/order/definition.json"

@@ -91,6 +91,7 @@ fn of_kind<'a>(alloc: Global, row: &Argument) -> Arg<'a>
 {
     match row.kind {
         Kind::Word => Arg::new(alloc, row.name),
+        Kind::Words => Arg::new(alloc, row.name).action(ArgAction::Append),
         Kind::Flag => Arg::new(alloc, row.name)
             .long(row.name)
             .action(ArgAction::SetTrue),

@@ -1,6 +1,12 @@
 -- Inputs that stand in files, piece by piece.
 use Rattle.std.proofs.Common.{ℕ, zero, suc, ◌≡◌, ◌∙◌, ◌<◌, ◌⊎◌, inl, inr, List, [], ◌∷◌, ◌++◌, length, get_or, ap, sym, subst, arith, append_assoc, append-nil}
+use Rattle.std.specs.Prelude.{Option, Some, None, string_bytes}
 use Rattle.asl_json.specs.declared.value.Json.{Json}
+use Rattle.asl_run_input.specs.Emulations.{Texts}
+use Rattle.asl_project.specs.declared.workflow.Workflow.{Workflow}
+use Rattle.asl_words.specs.declared.words.SetupWords.{SetupWords}
+use Rattle.asl_words.specs.declared.words.ChosenWords.{ChosenWords}
+use Rattle.asl_words.specs.declared.words.TestedWords.{TestedWords}
 use Rattle.asl_host.specs.Reading.{Lacks}
 use Rattle.asl_host.specs.Naming.{beside}
 use Rattle.asl_host.specs.declared.files.Unreadable.{Unreadable}
@@ -9,8 +15,11 @@ use Rattle.asl_suite_file.specs.declared.expectation.Expectation.{Expectation}
 use Rattle.asl_suite_file.specs.declared.expectation.InputSource.{InputSource}
 use Rattle.asl_suite_file.specs.declared.expectation.InputSource.TheVariants.{Here, File as Named}
 use Rattle.asl_cli.specs.declared.fault.CommandFault.{CommandFault}
-use Rattle.asl_cli.specs.declared.fault.CommandFault.TheVariants.{File, Definition, Emulation, Script, Expectations, Project, Code, Input, Output, OutOfMemory}
+use Rattle.asl_cli.specs.declared.fault.CommandFault.TheVariants.{File, Definition, Emulation, Script, Expectations, Test, Project, Code, Output, OutOfMemory}
 use Rattle.asl_cli.specs.declared.inputs.Known.{Known}
+use Rattle.asl_cli.specs.Faults.{IsUnread, IsFirstUnread, AreUnread, IsGiven, named, names_in, AreGiven}
+use Rattle.asl_cli.specs.Beginnings.{suite_name, IsInputText, IsInputUnread, IsOfTest, IsTestReason, IsUnchosenIn, IsReasonFrom}
+use Rattle.asl_cli.specs.Debugging.{IsDebugReasonFrom}
 use Rattle.asl_cli.specs.Inputs.{AreTestsOn, IsFirstLost, IsHeld, IsInput, IsInputFrom, IsKnown, IsKnownOrHeld, IsLost, IsTestFrom, IsTestOn, IsUnheld, Unless}
 
 abbrev Gives : Type 1
@@ -25,7 +34,7 @@ unless-map P Q (Script e lines) f h = f (Script e lines) h
 unless-map P Q (Expectations e lines) f h = f (Expectations e lines) h
 unless-map P Q (Project e lines) f h = f (Project e lines) h
 unless-map P Q (Code word lines) f h = f (Code word lines) h
-unless-map P Q (Input name why) f h = f (Input name why) h
+unless-map P Q (Test number lines) f h = f (Test number lines) h
 unless-map P Q (Output name why) f h = f (Output name why) h
 unless-map P Q OutOfMemory f h = h
 
@@ -40,16 +49,92 @@ module _ (gives less : Gives) (lacks few : Lacks) (more : (n b : List ℕ) → l
   input-before file (Named name) v h = held-before (beside file name) v h
 
   pub unheld-before : (name : List ℕ) (r : CommandFault) → IsUnheld less few name r → IsUnheld gives lacks name r
-  unheld-before name (File n why) h = h
+  unheld-before name (File n why) h = (h.0, lacking name why h.1)
   unheld-before name (Definition e lines) h = h
   unheld-before name (Emulation e lines) h = record { bytes = h.bytes; given = more name h.bytes h.given; fault = h.fault }
   unheld-before name (Script e lines) h = h
   unheld-before name (Expectations e lines) h = h
   unheld-before name (Project e lines) h = h
   unheld-before name (Code word lines) h = h
-  unheld-before name (Input n why) h = (h.0, lacking name why h.1)
+  unheld-before name (Test number lines) h = h
   unheld-before name (Output n why) h = h
   unheld-before name OutOfMemory h = h
+
+  pub unread-before : (name : List ℕ) (r : CommandFault) → IsUnread few name r → IsUnread lacks name r
+  unread-before name (File n why) h = (h.0, lacking name why h.1)
+  unread-before name (Definition e lines) h = h
+  unread-before name (Emulation e lines) h = h
+  unread-before name (Script e lines) h = h
+  unread-before name (Expectations e lines) h = h
+  unread-before name (Test number lines) h = h
+  unread-before name (Project e lines) h = h
+  unread-before name (Code word lines) h = h
+  unread-before name (Output n why) h = h
+  unread-before name OutOfMemory h = h
+
+  first-unread-before : (names : List (List ℕ)) (name : List ℕ) (why : Unreadable) → IsFirstUnread less few names name why → IsFirstUnread gives lacks names name why
+  first-unread-before [] name why h = h
+  first-unread-before (n ∷ names) name why (inl h) = inl (h.0, lacking n why h.1)
+  first-unread-before (n ∷ names) name why (inr ((b, g), h)) = inr ((b, more n b g), first-unread-before names name why h)
+
+  pub all-unread-before : (names : List (List ℕ)) (r : CommandFault) → AreUnread less few names r → AreUnread gives lacks names r
+  all-unread-before names (File n why) h = first-unread-before names (string_bytes n) why h
+  all-unread-before names (Definition e lines) h = h
+  all-unread-before names (Emulation e lines) h = h
+  all-unread-before names (Script e lines) h = h
+  all-unread-before names (Expectations e lines) h = h
+  all-unread-before names (Test number lines) h = h
+  all-unread-before names (Project e lines) h = h
+  all-unread-before names (Code word lines) h = h
+  all-unread-before names (Output n why) h = h
+  all-unread-before names OutOfMemory h = h
+
+  pub setup-before : (w : SetupWords) (t : Texts) → AreGiven less w t → AreGiven gives w t
+  setup-before w t h = record {
+    definition = more _ _ h.definition;
+    mocks = more _ _ h.mocks;
+    chosen = h.chosen;
+    input = more _ _ h.input;
+    steps = h.steps;
+  }
+
+  pub unchosen-before : (c : ChosenWords) (ws : List Workflow) (r : CommandFault) → IsUnchosenIn less few c ws r → IsUnchosenIn gives lacks c ws r
+  unchosen-before c ws r (inl h) = inl h
+  unchosen-before c ws r (inr (s, is, u)) = inr (s, is, all-unread-before (names_in s) r u)
+
+  input-text-before : (file : List ℕ) (x : InputSource) (b : List ℕ) → IsInputText less file x b → IsInputText gives file x b
+  input-text-before file (Here y) b h = h
+  input-text-before file (Named name) b h = more (beside file name) b h
+
+  input-unread-before : (file : List ℕ) (x : InputSource) (r : CommandFault) → IsInputUnread few file x r → IsInputUnread lacks file x r
+  input-unread-before file (Here y) r h = h
+  input-unread-before file (Named name) r h = unread-before (beside file name) r h
+
+  pub of-test-before : (w : TestedWords) (d : Draft) (t : Texts) → IsOfTest less w d t → IsOfTest gives w d t
+  of-test-before w d t h = record {
+    chosen = h.chosen;
+    input = input-text-before (suite_name w) d.input t.input h.input;
+    steps = h.steps;
+  }
+
+  pub test-reason-before : (w : TestedWords) (all : List Draft) (r : CommandFault) → IsTestReason few w all r → IsTestReason lacks w all r
+  test-reason-before w all r (inl h) = inl h
+  test-reason-before w all r (inr (d, is, u)) = inr (d, is, input-unread-before (suite_name w) d.input r u)
+
+  pub given-from : (name steps : Option (List ℕ)) → IsGiven less name steps → IsGiven gives name steps
+  given-from None None h = h
+  given-from None (Some b) h = h
+  given-from (Some n) None h = h
+  given-from (Some n) (Some b) h = more n b h
+
+  pub reason-from : (own : Texts) (name : Option (List ℕ)) (r : CommandFault) → IsReasonFrom less few own name r → IsReasonFrom gives lacks own name r
+  reason-from own name r (inl h) = inl (all-unread-before (named name) r h)
+  reason-from own name r (inr (steps, given, h)) = inr (steps, given-from name steps given, h)
+
+  pub debug-reason-from : (own : Texts) (script : List ℕ) (r : CommandFault) → IsDebugReasonFrom less few own script r → IsDebugReasonFrom gives lacks own script r
+  debug-reason-from own script r (inl h) = inl (unread-before script r h)
+  debug-reason-from own script r (inr (inl h)) = inr (inl h)
+  debug-reason-from own script r (inr (inr (s, bytes, given, h))) = inr (inr (s, bytes, more script bytes given, h))
 
   pub lost-before : (file : List ℕ) (x : InputSource) (r : CommandFault) → IsLost less few file x r → IsLost gives lacks file x r
   lost-before file (Here y) r h = h

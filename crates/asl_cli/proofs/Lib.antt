@@ -1,5 +1,6 @@
 mod Doing
-mod Given
 mod Having
 mod Held
+mod Parts
 mod Talks
+pub mod Lints

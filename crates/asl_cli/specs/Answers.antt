@@ -9,13 +9,16 @@ use Rattle.asl_command_line.specs.declared.answers.Answer.{Answer}
 use Rattle.asl_command_line.specs.declared.answers.Answer.TheVariants as answer
 use Rattle.asl_words.specs.declared.words.DefinitionWords.{DefinitionWords}
 use Rattle.asl_words.specs.declared.words.PrintWords.{PrintWords}
-use Rattle.asl_words.specs.declared.words.SetupWords.{SetupWords}
+use Rattle.asl_words.specs.declared.words.Begin.{Begin}
 use Rattle.asl_words.specs.declared.words.RunWords.{RunWords}
 use Rattle.asl_words.specs.declared.words.DebugFormat.{DebugFormat}
 use Rattle.asl_words.specs.declared.words.DebugFormat.TheVariants as format
 use Rattle.asl_words.specs.declared.words.DebugWords.{DebugWords}
 use Rattle.asl_host.specs.Outcomes.{status_of, fault_line, IsUntouched, IsTold}
-use Rattle.asl_cli.specs.Faults.{steps_name, IsEmulated, IsRunReason, script_name, IsBegun, IsDebugText, IsDebugReason, IsJudged, IsForm, IsNewerForm, IsDefinitionReason, Tells}
+use Rattle.asl_cli.specs.Faults.{IsJudged, IsForm, IsNewerForm, IsDefinitionReason, Tells}
+use Rattle.asl_cli.specs.Beginnings.{IsRunReason, IsBegun, IsSetupReason}
+use Rattle.asl_cli.specs.Running.{steps_name, IsEmulated}
+use Rattle.asl_cli.specs.Debugging.{script_name, IsDebugText, IsDebugReason}
 use Rattle.asl_cli.specs.Streams.{FileSystem, InputUse, Io, Prints, unless_quiet}
 use Rattle.asl_cli.specs.Noting.{IsNoted}
 use Rattle.asl_cli.specs.Talking.{IsConversed}
@@ -49,7 +52,7 @@ IsRan files io quiet w =
     IsDoneNoting io quiet
     (λ text note status. (good : Bool) × IsEmulated files.gives w text good note
     × (status ≡ status_of good))
-    (IsRunReason files.gives files.lacks w.setup (steps_name w))
+    (IsRunReason files.gives files.lacks w.begin (steps_name w))
 
 -- how the steps of lines are told
 abbrev pub look_of : DebugFormat → Bool → Look
@@ -58,27 +61,27 @@ look_of format.Tree true = Colours
 look_of format.Tree false = Tree
 
 -- a session was opened for these words, and its lines were answered; or it wasn't, which was told
-abbrev pub IsTyped : {I O E : Type 0} → FileSystem → InputUse I → Io O E → Bool → SetupWords → Look
+abbrev pub IsTyped : {I O E : Type 0} → FileSystem → InputUse I → Io O E → Bool → Begin → Bool → Look
     → Type 0
-IsTyped files typed io quiet w look =
-    ((s : Setup) × IsBegun files.gives w s × IsConversed typed io look (first_console s))
-    ⊎ IsRefusedFor io quiet (IsRunReason files.gives files.lacks w None)
+IsTyped files typed io quiet w strict look =
+    ((s : Setup) × IsBegun files.gives w s × IsConversed typed io strict look (first_console s))
+    ⊎ IsRefusedFor io quiet (IsSetupReason files.gives files.lacks w)
 
 -- the debugging by a script: the text of the run was printed
-abbrev pub IsScripted : {O E : Type 0} → FileSystem → Io O E → Bool → SetupWords → List ℕ → Type 0
+abbrev pub IsScripted : {O E : Type 0} → FileSystem → Io O E → Bool → Begin → List ℕ → Type 0
 IsScripted files io quiet w script =
     IsDone io quiet (λ text wanted. IsDebugText files.gives w script text × (wanted ≡ 0))
     (IsDebugReason files.gives files.lacks w script)
 
-abbrev pub IsDebuggedBy : {I O E : Type 0} → FileSystem → InputUse I → Io O E → Bool → SetupWords → Look
-    → Option (List ℕ) → Type 0
-IsDebuggedBy files typed io quiet w look None = IsTyped files typed io quiet w look
-IsDebuggedBy files typed io quiet w look (Some script) = IsScripted files io quiet w script
+abbrev pub IsDebuggedBy : {I O E : Type 0} → FileSystem → InputUse I → Io O E → Bool → Begin → Bool
+    → Look → Option (List ℕ) → Type 0
+IsDebuggedBy files typed io quiet w strict look None = IsTyped files typed io quiet w strict look
+IsDebuggedBy files typed io quiet w strict look (Some script) = IsScripted files io quiet w script
 
 -- the debugging of these words: by a script; without one, lines were answered
 abbrev pub IsDebugged : {I O E : Type 0} → FileSystem → InputUse I → Io O E → Bool → DebugWords → Type 0
 IsDebugged files typed io quiet w =
-    IsDebuggedBy files typed io quiet w.setup (look_of w.format w.coloured) (script_name w)
+    IsDebuggedBy files typed io quiet w.begin w.strict (look_of w.format w.coloured) (script_name w)
 
 -- the check of these words: a definition was passed and `ok` was printed
 abbrev pub IsChecked : {O E : Type 0} → FileSystem → Io O E → Bool → DefinitionWords → Type 0

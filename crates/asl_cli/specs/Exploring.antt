@@ -15,7 +15,7 @@ use Rattle.asl_words.specs.declared.words.ExploreWords.{ExploreWords}
 use Rattle.asl_words.specs.declared.words.WitnessFormat.{WitnessFormat}
 use Rattle.asl_words.specs.declared.words.WitnessFormat.TheVariants as format
 use Rattle.asl_host.specs.Outcomes.{status_of, fault_line, IsUntouched, IsTold}
-use Rattle.asl_cli.specs.Faults.{IsBegun, IsRunReason}
+use Rattle.asl_cli.specs.Beginnings.{IsBegun, IsSetupReason}
 use Rattle.asl_cli.specs.Formats.{IsShown as IsShownIn}
 use Rattle.asl_cli.specs.Streams.{FileSystem, Io, Prints, unless_quiet}
 use Rattle.asl_cli.specs.Noting.{notes_for, IsNoted}
@@ -63,7 +63,7 @@ IsWitness w s fs (Some n) t = IsWitnessOf w s (numbered fs n) t
 pub record IsFoundFor (gives : List ℕ → List ℕ → Type 0) (w : ExploreWords) (x : Explored)
     (notes : List ℕ) (witness : Option (List ℕ)) : Type 0 where
   pub setup : Setup
-  pub begins : IsBegun gives w.setup setup
+  pub begins : IsBegun gives w.begin setup
   pub found : IsFound (orders_for w.prompt) w.calls w.limit setup x
   pub notes_are : notes ≡ notes_for w.witness begins.texts.chosen setup x.found.items
   pub is_witness : IsWitness w setup x.found.items w.witness witness
@@ -94,4 +94,4 @@ abbrev pub IsExplored : {O E : Type 0} → FileSystem → Io O E → Bool → Ex
 IsExplored files io quiet w =
     ((x : Explored) × (notes : List ℕ) × (witness : Option (List ℕ)) × IsFoundFor files.gives w x notes witness
     × IsShown io quiet x notes witness w.witness)
-    ⊎ IsRefusedFor io quiet (IsRunReason files.gives files.lacks w.setup None)
+    ⊎ IsRefusedFor io quiet (IsSetupReason files.gives files.lacks w.begin)

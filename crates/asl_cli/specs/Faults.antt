@@ -1,5 +1,5 @@
--- What is read for a command, what is judged or emulated then, and why nothing is.
-use Rattle.std.specs.Prelude.{ℕ, Bool, Option, Some, None, option_map, unwrap_or, string_bytes, List, [], ◌∷◌, ◌≡◌, ◌++◌, ◌⊎◌, ⊤, codes}
+-- What is read for a command, what is judged then, and why nothing is.
+use Rattle.std.specs.Prelude.{ℕ, Bool, Option, Some, None, string_bytes, List, [], ◌∷◌, ◌≡◌, ◌++◌, ◌⊎◌, ⊤, codes}
 use Rattle.asl_json_data.specs.Data.{Data}
 use Rattle.asl_json_data.specs.Reads.{ReadsAs}
 use Rattle.asl_def_schema.specs.Canon.{canonical}
@@ -9,24 +9,23 @@ use Rattle.asl_check.specs.Judged.{IsDefinition, IsMachineOf, IsFaultOf}
 use Rattle.asl_check.specs.Lines.{fault_line as definition_fault_line}
 use Rattle.asl_check.specs.declared.fault.Fault.{Fault}
 use Rattle.asl_check.specs.declared.fault.Fault.TheVariants as fault
+use Rattle.std.specs.Fmt.{decimal}
 use Rattle.asl_suite_file.specs.Lines.{expect_line}
+use Rattle.asl_suite_file.specs.Told.{IsAnswer as IsExpectAnswer}
+use Rattle.asl_suite_file.specs.declared.fault.ExpectFault.{ExpectFault}
+use Rattle.asl_suite_file.specs.declared.fault.ExpectFault.TheVariants as expect
 use Rattle.asl_project.specs.Lines.{project_line}
 use Rattle.asl_run_input.specs.declared.fault.EmulateFault.{EmulateFault}
-use Rattle.asl_run_input.specs.declared.setup.Setup.{Setup}
 use Rattle.asl_mock.specs.Chosen.{IsChosen}
-use Rattle.asl_run_input.specs.Emulations.{Texts, run_texts, Accepts, IsRefused}
+use Rattle.asl_run_input.specs.Emulations.{Texts, run_texts, IsRefused}
 use Rattle.asl_run_input.specs.Texts.{Unless, refusal_line}
-use Rattle.asl_exec.specs.Driving.{most_steps}
 use Rattle.asl_session.specs.declared.script_file.ScriptFault.{ScriptFault}
-use Rattle.asl_session.specs.declared.script_file.ScriptFault.TheVariants as script
-use Rattle.asl_session.specs.Scripts.{IsScriptRun, IsScriptFault, script_refusal}
+use Rattle.asl_session.specs.Scripts.{script_refusal}
 use Rattle.asl_text.specs.Shown.{shown}
 use Rattle.asl_cli.specs.Layouts.{laid_out}
-use Rattle.asl_cli.specs.Formats.{format_of, IsRunIn}
-use Rattle.asl_cli.specs.Noting.{IsNoteOf}
 use Rattle.asl_cli.specs.Streams.{unless_quiet}
 use Rattle.asl_cli.specs.declared.fault.CommandFault.{CommandFault}
-use Rattle.asl_cli.specs.declared.fault.CommandFault.TheVariants.{File, Definition, Emulation, Script, Expectations, Project, Code, Input, Output, OutOfMemory}
+use Rattle.asl_cli.specs.declared.fault.CommandFault.TheVariants.{File, Definition, Emulation, Script, Expectations, Test, Project, Code, Output, OutOfMemory}
 use Rattle.asl_cli.specs.declared.reading.SetupTexts.{SetupTexts}
 use Rattle.asl_host.specs.Outcomes.{fault_line}
 use Rattle.asl_host.specs.Reading.{Lacks, unreadable_words}
@@ -35,14 +34,12 @@ use Rattle.asl_host.specs.declared.files.Unreadable.{Unreadable}
 use Rattle.asl_words.specs.declared.words.DefinitionWords.{DefinitionWords}
 use Rattle.asl_words.specs.declared.words.PrintWords.{PrintWords}
 use Rattle.asl_words.specs.declared.words.SetupWords.{SetupWords}
-use Rattle.asl_words.specs.declared.words.RunWords.{RunWords}
-use Rattle.asl_words.specs.declared.words.DebugWords.{DebugWords}
 
 -- ---- a file
 
 -- a file that can't be read is the one of this name, and may be lacking
 abbrev pub IsUnread : Lacks → List ℕ → CommandFault → Type 0
-IsUnread lacks wanted (File name why) = (name.now ≡ wanted) × lacks name.now why
+IsUnread lacks wanted (File name why) = (string_bytes name ≡ wanted) × lacks wanted why
 IsUnread lacks wanted OutOfMemory = ⊤
 IsUnread lacks wanted _ = ⊥
 
@@ -54,13 +51,13 @@ abbrev pub IsFirstUnread : (List ℕ → List ℕ → Type 0) → Lacks → List
     → Type 0
 IsFirstUnread gives lacks [] name why = ⊥
 IsFirstUnread gives lacks (wanted ∷ names) name why =
-    ((name ≡ wanted) × lacks name why)
+    ((name ≡ wanted) × lacks wanted why)
     ⊎ (((b : List ℕ) × gives wanted b) × IsFirstUnread gives lacks names name why)
 
 -- why they aren't read: the first that can't be, or memory ran out
 abbrev pub AreUnread : (List ℕ → List ℕ → Type 0) → Lacks → List (List ℕ)
     → CommandFault → Type 0
-AreUnread gives lacks names (File name why) = IsFirstUnread gives lacks names name.now why
+AreUnread gives lacks names (File name why) = IsFirstUnread gives lacks names (string_bytes name) why
 AreUnread gives lacks names OutOfMemory = ⊤
 AreUnread gives lacks names _ = ⊥
 
@@ -78,24 +75,23 @@ abbrev pub named : Option (List ℕ) → List (List ℕ)
 named None = []
 named (Some name) = name ∷ []
 
--- the files that the words name, in their order, with one more where it is named
-abbrev pub names_in : SetupWords → Option (List ℕ) → List (List ℕ)
-names_in w more = w.definition.now ∷ w.mocks.now ∷ w.input.now ∷ named more
+-- the files that the words name, in their order
+abbrev pub names_in : SetupWords → List (List ℕ)
+names_in w = w.definition.now ∷ w.mocks.now ∷ w.input.now ∷ []
 
 -- the texts of a run with this file of steps, where there is one
 abbrev pub read_texts : SetupTexts → Option (List ℕ) → Texts
 read_texts t steps =
     run_texts t.definition.items t.mocks.items (string_bytes t.chosen) t.input.items steps
 
--- the files that the words name may give these texts, of steps where such a file is named, and what
--- the words choose there is this
-pub record AreGiven (gives : List ℕ → List ℕ → Type 0) (w : SetupWords) (name : Option (List ℕ))
-    (t : Texts) : Type 0 where
+-- the files that the words name may give these texts, and what the words choose there is this; no steps are
+-- named
+pub record AreGiven (gives : List ℕ → List ℕ → Type 0) (w : SetupWords) (t : Texts) : Type 0 where
   pub definition : gives w.definition.now t.definition
   pub mocks : gives w.mocks.now t.mocks
   pub chosen : IsChosen t.mocks w.chosen.now t.chosen
   pub input : gives w.input.now t.input
-  pub steps : IsGiven gives name t.steps
+  pub steps : t.steps ≡ None
 
 -- why these texts are refused, or memory ran out
 abbrev pub IsTextsReason : Texts → CommandFault → Type 0
@@ -103,93 +99,18 @@ IsTextsReason t (Emulation fault lines) = Unless (IsRefused t) fault
 IsTextsReason t OutOfMemory = ⊤
 IsTextsReason t _ = ⊥
 
--- what the files may give is refused for this fault
-pub record IsRefusedRun (gives : List ℕ → List ℕ → Type 0) (w : SetupWords)
-    (name : Option (List ℕ)) (fault : EmulateFault) : Type 0 where
-  pub texts : Texts
-  pub given : AreGiven gives w name texts
-  pub refused : Unless (IsRefused texts) fault
+-- ---- an expectation file
 
--- why nothing is run: a file that the words name can't be read, what was read is refused, or memory
--- ran out
-abbrev pub IsRunReason : (List ℕ → List ℕ → Type 0) → Lacks → SetupWords
-    → Option (List ℕ) → CommandFault → Type 0
-IsRunReason gives lacks w steps (File name why) =
-    IsFirstUnread gives lacks (names_in w steps) name.now why
-IsRunReason gives lacks w steps (Emulation fault lines) = IsRefusedRun gives w steps fault
-IsRunReason gives lacks w steps OutOfMemory = ⊤
-IsRunReason gives lacks w steps _ = ⊥
+-- the first fault of an expectation file; want of memory is none
+pub record IsExpectFault (b : List ℕ) (f : ExpectFault) : Type 0 where
+  pub is_fault : IsExpectAnswer b f
+  pub told : f ≡ expect.OutOfMemory → ⊥
 
--- ---- a run
-
--- the name of the file of steps, where there is one
-abbrev pub steps_name : RunWords → Option (List ℕ)
-steps_name w = option_map (λ name. name.now) w.steps
-
--- at most so many steps are taken where no file names them
-abbrev pub most_of : RunWords → ℕ
-most_of w = unwrap_or w.most_steps most_steps
-
--- the run that the words ask for, of what the files may give, prints this text in the format that they
--- ask for, and is good or not; this is told of an answer that it lacked, of why it isn't over, and of why it failed
-pub record IsEmulated (gives : List ℕ → List ℕ → Type 0) (w : RunWords) (text : List ℕ)
-    (good : Bool) (note : List ℕ) : Type 0 where
-  pub texts : Texts
-  pub given : AreGiven gives w.setup (steps_name w) texts
-  pub is_run : IsRunIn (format_of w.format) w.coloured texts (most_of w) text good
-  pub note_is : IsNoteOf texts (steps_name w) (most_of w) good note
-
--- ---- a session
-
--- the name of the script, where there is one
-abbrev pub script_name : DebugWords → Option (List ℕ)
-script_name w = option_map (λ name. name.now) w.script
-
--- the files that the words name may give the texts of this setup
-pub record IsBegun (gives : List ℕ → List ℕ → Type 0) (w : SetupWords) (s : Setup) : Type 0 where
-  pub texts : Texts
-  pub given : AreGiven gives w None texts
-  pub accepted : Accepts texts s None
-
--- the text is that of a run by this script of the setup that the files may give
-pub record IsDebugText (gives : List ℕ → List ℕ → Type 0) (w : SetupWords) (name text : List ℕ)
-    : Type 0 where
-  pub setup : Setup
-  pub begins : IsBegun gives w setup
-  pub bytes : List ℕ
-  pub given : gives name bytes
-  pub is_run : IsScriptRun setup bytes text
-
--- the fault of a script; want of memory is none
-pub record IsScriptFaulty (bytes : List ℕ) (f : ScriptFault) : Type 0 where
-  pub is_fault : IsScriptFault bytes f
-  pub told : f ≡ script.OutOfMemory → ⊥
-
--- why these bytes are no script, or memory ran out
-abbrev pub IsScriptReason : List ℕ → CommandFault → Type 0
-IsScriptReason bytes (Script fault lines) = IsScriptFaulty bytes fault
-IsScriptReason bytes OutOfMemory = ⊤
-IsScriptReason bytes _ = ⊥
-
--- the files may give some setup, and a script that is refused for this fault
-pub record IsBadScript (gives : List ℕ → List ℕ → Type 0) (w : SetupWords) (name : List ℕ)
-    (f : ScriptFault) : Type 0 where
-  pub setup : Setup
-  pub begins : IsBegun gives w setup
-  pub bytes : List ℕ
-  pub given : gives name bytes
-  pub faulty : IsScriptFaulty bytes f
-
--- why nothing is debugged by this script: it or a file that the words name can't be read, what was
--- read is refused, or memory ran out
-abbrev pub IsDebugReason : (List ℕ → List ℕ → Type 0) → Lacks → SetupWords → List ℕ
-    → CommandFault → Type 0
-IsDebugReason gives lacks w script (File name why) =
-    IsFirstUnread gives lacks (names_in w (Some script)) name.now why
-IsDebugReason gives lacks w script (Emulation fault lines) = IsRefusedRun gives w None fault
-IsDebugReason gives lacks w script (Script fault lines) = IsBadScript gives w script fault
-IsDebugReason gives lacks w script OutOfMemory = ⊤
-IsDebugReason gives lacks w script _ = ⊥
+-- why bytes are none, or memory ran out
+abbrev pub IsTestsTextReason : List ℕ → CommandFault → Type 0
+IsTestsTextReason b (Expectations f lines) = IsExpectFault b f
+IsTestsTextReason b OutOfMemory = ⊤
+IsTestsTextReason b _ = ⊥
 
 -- ---- a definition
 
@@ -235,8 +156,7 @@ pub record IsFaulty (gives : List ℕ → List ℕ → Type 0) (w : DefinitionWo
 -- ran out
 abbrev pub IsDefinitionReason : (List ℕ → List ℕ → Type 0) → Lacks → DefinitionWords
     → CommandFault → Type 0
-IsDefinitionReason gives lacks w (File name why) =
-    (name.now ≡ w.definition.now) × lacks name.now why
+IsDefinitionReason gives lacks w (File name why) = IsUnread lacks w.definition.now (File name why)
 IsDefinitionReason gives lacks w (Definition f lines) = IsFaulty gives w f
 IsDefinitionReason gives lacks w OutOfMemory = ⊤
 IsDefinitionReason gives lacks w _ = ⊥
@@ -245,14 +165,14 @@ IsDefinitionReason gives lacks w _ = ⊥
 
 -- the text of a refusal
 abbrev pub reason_text : CommandFault → List ℕ
-reason_text (File name why) = codes "file " ++ (name.now ++ unreadable_words why)
+reason_text (File name why) = codes "file " ++ (string_bytes name ++ unreadable_words why)
 reason_text (Definition fault lines) = codes "definition: " ++ definition_fault_line fault
 reason_text (Emulation fault lines) = refusal_line fault
 reason_text (Script fault lines) = script_refusal fault
 reason_text (Expectations fault lines) = codes "expectations: " ++ expect_line fault
+reason_text (Test number lines) = codes "expectations: X4 NoTest " ++ decimal number
 reason_text (Project fault lines) = codes "project: " ++ project_line fault
 reason_text (Code word lines) = codes "code " ++ word.now
-reason_text (Input name why) = codes "file " ++ (string_bytes name ++ unreadable_words why)
 reason_text (Output name why) = codes "file " ++ (name.now ++ unwritable_words why)
 reason_text OutOfMemory = codes "OutOfMemory"
 
@@ -263,6 +183,7 @@ mending (Emulation fault lines) = string_bytes lines
 mending (Script fault lines) = string_bytes lines
 mending (Expectations fault lines) = string_bytes lines
 mending (Project fault lines) = string_bytes lines
+mending (Test number lines) = string_bytes lines
 mending (Code word lines) = string_bytes lines
 mending _ = []
 

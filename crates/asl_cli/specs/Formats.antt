@@ -13,7 +13,7 @@ use Rattle.asl_words.specs.declared.words.RunFormat.TheVariants as word
 abbrev pub format_of : RunFormat → Option Format
 format_of word.Text = None
 format_of word.Json = Some Json
-format_of word.Aws = Some Aws
+format_of (word.Aws region) = Some (Aws region)
 format_of word.Steps = Some Steps
 format_of word.Tree = Some Tree
 format_of word.Data = Some Data

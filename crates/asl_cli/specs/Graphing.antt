@@ -8,12 +8,14 @@ use Rattle.asl_run_input.specs.Emulations.{Texts}
 use Rattle.asl_exec.specs.Driving.{most_steps}
 use Rattle.asl_run_formats.specs.Marked.{IsMarkedRunOf}
 use Rattle.asl_host.specs.Reading.{Lacks}
+use Rattle.asl_words.specs.declared.words.Begin.TheVariants.{Files}
 use Rattle.asl_words.specs.declared.words.SetupWords.{SetupWords}
 use Rattle.asl_words.specs.declared.words.GraphFormat.{GraphFormat}
 use Rattle.asl_words.specs.declared.words.GraphFormat.TheVariants as format
 use Rattle.asl_words.specs.declared.words.GraphWords.{GraphWords}
 use Rattle.asl_cli.specs.declared.fault.CommandFault.{CommandFault}
-use Rattle.asl_cli.specs.Faults.{AreGiven, IsRunReason, IsAccepted, IsDefinitionReason}
+use Rattle.asl_cli.specs.Faults.{AreGiven, IsAccepted, IsDefinitionReason}
+use Rattle.asl_cli.specs.Beginnings.{IsRunReason}
 use Rattle.asl_cli.specs.Streams.{FileSystem, Io}
 use Rattle.asl_cli.specs.Answers.{IsDone}
 
@@ -34,7 +36,7 @@ pub record IsDefinitionGraph (gives : List ℕ → List ℕ → Type 0) (w : Gra
 pub record IsRunGraph (gives : List ℕ → List ℕ → Type 0) (w : SetupWords) (drawn_as : Format)
     (graph : List ℕ) : Type 0 where
   pub texts : Texts
-  pub given : AreGiven gives w None texts
+  pub given : AreGiven gives w texts
   pub is_run : IsMarkedRunOf drawn_as texts most_steps graph
 
 -- the graph of the definition, or that of a run
@@ -49,7 +51,7 @@ IsGraph gives w graph = IsGraphBy gives w w.run graph
 abbrev pub IsGraphReasonBy : (List ℕ → List ℕ → Type 0) → Lacks → GraphWords → Option SetupWords
     → CommandFault → Type 0
 IsGraphReasonBy gives lacks w None r = IsDefinitionReason gives lacks w.definition r
-IsGraphReasonBy gives lacks w (Some s) r = IsRunReason gives lacks s None r
+IsGraphReasonBy gives lacks w (Some s) r = IsRunReason gives lacks (Files s) None r
 
 abbrev pub IsGraphReason : (List ℕ → List ℕ → Type 0) → Lacks → GraphWords → CommandFault → Type 0
 IsGraphReason gives lacks w r = IsGraphReasonBy gives lacks w w.run r

@@ -13,7 +13,8 @@ use Rattle.asl_suite_file.specs.declared.expectation.InputSource.TheVariants.{He
 use Rattle.asl_suite_file.specs.Drafts.{test_on}
 use Rattle.asl_run_input.specs.declared.fault.EmulateFault.{EmulateFault}
 use Rattle.asl_cli.specs.declared.fault.CommandFault.{CommandFault}
-use Rattle.asl_cli.specs.declared.fault.CommandFault.TheVariants.{Emulation, Input, OutOfMemory}
+use Rattle.asl_cli.specs.declared.fault.CommandFault.TheVariants as fault
+use Rattle.asl_cli.specs.declared.fault.CommandFault.TheVariants.{Emulation, OutOfMemory}
 use Rattle.asl_cli.specs.declared.inputs.Known.{Known}
 
 -- ---- the inputs
@@ -61,7 +62,7 @@ pub record IsUnspelled (gives : List ℕ → List ℕ → Type 0) (name : List �
 
 -- the file of a name may be lacking, or give no JSON text
 abbrev pub IsUnheld : (List ℕ → List ℕ → Type 0) → Lacks → List ℕ → CommandFault → Type 0
-IsUnheld gives lacks wanted (Input name why) = (string_bytes name ≡ wanted) × lacks wanted why
+IsUnheld gives lacks wanted (fault.File name why) = (string_bytes name ≡ wanted) × lacks wanted why
 IsUnheld gives lacks wanted (Emulation f lines) = IsUnspelled gives wanted f
 IsUnheld gives lacks wanted r = ⊥
 

@@ -16,3 +16,7 @@ pub mod Talking
 pub mod Graphing
 pub mod Mocking
 pub mod Linting
+pub mod Choices
+pub mod Beginnings
+pub mod Running
+pub mod Debugging

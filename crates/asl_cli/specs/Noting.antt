@@ -24,27 +24,27 @@ limit_lead = codes "note: the execution still runs: "
 unfoldable pub limit_end : List ℕ
 limit_end = codes " steps were taken, and --max-steps takes more\n"
 
--- of a run without a file of steps, which took so many
+-- of a run of which no steps are named, which took so many
 abbrev pub limit_note : Option (List ℕ) → ℕ → List ℕ
 limit_note (Some steps) limit = []
 limit_note None limit = limit_lead ++ (decimal limit ++ limit_end)
 
--- why an execution isn't over; where its steps are those of a file, only that its history is full
+-- why an execution isn't over; where its steps are named, only that its history is full
 abbrev pub end_note : Option (List ℕ) → ℕ → Ended → List ℕ
 end_note steps limit Over = []
 end_note steps limit Full = full_note
 end_note steps limit Limit = limit_note steps limit
 
--- what is told of the run that the texts spell, with this file of steps, where there is one, and at
--- most so many without, and which ends in success or doesn't: words on why it failed stand last
-pub record IsNoteOf (t : Texts) (steps : Option (List ℕ)) (limit : ℕ) (good : Bool) (note : List ℕ) : Type 0 where
+-- what is told of the run that the texts spell, of at most so many steps where they name none, and which ends in success
+-- or doesn't: words on why it failed stand last
+pub record IsNoteOf (t : Texts) (limit : ℕ) (good : Bool) (note : List ℕ) : Type 0 where
   pub lacking : Option Invocation
   pub end : Ended
   pub is_lacking : IsLackingIn t limit lacking
   pub is_end : IsEndIn t limit end
   pub why : List ℕ
   pub failed : good ≡ true → why ≡ []
-  pub note_is : note ≡ note_text t.chosen lacking ++ (end_note steps limit end ++ why)
+  pub note_is : note ≡ note_text t.chosen lacking ++ (end_note t.steps limit end ++ why)
 
 -- ---- of a search
 

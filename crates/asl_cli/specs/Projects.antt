@@ -1,65 +1,29 @@
 -- What is done for each workflow of a project.
-use Rattle.std.specs.Prelude.{ℕ, max, List, [], ◌∷◌, ◌≡◌, ◌⊎◌, ⊤, Bool, false, Option, Some, None, is_none, option_map, option_and_then, unwrap_or, codes}
-use Rattle.std.specs.Option.{option_or}
-use Rattle.std.specs.List.{find, before_first}
-use Rattle.std.specs.Str.{bytes_eq}
-use Rattle.asl_project.specs.Told.{IsProject, IsAnswer}
-use Rattle.asl_project.specs.declared.fault.ProjectFault.{ProjectFault}
-use Rattle.asl_project.specs.declared.fault.ProjectFault.TheVariants as project
+use Rattle.std.specs.Prelude.{ℕ, ◌==◌, max, nat_lt, List, [], ◌∷◌, ◌++◌, ◌≡◌, ◌⊎◌, ⊤, Bool, true, false, if◌then◌else◌, Option, Some, None, option_map, map, fold, length, count_by, codes, string_bytes}
+use Rattle.std.specs.List.{flat_map}
+use Rattle.std.specs.Fmt.{decimal}
 use Rattle.asl_project.specs.declared.workflow.Workflow.{Workflow}
 use Rattle.asl_words.specs.declared.words.DefinitionWords.{DefinitionWords}
 use Rattle.asl_words.specs.declared.words.ProjectWords.{ProjectWords}
-use Rattle.asl_words.specs.Asked.{is_case_mark}
-use Rattle.asl_words.specs.declared.words.SetupWords.{SetupWords}
-use Rattle.asl_words.specs.declared.words.ChosenWords.{ChosenWords}
-use Rattle.asl_words.specs.declared.words.RunWords.{RunWords}
-use Rattle.asl_words.specs.declared.words.RunInWords.{RunInWords}
-use Rattle.asl_words.specs.declared.words.DebugWords.{DebugWords}
-use Rattle.asl_words.specs.declared.words.DebugInWords.{DebugInWords}
-use Rattle.asl_words.specs.declared.words.ExploreWords.{ExploreWords}
-use Rattle.asl_words.specs.declared.words.ExploreInWords.{ExploreInWords}
-use Rattle.asl_mock.specs.declared.fault.CaseFault.TheVariants.{NoMachine}
-use Rattle.asl_run_input.specs.declared.fault.EmulateFault.TheVariants as setup
-use Rattle.asl_words.specs.declared.words.LintWords.{LintWords}
 use Rattle.asl_words.specs.declared.words.LintAllWords.{LintAllWords}
 use Rattle.asl_words.specs.declared.words.TestWords.{TestWords}
 use Rattle.asl_words.specs.declared.words.TestAllWords.{TestAllWords}
-use Rattle.asl_host.specs.Outcomes.{status_of, IsUntouched, IsTold}
+use Rattle.asl_words.specs.declared.words.ReportFormat.{ReportFormat}
+use Rattle.asl_words.specs.declared.words.ReportFormat.TheVariants as format
+use Rattle.asl_suite.specs.Junit.{junit_suites}
+use Rattle.asl_host.specs.Outcomes.{status_of, IsUntouched}
+use Rattle.asl_cli.specs.Streams.{FileSystem, FileUse, found, later, OutputUse, IsUnused, Io}
+use Rattle.asl_cli.specs.Choices.{IsProjectIn, IsProjectReason}
+use Rattle.asl_cli.specs.Answers.{IsRefusedFor, IsChecked}
+use Rattle.asl_cli.specs.Linting.{IsLintedBut, Wanted, role_file}
+use Rattle.asl_cli.specs.declared.linting.Manner.{Manner}
+use Rattle.asl_lint_files.specs.declared.kinds.Role.TheVariants as role
 use Rattle.asl_cli.specs.declared.fault.CommandFault.{CommandFault}
-use Rattle.asl_cli.specs.declared.fault.CommandFault.TheVariants.{File, Emulation, Project, OutOfMemory}
-use Rattle.asl_cli.specs.Streams.{FileSystem, FileUse, found, later, InputUse, Io, Prints}
-use Rattle.asl_cli.specs.Faults.{IsUnread}
-use Rattle.asl_cli.specs.Answers.{IsRefusedFor, IsChecked, IsRan, IsDebugged}
-use Rattle.asl_cli.specs.Exploring.{IsExplored}
-use Rattle.asl_cli.specs.Linting.{mocks_name, machine_name, IsLintedBut}
-use Rattle.asl_cli.specs.Suites.{IsShown, IsUndone}
-
--- ---- the project
-
-abbrev pub project_name : ProjectWords → List ℕ
-project_name w = unwrap_or (option_map (λ name. name.now) w.project) (codes "asl.toml")
-
--- its file may give a text that spells these workflows
-pub record IsProjectIn (gives : List ℕ → List ℕ → Type 0) (w : ProjectWords) (ws : List Workflow)
-    : Type 0 where
-  pub text : List ℕ
-  pub given : gives (project_name w) text
-  pub is_project : IsProject (project_name w) text ws
-
--- it may give a text that is none for this fault; want of memory is no fault of a text
-pub record IsNoProject (gives : List ℕ → List ℕ → Type 0) (w : ProjectWords) (f : ProjectFault)
-    : Type 0 where
-  pub text : List ℕ
-  pub given : gives (project_name w) text
-  pub is_fault : IsAnswer text f
-  pub told : f ≡ project.OutOfMemory → ⊥
-
--- why there is no project: its file may be lacking, what was read is none, or memory ran out
-abbrev pub IsProjectReason : FileSystem → ProjectWords → CommandFault → Type 0
-IsProjectReason files w (File name why) = IsUnread files.lacks (project_name w) (File name why)
-IsProjectReason files w (Project f lines) = IsNoProject files.gives w f
-IsProjectReason files w OutOfMemory = ⊤
-IsProjectReason files w _ = ⊥
+use Rattle.asl_cli.specs.declared.suites.Part.{Part}
+use Rattle.asl_cli.specs.declared.suites.SuiteNames.{SuiteNames}
+use Rattle.asl_cli.specs.declared.suites.Together.{Together}
+use Rattle.asl_cli.specs.Faults.{Tells}
+use Rattle.asl_cli.specs.Suites.{IsShown, IsUndone, Leaving, IsLeft}
 
 -- ---- one after another
 
@@ -110,156 +74,197 @@ AreAllChecked files io quiet w = IsDoneForAll quiet (IsWorkflowChecked quiet) fi
 
 -- ---- everything that is wrong
 
--- the words for a workflow
-pub record IsLintFor (a : LintAllWords) (w : Workflow) (l : LintWords) : Type 0 where
-  pub definition : l.definition.now ≡ w.definition
-  pub mocks_are : mocks_name l ≡ w.mocks
-  pub machine : machine_name l ≡ w.machine
-  pub format : l.format ≡ a.format
-  pub strict : l.strict ≡ a.strict
+-- how a workflow is judged
+pub record IsMannerFor (a : LintAllWords) (w : Workflow) (m : Manner) : Type 0 where
+  pub machine : option_map (λ k. k.now) m.machine ≡ w.machine
+  pub format : m.format ≡ a.format
+  pub strict : m.strict ≡ a.strict
 
--- its definition and its mock file were linted, without the warnings of the rules that it ignores
+-- its definition, and its mock file, where it has one
+abbrev pub workflow_files : Workflow → List Wanted
+workflow_files w = (w.definition, Some role.Definition, None) ∷ role_file role.Mocks w.mocks
+
+-- these were linted, without the warnings of the rules that it ignores
 abbrev pub IsWorkflowLinted : {F O E : Type 0} → Bool → LintAllWords → FileUse F → Io O E → Workflow → Type 0
 IsWorkflowLinted quiet a files io w =
-    (l : LintWords) × IsLintFor a w l × IsLintedBut w.ignore (found files) io quiet l
+    (m : Manner) × IsMannerFor a w m × IsLintedBut w.ignore (found files) io quiet m (workflow_files w)
 
 abbrev pub AreAllLinted : {F O E : Type 0} → FileUse F → Io O E → Bool → LintAllWords → Type 0
 AreAllLinted files io quiet a = IsDoneForAll quiet (IsWorkflowLinted quiet a) files io a.project
 
--- ---- an execution
-
--- the machine that is chosen: what stands before the mark, or all
-abbrev pub machine_in : List ℕ → List ℕ
-machine_in chosen = before_first is_case_mark chosen
-
--- a workflow of this machine
-abbrev pub is_of : List ℕ → Workflow → Bool
-is_of machine w = unwrap_or (option_map (λ name. bytes_eq name machine) w.machine) false
-
--- one that doesn't say of which machine it is: of the only one of its mock file
-abbrev pub is_unnamed : Workflow → Bool
-is_unnamed w = is_none w.machine
-
--- the first that says that it is of this machine; else the first that doesn't say of which it is
-abbrev pub workflow_of : List ℕ → List Workflow → Option Workflow
-workflow_of machine ws = option_or (find (is_of machine) ws) (find is_unnamed ws)
-
--- the input that is given, or that of the workflow, or an empty object
-abbrev pub input_for : ChosenWords → Workflow → List ℕ
-input_for c w = unwrap_or (option_or (option_map (λ i. i.now) c.input) w.input) (codes "{}")
-
--- the files of what is chosen
-pub record IsSetupOf (c : ChosenWords) (ws : List Workflow) (s : SetupWords) : Type 0 where
-  pub workflow : Workflow
-  pub found : workflow_of (machine_in c.chosen.now) ws ≡ Some workflow
-  pub definition : s.definition.now ≡ workflow.definition
-  pub mocks_are : workflow.mocks ≡ Some s.mocks.now
-  pub chosen : s.chosen.now ≡ c.chosen.now
-  pub input : s.input.now ≡ input_for c workflow
-
--- there is no workflow of the machine, or it has no mock file; or memory ran out
-abbrev pub IsUnchosen : ChosenWords → List Workflow → CommandFault → Type 0
-IsUnchosen c ws (Emulation f lines) =
-    (option_and_then (λ w. w.mocks) (workflow_of (machine_in c.chosen.now) ws) ≡ None)
-    × (f ≡ setup.Case NoMachine)
-IsUnchosen c ws OutOfMemory = ⊤
-IsUnchosen c ws _ = ⊥
-
--- this was done of the files of what is chosen of these workflows; or there are none, which was told
-abbrev pub IsDoneFrom : {O E : Type 0} → Bool → (Io O E → SetupWords → Type 0) → List Workflow → Io O E
-    → ChosenWords → Type 0
-IsDoneFrom quiet does ws io c =
-    ((s : SetupWords) × IsSetupOf c ws s × does io s) ⊎ IsRefusedFor io quiet (IsUnchosen c ws)
-
--- the same of a project, which was read first; or there is no project, which was told
-abbrev pub IsDoneForOne : {F O E : Type 0} → Bool → (FileSystem → Io O E → SetupWords → Type 0)
-    → FileUse F → Io O E → ChosenWords → Type 0
-IsDoneForOne {F = F} quiet does files io c =
-    ((ws : List Workflow) × (f : F) × IsProjectIn (found files).gives c.project ws
-    × IsDoneFrom quiet (does (found (later files f))) ws io c)
-    ⊎ IsRefusedFor io quiet (IsProjectReason (found files) c.project)
-
-abbrev pub run_words : RunInWords → SetupWords → RunWords
-run_words a s = record {
-  setup = s;
-  steps = a.steps;
-  most_steps = a.most_steps;
-  format = a.format;
-  coloured = a.coloured;
-}
-
-abbrev pub IsRunOf : {O E : Type 0} → Bool → RunInWords → FileSystem → Io O E → SetupWords → Type 0
-IsRunOf quiet a files io s = IsRan files io quiet (run_words a s)
-
-abbrev pub IsRanIn : {F O E : Type 0} → FileUse F → Io O E → Bool → RunInWords → Type 0
-IsRanIn files io quiet a = IsDoneForOne quiet (IsRunOf quiet a) files io a.chosen
-
-abbrev pub debug_words : DebugInWords → SetupWords → DebugWords
-debug_words a s = record { setup = s; script = a.script; format = a.format; coloured = a.coloured }
-
-abbrev pub IsDebugOf : {I O E : Type 0} → InputUse I → Bool → DebugInWords → FileSystem → Io O E
-    → SetupWords → Type 0
-IsDebugOf typed quiet a files io s = IsDebugged files typed io quiet (debug_words a s)
-
-abbrev pub IsDebuggedIn : {F I O E : Type 0} → FileUse F → InputUse I → Io O E → Bool → DebugInWords
-    → Type 0
-IsDebuggedIn files typed io quiet a = IsDoneForOne quiet (IsDebugOf typed quiet a) files io a.chosen
-
-abbrev pub explore_words : ExploreInWords → SetupWords → ExploreWords
-explore_words a s = record {
-  setup = s;
-  limit = a.limit;
-  prompt = a.prompt;
-  calls = a.calls;
-  witness = a.witness;
-  format = a.format;
-  coloured = a.coloured;
-}
-
-abbrev pub IsSearchOf : {O E : Type 0} → Bool → ExploreInWords → FileSystem → Io O E → SetupWords → Type 0
-IsSearchOf quiet a files io s = IsExplored files io quiet (explore_words a s)
-
-abbrev pub IsExploredIn : {F O E : Type 0} → FileUse F → Io O E → Bool → ExploreInWords → Type 0
-IsExploredIn files io quiet a = IsDoneForOne quiet (IsSearchOf quiet a) files io a.chosen
-
 -- ---- tests
 
--- the words for a file of tests of a workflow with this mock file
-pub record IsTestOf (a : TestAllWords) (w : Workflow) (mocks file : List ℕ) (t : TestWords)
-    : Type 0 where
-  pub definition : t.definition.now ≡ w.definition
-  pub mocks_are : t.mocks.now ≡ mocks
-  pub expectations : t.expectations.now ≡ file
+-- a file of tests of a workflow, and the files beside it
+pub record SuiteFile : Type 0 where
+  pub definition : List ℕ
+  pub mocks : List ℕ
+  pub tests : List ℕ
+
+abbrev pub suite_by : List ℕ → List ℕ → List ℕ → SuiteFile
+suite_by definition mocks file = record { definition = definition; mocks = mocks; tests = file }
+
+abbrev pub suite_seen : SuiteNames → SuiteFile
+suite_seen s = suite_by s.definition.now s.mocks.now s.tests.now
+
+abbrev pub suites_with : Workflow → Option (List ℕ) → List SuiteFile
+suites_with w None = []
+suites_with w (Some mocks) = map (suite_by w.definition mocks) w.tests
+
+-- those of a workflow; one without a mock file has none
+abbrev pub suites_of : Workflow → List SuiteFile
+suites_of w = suites_with w w.mocks
+
+abbrev pub suites_in : List Workflow → List SuiteFile
+suites_in ws = flat_map suites_of ws
+
+-- the words for a file of tests
+pub record IsTestOf (a : TestAllWords) (s : SuiteFile) (t : TestWords) : Type 0 where
+  pub definition : t.definition.now ≡ s.definition
+  pub mocks_are : t.mocks.now ≡ s.mocks
+  pub expectations : t.expectations.now ≡ s.tests
   pub workers : t.workers ≡ a.workers
   pub format : t.format ≡ a.format
+  pub junit : t.junit ≡ a.junit
+  pub json : t.json ≡ a.json
   pub shard : t.shard ≡ a.shard
   pub filter : t.filter ≡ a.filter
   pub list : t.list ≡ a.list
   pub coverage : t.coverage ≡ a.coverage
+  pub coverage_format : t.coverage_format ≡ a.coverage_format
   pub strict : t.strict ≡ a.strict
+  pub among : t.among ≡ true
 
--- the tests of a file were run, and reported as `test` does; or listed; or a fault was told
-abbrev pub IsSuiteRun : {O E : Type 0} → FileSystem → Io O E → Bool → TestWords → Type 0
-IsSuiteRun files io quiet t =
-    ((text : List ℕ) × (remarks : List ℕ) × (good : Bool) × (junit : List ℕ) × (json : List ℕ)
-    × IsShown t.list files.gives quiet t text remarks good junit json
-    × Prints io text (status_of good) × IsTold io.err remarks)
-    ⊎ IsRefusedFor io quiet (IsUndone t.list files.gives files.lacks t)
+-- what a file of tests adds to the report
+pub record Added : Type 0 where
+  pub text : List ℕ
+  pub told : List ℕ
+  pub junit : List ℕ
+  pub json : List ℕ
+  pub status : ℕ
 
-abbrev pub IsFileTested : {F O E : Type 0} → Bool → TestAllWords → Workflow → List ℕ → FileUse F → Io O E
-    → List ℕ → Type 0
-IsFileTested quiet a w mocks files io file =
-    (t : TestWords) × IsTestOf a w mocks file t × IsSuiteRun (found files) io quiet t
+abbrev pub added_by : Part → Added
+added_by p = record {
+  text = string_bytes p.text;
+  told = string_bytes p.told;
+  junit = string_bytes p.junit;
+  json = string_bytes p.json;
+  status = p.status;
+}
 
--- each of its files of tests; a workflow without a mock file has none
-abbrev pub AreFilesTested : {F O E : Type 0} → Bool → TestAllWords → Workflow → FileUse F → Io O E
-    → Option (List ℕ) → Type 0
-AreFilesTested quiet a w files io None = AreDone (λ f i (file : List ℕ). ⊤) files io []
-AreFilesTested quiet a w files io (Some mocks) = AreDone (IsFileTested quiet a w mocks) files io w.tests
+-- its tests were run, and are reported as `test` reports them; or listed
+abbrev pub IsRunPart : FileSystem → Bool → TestWords → Added → Type 0
+IsRunPart files quiet t p =
+    (good : Bool) × IsShown t.list files.gives quiet t p.text p.told good p.junit p.json
+    × (p.status ≡ status_of good)
 
-abbrev pub IsWorkflowTested : {F O E : Type 0} → Bool → TestAllWords → FileUse F → Io O E → Workflow
-    → Type 0
-IsWorkflowTested quiet a files io w = AreFilesTested quiet a w files io w.mocks
+-- they weren't, which is told
+abbrev pub IsRefusedPart : FileSystem → Bool → TestWords → Added → Type 0
+IsRefusedPart files quiet t p =
+    (r : CommandFault) × IsUndone t.list files.gives files.lacks t r × Tells quiet r p.told × (p.text ≡ [])
+    × (p.junit ≡ []) × (p.json ≡ []) × (p.status ≡ 2)
 
-abbrev pub AreAllTested : {F O E : Type 0} → FileUse F → Io O E → Bool → TestAllWords → Type 0
-AreAllTested files io quiet a = IsDoneForAll quiet (IsWorkflowTested quiet a) files io a.project
+abbrev pub IsPart : FileSystem → Bool → TestWords → Added → Type 0
+IsPart files quiet t p = IsRunPart files quiet t p ⊎ IsRefusedPart files quiet t p
+
+-- what each of these files of tests adds, one behind another, of the files as they were found each time
+abbrev pub AreParts : {F : Type 0} → Bool → TestAllWords → FileUse F → List SuiteFile → List Added → Type 0
+AreParts quiet a files [] [] = ⊤
+AreParts quiet a files [] (p ∷ ps) = ⊥
+AreParts quiet a files (s ∷ ss) [] = ⊥
+AreParts {F = F} quiet a files (s ∷ ss) (p ∷ ps) =
+    (f : F) × ((t : TestWords) × IsTestOf a s t × IsPart (found files) quiet t p)
+    × AreParts quiet a (later files f) ss ps
+
+unfoldable pub files_word : List ℕ
+files_word = codes "files: "
+
+unfoldable pub passed_word : List ℕ
+passed_word = codes " passed, "
+
+unfoldable pub failed_word : List ℕ
+failed_word = codes " failed, "
+
+unfoldable pub refused_word : List ℕ
+refused_word = codes " refused\n"
+
+-- how many of these statuses are this one
+abbrev pub counted : ℕ → List ℕ → ℕ
+counted n ss = count_by (λ s. s == n) ss
+
+abbrev pub passed_part : List ℕ → List ℕ
+passed_part ss = files_word ++ (decimal (counted 0 ss) ++ passed_word)
+
+abbrev pub failed_part : List ℕ → List ℕ
+failed_part ss = decimal (counted 1 ss) ++ failed_word
+
+abbrev pub refused_part : List ℕ → List ℕ
+refused_part ss = decimal (counted 2 ss) ++ refused_word
+
+-- as `files: 2 passed, 1 failed, 0 refused`
+abbrev pub counts_line : List ℕ → List ℕ
+counts_line ss = passed_part ss ++ (failed_part ss ++ refused_part ss)
+
+-- the line behind the reports of several files
+abbrev pub summary : List ℕ → List ℕ
+summary ss = if nat_lt (length ss) 2 then [] else counts_line ss
+
+-- all that they add
+pub record Joined : Type 0 where
+  pub text : List ℕ
+  pub told : List ℕ
+  pub junit : List ℕ
+  pub json : List ℕ
+  pub statuses : List ℕ
+
+abbrev pub together : List Added → Joined
+together ps = record {
+  text = flat_map (λ p. p.text) ps;
+  told = flat_map (λ p. p.told) ps;
+  junit = flat_map (λ p. p.junit) ps;
+  json = flat_map (λ p. p.json) ps;
+  statuses = map (λ p. p.status) ps;
+}
+
+abbrev pub together_seen : Together → Joined
+together_seen t = record {
+  text = string_bytes t.text;
+  told = string_bytes t.told;
+  junit = string_bytes t.junit;
+  json = string_bytes t.json;
+  statuses = t.statuses.items;
+}
+
+-- the report of them all
+abbrev pub report_all : ReportFormat → Joined → List ℕ
+report_all format.Text j = j.text ++ summary j.statuses
+report_all format.JUnit j = junit_suites j.text
+report_all format.Json j = j.text
+
+abbrev pub shown_all : Bool → ReportFormat → Joined → List ℕ
+shown_all list f j = if list then j.text else report_all f j
+
+-- what tests that print this, and are this in JUnit's format, leave; the status is the highest
+abbrev pub leaving_by : TestAllWords → List ℕ → List ℕ → Joined → Leaving
+leaving_by a text junit j = record {
+  text = text;
+  remarks = j.told;
+  status = fold max 0 j.statuses;
+  list = a.list;
+  junit_file = option_map (λ n. n.now) a.junit;
+  junit = junit;
+  json_file = option_map (λ n. n.now) a.json;
+  json = j.json;
+}
+
+-- what the tests of a project leave
+abbrev pub leaving_all : TestAllWords → List Added → Leaving
+leaving_all a ps =
+    let j = together ps in leaving_by a (shown_all a.list a.format j) (junit_suites j.junit) j
+
+-- the tests of each file of each workflow were run, or listed, and one report was printed, and written; or there is no project, or
+-- no memory, which was told
+abbrev pub AreAllTested : {F K O E : Type 0} → FileUse F → OutputUse K → Io O E → Bool → TestAllWords → Type 0
+AreAllTested {F = F} files outputs io quiet a =
+    ((ws : List Workflow) × (f : F) × (ps : List Added) × IsProjectIn (found files).gives a.project ws
+    × AreParts quiet a (later files f) (suites_in ws) ps × IsLeft outputs io quiet (leaving_all a ps))
+    ⊎ (IsUnused outputs × IsRefusedFor io quiet (IsProjectReason (found files) a.project))

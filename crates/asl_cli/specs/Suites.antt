@@ -1,16 +1,13 @@
 -- What the command `test` reads, why nothing is tested, and what is printed and told of a suite.
-use Rattle.std.specs.Prelude.{ℕ, Bool, true, false, is_some, codes, not, ◌&&◌, if◌then◌else◌, nat_lt, map, List, [], ◌∷◌, ◌++◌, Option, Some, None, ◌≡◌, ◌⊎◌, ⊤}
-use Rattle.std.specs.Borrow.{Bor}
+use Rattle.std.specs.Prelude.{ℕ, Bool, true, false, is_some, codes, not, ◌&&◌, if◌then◌else◌, nat_lt, map, List, [], ◌∷◌, ◌++◌, Option, Some, None, option_map, ◌≡◌, ◌⊎◌, ⊤}
 use Rattle.std.specs.List.{list_all}
 use Rattle.std.specs.Fmt.{decimal}
 use Rattle.asl_check.specs.Judged.{IsDefinition, IsMachineOf}
 use Rattle.asl_mock.specs.Told.{IsMockFile}
 use Rattle.asl_mock.specs.Answers.{Machines}
-use Rattle.asl_suite_file.specs.Told.{IsExpectationsFile, IsAnswer as IsExpectAnswer}
+use Rattle.asl_suite_file.specs.Told.{IsExpectationsFile}
 use Rattle.asl_suite_file.specs.Shards.{every}
 use Rattle.asl_suite_file.specs.declared.expectation.Draft.{Draft}
-use Rattle.asl_suite_file.specs.declared.fault.ExpectFault.{ExpectFault}
-use Rattle.asl_suite_file.specs.declared.fault.ExpectFault.TheVariants as expect
 use Rattle.asl_run_input.specs.Texts.{IsDefinitionFault, IsMockFault}
 use Rattle.asl_run_input.specs.declared.fault.EmulateFault.{EmulateFault}
 use Rattle.asl_run_input.specs.declared.fault.EmulateFault.TheVariants as setup
@@ -20,24 +17,27 @@ use Rattle.asl_suite.specs.Cases.{reports_of, strict_report}
 use Rattle.asl_suite.specs.Reports.{is_passed, report_text}
 use Rattle.asl_suite.specs.Findings.{reports_in}
 use Rattle.asl_suite.specs.JsonLines.{json_text}
-use Rattle.asl_suite.specs.Junit.{junit_text}
+use Rattle.asl_suite.specs.Junit.{suite_element, junit_text}
 use Rattle.asl_suite.specs.declared.finding.Finding.{Finding}
 use Rattle.asl_suite.specs.declared.suite.Suite.{Suite}
 use Rattle.asl_suite.specs.declared.case_report.CaseReport.{CaseReport}
 use Rattle.asl_words.specs.declared.words.TestWords.{TestWords}
 use Rattle.asl_words.specs.declared.words.ReportFormat.{ReportFormat}
 use Rattle.asl_words.specs.declared.words.ReportFormat.TheVariants as format
+use Rattle.asl_words.specs.declared.words.CoverageFormat.{CoverageFormat}
+use Rattle.asl_words.specs.declared.words.CoverageFormat.TheVariants as coverage
 use Rattle.asl_host.specs.Reading.{Lacks}
 use Rattle.asl_host.specs.Outcomes.{status_of, IsPrinted, IsTold}
 use Rattle.asl_cli.specs.declared.fault.CommandFault.{CommandFault}
 use Rattle.asl_cli.specs.declared.testing.SpelledSuite.{SpelledSuite}
+use Rattle.asl_cli.specs.declared.leaving.Left.{Left}
 use Rattle.asl_cli.specs.declared.fault.CommandFault.TheVariants.{File, Definition, Emulation, Expectations, Output, OutOfMemory}
 use Rattle.asl_cli.specs.Choosing.{list_text, meant}
-use Rattle.asl_cli.specs.Covers.{ArePointsOf}
+use Rattle.asl_cli.specs.Covers.{ArePointsOf, IsJsonTold, IsLcovTold}
 use Rattle.asl_cli.specs.Inputs.{AreTestsOn, IsFirstLost, Unless}
 use Rattle.asl_cli.specs.Streams.{FileSystem, OutputUse, IsUnused, Writes, Io, Prints, AreTold}
 use Rattle.asl_cli.specs.Answers.{IsRefusedFor}
-use Rattle.asl_cli.specs.Faults.{AreUnread, Tells}
+use Rattle.asl_cli.specs.Faults.{AreUnread, IsExpectFault, Tells}
 
 -- ---- the files
 
@@ -104,16 +104,6 @@ IsMocksTextReason b (Emulation f lines) = IsMocksFault b f
 IsMocksTextReason b OutOfMemory = ⊤
 IsMocksTextReason b _ = ⊥
 
--- the first fault of an expectation file; want of memory is none
-pub record IsExpectFault (b : List ℕ) (f : ExpectFault) : Type 0 where
-  pub is_fault : IsExpectAnswer b f
-  pub told : f ≡ expect.OutOfMemory → ⊥
-
-abbrev pub IsTestsTextReason : List ℕ → CommandFault → Type 0
-IsTestsTextReason b (Expectations f lines) = IsExpectFault b f
-IsTestsTextReason b OutOfMemory = ⊤
-IsTestsTextReason b _ = ⊥
-
 -- the texts before the one with the fault have none
 abbrev pub AreMocks : List ℕ → Type 0
 AreMocks b = (ms : Machines) × IsMockFile b ms
@@ -166,28 +156,32 @@ IsUndone false gives lacks w r = IsSuiteReason gives lacks w r
 
 -- ---- what is printed
 
--- the text of reports; in the formats for tools that of what is told of them
-abbrev pub IsReportText : ReportFormat → List CaseReport → List ℕ → Type 0
-IsReportText format.Text reports text = text ≡ report_text reports
-IsReportText format.JUnit reports text =
-    (name : List ℕ) × (fs : List Finding) × (reports_in fs ≡ reports) × text ≡ junit_text name fs
-IsReportText format.Json reports text =
+-- JUnit's element where a suite stands among others, else its document
+abbrev pub junit_part : Bool → List ℕ → List Finding → List ℕ
+junit_part among name fs = if among then suite_element name fs else junit_text name fs
+
+-- the text of reports, which may stand among others; in the formats for tools that of what is told of them
+abbrev pub IsReportText : Bool → ReportFormat → List CaseReport → List ℕ → Type 0
+IsReportText among format.Text reports text = text ≡ report_text reports
+IsReportText among format.JUnit reports text =
+    (name : List ℕ) × (fs : List Finding) × (reports_in fs ≡ reports) × text ≡ junit_part among name fs
+IsReportText among format.Json reports text =
     (fs : List Finding) × (reports_in fs ≡ reports) × text ≡ json_text fs
 
 -- the texts of the reports for the files that are named for them
 pub record AreFileTexts (w : TestWords) (reports : List CaseReport) (junit json : List ℕ) : Type 0 where
-  pub is_junit : is_some w.junit ≡ true → IsReportText format.JUnit reports junit
-  pub is_json : is_some w.json ≡ true → IsReportText format.Json reports json
+  pub is_junit : is_some w.junit ≡ true → IsReportText w.among format.JUnit reports junit
+  pub is_json : is_some w.json ≡ true → IsReportText w.among format.Json reports json
 
 -- these reports; or those by which a test that may not mean what it says fails
 abbrev pub judged : Bool → List CaseReport → List CaseReport
 judged strict reports = if strict then map strict_report reports else reports
 
 -- the text and the success of a suite are those of the reports of its tests
-abbrev pub IsReport : ReportFormat → Bool → Suite → List ℕ → Bool → Type 0
-IsReport format strict s text good =
-    IsReportText format (judged strict (reports_of s)) text
-    × (good ≡ list_all is_passed (judged strict (reports_of s)))
+abbrev pub IsReport : TestWords → Suite → List ℕ → Bool → Type 0
+IsReport w s text good =
+    IsReportText w.among w.format (judged w.strict (reports_of s)) text
+    × (good ≡ list_all is_passed (judged w.strict (reports_of s)))
 
 unfoldable pub percent_words : ℕ → List ℕ
 percent_words percent = codes "coverage " ++ (decimal percent ++ codes "%")
@@ -206,19 +200,30 @@ lacking percent least = if nat_lt percent least then below percent least else []
 abbrev pub coverage_told : List Point → ℕ → List ℕ
 coverage_told points least = coverage_text points ++ lacking (percent_of points) least
 
+-- the same in a format
+abbrev pub IsCoverageTold : CoverageFormat → TestWords → List ℕ → List ℕ → List Point → ℕ → List ℕ
+    → Type 0
+IsCoverageTold coverage.Text w definition mocks points least shown = shown ≡ coverage_told points least
+IsCoverageTold coverage.Json w definition mocks points least shown = IsJsonTold w definition mocks points shown
+IsCoverageTold coverage.Lcov w definition mocks points least shown = IsLcovTold w definition mocks points shown
+
 -- what is told where a least percent is given: behind the remarks stands how much the tests of the suite
--- cover, of the mock file that these bytes spell
-pub record IsCovered (mocks : List ℕ) (s : Suite) (least : ℕ) (remarks : List ℕ) (passed good : Bool)
-    (told : List ℕ) : Type 0 where
+-- cover, of the definition and the mock file that these bytes spell
+pub record IsCovered (w : TestWords) (definition mocks : List ℕ) (s : Suite) (least : ℕ) (remarks : List ℕ)
+    (passed good : Bool) (told : List ℕ) : Type 0 where
   pub points : List Point
+  pub shown : List ℕ
   pub are_points : ArePointsOf mocks s points
-  pub told_is : told ≡ remarks ++ coverage_told points least
+  pub is_shown : IsCoverageTold w.coverage_format w definition mocks points least shown
+  pub told_is : told ≡ remarks ++ shown
   pub is_good : good ≡ (passed && not (nat_lt (percent_of points) least))
 
 -- whether all is good: all tests passed and, where a least percent is given, they cover no less
-abbrev pub IsGood : List ℕ → Suite → Option ℕ → List ℕ → Bool → Bool → List ℕ → Type 0
-IsGood mocks s None remarks passed good told = (told ≡ remarks) × (good ≡ passed)
-IsGood mocks s (Some least) remarks passed good told = IsCovered mocks s least remarks passed good told
+abbrev pub IsGood : TestWords → List ℕ → List ℕ → Suite → Option ℕ → List ℕ → Bool → Bool → List ℕ
+    → Type 0
+IsGood w definition mocks s None remarks passed good told = (told ≡ remarks) × (good ≡ passed)
+IsGood w definition mocks s (Some least) remarks passed good told =
+    IsCovered w definition mocks s least remarks passed good told
 
 -- what is told of tests is any text; where that isn't wanted, it is none
 abbrev pub AreRemarks : Bool → List ℕ → Type 0
@@ -232,10 +237,10 @@ pub record IsReported (gives : List ℕ → List ℕ → Type 0) (quiet : Bool) 
   pub passed : Bool
   pub remarks : List ℕ
   pub is_in : IsSuiteIn gives w suite
-  pub is_report : IsReport w.format w.strict suite text passed
+  pub is_report : IsReport w suite text passed
   pub are_files : AreFileTexts w (judged w.strict (reports_of suite)) junit json
   pub are_remarks : AreRemarks quiet remarks
-  pub is_good : IsGood is_in.mocks suite w.coverage remarks passed good told
+  pub is_good : IsGood w is_in.definition is_in.mocks suite w.coverage remarks passed good told
 
 -- a line for each test of a file that the words choose, which are listed in place of being run
 pub record IsListOf (expectations : List ℕ) (w : TestWords) (text : List ℕ) : Type 0 where
@@ -259,48 +264,77 @@ IsShown true gives quiet w text told good junit json =
 IsShown false gives quiet w text told good junit json =
     IsReported gives quiet w text told good junit json
 
--- ---- the files that reports are written to
+-- ---- what is left
 
-abbrev pub kept_file : Option (Bor (List ℕ)) → List ℕ → List (List ℕ × List ℕ)
+-- what is printed and told, the status where that can be done, and what files of these names are to hold in JUnit's
+-- format and in JSON, unless tests are only listed
+pub record Leaving : Type 0 where
+  pub text : List ℕ
+  pub remarks : List ℕ
+  pub status : ℕ
+  pub list : Bool
+  pub junit_file : Option (List ℕ)
+  pub junit : List ℕ
+  pub json_file : Option (List ℕ)
+  pub json : List ℕ
+
+abbrev pub leaving_of : Left → Leaving
+leaving_of l = record {
+  text = l.text.now;
+  remarks = l.remarks.now;
+  status = l.status;
+  list = l.list;
+  junit_file = option_map (λ n. n.now) l.junit_file;
+  junit = l.junit.now;
+  json_file = option_map (λ n. n.now) l.json_file;
+  json = l.json.now;
+}
+
+abbrev pub kept_file : Option (List ℕ) → List ℕ → List (List ℕ × List ℕ)
 kept_file None text = []
-kept_file (Some name) text = (name.now, text) ∷ []
+kept_file (Some name) text = (name, text) ∷ []
 
--- the reports in JUnit's format and in JSON, each where a word names a file for it; of a list none
-abbrev pub kept_files : TestWords → List ℕ → List ℕ → List (List ℕ × List ℕ)
-kept_files w junit json =
-    if w.list then [] else kept_file w.junit junit ++ kept_file w.json json
+-- the reports in JUnit's format and in JSON, each where a file is named for it; of a list none
+abbrev pub kept_files : Leaving → List (List ℕ × List ℕ)
+kept_files l = if l.list then [] else kept_file l.junit_file l.junit ++ kept_file l.json_file l.json
 
 -- the file of this name can't be written
-abbrev pub IsUnkept : Option (Bor (List ℕ)) → CommandFault → Type 0
-IsUnkept (Some wanted) (Output name why) = name.now ≡ wanted.now
+abbrev pub IsUnkept : Option (List ℕ) → CommandFault → Type 0
+IsUnkept (Some wanted) (Output name why) = name.now ≡ wanted
 IsUnkept wanted r = ⊥
 
 -- the first of these files that can't be written, behind which none is written
-abbrev pub IsFirstUnkept : {K : Type 0} → OutputUse K → TestWords → List ℕ → CommandFault → Type 0
-IsFirstUnkept outputs w junit r =
-    (IsUnkept w.junit r × Writes outputs []) ⊎ (IsUnkept w.json r × Writes outputs (kept_file w.junit junit))
+abbrev pub IsFirstUnkept : {K : Type 0} → OutputUse K → Leaving → CommandFault → Type 0
+IsFirstUnkept outputs l r =
+    (IsUnkept l.junit_file r × Writes outputs [])
+    ⊎ (IsUnkept l.json_file r × Writes outputs (kept_file l.junit_file l.junit))
 
--- ---- what is left
-
--- all was written, and the status says whether all is good
-abbrev pub IsKept : {K O E : Type 0} → OutputUse K → Io O E → TestWords → List ℕ → List ℕ → Bool → List ℕ
-    → List ℕ → Type 0
-IsKept outputs io w text remarks good junit json =
-    Writes outputs (kept_files w junit json) × Prints io text (status_of good) × IsTold io.err remarks
+-- all was written
+abbrev pub IsKept : {K O E : Type 0} → OutputUse K → Io O E → Leaving → Type 0
+IsKept outputs io l = Writes outputs (kept_files l) × Prints io l.text l.status × IsTold io.err l.remarks
 
 -- a file wasn't written, which was told behind the rest, and the status is 2
-abbrev pub IsKeptInPart : {K O E : Type 0} → OutputUse K → Io O E → Bool → TestWords → List ℕ → List ℕ
-    → Bool → List ℕ → Type 0
-IsKeptInPart outputs io quiet w text remarks good junit =
-    (r : CommandFault) × (t : List ℕ) × (printed : ℕ) × IsFirstUnkept outputs w junit r × Tells quiet r t
-    × IsPrinted io.out text (status_of good) printed × AreTold io.err remarks t × (io.status ≡ 2)
+abbrev pub IsKeptInPart : {K O E : Type 0} → OutputUse K → Io O E → Bool → Leaving → Type 0
+IsKeptInPart outputs io quiet l =
+    (r : CommandFault) × (t : List ℕ) × (printed : ℕ) × IsFirstUnkept outputs l r × Tells quiet r t
+    × IsPrinted io.out l.text l.status printed × AreTold io.err l.remarks t × (io.status ≡ 2)
 
 -- one or the other
-abbrev pub IsLeft : {K O E : Type 0} → OutputUse K → Io O E → Bool → TestWords → List ℕ → List ℕ → Bool
-    → List ℕ → List ℕ → Type 0
-IsLeft outputs io quiet w text remarks good junit json =
-    IsKept outputs io w text remarks good junit json
-    ⊎ IsKeptInPart outputs io quiet w text remarks good junit
+abbrev pub IsLeft : {K O E : Type 0} → OutputUse K → Io O E → Bool → Leaving → Type 0
+IsLeft outputs io quiet l = IsKept outputs io l ⊎ IsKeptInPart outputs io quiet l
+
+-- what the test of these words leaves
+abbrev pub leaving : TestWords → List ℕ → List ℕ → Bool → List ℕ → List ℕ → Leaving
+leaving w text remarks good junit json = record {
+  text = text;
+  remarks = remarks;
+  status = status_of good;
+  list = w.list;
+  junit_file = option_map (λ n. n.now) w.junit;
+  junit = junit;
+  json_file = option_map (λ n. n.now) w.json;
+  json = json;
+}
 
 -- the test of these words: the reports were printed, or the list of the tests, something may have been told
 -- behind them, the reports were written to the files that are named for them, and the status says whether
@@ -309,5 +343,5 @@ abbrev pub IsTested : {K O E : Type 0} → FileSystem → OutputUse K → Io O E
 IsTested files outputs io quiet w =
     ((text : List ℕ) × (remarks : List ℕ) × (good : Bool) × (junit : List ℕ) × (json : List ℕ)
     × IsShown w.list files.gives quiet w text remarks good junit json
-    × IsLeft outputs io quiet w text remarks good junit json)
+    × IsLeft outputs io quiet (leaving w text remarks good junit json))
     ⊎ (IsUnused outputs × IsRefusedFor io quiet (IsUndone w.list files.gives files.lacks w))

@@ -7,12 +7,12 @@ ghost use Rattle.asl_cli.specs.Faults.{IsAccepted, IsDefinitionReason};
 
 use crate::command::{REFUSED, print_good};
 use crate::fault::CommandFault;
-use crate::mending::of_definition;
 use crate::reading::read_file;
 use asl_check::{Fault, accept};
 use asl_def::Machine;
 use asl_history::Sink;
 use asl_host::Files;
+use asl_lint_files::of_definition;
 use asl_words::DefinitionWords;
 use std::alloc::{AllocError, Global};
 

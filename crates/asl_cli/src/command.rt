@@ -1,5 +1,5 @@
 // The program behind its words, files and streams.
-ghost use Rattle.std.specs.Prelude.{◌≡◌, ◌⊎◌, List, ℕ, map, string_bytes, IfOk, IfErr};
+ghost use Rattle.std.specs.Prelude.{◌≡◌, ◌⊎◌, List, ℕ, map, option_map, string_bytes, IfOk, IfErr};
 ghost use Rattle.asl_host.specs.Outcomes.{status_of, sink_use, IsTold, IsPrinted};
 ghost use Rattle.asl_command_line.specs.Read.{IsRead, IsUnread};
 ghost use Rattle.asl_run_input.specs.Views.{texts_of};
@@ -8,13 +8,15 @@ ghost use Rattle.asl_exec.specs.Lacking.{IsLackingIn};
 ghost use Rattle.asl_cli.specs.Streams.{file_system, file_use, input_use, output_use, io, unless_quiet};
 ghost use Rattle.asl_cli.specs.Answers.{IsRan, IsAnswered, text_told};
 ghost use Rattle.asl_cli.specs.Formats.{format_of, IsRunIn};
-ghost use Rattle.asl_cli.specs.Faults.{most_of, steps_name, IsEmulated, IsTextsReason, IsRunReason};
+ghost use Rattle.asl_cli.specs.Faults.{IsTextsReason};
+ghost use Rattle.asl_cli.specs.Beginnings.{by_steps, IsReasonFrom, IsRunReason, texts_in};
+ghost use Rattle.asl_cli.specs.Running.{most_of, steps_name, IsToldRun, IsEmulatedFrom, IsEmulated};
 ghost use Rattle.asl_cli.specs.Noting.{IsNoted};
 ghost use Rattle.asl_cli.specs.Obeyed.{AreObeyed, IsObeyed};
 
+use crate::beginning::{Beginning, Names, begin};
 use crate::checking::check;
 use crate::debugging::debug;
-use crate::executing::{debug_in, explore_in, run_in};
 use crate::explaining::explain;
 use crate::exploring::explore;
 use crate::fault::CommandFault;
@@ -26,18 +28,18 @@ use crate::mocking::mocks;
 use crate::noting::{Ran, tell_notes, with_note};
 use crate::printing::print;
 use crate::projects::{check_all, lint_all};
-use crate::reading::{read_named, read_texts};
+use crate::reading::read_named;
 use crate::suites::test_all;
 use crate::testing::test;
 use crate::upgrading::upgrade;
-use asl_command_line::{Answer, malformed_word, read_words};
+use asl_command_line::{Answer, Line, malformed_word, read_words};
 use asl_exec::{Emulated, most_steps};
 use asl_explore::Watch;
 use asl_history::Sink;
 use asl_host::{Files, GivenFault, Input, Outputs, tell_fault, write_piece};
 use asl_run_input::{EmulateFault, RunTexts};
 use asl_threads_base::Gate;
-use asl_words::{Asked, RunWords, Screen, Words};
+use asl_words::{RunWords, Screen, Words};
 use std::alloc::{AllocError, Global};
 use std::convert::AsStr;
 use std::sync::Wait;
@@ -74,18 +76,18 @@ pub fn run_words<
     err: &mut E,
 ) -> u8
     // What the words ask for was done; or they ask for nothing, or memory ran out: they were answered, and no file was read.
-    ensures { ((a : Asked) × IsRead (map S.text words.now) screen a
+    ensures { ((l : Line) × IsRead (map S.text words.now) screen l
         × IsObeyed (file_use F.gives F.lacks files.old)
         (input_use I.given input.old input.new)
         (output_use K.written outputs.old outputs.new)
         (io (sink_use O.taken O.failures out.old out.new)
-        (sink_use E.taken E.failures err.old err.new) result) a)
+        (sink_use E.taken E.failures err.old err.new) result) l)
         ⊎ ((a : Answer) × ((a ≡ Answer.OutOfMemory) ⊎ IsUnread (map S.text words.now) screen)
         × (files.new ≡ files.old) × (outputs.new ≡ outputs.old) × IsAnswered (io (sink_use O.taken O.failures out.old out.new)
         (sink_use E.taken E.failures err.old err.new) result) a) }
 {
     match read_words(alloc, words, screen) {
-        Ok(asked) => obey(rt, gate, alloc, &asked, files, input, outputs, out, err),
+        Ok(line) => obey(rt, gate, alloc, &line, files, input, outputs, out, err),
         Err(answer) => answer_words(&answer, out, err),
     }
 }
@@ -103,7 +105,7 @@ pub fn obey<
     rt: &R,
     gate: &G,
     alloc: Global,
-    asked: &Asked<'_>,
+    line: &Line<'_>,
     files: &mut F,
     input: &mut I,
     outputs: &mut K,
@@ -114,26 +116,23 @@ pub fn obey<
         (input_use I.given input.old input.new)
         (output_use K.written outputs.old outputs.new)
         (io (sink_use O.taken O.failures out.old out.new)
-        (sink_use E.taken E.failures err.old err.new) result) asked.now }
+        (sink_use E.taken E.failures err.old err.new) result) line.now }
 {
-    let quiet = asked.quiet;
-    match &asked.words {
+    let quiet = line.asked.quiet;
+    match &line.asked.words {
         Words::Check(words) => check(alloc, words, quiet, files, out, err),
         Words::CheckAll(words) => check_all(alloc, words, quiet, files, out, err),
-        Words::Lint(words) => lint(alloc, words, quiet, files, out, err),
+        Words::Lint(words) => lint(alloc, words, &line.files, quiet, files, out, err),
         Words::LintAll(words) => lint_all(alloc, words, quiet, files, out, err),
         Words::Print(words) => print(alloc, words, quiet, files, out, err),
         Words::Upgrade(words) => upgrade(alloc, words, quiet, files, out, err),
         Words::Graph(words) => graph(alloc, words, quiet, files, out, err),
         Words::Mocks(words) => mocks(alloc, words, quiet, files, out, err),
         Words::Run(words) => run(alloc, words, quiet, files, out, err),
-        Words::RunIn(words) => run_in(alloc, words, quiet, files, out, err),
         Words::Debug(words) => debug(alloc, words, quiet, files, input, out, err),
-        Words::DebugIn(words) => debug_in(alloc, words, quiet, files, input, out, err),
         Words::Test(words) => test(rt, gate, alloc, words, quiet, files, outputs, out, err),
-        Words::TestAll(words) => test_all(rt, gate, alloc, words, quiet, files, out, err),
+        Words::TestAll(words) => test_all(rt, gate, alloc, words, quiet, files, outputs, out, err),
         Words::Explore(words) => explore(gate, alloc, words, quiet, files, out, err),
-        Words::ExploreIn(words) => explore_in(gate, alloc, words, quiet, files, out, err),
         Words::Explain(words) => explain(alloc, words, quiet, out, err),
     }
 }
@@ -181,13 +180,50 @@ fn emulate_files<'a, F: Files>(
     ensures emulated { IfOk result (λ r. IsEmulated (F.gives files.old) words.now
         (string_bytes r.emulated.text) r.emulated.good (string_bytes r.note)) }
     ensures refused { IfErr result (IsRunReason (F.gives files.old) (F.lacks files.old)
-        words.now.setup (steps_name words.now)) }
+        words.now.begin (steps_name words.now)) }
 {
-    let texts = read_texts(alloc, files, &words.setup)?;
-    let steps = read_named(alloc, files, words.steps)?;
-    let given = texts.of_run(steps.as_deref());
-    let emulated = emulate_given(alloc, words, &given)?;
-    match with_note(alloc, &given, words.steps, most_of(words), emulated) {
+    match begin(alloc, files, &words.begin) {
+        Ok(beginning) => emulate_from(alloc, words, files, &beginning),
+        Err(refusal) => Err(refusal),
+    }
+}
+
+/// Reads the file of steps, where one is named, and emulates what begins so.
+fn emulate_from<'a, F: Files>(
+    alloc: Global,
+    words: &RunWords<'_>,
+    files: &mut F,
+    beginning: &Beginning,
+) -> Result<Ran, CommandFault<'a>>
+    ensures emulated { IfOk result (λ r. IsEmulatedFrom (F.gives files.old) (texts_in beginning.now) words.now
+        (string_bytes r.emulated.text) r.emulated.good (string_bytes r.note)) }
+    ensures refused { IfErr result (IsReasonFrom (F.gives files.old) (F.lacks files.old)
+        (texts_in beginning.now) (steps_name words.now)) }
+{
+    match read_named(alloc, files, words.steps) {
+        Ok(steps) => emulate_by(alloc, words, beginning, steps.as_deref()),
+        Err(refusal) => Err(refusal),
+    }
+}
+
+/// Emulates what begins so, by these steps where they are named.
+fn emulate_by<'a>(
+    alloc: Global,
+    words: &RunWords<'_>,
+    beginning: &Beginning,
+    steps: Option<&[u8]>,
+) -> Result<Ran, CommandFault<'a>>
+    ensures emulated { IfOk result (λ r. IsToldRun (by_steps (texts_in beginning.now) (option_map (λ b. b.now) steps.entry))
+        words.now (string_bytes r.emulated.text) r.emulated.good (string_bytes r.note)) }
+    ensures refused { IfErr result
+        (IsTextsReason (by_steps (texts_in beginning.now) (option_map (λ b. b.now) steps.entry))) }
+{
+    let given = beginning.of_run(steps);
+    let emulated = match emulate_given(alloc, words, &beginning.names, &given) {
+        Ok(emulated) => emulated,
+        Err(refusal) => return Err(refusal),
+    };
+    match with_note(alloc, &given, most_of(words), emulated) {
         Ok(ran) => Ok(ran),
         Err(AllocError) => Err(CommandFault::OutOfMemory),
     }
@@ -204,6 +240,7 @@ fn most_of(words: &RunWords<'_>) -> u32
 fn emulate_given<'a>(
     alloc: Global,
     words: &RunWords<'_>,
+    names: &Names,
     texts: &RunTexts<'_>,
 ) -> Result<Emulated, CommandFault<'a>>
     ensures run { IfOk result (λ e. IsRunIn (format_of words.now.format) words.now.coloured
@@ -215,7 +252,7 @@ fn emulate_given<'a>(
     match emulate_in(alloc, words.format, words.coloured, texts, most_of(words)) {
         Ok(emulated) => Ok(emulated),
         Err(EmulateFault::OutOfMemory) => Err(CommandFault::OutOfMemory),
-        Err(fault) => match of_run(alloc, &words.setup, words.steps, texts, &fault) {
+        Err(fault) => match of_run(alloc, names, words.steps, texts, &fault) {
             Ok(lines) => Err(CommandFault::Emulation(fault, lines)),
             Err(AllocError) => Err(CommandFault::OutOfMemory),
         },

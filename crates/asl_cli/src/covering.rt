@@ -5,16 +5,17 @@ ghost use Rattle.asl_json_data.specs.Reads.{ReadsAs};
 ghost use Rattle.asl_json.specs.View.{data_of};
 ghost use Rattle.asl_suite.specs.Cases.{setup_in};
 ghost use Rattle.asl_suite_coverage.specs.Views.{points_of, mocks_of};
-ghost use Rattle.asl_cli.specs.Covers.{with_test, with_tests, suite_points, ArePointsOf};
-ghost use Rattle.asl_cli.specs.Suites.{below, coverage_told, lacking, least_words, percent_words};
+ghost use Rattle.asl_cli.specs.Covers.{with_test, with_tests, suite_points, ArePointsOf, AreSites, IsJsonTold, IsLcovTold};
+ghost use Rattle.asl_cli.specs.Suites.{below, coverage_told, lacking, least_words, percent_words, IsCoverageTold};
 
 use asl_json::Json;
 use asl_json_read::{JsonFault, read};
 use asl_run_input::StepAt;
 use asl_suite::{Suite, setup_in};
-use asl_suite_coverage::Coverage;
+use asl_suite_coverage::{Coverage, File, Point, Sited, json_text, lcov_text, sites_of};
 use asl_suite_file::{Expectation, Steps};
 use asl_text::put_decimal;
+use asl_words::{CoverageFormat, TestWords};
 use std::alloc::{AllocError, Global};
 
 /// The value of the mock file that bytes spell. The error is that memory ran out.
@@ -94,13 +95,89 @@ pub(crate) fn coverage_of(
     covered_by(alloc, suite, value)
 }
 
-/// What is told of what tests cover: how much, what not, and that it is less than the least percent, where it is. The error is that memory ran
-/// out.
-pub(crate) fn coverage_told(
+/// Where the points of a file stand in the text that these bytes spell. The error is that memory ran out.
+fn sites_in<'a>(
     alloc: Global,
+    file: File,
+    points: &'a [Point],
+    bytes: &[u8],
+) -> Result<Vec<Sited<'a>>, AllocError>
+    ensures { IfOk result (λ ss. AreSites file bytes.now points.now ss.items) }
+{
+    let value = value_of(alloc, bytes)?;
+    let sites = sites_of(alloc, file, points, bytes, &value)?;
+    Ok(sites)
+}
+
+/// What is told in JSON. The error is that memory ran out, here and below.
+fn json_told(
+    alloc: Global,
+    words: &TestWords<'_>,
+    points: &[Point],
+    definition: &[u8],
+    mocks: &[u8],
+) -> Result<String, AllocError>
+    ensures { IfOk result (λ t. IsJsonTold words.now definition.now mocks.now points.now
+        (string_bytes t)) }
+{
+    let in_definition = sites_in(alloc, File::Definition, points, definition)?;
+    let in_mocks = sites_in(alloc, File::Mocks, points, mocks)?;
+    let text = json_text(
+        alloc,
+        words.definition,
+        words.mocks,
+        points,
+        &in_definition,
+        &in_mocks,
+    )?;
+    Ok(text)
+}
+
+/// What is told as LCOV does.
+fn lcov_told(
+    alloc: Global,
+    words: &TestWords<'_>,
+    points: &[Point],
+    definition: &[u8],
+    mocks: &[u8],
+) -> Result<String, AllocError>
+    ensures { IfOk result (λ t. IsLcovTold words.now definition.now mocks.now points.now
+        (string_bytes t)) }
+{
+    let in_definition = sites_in(alloc, File::Definition, points, definition)?;
+    let in_mocks = sites_in(alloc, File::Mocks, points, mocks)?;
+    let text = lcov_text(
+        alloc,
+        words.definition,
+        words.mocks,
+        &in_definition,
+        &in_mocks,
+    )?;
+    Ok(text)
+}
+
+/// What is told of what tests cover, in the format that the words name; these are the bytes of the definition and of the mock file.
+pub(crate) fn coverage_shown(
+    alloc: Global,
+    words: &TestWords<'_>,
     coverage: &Coverage,
     least: u32,
+    definition: &[u8],
+    mocks: &[u8],
 ) -> Result<String, AllocError>
+    ensures { IfOk result (λ t. IsCoverageTold words.now.coverage_format words.now definition.now
+        mocks.now (points_of coverage.now) least (string_bytes t)) }
+{
+    match words.coverage_format {
+        CoverageFormat::Text => coverage_told(alloc, coverage, least),
+        CoverageFormat::Json => json_told(alloc, words, coverage.points(), definition, mocks),
+        CoverageFormat::Lcov => lcov_told(alloc, words, coverage.points(), definition, mocks),
+    }
+}
+
+/// What is told of what tests cover: how much, what not, and that it is less than the least percent, where it is. The error is that memory ran
+/// out.
+fn coverage_told(alloc: Global, coverage: &Coverage, least: u32) -> Result<String, AllocError>
     ensures { IfOk result (λ t. string_bytes t ≡ coverage_told (points_of coverage.now) least) }
 {
     let mut text = coverage.text(alloc)?;

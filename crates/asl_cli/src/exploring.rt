@@ -6,16 +6,15 @@ ghost use Rattle.asl_explore.specs.Reports.{explored_text};
 ghost use Rattle.asl_host.specs.Outcomes.{status_of, sink_use, IsTold, IsPrinted};
 ghost use Rattle.asl_cli.specs.Streams.{file_system, io};
 ghost use Rattle.asl_cli.specs.Exploring.{IsExplored, IsFoundFor, IsShown, AreAllShown, IsOneShown, IsWitness, IsWitnessOf, numbered, orders_for, format_for, has_colours, witness_text};
-ghost use Rattle.asl_cli.specs.Faults.{IsRunReason};
+ghost use Rattle.asl_cli.specs.Beginnings.{IsSetupReason};
 ghost use Rattle.asl_cli.specs.Formats.{IsShown as IsShownIn};
 ghost use Rattle.asl_cli.specs.Noting.{notes_for};
 
 use crate::command::{FAILED, GOOD, REFUSED, print_good, tell_answer};
-use crate::debugging::setup_of;
+use crate::debugging::setup_in;
 use crate::fault::CommandFault;
 use crate::formatting::shown_as;
 use crate::noting::tell_notes;
-use crate::reading::read_texts;
 use asl_command_line::missing_outcome;
 use asl_explore::{Explored, Found, Orders, Watch, explore as search, is_good, put_explored};
 use asl_history::Sink;
@@ -80,13 +79,14 @@ fn explore_files<'a, W: Watch, F: Files>(
     ensures found { IfOk result (λ r. IsFoundFor (F.gives files.old) words.now r.explored
         (string_bytes r.notes) (option_map string_bytes r.witness)) }
     ensures refused { IfErr result
-        (IsRunReason (F.gives files.old) (F.lacks files.old) words.now.setup None) }
+        (IsSetupReason (F.gives files.old) (F.lacks files.old) words.now.begin) }
 {
-    let texts = read_texts(alloc, files, &words.setup)?;
-    let setup = setup_of(alloc, &words.setup, &texts)?;
-    match search_from(watch, alloc, words, texts.chosen.as_str(), setup) {
-        Ok(searched) => Ok(searched),
-        Err(AllocError) => Err(CommandFault::OutOfMemory),
+    match setup_in(alloc, &words.begin, files) {
+        Ok((setup, chosen)) => match search_from(watch, alloc, words, chosen.as_str(), setup) {
+            Ok(searched) => Ok(searched),
+            Err(AllocError) => Err(CommandFault::OutOfMemory),
+        },
+        Err(refusal) => Err(refusal),
     }
 }
 
@@ -170,7 +170,7 @@ fn shown_of(
     shown_as(alloc, has_colours(words.format, words.coloured), text)
 }
 
-fn format_for(format: WitnessFormat) -> Format
+fn format_for(format: WitnessFormat) -> Format<'static>
     ensures { result ≡ format_for format }
 {
     match format {

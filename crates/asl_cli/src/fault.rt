@@ -35,11 +35,22 @@ fn write_refusal<E: Sink>(err: &mut E, text: &str, lines: &str) -> Result<(), Si
     write_piece(err, lines)
 }
 
+/// The line of a fault with this text, and lines behind it. The error is that memory ran out.
+fn told_by(alloc: Global, text: &str, lines: &str) -> Result<String, AllocError>
+    ensures { IfOk result (λ t. string_bytes t ≡ fault_line text.now ++ lines.now) }
+{
+    let mut told = String::from_str(alloc, "fault: ")?;
+    told.push_str(text)?;
+    told.push('\n')?;
+    told.push_str(lines)?;
+    Ok(told)
+}
+
 /// Why a command isn't done.
 #[derive(Debug, Drop)]
 pub enum CommandFault<'a> {
     /// The file of this name can't be read.
-    File(&'a str, Unreadable),
+    File(String, Unreadable),
     /// What was read is no definition. Behind it, here and below, what stands behind the fault's line: lines for a person.
     Definition(Fault, String),
     /// What an execution was to begin with, its file of steps, or the mock file of a suite, is refused.
@@ -52,8 +63,8 @@ pub enum CommandFault<'a> {
     Project(ProjectFault, String),
     /// Nothing is explained under this word.
     Code(&'a str, String),
-    /// The file of this name can't be read, in which the input of a test stands.
-    Input(String, Unreadable),
+    /// A file of expectations has no test of this number.
+    Test(usize, String),
     /// The file of this name can't be written.
     Output(&'a str, Unwritable),
     OutOfMemory,
@@ -71,6 +82,15 @@ impl<'a> CommandFault<'a> {
         }
     }
 
+    /// The same as a text. The error is that memory ran out.
+    pub(crate) fn told(&self, alloc: Global, quiet: bool) -> Result<String, AllocError>
+        ensures { IfOk result (λ t. Tells quiet self.now (string_bytes t)) }
+    {
+        let text = self.text(alloc)?;
+        let lines = unless_quiet(quiet, self.mending());
+        told_by(alloc, text.as_str(), lines)
+    }
+
     /// What stands behind its line.
     fn mending(&self) -> &str
         ensures { result.now ≡ mending self.now }
@@ -81,11 +101,9 @@ impl<'a> CommandFault<'a> {
             | CommandFault::Script(_, lines)
             | CommandFault::Expectations(_, lines)
             | CommandFault::Project(_, lines)
+            | CommandFault::Test(_, lines)
             | CommandFault::Code(_, lines) => lines.as_str(),
-            CommandFault::File(_, _)
-            | CommandFault::Input(_, _)
-            | CommandFault::Output(_, _)
-            | CommandFault::OutOfMemory => "",
+            CommandFault::File(_, _) | CommandFault::Output(_, _) | CommandFault::OutOfMemory => "",
         }
     }
 
@@ -123,9 +141,9 @@ impl fmt::Display for CommandFault<'_> {
             CommandFault::Emulation(fault, _) => write!(f, "{fault}"),
             CommandFault::Script(fault, _) => write!(f, "{fault}"),
             CommandFault::Expectations(fault, _) => write!(f, "expectations: {fault}"),
+            CommandFault::Test(number, _) => write!(f, "expectations: X4 NoTest {number}"),
             CommandFault::Project(fault, _) => write!(f, "project: {fault}"),
             CommandFault::Code(word, _) => write!(f, "code {word}"),
-            CommandFault::Input(name, why) => write!(f, "file {name}{}", why.words()),
             CommandFault::Output(name, why) => write!(f, "file {name}{}", why.words()),
             CommandFault::OutOfMemory => f.write_str("OutOfMemory"),
         }

@@ -15,13 +15,13 @@ use asl_words::RunFormat;
 use std::alloc::{AllocError, Global};
 
 /// The format that isn't the usual text, where one is asked for.
-fn format_of(format: RunFormat) -> Option<Format>
-    ensures { result ≡ format_of format }
+fn format_of<'a>(format: RunFormat<'a>) -> Option<Format<'a>>
+    ensures { result ≡ format_of format.entry }
 {
     match format {
         RunFormat::Text => None,
         RunFormat::Json => Some(Format::Json),
-        RunFormat::Aws => Some(Format::Aws),
+        RunFormat::Aws(region) => Some(Format::Aws(region)),
         RunFormat::Steps => Some(Format::Steps),
         RunFormat::Tree => Some(Format::Tree),
         RunFormat::Data => Some(Format::Data),
@@ -31,11 +31,11 @@ fn format_of(format: RunFormat) -> Option<Format>
 /// Runs an execution by the steps of a file, where there is one, else by those that come next, at most so many.
 fn emulate_plain(
     alloc: Global,
-    format: RunFormat,
+    format: RunFormat<'_>,
     texts: &RunTexts<'_>,
     limit: u32,
 ) -> Result<Emulated, EmulateFault>
-    ensures run { IfOk result (λ e. IsPlainRunIn (format_of format) (texts_of texts.now) limit
+    ensures run { IfOk result (λ e. IsPlainRunIn (format_of format.entry) (texts_of texts.now) limit
         (string_bytes e.text) e.good) }
     ensures lacking { IfOk result (λ e. IsLackingIn (texts_of texts.now) limit e.lacking) }
     ensures end { IfOk result (λ e. IsEndIn (texts_of texts.now) limit e.end) }
@@ -61,12 +61,12 @@ pub(crate) fn shown_as(alloc: Global, is_coloured: bool, text: String) -> Result
 /// Runs an execution so, and shows what it prints in colours, or as it is.
 pub(crate) fn emulate_in(
     alloc: Global,
-    format: RunFormat,
+    format: RunFormat<'_>,
     is_coloured: bool,
     texts: &RunTexts<'_>,
     limit: u32,
 ) -> Result<Emulated, EmulateFault>
-    ensures run { IfOk result (λ e. IsRunIn (format_of format) is_coloured (texts_of texts.now)
+    ensures run { IfOk result (λ e. IsRunIn (format_of format.entry) is_coloured (texts_of texts.now)
         limit (string_bytes e.text) e.good) }
     ensures lacking { IfOk result (λ e. IsLackingIn (texts_of texts.now) limit e.lacking) }
     ensures end { IfOk result (λ e. IsEndIn (texts_of texts.now) limit e.end) }

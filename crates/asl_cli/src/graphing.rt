@@ -1,27 +1,27 @@
 // The command `graph`.
 ghost use Rattle.std.specs.Prelude.{◌≡◌, None, IfOk, IfErr, string_bytes};
 ghost use Rattle.asl_graph.specs.Graphs.{graph_text};
-ghost use Rattle.asl_run_input.specs.Views.{texts_of};
 ghost use Rattle.asl_exec.specs.Driving.{most_steps};
 ghost use Rattle.asl_run_formats.specs.Marked.{IsMarkedRunOf};
 ghost use Rattle.asl_host.specs.Outcomes.{sink_use};
 ghost use Rattle.asl_cli.specs.Streams.{file_system, io};
 ghost use Rattle.asl_cli.specs.Graphing.{format_of, IsDefinitionGraph, IsRunGraph, IsGraph, IsGraphReason, IsDrawn};
-ghost use Rattle.asl_cli.specs.Faults.{IsTextsReason, IsRunReason, IsDefinitionReason};
+ghost use Rattle.asl_cli.specs.Faults.{IsTextsReason, IsDefinitionReason};
+ghost use Rattle.asl_cli.specs.Beginnings.{texts_in, IsRunReason};
 
+use crate::beginning::{Beginning, begin_by};
 use crate::checking::machine_in;
 use crate::command::{REFUSED, print_good};
 use crate::fault::CommandFault;
 use crate::mending::of_run;
-use crate::reading::read_texts;
 use asl_def::Machine;
 use asl_exec::most_steps;
 use asl_graph::Format;
 use asl_history::Sink;
 use asl_host::Files;
 use asl_run_formats::emulate_marked;
-use asl_run_input::{EmulateFault, RunTexts};
-use asl_words::{GraphFormat, GraphWords, SetupWords};
+use asl_run_input::EmulateFault;
+use asl_words::{Begin, GraphFormat, GraphWords, SetupWords};
 use std::alloc::{AllocError, Global};
 
 /// The command `graph`: prints the graph of a definition without faults, else tells the first fault. Where a run is asked for, the states
@@ -74,31 +74,29 @@ fn run_graph<'a, F: Files>(
     ensures graph { IfOk result
         (λ t. IsRunGraph (F.gives files.old) words.now format (string_bytes t)) }
     ensures refused { IfErr result
-        (IsRunReason (F.gives files.old) (F.lacks files.old) words.now None) }
+        (IsRunReason (F.gives files.old) (F.lacks files.old) (Begin.Files words.now) None) }
 {
-    let texts = read_texts(alloc, files, words)?;
-    let given = texts.of_run(None);
-    match graph_given(alloc, format, words, &given) {
-        Ok(text) => Ok(text),
+    match begin_by(alloc, files, words) {
+        Ok(beginning) => graph_from(alloc, format, &beginning),
         Err(refusal) => Err(refusal),
     }
 }
 
-/// The graph of the run that was read.
-fn graph_given<'a>(
+/// The graph of the run of what was read.
+fn graph_from<'a>(
     alloc: Global,
     format: Format,
-    words: &SetupWords<'_>,
-    texts: &RunTexts<'_>,
+    beginning: &Beginning,
 ) -> Result<String, CommandFault<'a>>
     ensures run { IfOk result
-        (λ t. IsMarkedRunOf format (texts_of texts.now) most_steps (string_bytes t)) }
-    ensures refused { IfErr result (IsTextsReason (texts_of texts.now)) }
+        (λ t. IsMarkedRunOf format (texts_in beginning.now) most_steps (string_bytes t)) }
+    ensures refused { IfErr result (IsTextsReason (texts_in beginning.now)) }
 {
-    match emulate_marked(alloc, format, texts, most_steps()) {
+    let texts = beginning.of_run(None);
+    match emulate_marked(alloc, format, &texts, most_steps()) {
         Ok(text) => Ok(text),
         Err(EmulateFault::OutOfMemory) => Err(CommandFault::OutOfMemory),
-        Err(fault) => match of_run(alloc, words, None, texts, &fault) {
+        Err(fault) => match of_run(alloc, &beginning.names, None, &texts, &fault) {
             Ok(lines) => Err(CommandFault::Emulation(fault, lines)),
             Err(AllocError) => Err(CommandFault::OutOfMemory),
         },

@@ -8,11 +8,11 @@ ghost use Rattle.asl_host.specs.declared.files.Unreadable.{Unreadable};
 ghost use Rattle.asl_cli.specs.Inputs.{AreTestsOn, IsFirstLost, IsHeld, IsInputFrom, IsKnown, IsKnownOrHeld, IsLost, IsNoValue, IsTestFrom, IsUnheld, Unless};
 
 use crate::fault::CommandFault;
-use crate::mending::of_json;
 use asl_host::{Files, ReadFault, beside};
 use asl_json::{Json, Txt};
 use asl_json_read::{JsonFault, read};
 use asl_json_shared::Shared;
+use asl_lint_files::of_json;
 use asl_run_input::EmulateFault;
 use asl_suite_file::{Draft, Drafts, Expectation, Expectations, InputSource};
 use std::alloc::{AllocError, Global};
@@ -79,7 +79,7 @@ fn read_input<'a, F: Files>(
 {
     let bytes = match files.read(alloc, name.as_str()) {
         Ok(bytes) => bytes,
-        Err(ReadFault::Unreadable(why)) => return Err(CommandFault::Input(name, why)),
+        Err(ReadFault::Unreadable(why)) => return Err(CommandFault::File(name, why)),
         Err(ReadFault::OutOfMemory) => return Err(CommandFault::OutOfMemory),
     };
     let value = value_in(alloc, name.as_str(), bytes.as_slice())?;

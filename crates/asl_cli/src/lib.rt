@@ -1,18 +1,19 @@
 //! The commands of the emulator: one function over words, files and two sinks, which the program `asl` calls.
 //!
-//! Modules in reading order: `fault` is why a command isn't done, and its line; `mending` has the lines for people behind it, for which `pointing` finds places and `recognizing` says what a file is; `reading` reads the files that words name; `checking` is
+//! Modules in reading order: `fault` is why a command isn't done, and its line; `mending` has lines for people behind it, beside those of `asl_lint_files`; `reading` reads the files that words name, and `beginning` those of an execution, for which `choices` finds what is chosen of a project; `checking` is
 //! the command `check`, `linting` the command `lint`, `printing` the command `print`, `upgrading` the command `upgrade`, for which `layouts` lays JSON out, `graphing` the command `graph`, `mocking` the command `mocks`,
-//! `debugging` the command `debug`, for which `talking` answers lines, `testing` the command `test`, for which `choosing` has the tests that are run, `inputs` reads their inputs, `progress` how far it is,
-//! `failing` why executions of tests failed and `covering` what is covered; `projects` does a command for each workflow of a project, and `suites` the command `test`; `executing` does `run`, `debug` and `explore` for one of them; `exploring` the command `explore`; `explaining` the command `explain`; `noting` tells of answers that were lacking; `formatting` runs in the format that is asked for; `command` has the command `run`, and all that a command line may
+//! `debugging` the command `debug`, for which `talking` answers lines, `testing` the command `test`, for which `choosing` has the tests that are run, `inputs` reads their inputs, `leaving` prints and writes their reports, `progress` how far it is,
+//! `failing` why executions of tests failed and `covering` what is covered; `projects` does a command for each workflow of a project, and `suites` the command `test`; `exploring` the command `explore`; `explaining` the command `explain`; `noting` tells of answers that were lacking; `formatting` runs in the format that is asked for; `command` has the command `run`, and all that a command line may
 //! ask for.
 #![tactic(auto)]
 
+mod beginning;
 mod checking;
+mod choices;
 mod choosing;
 mod command;
 mod covering;
 mod debugging;
-mod executing;
 mod explaining;
 mod exploring;
 mod failing;
@@ -21,17 +22,16 @@ mod formatting;
 mod graphing;
 mod inputs;
 mod layouts;
+mod leaving;
 mod linting;
 mod mending;
 mod misnaming;
 mod mocking;
 mod noting;
-mod pointing;
 mod printing;
 mod progress;
 mod projects;
 mod reading;
-mod recognizing;
 mod suites;
 mod talking;
 mod testing;

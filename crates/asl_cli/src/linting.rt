@@ -1,19 +1,22 @@
 // The command `lint`.
-ghost use Rattle.std.specs.Prelude.{◌≡◌, ◌∷◌, [], option_map, unwrap_or, IfOk, IfErr, string_bytes};
+ghost use Rattle.std.specs.Prelude.{◌≡◌, ◌∷◌, ◌++◌, [], map, option_map, IfOk, IfErr, OnOk, List, ℕ, string_bytes};
 ghost use Rattle.std.specs.List.{list_any};
 ghost use Rattle.std.specs.Str.{bytes_eq};
 ghost use Rattle.asl_host.specs.Outcomes.{sink_use, status_of, IsPrinted};
+ghost use Rattle.asl_host.specs.declared.files.Unreadable.{Unreadable};
+ghost use Rattle.asl_lint_files.specs.Linted.{Each};
 ghost use Rattle.asl_cli.specs.Streams.{file_system, io};
-ghost use Rattle.asl_cli.specs.Linting.{mocks_name, text_in, is_ignored, heeded, AreHeeded, IsTold, IsJudged, IsLintOf, IsLintedBut, IsLinted};
-ghost use Rattle.asl_cli.specs.Faults.{AreUnread, named};
+ghost use Rattle.asl_cli.specs.Linting.{by_place, heeded, is_file_mark, is_file_name, is_ignored, machine_in, names_machine, plain_names, role_file, seen, text_in, wanted_in, words_from, IsHeeded, IsJudged, IsLintOf, IsLinted, IsLintedBut, IsMannerOf, IsReadAs, IsTold};
+ghost use Rattle.asl_cli.specs.Faults.{AreUnread};
 
 use crate::command::{FAILED, GOOD, REFUSED};
 use crate::fault::CommandFault;
-use crate::reading::{read_file, read_named};
+use crate::reading::read_file;
 use asl_history::Sink;
 use asl_host::{Files, write_piece};
 use asl_json::Txt;
-use asl_lint::{Finding, Report, Source, json, sarif, text};
+use asl_lint::{FileReport, Finding, is_good, json, sarif, text};
+use asl_lint_files::{LintFile, LintedFiles, Role};
 use asl_words::{LintFormat, LintWords};
 use std::alloc::{AllocError, Global};
 
@@ -24,10 +27,31 @@ pub struct Linted {
     pub good: bool,
 }
 
-/// The command `lint`: prints everything that is wrong or suspicious in a definition and in the mock file beside it.
+/// A file that is to be judged.
+#[derive(Clone, Copy)]
+pub(crate) struct Wanted<'a> {
+    pub(crate) name: &'a str,
+    /// What it is said to be; none where nothing is said.
+    pub(crate) role: Option<Role>,
+    /// What it is taken for where it doesn't show what it is; none for nothing.
+    pub(crate) otherwise: Option<Role>,
+}
+
+/// How files are judged, and how what is found is told.
+#[derive(Clone, Copy)]
+pub(crate) struct Manner<'a> {
+    /// The name of the machine in the mock file; none where that has only one.
+    pub(crate) machine: Option<&'a str>,
+    pub(crate) format: LintFormat,
+    /// Whether warnings count as errors.
+    pub(crate) strict: bool,
+}
+
+/// The command `lint`: prints everything that is wrong or suspicious in files.
 pub fn lint<F: Files, O: Sink, E: Sink>(
     alloc: Global,
     words: &LintWords<'_>,
+    names: &[&str],
     quiet: bool,
     files: &mut F,
     out: &mut O,
@@ -35,15 +59,25 @@ pub fn lint<F: Files, O: Sink, E: Sink>(
 ) -> u8
     ensures { IsLinted (file_system (F.gives files.old) (F.lacks files.old))
         (io (sink_use O.taken O.failures out.old out.new)
-        (sink_use E.taken E.failures err.old err.new) result) quiet words.now }
+        (sink_use E.taken E.failures err.old err.new) result) quiet words.now (map (λ n. n.now) names.now) }
 {
-    lint_but(alloc, words, &[], quiet, files, out, err)
+    match wanted_of(alloc, words, names) {
+        Ok(wanted) => {
+            let manner = manner_of(words, names);
+            lint_but(alloc, &wanted, &manner, &[], quiet, files, out, err)
+        }
+        Err(AllocError) => {
+            CommandFault::OutOfMemory.write(alloc, quiet, err);
+            REFUSED
+        }
+    }
 }
 
-/// The same without the warnings of rules that are ignored.
+/// Judges these files, without the warnings of rules that are ignored.
 pub(crate) fn lint_but<F: Files, O: Sink, E: Sink>(
     alloc: Global,
-    words: &LintWords<'_>,
+    wanted: &[Wanted<'_>],
+    manner: &Manner<'_>,
     rules: &[Txt],
     quiet: bool,
     files: &mut F,
@@ -52,9 +86,9 @@ pub(crate) fn lint_but<F: Files, O: Sink, E: Sink>(
 ) -> u8
     ensures { IsLintedBut rules.now (file_system (F.gives files.old) (F.lacks files.old))
         (io (sink_use O.taken O.failures out.old out.new)
-        (sink_use E.taken E.failures err.old err.new) result) quiet words.now }
+        (sink_use E.taken E.failures err.old err.new) result) quiet manner.now (map seen wanted.now) }
 {
-    match lint_files(alloc, words, rules, files) {
+    match lint_wanted(alloc, wanted, manner, rules, files) {
         Ok(linted) => print_linted(&linted, out),
         Err(refusal) => {
             refusal.write(alloc, quiet, err);
@@ -63,77 +97,240 @@ pub(crate) fn lint_but<F: Files, O: Sink, E: Sink>(
     }
 }
 
-/// Reads the files, in the order of the words, and judges what they hold.
-fn lint_files<'a, F: Files>(
+// ---- what is named
+
+/// Whether a word may be the name of a file: it has a dot, a slash or what a JSON text begins with, or is that of standard input.
+fn is_file_name(word: &str) -> bool
+    ensures { result ≡ is_file_name word.now }
+{
+    word == "-" || has_mark(word.as_bytes())
+}
+
+fn has_mark(bytes: &[u8]) -> bool
+    ensures { result ≡ list_any is_file_mark bytes.now }
+{
+    for byte in bytes {
+        if matches!(*byte, b'.' | b'/' | b'{' | b'[' | b'"') {
+            return true;
+        }
+    }
+    false
+}
+
+/// Whether the last of three words is the name of the machine.
+fn names_machine(words: &LintWords<'_>, names: &[&str]) -> bool
+    ensures { result ≡ names_machine words.now (map (λ n. n.now) names.now) }
+{
+    match names {
+        [_, _, last] => words.machine.is_none() && !is_file_name(*last),
+        _ => false,
+    }
+}
+
+/// The words that are names of files.
+fn plain_names<'a, 'b>(words: &LintWords<'_>, names: &'b [&'a str]) -> &'b [&'a str]
+    ensures { map (λ n. n.now) result.now ≡ plain_names words.now (map (λ n. n.now) names.now) }
+{
+    match names {
+        [_, _, _] if names_machine(words, names) => &names[..2],
+        _ => names,
+    }
+}
+
+/// The name of the machine.
+fn machine_in<'a>(words: &LintWords<'a>, names: &[&'a str]) -> Option<&'a str>
+    ensures { option_map (λ k. k.now) result ≡ machine_in words.now (map (λ n. n.now) names.now) }
+{
+    match names {
+        [_, _, last] if names_machine(words, names) => Some(*last),
+        _ => words.machine,
+    }
+}
+
+fn manner_of<'a>(words: &LintWords<'a>, names: &[&'a str]) -> Manner<'a>
+    ensures { IsMannerOf words.now (map (λ n. n.now) names.now) result }
+{
+    Manner {
+        machine: machine_in(words, names),
+        format: words.format,
+        strict: words.strict,
+    }
+}
+
+/// What the file of this number is taken for where it doesn't show what it is.
+fn by_place(number: usize) -> Option<Role>
+    ensures { result ≡ by_place number }
+{
+    match number {
+        0 => Some(Role::Definition),
+        1 => Some(Role::Mocks),
+        _ => None,
+    }
+}
+
+/// The files that stand one after another.
+fn words_of<'a>(alloc: Global, names: &[&'a str]) -> Result<Vec<Wanted<'a>>, AllocError>
+    ensures { IfOk result (λ ws. map seen ws.items ≡ words_from 0 (map (λ n. n.now) names.now)) }
+{
+    let mut all = Vec::with_capacity(alloc, names.len())?;
+    for (number, name) in names.iter().enumerate() {
+        all.push(Wanted {
+            name: *name,
+            role: None,
+            otherwise: by_place(number),
+        })?;
+    }
+    Ok(all)
+}
+
+/// Adds a file of which it is said what it is, where one is named.
+fn add_role<'a>(
+    all: &mut Vec<Wanted<'a>>,
+    name: Option<&'a str>,
+    role: Role,
+) -> Result<(), AllocError>
+    ensures { OnOk result (map seen all.new.items ≡ map seen all.old.items
+        ++ role_file role (option_map (λ n. n.now) name.entry)) }
+{
+    let Some(name) = name else {
+        return Ok(());
+    };
+    all.push(Wanted {
+        name,
+        role: Some(role),
+        otherwise: None,
+    })?;
+    Ok(())
+}
+
+/// The files that the words name.
+fn wanted_of<'a>(
     alloc: Global,
     words: &LintWords<'a>,
+    names: &[&'a str],
+) -> Result<Vec<Wanted<'a>>, AllocError>
+    ensures { IfOk result (λ ws. map seen ws.items ≡ wanted_in words.now (map (λ n. n.now) names.now)) }
+{
+    let mut all = words_of(alloc, plain_names(words, names))?;
+    add_role(&mut all, words.mocks, Role::Mocks)?;
+    add_role(&mut all, words.expectations, Role::Expectations)?;
+    add_role(&mut all, words.input, Role::Input)?;
+    add_role(&mut all, words.steps, Role::Steps)?;
+    add_role(&mut all, words.script, Role::Script)?;
+    Ok(all)
+}
+
+// ---- what is found
+
+/// Reads the files, in their order.
+fn read_wanted<'a, F: Files>(
+    alloc: Global,
+    wanted: &[Wanted<'a>],
+    files: &mut F,
+) -> Result<Vec<LintFile<'a>>, CommandFault<'a>>
+    ensures given { IfOk result (λ fs. Each (IsReadAs (F.gives files.old)) (map seen wanted.now) fs.items) }
+    ensures unread { IfErr result (AreUnread (F.gives files.old) (F.lacks files.old)
+        (map (λ w. w.0) (map seen wanted.now))) }
+{
+    let mut all = Vec::new(alloc);
+    for one in wanted {
+        let text = read_file(alloc, files, one.name)?;
+        let file = LintFile {
+            name: one.name,
+            text,
+            role: one.role,
+            otherwise: one.otherwise,
+        };
+        add_file(&mut all, file)?;
+    }
+    Ok(all)
+}
+
+/// Adds a file behind these. The error is that memory ran out.
+fn add_file<'a>(all: &mut Vec<LintFile<'a>>, file: LintFile<'a>) -> Result<(), AllocError>
+    ensures { OnOk result (all.new.items ≡ all.old.items ++ file.entry ∷ []) }
+{
+    all.push(file)?;
+    Ok(())
+}
+
+/// Reads the files and judges what they hold.
+fn lint_wanted<'a, F: Files>(
+    alloc: Global,
+    wanted: &[Wanted<'a>],
+    manner: &Manner<'_>,
     rules: &[Txt],
     files: &mut F,
 ) -> Result<Linted, CommandFault<'a>>
-    ensures linted { IfOk result (IsLintOf (F.gives files.old) words.now rules.now) }
+    ensures linted { IfOk result (IsLintOf (F.gives files.old) manner.now rules.now (map seen wanted.now)) }
     ensures unread { IfErr result (AreUnread (F.gives files.old) (F.lacks files.old)
-        (words.now.definition.now ∷ named (mocks_name words.now))) }
+        (map (λ w. w.0) (map seen wanted.now))) }
 {
-    let definition = read_file(alloc, files, words.definition)?;
-    let mocks = read_named(alloc, files, words.mocks)?;
-    let source = source_of(definition.as_slice(), mocks.as_deref(), words.machine);
-    match lint_texts(alloc, words, rules, &source) {
+    let read = read_wanted(alloc, wanted, files)?;
+    match lint_read(alloc, manner, rules, &read) {
         Ok(linted) => Ok(linted),
         Err(AllocError) => Err(CommandFault::OutOfMemory),
     }
 }
 
-/// What is judged.
-fn source_of<'a>(
-    definition: &'a [u8],
-    mocks: Option<&'a [u8]>,
-    machine: Option<&'a str>,
-) -> Source<'a>
-    ensures definition { result.definition.now ≡ definition.now }
-    ensures mocks { option_map (λ b. b.now) result.mocks
-        ≡ option_map (λ b. b.now) mocks.entry }
-    ensures machine { option_map (λ k. k.now) result.machine
-        ≡ option_map (λ k. k.now) machine.entry }
-{
-    Source {
-        definition,
-        mocks,
-        machine,
-    }
-}
-
-/// Judges texts.
-fn lint_texts(
+/// Judges what was read.
+fn lint_read(
     alloc: Global,
-    words: &LintWords<'_>,
+    manner: &Manner<'_>,
     rules: &[Txt],
-    source: &Source<'_>,
+    read: &[LintFile<'_>],
 ) -> Result<Linted, AllocError>
-    ensures { IfOk result (IsJudged words.now rules.now (option_map (λ k. k.now) source.now.machine)
-        source.now.definition.now (option_map (λ b. b.now) source.now.mocks)) }
+    ensures { IfOk result (IsJudged manner.now rules.now read.now) }
 {
-    let all = asl_lint::lint(alloc, source)?;
-    let report = heeded(alloc, rules, all)?;
-    told(alloc, words, &report)
+    let LintedFiles { files, has_others } = asl_lint_files::lint_files(
+        alloc,
+        manner.machine,
+        read,
+    )?;
+    let left = heeded_all(alloc, rules, files)?;
+    told(alloc, manner, has_others, &left)
 }
 
-/// What is printed of a report, and whether nothing is wrong.
-fn told(alloc: Global, words: &LintWords<'_>, report: &Report) -> Result<Linted, AllocError>
-    ensures { IfOk result (IsTold words.now report.now) }
+/// What is printed of these, and whether nothing is wrong.
+fn told(
+    alloc: Global,
+    manner: &Manner<'_>,
+    has_others: bool,
+    files: &[FileReport<'_>],
+) -> Result<Linted, AllocError>
+    ensures { IfOk result (IsTold manner.now has_others files.now) }
 {
-    let good = report.is_good(words.strict);
-    let text = text_of(alloc, words, report)?;
+    let good = is_good(files, manner.strict);
+    let text = text_of(alloc, manner.format, has_others, files)?;
     Ok(Linted { text, good })
 }
 
-/// A report without the warnings of rules that are ignored. The error is that memory ran out.
-fn heeded(alloc: Global, rules: &[Txt], report: Report) -> Result<Report, AllocError>
-    ensures { IfOk result (AreHeeded rules.now report) }
+/// What is found, without the warnings of rules that are ignored. The error is that memory ran out.
+fn heeded_all<'a>(
+    alloc: Global,
+    rules: &[Txt],
+    files: Vec<FileReport<'a>>,
+) -> Result<Vec<FileReport<'a>>, AllocError>
+    ensures { IfOk result (λ left. Each (IsHeeded rules.now) files.entry.items left.items) }
 {
-    let Report { definition, mocks } = report;
-    Ok(Report {
-        definition: heeded_of(alloc, rules, definition)?,
-        mocks: heeded_of(alloc, rules, mocks)?,
+    let mut all = Vec::with_capacity(alloc, files.len())?;
+    for file in files {
+        all.push(heeded_file(alloc, rules, file)?)?;
+    }
+    Ok(all)
+}
+
+fn heeded_file<'a>(
+    alloc: Global,
+    rules: &[Txt],
+    file: FileReport<'a>,
+) -> Result<FileReport<'a>, AllocError>
+    ensures { IfOk result (IsHeeded rules.now file.entry) }
+{
+    let FileReport { name, findings } = file;
+    Ok(FileReport {
+        name,
+        findings: heeded_of(alloc, rules, findings)?,
     })
 }
 
@@ -171,26 +368,19 @@ fn is_among(rules: &[Txt], name: &str) -> bool
     false
 }
 
-/// The name of the mock file; empty where there is none.
-fn mocks_of<'a>(words: &LintWords<'a>) -> &'a str
-    ensures { result.now ≡ unwrap_or (mocks_name words.now) [] }
-{
-    match words.mocks {
-        Some(name) => name,
-        None => "",
-    }
-}
-
 /// The findings in the format that is asked for.
-fn text_of(alloc: Global, words: &LintWords<'_>, report: &Report) -> Result<String, AllocError>
-    ensures { IfOk result (λ t. string_bytes t ≡ text_in words.now.format
-        words.now.definition.now (unwrap_or (mocks_name words.now) []) report.now) }
+fn text_of(
+    alloc: Global,
+    format: LintFormat,
+    has_others: bool,
+    files: &[FileReport<'_>],
+) -> Result<String, AllocError>
+    ensures { IfOk result (λ t. string_bytes t ≡ text_in format has_others files.now) }
 {
-    let mocks = mocks_of(words);
-    match words.format {
-        LintFormat::Text => text(alloc, words.definition, mocks, report),
-        LintFormat::Json => json(alloc, words.definition, mocks, report),
-        LintFormat::Sarif => sarif(alloc, words.definition, mocks, report),
+    match format {
+        LintFormat::Text => text(alloc, files),
+        LintFormat::Json => json(alloc, files),
+        LintFormat::Sarif => sarif(alloc, has_others, files),
     }
 }
 

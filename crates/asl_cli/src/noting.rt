@@ -48,10 +48,10 @@ fn put_limit(out: &mut String, limit: u32) -> Result<(), AllocError>
     put_limit_end(out)
 }
 
-/// The same, where no file names the steps.
-fn put_limit_note(out: &mut String, steps: Option<&str>, limit: u32) -> Result<(), AllocError>
+/// The same, where no steps are named.
+fn put_limit_note(out: &mut String, steps: Option<&[u8]>, limit: u32) -> Result<(), AllocError>
     ensures { OnOk result (string_bytes out.new ≡ string_bytes out.old
-        ++ limit_note (option_map (λ name. name.now) steps.entry) limit) }
+        ++ limit_note (option_map (λ b. b.now) steps.entry) limit) }
 {
     match steps {
         Some(_) => Ok(()),
@@ -70,12 +70,12 @@ fn put_full_note(out: &mut String) -> Result<(), AllocError>
 /// Appends why an execution isn't over.
 fn put_end_note(
     out: &mut String,
-    steps: Option<&str>,
+    steps: Option<&[u8]>,
     limit: u32,
     end: Ended,
 ) -> Result<(), AllocError>
     ensures { OnOk result (string_bytes out.new ≡ string_bytes out.old
-        ++ end_note (option_map (λ name. name.now) steps.entry) limit end) }
+        ++ end_note (option_map (λ b. b.now) steps.entry) limit end) }
 {
     match end {
         Ended::Over => Ok(()),
@@ -111,21 +111,20 @@ fn why_note(
     why_line(alloc, texts, limit)
 }
 
-/// A run of these texts, by a file of steps, where there is one, else by at most so many, with what is told of it.
+/// A run of these texts, by their steps, where they name some, else by at most so many, with what is told of it.
 pub(crate) fn with_note(
     alloc: Global,
     texts: &RunTexts<'_>,
-    steps: Option<&str>,
     limit: u32,
     emulated: Emulated,
 ) -> Result<Ran, AllocError>
     ensures emulated { IfOk result (λ r. r.emulated ≡ emulated) }
     ensures note { IfOk result (λ r. (why : List ℕ) × (emulated.good ≡ true → why ≡ [])
         × string_bytes r.note ≡ note_text texts.now.chosen.now emulated.lacking
-        ++ (end_note (option_map (λ name. name.now) steps.entry) limit emulated.end ++ why)) }
+        ++ (end_note (option_map (λ b. b.now) texts.now.steps) limit emulated.end ++ why)) }
 {
     let mut note = note_of(alloc, texts.chosen, &emulated.lacking)?;
-    put_end_note(&mut note, steps, limit, emulated.end)?;
+    put_end_note(&mut note, texts.steps, limit, emulated.end)?;
     let why = why_note(alloc, texts, limit, &emulated)?;
     note.push_str(why.as_str())?;
     Ok(Ran { emulated, note })

@@ -1,5 +1,5 @@
 // What is told while a suite or a search runs.
-use asl_explore::Watch;
+use asl_explore::{SoFar, Watch};
 use asl_threads_base::Gate;
 use std::sync::atomic::{AtomicU64, Ordering};
 use std::time::Clock;
@@ -58,10 +58,17 @@ impl<'a, R: Clock + Eprint> Gate for Progress<'a, R> {
 }
 
 impl<'a, R: Clock + Eprint> Watch for Progress<'a, R> {
-    fn tried(&self, worlds: usize) {
+    fn tried(&self, far: SoFar) {
         if self.shown && self.is_due() {
             // A line that isn't written is no fault: it changes nothing.
-            let _ = eprintln!(self.rt; "{worlds} worlds tried");
+            let SoFar {
+                worlds,
+                waiting,
+                outcomes,
+            } = far;
+            let _ = eprintln!(self.rt;
+                "{worlds} worlds tried, {waiting} wait, {outcomes} outcomes"
+            );
         }
     }
 }

@@ -1,20 +1,24 @@
 // The workflows of a project: what is done for each, one after another.
-ghost use Rattle.std.specs.Prelude.{◌≡◌, max, option_map, IfOk, IfErr};
+ghost use Rattle.std.specs.Prelude.{◌≡◌, ℕ, List, max, option_map, Some, None, IfOk, IfErr};
 ghost use Rattle.asl_host.specs.Outcomes.{sink_use};
 ghost use Rattle.asl_cli.specs.Streams.{file_use, file_system, io};
-ghost use Rattle.asl_cli.specs.Projects.{project_name, IsProjectIn, IsProjectReason, AreDone, IsWorkflowChecked, AreAllChecked, IsLintFor, IsWorkflowLinted, AreAllLinted};
+ghost use Rattle.asl_host.specs.declared.files.Unreadable.{Unreadable};
+ghost use Rattle.asl_cli.specs.Choices.{project_name, IsProjectIn, IsProjectReason};
+ghost use Rattle.asl_cli.specs.Projects.{AreDone, IsWorkflowChecked, AreAllChecked, IsWorkflowLinted, AreAllLinted};
+ghost use Rattle.asl_cli.specs.Linting.{seen};
 
 use crate::checking::check;
 use crate::command::{GOOD, REFUSED};
 use crate::fault::CommandFault;
-use crate::linting::lint_but;
+use crate::linting::{Manner, Wanted, lint_but};
 use crate::mending::of_project;
 use crate::reading::read_file;
 use asl_history::Sink;
 use asl_host::Files;
 use asl_json::Txt;
+use asl_lint_files::Role;
 use asl_project::{Project, ProjectFault, Workflow};
-use asl_words::{DefinitionWords, LintAllWords, LintWords, ProjectWords};
+use asl_words::{DefinitionWords, LintAllWords, ProjectWords};
 use std::alloc::{AllocError, Global};
 
 /// The name of the project's file.
@@ -30,10 +34,13 @@ pub(crate) fn name_of<'a>(words: &ProjectWords<'a>) -> &'a str
 /// Reads the project.
 pub(crate) fn project_in<'a, F: Files>(
     alloc: Global,
-    words: &ProjectWords<'a>,
+    words: &ProjectWords<'_>,
     files: &mut F,
 ) -> Result<Project, CommandFault<'a>>
     ensures read { IfOk result (λ p. IsProjectIn (F.gives files.old) words.now p.workflows.items) }
+    ensures kept { (n b : List ℕ) → F.gives files.new n b → F.gives files.old n b }
+    ensures lacking { (n : List ℕ) (u : Unreadable) → F.lacks files.new n u
+        → F.lacks files.old n u }
     ensures refused { IfErr result
         (IsProjectReason (file_system (F.gives files.old) (F.lacks files.old)) words.now) }
 {
@@ -182,28 +189,33 @@ fn lint_one<'a, F: Files, O: Sink, E: Sink>(
         (io (sink_use O.taken O.failures out.old out.new)
         (sink_use E.taken E.failures err.old err.new) result) workflow.now }
 {
-    let words = lint_words(words, workflow);
-    lint_but(
-        alloc,
-        &words,
-        workflow.ignore.names(),
-        quiet,
-        files,
-        out,
-        err,
-    )
-}
-
-/// The words of `lint` for a workflow.
-fn lint_words<'a>(words: &LintAllWords<'a>, workflow: &'a Workflow) -> LintWords<'a>
-    ensures { IsLintFor words.now workflow.now result }
-{
-    LintWords {
-        definition: workflow.definition.as_str(),
-        mocks: text_of(&workflow.mocks),
+    let manner = Manner {
         machine: text_of(&workflow.machine),
         format: words.format,
         strict: words.strict,
+    };
+    let rules = workflow.ignore.names();
+    let definition = wanted_as(workflow.definition.as_str(), Role::Definition);
+    match text_of(&workflow.mocks) {
+        Some(mocks) => {
+            let both = [definition, wanted_as(mocks, Role::Mocks)];
+            lint_but(alloc, &both, &manner, rules, quiet, files, out, err)
+        }
+        None => {
+            let one = [definition];
+            lint_but(alloc, &one, &manner, rules, quiet, files, out, err)
+        }
+    }
+}
+
+/// A file of which it is said what it is.
+fn wanted_as<'a>(name: &'a str, role: Role) -> Wanted<'a>
+    ensures { seen result ≡ (name.entry.now, Some role, None) }
+{
+    Wanted {
+        name,
+        role: Some(role),
+        otherwise: None,
     }
 }
 

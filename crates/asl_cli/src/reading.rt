@@ -1,5 +1,5 @@
 // What a command reads: the files that its words name.
-ghost use Rattle.std.specs.Prelude.{◌≡◌, List, ℕ, None, option_map, string_bytes, IfOk, IfErr};
+ghost use Rattle.std.specs.Prelude.{◌≡◌, ◌∷◌, List, [], ℕ, None, option_map, string_bytes, IfOk, IfErr};
 ghost use Rattle.asl_run_input.specs.Views.{texts_of};
 ghost use Rattle.asl_mock.specs.Chosen.{IsChosen};
 ghost use Rattle.asl_host.specs.declared.files.Unreadable.{Unreadable};
@@ -17,7 +17,7 @@ use std::alloc::{AllocError, Global};
 pub(crate) fn read_file<'a, F: Files>(
     alloc: Global,
     files: &mut F,
-    name: &'a str,
+    name: &str,
 ) -> Result<Vec<u8>, CommandFault<'a>>
     ensures given { IfOk result (λ r. F.gives files.old name.now r.items) }
     ensures kept { (n b : List ℕ) → F.gives files.new n b → F.gives files.old n b }
@@ -27,7 +27,10 @@ pub(crate) fn read_file<'a, F: Files>(
 {
     match files.read(alloc, name) {
         Ok(bytes) => Ok(bytes),
-        Err(ReadFault::Unreadable(why)) => Err(CommandFault::File(name, why)),
+        Err(ReadFault::Unreadable(why)) => match String::from_str(alloc, name) {
+            Ok(name) => Err(CommandFault::File(name, why)),
+            Err(AllocError) => Err(CommandFault::OutOfMemory),
+        },
         Err(ReadFault::OutOfMemory) => Err(CommandFault::OutOfMemory),
     }
 }
@@ -36,7 +39,7 @@ pub(crate) fn read_file<'a, F: Files>(
 pub(crate) fn read_named<'a, F: Files>(
     alloc: Global,
     files: &mut F,
-    name: Option<&'a str>,
+    name: Option<&str>,
 ) -> Result<Option<Vec<u8>>, CommandFault<'a>>
     ensures given { IfOk result (λ o. IsGiven (F.gives files.old) (option_map (λ n. n.now) name.entry)
         (option_map (λ b. b.items) o)) }
@@ -61,6 +64,19 @@ pub(crate) struct SetupTexts {
 }
 
 impl SetupTexts {
+    /// What is chosen of the mock file.
+    pub(crate) fn into_chosen(self) -> String
+        ensures { string_bytes result ≡ string_bytes self.chosen }
+    {
+        let SetupTexts {
+            definition: _definition,
+            mocks: _mocks,
+            chosen,
+            input: _input,
+        } = self;
+        chosen
+    }
+
     /// The texts of a run with this file of steps, where there is one.
     pub(crate) fn of_run<'a>(&'a self, steps: Option<&'a [u8]>) -> RunTexts<'a>
         ensures { texts_of result ≡ read_texts self.now (option_map (λ b. b.now) steps.entry) }
@@ -90,15 +106,14 @@ fn choose<'a>(alloc: Global, mocks: &[u8], word: &str) -> Result<String, Command
 pub(crate) fn read_texts<'a, F: Files>(
     alloc: Global,
     files: &mut F,
-    words: &SetupWords<'a>,
+    words: &SetupWords<'_>,
 ) -> Result<SetupTexts, CommandFault<'a>>
-    ensures given { IfOk result (λ t. AreGiven (F.gives files.old) words.now None
-        (read_texts t None)) }
+    ensures given { IfOk result (λ t. AreGiven (F.gives files.old) words.now (read_texts t None)) }
     ensures kept { (n b : List ℕ) → F.gives files.new n b → F.gives files.old n b }
     ensures lacking { (n : List ℕ) (u : Unreadable) → F.lacks files.new n u
         → F.lacks files.old n u }
     ensures unread { IfErr result
-        (AreUnread (F.gives files.old) (F.lacks files.old) (names_in words.now None)) }
+        (AreUnread (F.gives files.old) (F.lacks files.old) (names_in words.now)) }
 {
     let definition = read_file(alloc, files, words.definition)?;
     let mocks = read_file(alloc, files, words.mocks)?;
@@ -109,5 +124,39 @@ pub(crate) fn read_texts<'a, F: Files>(
         mocks,
         chosen,
         input,
+    })
+}
+
+/// The texts of a suite.
+#[derive(Drop)]
+pub(crate) struct SuiteTexts {
+    pub(crate) definition: Vec<u8>,
+    pub(crate) mocks: Vec<u8>,
+    pub(crate) expectations: Vec<u8>,
+}
+
+/// Reads the files of a suite, in this order.
+pub(crate) fn read_suite<'a, F: Files>(
+    alloc: Global,
+    files: &mut F,
+    definition: &str,
+    mocks: &str,
+    expectations: &str,
+) -> Result<SuiteTexts, CommandFault<'a>>
+    ensures given { IfOk result (λ t. F.gives files.old definition.now t.definition.items
+        × F.gives files.old mocks.now t.mocks.items × F.gives files.old expectations.now t.expectations.items) }
+    ensures kept { (n b : List ℕ) → F.gives files.new n b → F.gives files.old n b }
+    ensures lacking { (n : List ℕ) (u : Unreadable) → F.lacks files.new n u
+        → F.lacks files.old n u }
+    ensures unread { IfErr result (AreUnread (F.gives files.old) (F.lacks files.old)
+        (definition.now ∷ mocks.now ∷ expectations.now ∷ [])) }
+{
+    let definition = read_file(alloc, files, definition)?;
+    let mocks = read_file(alloc, files, mocks)?;
+    let expectations = read_file(alloc, files, expectations)?;
+    Ok(SuiteTexts {
+        definition,
+        mocks,
+        expectations,
     })
 }

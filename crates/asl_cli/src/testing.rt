@@ -7,31 +7,31 @@ ghost use Rattle.asl_suite_file.specs.Told.{IsExpectationsFile};
 ghost use Rattle.asl_suite.specs.Cases.{reports_of};
 ghost use Rattle.asl_suite.specs.Findings.{reports_in};
 ghost use Rattle.asl_suite.specs.Reports.{is_passed};
-ghost use Rattle.asl_host.specs.Outcomes.{status_of, sink_use, IsTold, IsPrinted};
-ghost use Rattle.asl_cli.specs.Streams.{file_system, output_use, Writes, io};
+ghost use Rattle.asl_host.specs.Outcomes.{sink_use};
+ghost use Rattle.asl_cli.specs.Streams.{file_system, output_use, io};
 ghost use Rattle.asl_cli.specs.Choosing.{list_text, meant};
-ghost use Rattle.asl_host.specs.declared.files.Unreadable.{Unreadable};
 ghost use Rattle.asl_cli.specs.Inputs.{AreTestsOn, IsFirstLost, Unless};
-ghost use Rattle.asl_cli.specs.Faults.{AreUnread};
-ghost use Rattle.asl_cli.specs.Suites.{AreSuiteTexts, suite_names, AreDraftsOf, IsSpelled, IsListOf, IsListReason, IsUndone, IsListing, IsShown, IsSuiteOf, AreRemarks, IsGood, IsCovered, chosen, IsDefinitionTextReason, IsMocksTextReason, IsTestsTextReason, IsSuiteTextReason, IsSuiteReason, IsReportText, AreFileTexts, judged, IsReport, IsReported, kept_file, kept_files, IsUnkept, IsFirstUnkept, IsLeft, IsTested};
+ghost use Rattle.asl_cli.specs.Faults.{IsTestsTextReason};
+ghost use Rattle.asl_cli.specs.Suites.{AreDraftsOf, IsSpelled, IsListOf, IsListReason, IsUndone, IsListing, IsShown, IsSuiteOf, AreRemarks, IsGood, IsCovered, chosen, IsDefinitionTextReason, IsMocksTextReason, IsSuiteTextReason, IsSuiteReason, IsReportText, AreFileTexts, judged, IsReport, IsReported, junit_part, leaving, leaving_of, IsTested};
 
 use crate::choosing::{keep_meant, list_of, numbers_of};
 use crate::command::{FAILED, GOOD, REFUSED};
-use crate::covering::{coverage_of, coverage_told};
+use crate::covering::{coverage_of, coverage_shown};
 use crate::failing::failures;
 use crate::fault::CommandFault;
 use crate::inputs::with_inputs;
-use crate::mending::{of_definition, of_expectations, of_mocks};
+use crate::leaving::{Left, leave};
 use crate::misnaming::misnamed;
-use crate::reading::read_file;
+use crate::reading::{SuiteTexts, read_suite};
 use asl_check::{Fault, accept};
 use asl_def::Machine;
 use asl_history::Sink;
-use asl_host::{Files, Outputs, write_piece};
+use asl_host::{Files, Outputs};
+use asl_lint_files::{of_definition, of_expectations, of_mocks};
 use asl_mock::{MockFault, Mocks};
 use asl_run_input::EmulateFault;
 use asl_suite::{
-    CaseReport, Finding, Source, Suite, all_passed, findings, json, junit, notes,
+    CaseReport, Finding, Source, Suite, all_passed, findings, json, junit, junit_suite, notes,
     remarks as remarks_of, report, strictly,
 };
 use asl_suite_file::{Drafts, ExpectFault};
@@ -49,11 +49,11 @@ const MOST_WORKERS: usize = 64;
 /// that aren't `ok` and of what they cover, and whether all is good: all tests are `ok`, and they cover as much as they are to.
 #[derive(Drop)]
 pub(crate) struct Reported {
-    text: String,
-    junit: String,
-    json: String,
-    remarks: String,
-    good: bool,
+    pub(crate) text: String,
+    pub(crate) junit: String,
+    pub(crate) json: String,
+    pub(crate) remarks: String,
+    pub(crate) good: bool,
 }
 
 /// The command `test`: runs the tests of a suite, prints a report of each, writes the reports to files that are named for them, and tells of
@@ -75,7 +75,10 @@ pub fn test<R: Threads + Wait + Sync, G: Gate + Sync, F: Files, K: Outputs, O: S
         (sink_use E.taken E.failures err.old err.new) result) quiet words.now }
 {
     match report_files(rt, gate, alloc, words, quiet, files) {
-        Ok(reported) => leave(alloc, words, quiet, &reported, outputs, out, err),
+        Ok(reported) => {
+            let left = left_of(&*words, &reported);
+            leave(alloc, quiet, &left, outputs, out, err)
+        }
         Err(refusal) => {
             refusal.write(alloc, quiet, err);
             REFUSED
@@ -83,84 +86,20 @@ pub fn test<R: Threads + Wait + Sync, G: Gate + Sync, F: Files, K: Outputs, O: S
     }
 }
 
-/// Writes, prints and tells what is to be; the status says whether all is good.
-fn leave<K: Outputs, O: Sink, E: Sink>(
-    alloc: Global,
-    words: &TestWords<'_>,
-    quiet: bool,
-    reported: &Reported,
-    outputs: &mut K,
-    out: &mut O,
-    err: &mut E,
-) -> u8
-    ensures { IsLeft (output_use K.written outputs.old outputs.new)
-        (io (sink_use O.taken O.failures out.old out.new)
-        (sink_use E.taken E.failures err.old err.new) result) quiet words.now
-        (string_bytes reported.now.text) (string_bytes reported.now.remarks) reported.now.good
-        (string_bytes reported.now.junit) (string_bytes reported.now.json) }
+/// What the test of these words leaves.
+fn left_of<'a>(words: &TestWords<'a>, reported: &'a Reported) -> Left<'a>
+    ensures { leaving_of result ≡ leaving words.now (string_bytes reported.now.text) (string_bytes reported.now.remarks)
+        reported.now.good (string_bytes reported.now.junit) (string_bytes reported.now.json) }
 {
-    let kept = keep(words, reported, outputs);
-    let status = show_reports(reported, out, err);
-    match kept {
-        Ok(()) => status,
-        Err(refusal) => {
-            refusal.write(alloc, quiet, err);
-            REFUSED
-        }
-    }
-}
-
-/// Writes the reports to the files that the words name. The error is the first of these that can't be written.
-fn keep<'a, K: Outputs>(
-    words: &TestWords<'a>,
-    reported: &Reported,
-    outputs: &mut K,
-) -> Result<(), CommandFault<'a>>
-    ensures ok { OnOk result (Writes (output_use K.written outputs.old outputs.new)
-        (kept_files words.now (string_bytes reported.now.junit) (string_bytes reported.now.json))) }
-    ensures err { IfErr result (IsFirstUnkept (output_use K.written outputs.old outputs.new) words.now
-        (string_bytes reported.now.junit)) }
-{
-    if words.list {
-        return Ok(());
-    }
-    keep_file(words.junit, reported.junit.as_str(), outputs)?;
-    keep_file(words.json, reported.json.as_str(), outputs)
-}
-
-/// Writes a text to a file, where one is named.
-fn keep_file<'a, K: Outputs>(
-    name: Option<&'a str>,
-    text: &str,
-    outputs: &mut K,
-) -> Result<(), CommandFault<'a>>
-    ensures ok { OnOk result (Writes (output_use K.written outputs.old outputs.new)
-        (kept_file name.entry text.now)) }
-    ensures err { IfErr result (IsUnkept name.entry) }
-    ensures kept { OnErr result (K.written outputs.new ≡ K.written outputs.old) }
-{
-    let Some(name) = name else {
-        return Ok(());
-    };
-    match outputs.write(name, text) {
-        Ok(()) => Ok(()),
-        Err(why) => Err(CommandFault::Output(name, why)),
-    }
-}
-
-/// Prints the reports, and tells what is wrong; the status says whether all tests are `ok`.
-pub(crate) fn show_reports<O: Sink, E: Sink>(reported: &Reported, out: &mut O, err: &mut E) -> u8
-    ensures printed { IsPrinted (sink_use O.taken O.failures out.old out.new) (string_bytes reported.now.text)
-        (status_of reported.now.good) result }
-    ensures told { IsTold (sink_use E.taken E.failures err.old err.new) (string_bytes reported.now.remarks) }
-{
-    let printed = write_piece(out, reported.text.as_str());
-    // A sink that fails has no other way to tell it: the status is the same.
-    let _ = write_piece(err, reported.remarks.as_str());
-    match printed {
-        Ok(()) if reported.good => GOOD,
-        Ok(()) => FAILED,
-        Err(_) => REFUSED,
+    Left {
+        text: reported.text.as_str(),
+        remarks: reported.remarks.as_str(),
+        status: if reported.good { GOOD } else { FAILED },
+        list: words.list,
+        junit_file: words.junit,
+        junit: reported.junit.as_str(),
+        json_file: words.json,
+        json: reported.json.as_str(),
     }
 }
 
@@ -196,7 +135,13 @@ fn list_files<'a, F: Files>(
     ensures refused { IfErr result
         (IsListReason (F.gives files.old) (F.lacks files.old) words.now) }
 {
-    let texts = read_suite_texts(alloc, files, words)?;
+    let texts = read_suite(
+        alloc,
+        files,
+        words.definition,
+        words.mocks,
+        words.expectations,
+    )?;
     let text = list_in(alloc, words, &texts)?;
     Ok(Reported {
         text,
@@ -252,13 +197,19 @@ fn run_files<'a, R: Threads + Wait + Sync, G: Gate + Sync, F: Files>(
     ensures refused { IfErr result
         (IsSuiteReason (F.gives files.old) (F.lacks files.old) words.now) }
 {
-    let texts = read_suite_texts(alloc, files, words)?;
+    let texts = read_suite(
+        alloc,
+        files,
+        words.definition,
+        words.mocks,
+        words.expectations,
+    )?;
     let spelled = spelled_of(alloc, words, &texts)?;
     let suite = suite_of(alloc, words, files, spelled)?;
     let Ok(reported) = reported_of(rt, gate, alloc, words, quiet, &texts, &suite) else {
         return Err(CommandFault::OutOfMemory);
     };
-    match covered(alloc, words.coverage, reported, &suite, &texts) {
+    match covered(alloc, words, reported, &suite, &texts) {
         Ok(reported) => Ok(reported),
         Err(_) => Err(CommandFault::OutOfMemory),
     }
@@ -268,21 +219,22 @@ fn run_files<'a, R: Threads + Wait + Sync, G: Gate + Sync, F: Files>(
 /// texts spell the suite. The error is that memory ran out.
 fn covered(
     alloc: Global,
-    least: Option<u32>,
+    words: &TestWords<'_>,
     reported: Reported,
     suite: &Suite,
     texts: &SuiteTexts,
 ) -> Result<Reported, AllocError>
     ensures text { IfOk result (λ r. string_bytes r.text ≡ string_bytes reported.text) }
-    ensures good { IfOk result (λ r. IsGood texts.now.mocks.items suite.now least
-        (string_bytes reported.remarks) reported.good r.good (string_bytes r.remarks)) }
+    ensures good { IfOk result (λ r. IsGood words.now texts.now.definition.items texts.now.mocks.items
+        suite.now words.now.coverage (string_bytes reported.remarks) reported.good r.good
+        (string_bytes r.remarks)) }
     ensures files { IfOk result (λ r. (string_bytes r.junit ≡ string_bytes reported.junit)
         × (string_bytes r.json ≡ string_bytes reported.json)) }
 {
-    match least {
+    match words.coverage {
         Some(least) => {
-            let mocks = texts.mocks.as_slice();
-            with_coverage(alloc, least, reported, suite, mocks)
+            let (definition, mocks) = (texts.definition.as_slice(), texts.mocks.as_slice());
+            with_coverage(alloc, words, least, reported, suite, definition, mocks)
         }
         None => Ok(reported),
     }
@@ -291,19 +243,22 @@ fn covered(
 /// The same where a least percent is given.
 fn with_coverage(
     alloc: Global,
+    words: &TestWords<'_>,
     least: u32,
     reported: Reported,
     suite: &Suite,
+    definition: &[u8],
     mocks: &[u8],
 ) -> Result<Reported, AllocError>
     ensures text { IfOk result (λ r. string_bytes r.text ≡ string_bytes reported.text) }
-    ensures good { IfOk result (λ r. IsCovered mocks.now suite.now least (string_bytes reported.remarks)
-        reported.good r.good (string_bytes r.remarks)) }
+    ensures good { IfOk result (λ r. IsCovered words.now definition.now mocks.now suite.now least
+        (string_bytes reported.remarks) reported.good r.good (string_bytes r.remarks)) }
     ensures files { IfOk result (λ r. (string_bytes r.junit ≡ string_bytes reported.junit)
         × (string_bytes r.json ≡ string_bytes reported.json)) }
 {
     let coverage = coverage_of(alloc, suite, mocks)?;
     let percent = coverage.percent();
+    let shown = coverage_shown(alloc, words, &coverage, least, definition, mocks)?;
     let Reported {
         text,
         junit,
@@ -312,7 +267,7 @@ fn with_coverage(
         good,
     } = reported;
     let mut remarks = remarks;
-    remarks.push_str(coverage_told(alloc, &coverage, least)?.as_str())?;
+    remarks.push_str(shown.as_str())?;
     Ok(Reported {
         text,
         junit,
@@ -332,7 +287,7 @@ fn reported_of<R: Threads + Wait + Sync, G: Gate + Sync>(
     texts: &SuiteTexts,
     suite: &Suite,
 ) -> Result<Reported, SuiteFault>
-    ensures report { IfOk result (λ r. IsReport words.now.format words.now.strict suite.now (string_bytes r.text) r.good) }
+    ensures report { IfOk result (λ r. IsReport words.now suite.now (string_bytes r.text) r.good) }
     ensures files { IfOk result (λ r. AreFileTexts words.now (judged words.now.strict (reports_of suite.now))
         (string_bytes r.junit) (string_bytes r.json)) }
     ensures remarks { IfOk result (λ r. AreRemarks quiet (string_bytes r.remarks)) }
@@ -367,7 +322,7 @@ fn told_of(
     suite: &Suite,
     reports: &[CaseReport],
 ) -> Result<Reported, AllocError>
-    ensures report { IfOk result (λ r. IsReportText words.now.format reports.now (string_bytes r.text)
+    ensures report { IfOk result (λ r. IsReportText words.now.among words.now.format reports.now (string_bytes r.text)
         × (r.good ≡ list_all is_passed reports.now)) }
     ensures files { IfOk result (λ r. AreFileTexts words.now reports.now (string_bytes r.junit) (string_bytes r.json)) }
     ensures remarks { IfOk result (λ r. AreRemarks quiet (string_bytes r.remarks)) }
@@ -395,7 +350,7 @@ fn reported_in(
     findings: &[Finding<'_>],
 ) -> Result<Reported, AllocError>
     requires { reports_in findings.now ≡ reports.now }
-    ensures report { IfOk result (λ r. IsReportText words.now.format reports.now (string_bytes r.text)
+    ensures report { IfOk result (λ r. IsReportText words.now.among words.now.format reports.now (string_bytes r.text)
         × (r.good ≡ list_all is_passed reports.now)) }
     ensures files { IfOk result (λ r. AreFileTexts words.now reports.now (string_bytes r.junit) (string_bytes r.json)) }
     ensures remarks { IfOk result (λ r. string_bytes r.remarks ≡ string_bytes remarks) }
@@ -451,6 +406,7 @@ fn source_of<'a>(words: &TestWords<'a>, numbers: Option<&'a [usize]>) -> Source<
     Source {
         definition: words.definition,
         mocks: words.mocks,
+        expectations: words.expectations,
         first: words.shard.first,
         apart: words.shard.apart,
         numbers,
@@ -467,7 +423,7 @@ fn text_if(
     findings: &[Finding<'_>],
 ) -> Result<String, AllocError>
     requires { reports_in findings.now ≡ reports.now }
-    ensures { IfOk result (λ t. is_some name.entry ≡ true → IsReportText format reports.now (string_bytes t)) }
+    ensures { IfOk result (λ t. is_some name.entry ≡ true → IsReportText words.now.among format reports.now (string_bytes t)) }
 {
     match name {
         Some(_) => text_of(alloc, format, words, reports, findings),
@@ -484,45 +440,27 @@ fn text_of(
     findings: &[Finding<'_>],
 ) -> Result<String, AllocError>
     requires { reports_in findings.now ≡ reports.now }
-    ensures { IfOk result (λ t. IsReportText format reports.now (string_bytes t)) }
+    ensures { IfOk result (λ t. IsReportText words.now.among format reports.now (string_bytes t)) }
 {
     match format {
         ReportFormat::Text => report(alloc, reports),
-        ReportFormat::JUnit => junit(alloc, words.expectations, findings),
+        ReportFormat::JUnit => junit_of(alloc, words, findings),
         ReportFormat::Json => json(alloc, findings),
     }
 }
 
-/// The texts of a suite.
-#[derive(Drop)]
-struct SuiteTexts {
-    definition: Vec<u8>,
-    mocks: Vec<u8>,
-    expectations: Vec<u8>,
-}
-
-/// Reads the files, in the order of the words.
-fn read_suite_texts<'a, F: Files>(
+/// The reports in JUnit's format: an element among others, or a document.
+fn junit_of(
     alloc: Global,
-    files: &mut F,
-    words: &TestWords<'a>,
-) -> Result<SuiteTexts, CommandFault<'a>>
-    ensures given { IfOk result (λ t. AreSuiteTexts (F.gives files.old) words.now
-        t.definition.items t.mocks.items t.expectations.items) }
-    ensures kept { (n b : List ℕ) → F.gives files.new n b → F.gives files.old n b }
-    ensures lacking { (n : List ℕ) (u : Unreadable) → F.lacks files.new n u
-        → F.lacks files.old n u }
-    ensures unread { IfErr result
-        (AreUnread (F.gives files.old) (F.lacks files.old) (suite_names words.now)) }
+    words: &TestWords<'_>,
+    findings: &[Finding<'_>],
+) -> Result<String, AllocError>
+    ensures { IfOk result (λ t. string_bytes t ≡ junit_part words.now.among words.now.expectations.now findings.now) }
 {
-    let definition = read_file(alloc, files, words.definition)?;
-    let mocks = read_file(alloc, files, words.mocks)?;
-    let expectations = read_file(alloc, files, words.expectations)?;
-    Ok(SuiteTexts {
-        definition,
-        mocks,
-        expectations,
-    })
+    if words.among {
+        return junit_suite(alloc, words.expectations, findings);
+    }
+    junit(alloc, words.expectations, findings)
 }
 
 /// A suite of which inputs may stand in files.
@@ -618,7 +556,12 @@ fn mocks_of<'a>(
     }
 }
 
-fn all_drafts_of<'a>(alloc: Global, file: &str, text: &[u8]) -> Result<Drafts, CommandFault<'a>>
+/// The tests of a file.
+pub(crate) fn all_drafts_of<'a>(
+    alloc: Global,
+    file: &str,
+    text: &[u8],
+) -> Result<Drafts, CommandFault<'a>>
     ensures tests { IfOk result (λ t. IsExpectationsFile text.now t.list.items) }
     ensures refused { IfErr result (IsTestsTextReason text.now) }
 {

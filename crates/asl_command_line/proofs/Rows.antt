@@ -12,7 +12,7 @@ use Rattle.asl_command_line.specs.declared.answers.Answer.{Answer}
 use Rattle.asl_command_line.specs.declared.answers.Answer.TheVariants as answer
 use Rattle.asl_arguments.specs.declared.arguments.CommandRow.{CommandRow}
 use Rattle.asl_words.specs.declared.screen.Screen.{Screen}
-use Rattle.asl_words.specs.declared.words.Asked.{Asked}
+use Rattle.asl_command_line.specs.declared.reading.Line.{Line}
 
 abbrev Texts : Type 0
 Texts = List (List ℕ)
@@ -59,10 +59,10 @@ plain_on p [] i within all = absurd (omega arith)
 plain_on p (r ∷ rows) i within all = (halves p (r ∷ rows) i within all r).1
 
 module _ (ts : Texts) (n : List ℕ) (more : Texts) (s : Screen) (whole : ts ≡ n ∷ more) where
-  pub read_on : (c : CommandRow) (r : Result Asked Answer) → Some (command_seen c) ≡ command_named n → IfOk r (IsReadBy c ts s) → IfOk r (IsReadBehind ts s)
+  pub read_on : (c : CommandRow) (r : Result Line Answer) → Some (command_seen c) ≡ command_named n → IfOk r (IsReadBy c ts s) → IfOk r (IsReadBehind ts s)
   read_on c r named by = IfOk-weaker r _ _ (λ w h. subst (λ us. IsReadBehind us s w) (sym whole) (c, sym named, subst (λ us. IsReadBy c us s w) whole h)) by
 
-  pub unread_on : (c : CommandRow) (r : Result Asked Answer) → Some (command_seen c) ≡ command_named n
+  pub unread_on : (c : CommandRow) (r : Result Line Answer) → Some (command_seen c) ≡ command_named n
       → IfErr r (λ a. (a ≡ answer.OutOfMemory) ⊎ DoesNotRead c ts s) → IfErr r (λ a. (a ≡ answer.OutOfMemory) ⊎ IsUnreadBehind ts s)
   unread_on c r named by = IfErr-weaker r _ _ (λ a h. elim h [
     | inl memory ↦ inl memory
@@ -72,10 +72,10 @@ module _ (ts : Texts) (n : List ℕ) (more : Texts) (s : Screen) (whole : ts ≡
   pub unnamed : None ≡ command_named n → IsUnreadBehind ts s
   unnamed none = subst (λ us. IsUnreadBehind us s) (sym whole) (inl (sym none))
 
-  pub read_top : (r : Result Asked Answer) → IfOk r (IsReadBehind more s) → IfOk r (IsRead ts s)
+  pub read_top : (r : Result Line Answer) → IfOk r (IsReadBehind more s) → IfOk r (IsRead ts s)
   read_top r by = IfOk-weaker r _ _ (λ w h. subst (λ us. IsRead us s w) (sym whole) h) by
 
-  pub unread_top : (r : Result Asked Answer) → IfErr r (λ a. (a ≡ answer.OutOfMemory) ⊎ IsUnreadBehind more s) → IfErr r (λ a. (a ≡ answer.OutOfMemory) ⊎ IsUnread ts s)
+  pub unread_top : (r : Result Line Answer) → IfErr r (λ a. (a ≡ answer.OutOfMemory) ⊎ IsUnreadBehind more s) → IfErr r (λ a. (a ≡ answer.OutOfMemory) ⊎ IsUnread ts s)
   unread_top r by = IfErr-weaker r _ _ (λ a h. elim h [
     | inl memory ↦ inl memory
     | inr not ↦ inr (subst (λ us. IsUnread us s) (sym whole) not)

@@ -7,4 +7,4 @@ mod answers;
 mod reading;
 
 pub use answers::Answer;
-pub use reading::{malformed_word, missing_outcome, read_words};
+pub use reading::{Line, malformed_word, missing_outcome, read_words};

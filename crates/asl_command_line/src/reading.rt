@@ -1,14 +1,22 @@
 // What is read from the command line.
-ghost use Rattle.std.specs.Prelude.{◌≡◌, ◌⊎◌, true, map, option_map, IfOk, IfErr, IfSome};
+ghost use Rattle.std.specs.Prelude.{◌≡◌, ◌⊎◌, true, map, option_map, Some, None, IfOk, IfErr, IfSome};
+ghost use Rattle.asl_words.specs.Asked.{asked};
 ghost use Rattle.clap.specs.Words.{is_simple_and_free};
 ghost use Rattle.asl_arguments.specs.Grammar.{app_for, command_seen};
 ghost use Rattle.asl_command_line.specs.Read.{command_named, IsRead, IsReadBehind, IsReadBy, DoesNotRead, IsUnread, IsUnreadBehind};
 
 use crate::answers::{Answer, answer_to, help_of, refusal_of};
-use asl_arguments::{CommandRow, Ungiven, commands, given_in};
+use asl_arguments::{CommandRow, Taken, Ungiven, commands, given_in};
 use asl_words::{Asked, Misuse, Screen, asked, misuse_of};
 use std::alloc::Global;
 use std::convert::AsStr;
+
+/// What is read from a command line: what it asks for, and the files that it names one after another.
+#[derive(Drop)]
+pub struct Line<'a> {
+    pub asked: Asked<'a>,
+    pub files: Vec<&'a str>,
+}
 
 /// Reads the words, of which the first is the program's name, where answers are read on this screen. The answer tells of a wrong command
 /// line, is help that was asked for, or want of memory.
@@ -16,7 +24,7 @@ pub fn read_words<'a, S: AsStr>(
     alloc: Global,
     words: &'a [S],
     screen: Screen,
-) -> Result<Asked<'a>, Answer>
+) -> Result<Line<'a>, Answer>
     ensures ok { IfOk result (IsRead (map S.text words.entry.now) screen) }
     ensures err { IfErr result (λ a. (a ≡ Answer.OutOfMemory)
         ⊎ IsUnread (map S.text words.entry.now) screen) }
@@ -32,7 +40,7 @@ fn read_behind<'a, S: AsStr>(
     alloc: Global,
     words: &'a [S],
     screen: Screen,
-) -> Result<Asked<'a>, Answer>
+) -> Result<Line<'a>, Answer>
     ensures ok { IfOk result (IsReadBehind (map S.text words.entry.now) screen) }
     ensures err { IfErr result (λ a. (a ≡ Answer.OutOfMemory)
         ⊎ IsUnreadBehind (map S.text words.entry.now) screen) }
@@ -63,19 +71,34 @@ fn read_command<'a, S: AsStr>(
     row: &CommandRow,
     words: &'a [S],
     screen: Screen,
-) -> Result<Asked<'a>, Answer>
+) -> Result<Line<'a>, Answer>
     requires { is_simple_and_free (app_for row.now) ≡ true }
     ensures ok { IfOk result (IsReadBy row.now (map S.text words.entry.now) screen) }
     ensures err { IfErr result (λ a. (a ≡ Answer.OutOfMemory)
         ⊎ DoesNotRead row.now (map S.text words.entry.now) screen) }
 {
     match given_in(alloc, row, words) {
-        Ok(given) => match asked(row.verb, &given, screen) {
-            Some(asked) => Ok(asked),
-            None => Err(refusal_of(alloc, Some(row), misuse_of(row.verb, &given))),
-        },
+        Ok(taken) => line_by(alloc, row, taken, screen),
         Err(Ungiven::OutOfMemory) => Err(Answer::OutOfMemory),
         Err(Ungiven::Refused) => Err(answer_to(alloc, Some(row), words)),
+    }
+}
+
+/// What the words ask for that give this.
+fn line_by<'a>(
+    alloc: Global,
+    row: &CommandRow,
+    taken: Taken<'a>,
+    screen: Screen,
+) -> Result<Line<'a>, Answer>
+    ensures ok { IfOk result (λ l. (asked row.now.verb taken.entry.given screen ≡ Some l.asked)
+        × (l.files ≡ taken.entry.files)) }
+    ensures err { IfErr result (λ _. asked row.now.verb taken.entry.given screen ≡ None) }
+{
+    let Taken { given, files } = taken;
+    match asked(row.verb, &given, screen) {
+        Some(asked) => Ok(Line { asked, files }),
+        None => Err(refusal_of(alloc, Some(row), misuse_of(row.verb, &given))),
     }
 }
 

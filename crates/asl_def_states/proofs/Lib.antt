@@ -2,5 +2,5 @@ pub mod Canonical
 pub mod Ruling
 pub mod Begins
 pub mod Items
-mod Nexts
+pub mod Nexts
 pub mod Alike

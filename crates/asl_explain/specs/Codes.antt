@@ -67,6 +67,7 @@ expectation_codes =
     numbered (codes "X1") (codes "Json")
     ∷ numbered (codes "X2") (codes "Shape")
     ∷ numbered (codes "X3") (codes "OutOfMemory")
+    ∷ numbered (codes "X4") (codes "NoTest")
     ∷ []
 
 unfoldable pub project_codes : List Code
@@ -131,6 +132,7 @@ warning_codes =
     ∷ plain (codes "unanswered-task")
     ∷ plain (codes "unused-response")
     ∷ plain (codes "missing-answer")
+    ∷ plain (codes "kind")
     ∷ []
 
 unfoldable pub verdict_codes : List Code

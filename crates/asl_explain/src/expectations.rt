@@ -46,6 +46,21 @@ Told by test.
 Told by test.
 "#,
     },
+    Explanation {
+        code: "X4",
+        name: Some("NoTest"),
+        sentence: "the expectation file has no test of this number",
+        text: r#"--test SUITE#N names a file of expectations and one of its tests by its number, from 1, as
+asl test --list prints it.
+
+Wrong (the file has two tests):
+    asl run definition.json mocks.json --test expectations.json#3
+Right:
+    asl run definition.json mocks.json --test expectations.json#2
+
+Told by run, debug and explore.
+"#,
+    },
 ];
 
 /// The codes of expectation files, in order.

@@ -330,6 +330,25 @@ Right:
 Told by lint, where a mock file is named.
 "#,
     },
+    Explanation {
+        code: "kind",
+        name: None,
+        sentence: "it isn't clear what a file is",
+        text: r#"The kinds of files are told apart by what stands in them. A definition has StartAt or States, a mock
+file StateMachines or MockedResponses, and an expectation file is a list whose first test has
+machine or case; a steps file begins with a slash, a script with the word of a command. Of the first
+two files a definition and a mock file are expected where they show nothing of that. Say what a file
+is by an option, as --input FILE; a template of CloudFormation, and what the service's command line
+prints, have a definition inside: write that into a file of its own.
+
+Wrong:
+    asl lint definition.json mocks.json input.json
+Right:
+    asl lint definition.json mocks.json --input input.json
+
+Told by lint.
+"#,
+    },
 ];
 
 /// The codes of findings beside faults, in order.

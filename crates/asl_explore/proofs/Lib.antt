@@ -3,6 +3,7 @@ pub mod Bare
 pub mod Whole
 pub mod Growing
 pub mod Finding
+pub mod Known
 pub mod Expanding
 pub mod Lateness
 pub mod Ends
@@ -39,3 +40,5 @@ pub mod Told
 pub mod Sighting
 pub mod Noted
 pub mod Inside
+pub mod Behind
+pub mod Comparing

@@ -204,17 +204,20 @@ fn is_soon(orders: Orders, bound: &Option<Moment>, moment: Moment) -> bool
     }
 }
 
-/// Where the step of the branch at a place leads from a world: to an end, or to one of those that were met. The error is that memory ran
-/// out.
+/// Where the step of the branch at a place leads from a world that was met, the one of this number: to an end, or to one of those that
+/// were met. The error is that memory ran out.
 fn lead_of(
     probe: &mut Probe,
     alloc: Global,
     orders: Orders,
     met: &Met,
+    number: usize,
     world: &World,
     place: &Place,
     bound: &Option<Moment>,
 ) -> Result<Lead, AllocError>
+    requires there { number < length met.now.nodes.items }
+    requires is { (d : World) → get_or (worlds_of met.now.nodes.items) number d ≡ bare world.now }
     ensures leads { IfOk result (λ l.
         IfSome bound.now (IsLeast (setup_of probe.old) (bare world.now))
         → IsLead orders (setup_of probe.old) (worlds_of met.now.nodes.items) (bare world.now) l) }
@@ -237,7 +240,7 @@ fn lead_of(
     if !probe.world().is_running() {
         return Ok(Lead::End);
     }
-    match met.number_of(probe.world()) {
+    match met.number_of(alloc, number, place, probe.world())? {
         Some(number) => Ok(Lead::World(number)),
         None => Ok(Lead::Nowhere),
     }
@@ -270,7 +273,16 @@ fn look(
     };
     let bound = bound_in(probe, alloc, orders, world, &turns)?;
     for turn in &turns {
-        let lead = lead_of(probe, alloc, orders, met, world, &turn.place, &bound)?;
+        let lead = lead_of(
+            probe,
+            alloc,
+            orders,
+            met,
+            number,
+            world,
+            &turn.place,
+            &bound,
+        )?;
         if reaching.take_lead(number, lead)? {
             return Ok(true);
         }
@@ -343,7 +355,16 @@ fn step_on(
     };
     let bound = bound_in(probe, alloc, orders, &node.world, &turns)?;
     for turn in &turns {
-        let lead = lead_of(probe, alloc, orders, met, &node.world, &turn.place, &bound)?;
+        let lead = lead_of(
+            probe,
+            alloc,
+            orders,
+            met,
+            number,
+            &node.world,
+            &turn.place,
+            &bound,
+        )?;
         if let Lead::World(next) = lead {
             if !reaching.is_known(next) {
                 let at = StepAt {

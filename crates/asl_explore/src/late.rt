@@ -9,8 +9,9 @@ use crate::found::Found;
 use crate::met::Node;
 use crate::order::replay;
 use crate::orders::Orders;
+use crate::outcomes::Outcomes;
 use crate::search::search;
-use crate::visiting::{is_found, turns_in};
+use crate::visiting::turns_in;
 use crate::watch::Unwatched;
 use asl_exec::Probe;
 use asl_run_state::World;
@@ -47,13 +48,13 @@ pub(crate) fn any_waits(alloc: Global, nodes: &[Node]) -> Result<bool, AllocErro
 }
 
 /// The numbers, from 1, of the outcomes that aren't among others. The error is that memory ran out.
-fn others_in(alloc: Global, found: &[Found], prompt: &[Found]) -> Result<Vec<usize>, AllocError>
-    ensures others { IfOk result (λ v. All (IsNumbered (IsMissing prompt.now) found.now) v.items) }
-    ensures all { IfOk result (λ v. AreAllListed prompt.now found.now v.items) }
+fn others_in(alloc: Global, found: &[Found], prompt: &Outcomes) -> Result<Vec<usize>, AllocError>
+    ensures others { IfOk result (λ v. All (IsNumbered (IsMissing prompt.now.list.items) found.now) v.items) }
+    ensures all { IfOk result (λ v. AreAllListed prompt.now.list.items found.now v.items) }
 {
     let mut others = Vec::new(alloc);
     for index in 0..found.len() {
-        if !is_found(prompt, &found[index].outcome) {
+        if !prompt.has(alloc, &found[index].outcome)? {
             others.push(index + 1)?;
         }
     }

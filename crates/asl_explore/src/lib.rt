@@ -1,6 +1,6 @@
 //! Every order of the branches of an execution.
 //!
-//! Modules in reading order: `orders` says which orders are tried; `found` is what a search finds; `met` the worlds that it met, which are looked up by `table` and `digest`;
+//! Modules in reading order: `orders` says which orders are tried; `found` is what a search finds, and `outcomes` looks it up; `met` the worlds that it met, which are compared by the numbers of their branches;
 //! `order` takes steps at their earliest moments; `visiting` takes one step of a search; `settling` knows the Tasks whose answers change no more, and `quiet` takes steps that need no other; `search` takes all of them, and tells `watch` how
 //! far it is; `sampling` takes some whole orders where that is cut; `late` marks outcomes; `time_over` adds that of a late step; `endless` looks for orders that never end, and `lasso` tries one; `clock` looks for the clock in a definition; `states` lists its states; `calls` and `counting` say how often each is
 //! invoked; `remarks` is what is remarkable beyond the outcomes: `seeing` looks at the branches of one world, `sights` is what was seen of each state in all worlds, and `remarking` what is told of it, by the `answers` of a mock file; `telling` and `report` tell what was found; `laws` says that nothing is
@@ -11,7 +11,6 @@ mod answers;
 mod calls;
 mod clock;
 mod counting;
-mod digest;
 mod endless;
 mod found;
 mod lasso;
@@ -20,6 +19,7 @@ mod laws;
 mod met;
 mod order;
 mod orders;
+mod outcomes;
 mod quiet;
 mod remarking;
 mod remarks;
@@ -30,7 +30,6 @@ mod seeing;
 mod settling;
 mod sights;
 mod states;
-mod table;
 mod telling;
 mod time_over;
 mod visiting;
@@ -45,4 +44,4 @@ pub use remarks::{Answers, Remarks};
 pub use report::{is_good, put_explored};
 pub use search::explore;
 pub use states::Stated;
-pub use watch::Watch;
+pub use watch::{SoFar, Watch};

@@ -122,7 +122,7 @@ fn take_quietly(
     let Some(next) = probe.world().bare_copy(alloc)? else {
         return Ok(false);
     };
-    let index = met.put(next, number, at)?;
+    let index = met.put(alloc, next, number, at)?;
     Ok(number < index)
 }
 

@@ -54,7 +54,11 @@ fn put_error(
 }
 
 /// Appends a status with its output or error. The error is that memory ran out.
-fn put_ended(alloc: Global, out: &mut String, outcome: &Outcome) -> Result<(), AllocError>
+pub(crate) fn put_ended(
+    alloc: Global,
+    out: &mut String,
+    outcome: &Outcome,
+) -> Result<(), AllocError>
     ensures { OnOk result (string_bytes out.new ≡ string_bytes out.old ++ ended_text outcome.now) }
 {
     match outcome {

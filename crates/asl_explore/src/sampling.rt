@@ -5,10 +5,10 @@ ghost use Rattle.asl_run_state.specs.World.{World, is_over};
 ghost use Rattle.asl_exec.specs.Probes.{setup_of};
 ghost use Rattle.asl_explore.specs.Searches.{outcomes_of, AreDistinct, IsLater, Shows};
 
-use crate::found::Found;
 use crate::order::{chance, soonest};
 use crate::orders::Orders;
-use crate::visiting::{is_found, put_found, turns_in};
+use crate::outcomes::Outcomes;
+use crate::visiting::{put_found, turns_in};
 use asl_exec::Probe;
 use asl_run_input::StepAt;
 use asl_run_state::Outcome;
@@ -132,21 +132,21 @@ fn put_end(
     probe: &mut Probe,
     alloc: Global,
     orders: Orders,
-    found: &mut Vec<Found>,
+    found: &mut Outcomes,
     steps: Vec<StepAt>,
 ) -> Result<(), AllocError>
     ensures later { (ws : List World)
-        → IsLater ws (outcomes_of found.old.items) ws (outcomes_of found.new.items) }
-    ensures shown { All (Shows orders (setup_of probe.old)) found.old.items
-        → All (Shows orders (setup_of probe.old)) found.new.items }
-    ensures once { AreDistinct (outcomes_of found.old.items)
-        → AreDistinct (outcomes_of found.new.items) }
+        → IsLater ws (outcomes_of found.old.list.items) ws (outcomes_of found.new.list.items) }
+    ensures shown { All (Shows orders (setup_of probe.old)) found.old.list.items
+        → All (Shows orders (setup_of probe.old)) found.new.list.items }
+    ensures once { AreDistinct (outcomes_of found.old.list.items)
+        → AreDistinct (outcomes_of found.new.list.items) }
     ensures setup { setup_of probe.new ≡ setup_of probe.old }
 {
     let Some(outcome) = end_in(probe, alloc)? else {
         return Ok(());
     };
-    if is_found(found, &outcome) {
+    if found.has(alloc, &outcome)? {
         return Ok(());
     }
     put_found(probe, alloc, orders, found, &outcome, steps)?;
@@ -159,15 +159,15 @@ pub(crate) fn put_samples(
     probe: &mut Probe,
     alloc: Global,
     orders: Orders,
-    found: &mut Vec<Found>,
+    found: &mut Outcomes,
     limit: u32,
 ) -> Result<(), AllocError>
     ensures later { (ws : List World)
-        → IsLater ws (outcomes_of found.old.items) ws (outcomes_of found.new.items) }
-    ensures shown { All (Shows orders (setup_of probe.old)) found.old.items
-        → All (Shows orders (setup_of probe.old)) found.new.items }
-    ensures once { AreDistinct (outcomes_of found.old.items)
-        → AreDistinct (outcomes_of found.new.items) }
+        → IsLater ws (outcomes_of found.old.list.items) ws (outcomes_of found.new.list.items) }
+    ensures shown { All (Shows orders (setup_of probe.old)) found.old.list.items
+        → All (Shows orders (setup_of probe.old)) found.new.list.items }
+    ensures once { AreDistinct (outcomes_of found.old.list.items)
+        → AreDistinct (outcomes_of found.new.list.items) }
     ensures setup { setup_of probe.new ≡ setup_of probe.old }
 {
     let mut left = limit as usize;

@@ -1,5 +1,5 @@
 // A search over the worlds that steps lead to.
-ghost use Rattle.std.specs.Prelude.{◌≡◌, ◌<◌, ◌≤◌, ◌⊎◌, ◌∷◌, [], true, false, is_none, length, get_or, slice_index_or, nat_eq, ◌+◌, is_some, None, IfOk, IfSome};
+ghost use Rattle.std.specs.Prelude.{◌≡◌, ◌<◌, ◌≤◌, ◌⊎◌, ◌∷◌, [], true, false, is_none, not, length, get_or, slice_index_or, nat_eq, ◌+◌, is_some, None, IfOk, IfSome};
 ghost use Rattle.std.specs.List.{All, Contains, HoldsAt};
 ghost use Rattle.asl_run_state.specs.Bare.{bare, earliest};
 ghost use Rattle.asl_run_state.specs.World.{World, is_over};
@@ -8,6 +8,7 @@ ghost use Rattle.asl_exec.specs.Probes.{setup_of};
 ghost use Rattle.asl_explore.specs.Finding.{IsFound};
 ghost use Rattle.asl_explore.specs.Endless.{CanEnd, EachEndsOrFills, NoneIsEndless};
 ghost use Rattle.asl_explore.specs.private.Reaching.{IsLeast};
+ghost use Rattle.asl_explore.specs.private.Searching.{IsSearch};
 ghost use Rattle.asl_explore.specs.Orders.{IsWhole, IsWholeTo};
 ghost use Rattle.asl_explore.specs.declared.orders.Orders.{Orders};
 ghost use Rattle.asl_explore.specs.declared.orders.Orders.TheVariants.{Every};
@@ -18,11 +19,12 @@ ghost use Rattle.asl_explore.specs.Searches.{IsMet, IsExpanded, IsReached, IsTak
 use crate::clock::clock_in;
 use crate::counting::{Counted, count_calls};
 use crate::endless::endless_in;
-use crate::found::{Explored, Found};
+use crate::found::Explored;
 use crate::late::{any_waits, late_among};
 use crate::met::Met;
 use crate::order::soonest;
 use crate::orders::Orders;
+use crate::outcomes::Outcomes;
 use crate::quiet::quietly;
 use crate::remarking::{no_remarks, remarks_on};
 use crate::sampling::put_samples;
@@ -31,7 +33,7 @@ use crate::sights::sights_in;
 use crate::states::states_in;
 use crate::time_over::put_time_over;
 use crate::visiting::{enter, turns_in, visit};
-use crate::watch::Watch;
+use crate::watch::{SoFar, Watch};
 use asl_exec::{Probe, deadline_of};
 use asl_history::Place;
 use asl_run_branches::Earliest;
@@ -91,7 +93,7 @@ fn take(
     alloc: Global,
     orders: Orders,
     met: &mut Met,
-    found: &mut Vec<Found>,
+    found: &mut Outcomes,
     number: usize,
     turn: &Earliest,
     bound: &Option<Moment>,
@@ -100,7 +102,7 @@ fn take(
     requires runs { (d : World)
         → is_over (slice_index_or (worlds_of met.old.nodes.items) number d).outcome ≡ false }
     ensures met { IfOk result (λ b. b ≡ true → is_beyond bound.now turn.now.moment ≡ false → (d : World)
-        → IsMet (worlds_of met.new.nodes.items) (outcomes_of found.new.items)
+        → IsMet (worlds_of met.new.nodes.items) (outcomes_of found.new.list.items)
         (step (setup_of probe.old) (slice_index_or (worlds_of met.old.nodes.items) number d)
         turn.now.place turn.now.moment)) }
     ensures reached { (o : Orders) → IfOk result (λ b.
@@ -111,12 +113,12 @@ fn take(
         → IsReached o (setup_of probe.old) (bare (step (setup_of probe.old)
         (slice_index_or (worlds_of met.old.nodes.items) number d) turn.now.place turn.now.moment)))
         → All (IsReached o (setup_of probe.old)) (worlds_of met.new.nodes.items)) }
-    ensures later { IsLater (worlds_of met.old.nodes.items) (outcomes_of found.old.items)
-        (worlds_of met.new.nodes.items) (outcomes_of found.new.items) }
-    ensures shown { All (Shows orders (setup_of probe.old)) found.old.items
-        → All (Shows orders (setup_of probe.old)) found.new.items }
-    ensures once { AreDistinct (outcomes_of found.old.items)
-        → AreDistinct (outcomes_of found.new.items) }
+    ensures later { IsLater (worlds_of met.old.nodes.items) (outcomes_of found.old.list.items)
+        (worlds_of met.new.nodes.items) (outcomes_of found.new.list.items) }
+    ensures shown { All (Shows orders (setup_of probe.old)) found.old.list.items
+        → All (Shows orders (setup_of probe.old)) found.new.list.items }
+    ensures once { AreDistinct (outcomes_of found.old.list.items)
+        → AreDistinct (outcomes_of found.new.list.items) }
     ensures setup { setup_of probe.new ≡ setup_of probe.old }
 {
     if is_beyond(bound, turn.moment) {
@@ -136,23 +138,23 @@ fn expand(
     alloc: Global,
     orders: Orders,
     met: &mut Met,
-    found: &mut Vec<Found>,
+    found: &mut Outcomes,
     number: usize,
 ) -> Result<bool, AllocError>
     requires { number < length met.old.nodes.items }
     ensures expanded { IfOk result (λ b. b ≡ true → HoldsAt
         (IsExpanded orders (setup_of probe.old) (worlds_of met.new.nodes.items)
-        (outcomes_of found.new.items))
+        (outcomes_of found.new.list.items))
         (worlds_of met.new.nodes.items) number) }
     ensures reached { IfOk result (λ b.
         All (IsReached orders (setup_of probe.old)) (worlds_of met.old.nodes.items)
         → All (IsReached orders (setup_of probe.old)) (worlds_of met.new.nodes.items)) }
-    ensures later { IsLater (worlds_of met.old.nodes.items) (outcomes_of found.old.items)
-        (worlds_of met.new.nodes.items) (outcomes_of found.new.items) }
-    ensures shown { All (Shows orders (setup_of probe.old)) found.old.items
-        → All (Shows orders (setup_of probe.old)) found.new.items }
-    ensures once { AreDistinct (outcomes_of found.old.items)
-        → AreDistinct (outcomes_of found.new.items) }
+    ensures later { IsLater (worlds_of met.old.nodes.items) (outcomes_of found.old.list.items)
+        (worlds_of met.new.nodes.items) (outcomes_of found.new.list.items) }
+    ensures shown { All (Shows orders (setup_of probe.old)) found.old.list.items
+        → All (Shows orders (setup_of probe.old)) found.new.list.items }
+    ensures once { AreDistinct (outcomes_of found.old.list.items)
+        → AreDistinct (outcomes_of found.new.list.items) }
     ensures setup { setup_of probe.new ≡ setup_of probe.old }
 {
     let Some(turns) = turns_in(alloc, &met.nodes[number].world)? else {
@@ -179,23 +181,23 @@ fn take_on(
     orders: Orders,
     settling: &Settling,
     met: &mut Met,
-    found: &mut Vec<Found>,
+    found: &mut Outcomes,
     number: usize,
 ) -> Result<bool, AllocError>
     requires there { number < length met.old.nodes.items }
     requires settled { AreSettledFrom (setup_of probe.old) settling.now.from.items }
     ensures taken { IfOk result (λ b. b ≡ true → (d : World)
         → IsTakenOn orders (setup_of probe.old) (worlds_of met.new.nodes.items)
-        (outcomes_of found.new.items) number (get_or (worlds_of met.new.nodes.items) number d)) }
+        (outcomes_of found.new.list.items) number (get_or (worlds_of met.new.nodes.items) number d)) }
     ensures reached { IfOk result (λ b.
         All (IsReached orders (setup_of probe.old)) (worlds_of met.old.nodes.items)
         → All (IsReached orders (setup_of probe.old)) (worlds_of met.new.nodes.items)) }
-    ensures later { IsLater (worlds_of met.old.nodes.items) (outcomes_of found.old.items)
-        (worlds_of met.new.nodes.items) (outcomes_of found.new.items) }
-    ensures shown { All (Shows orders (setup_of probe.old)) found.old.items
-        → All (Shows orders (setup_of probe.old)) found.new.items }
-    ensures once { AreDistinct (outcomes_of found.old.items)
-        → AreDistinct (outcomes_of found.new.items) }
+    ensures later { IsLater (worlds_of met.old.nodes.items) (outcomes_of found.old.list.items)
+        (worlds_of met.new.nodes.items) (outcomes_of found.new.list.items) }
+    ensures shown { All (Shows orders (setup_of probe.old)) found.old.list.items
+        → All (Shows orders (setup_of probe.old)) found.new.list.items }
+    ensures once { AreDistinct (outcomes_of found.old.list.items)
+        → AreDistinct (outcomes_of found.new.list.items) }
     ensures setup { setup_of probe.new ≡ setup_of probe.old }
 {
     match orders {
@@ -217,27 +219,27 @@ fn go_on(
     alone: bool,
     settling: &Settling,
     met: &mut Met,
-    found: &mut Vec<Found>,
+    found: &mut Outcomes,
     number: usize,
 ) -> Result<bool, AllocError>
     requires there { number < length met.old.nodes.items }
     requires settled { AreSettledFrom (setup_of probe.old) settling.now.from.items }
     ensures taken { IfOk result (λ b. b ≡ true → (d : World)
         → IsTakenOn orders (setup_of probe.old) (worlds_of met.new.nodes.items)
-        (outcomes_of found.new.items) number (get_or (worlds_of met.new.nodes.items) number d)) }
+        (outcomes_of found.new.list.items) number (get_or (worlds_of met.new.nodes.items) number d)) }
     ensures reached { IfOk result (λ b.
         All (IsReached orders (setup_of probe.old)) (worlds_of met.old.nodes.items)
         → All (IsReached orders (setup_of probe.old)) (worlds_of met.new.nodes.items)) }
     ensures expanded { alone ≡ false → IfOk result (λ b. b ≡ true → HoldsAt
         (IsExpanded orders (setup_of probe.old) (worlds_of met.new.nodes.items)
-        (outcomes_of found.new.items))
+        (outcomes_of found.new.list.items))
         (worlds_of met.new.nodes.items) number) }
-    ensures later { IsLater (worlds_of met.old.nodes.items) (outcomes_of found.old.items)
-        (worlds_of met.new.nodes.items) (outcomes_of found.new.items) }
-    ensures shown { All (Shows orders (setup_of probe.old)) found.old.items
-        → All (Shows orders (setup_of probe.old)) found.new.items }
-    ensures once { AreDistinct (outcomes_of found.old.items)
-        → AreDistinct (outcomes_of found.new.items) }
+    ensures later { IsLater (worlds_of met.old.nodes.items) (outcomes_of found.old.list.items)
+        (worlds_of met.new.nodes.items) (outcomes_of found.new.list.items) }
+    ensures shown { All (Shows orders (setup_of probe.old)) found.old.list.items
+        → All (Shows orders (setup_of probe.old)) found.new.list.items }
+    ensures once { AreDistinct (outcomes_of found.old.list.items)
+        → AreDistinct (outcomes_of found.new.list.items) }
     ensures setup { setup_of probe.new ≡ setup_of probe.old }
 {
     if alone {
@@ -259,7 +261,8 @@ fn beginning(alloc: Global, probe: &Probe) -> Result<Option<Met>, AllocError>
         moment: world.last(),
     };
     let states = probe.setup().machine.len();
-    Ok(Some(Met::new(alloc, states, world, at)?))
+    let deadline = deadline_of(probe.setup());
+    Ok(Some(Met::new(alloc, states, deadline, world, at)?))
 }
 
 /// What a search came to.
@@ -270,7 +273,7 @@ pub(crate) struct Searched {
     /// Whether quiet steps may have been taken alone.
     pub(crate) reduced: bool,
     pub(crate) met: Met,
-    pub(crate) found: Vec<Found>,
+    pub(crate) found: Outcomes,
     /// Whether each world that was met was tried.
     pub(crate) complete: bool,
     /// Whether each world that was tried was tried wholly.
@@ -325,37 +328,16 @@ pub(crate) fn search<W: Watch>(
     limit: u32,
     watch: &W,
 ) -> Result<Option<Searched>, AllocError>
-    ensures shown { IfOk result (λ o. IfSome o
-        (λ x. All (Shows orders (setup_of probe.old)) x.found.items)) }
-    ensures once { IfOk result (λ o. IfSome o (λ x. AreDistinct (outcomes_of x.found.items))) }
-    ensures reached { IfOk result (λ o. IfSome o
-        (λ x. All (IsReached orders (setup_of probe.old)) (worlds_of x.met.nodes.items))) }
-    ensures whole { IfOk result (λ o. IfSome o (λ x. x.complete ≡ true
-        → IsWhole orders (setup_of probe.old) (outcomes_of x.found.items))) }
+    ensures search { IfOk result (λ o. IfSome o
+        (IsSearch orders alone limit (setup_of probe.old))) }
     ensures closed { IfOk result (λ o. IfSome o (λ x. x.complete ≡ true
         → IsClosed orders (setup_of probe.old) (worlds_of x.met.nodes.items)
-        (outcomes_of x.found.items))) }
-    ensures expanded { alone ≡ false → IfOk result (λ o. IfSome o (λ x. x.complete ≡ true
-        → AllAreExpanded orders (setup_of probe.old) (worlds_of x.met.nodes.items)
-        (outcomes_of x.found.items))) }
-    ensures plain { alone ≡ false → IfOk result (λ o. IfSome o (λ x. x.reduced ≡ false)) }
+        (outcomes_of x.found.list.items))) }
     ensures reduced { IfOk result (λ o. IfSome o (λ x. x.reduced ≡ false
         → (alone ≡ false) ⊎ (orders ≡ Every))) }
-    ensures ending { IfOk result (λ o. IfSome o (λ x. x.reduced ≡ false → x.complete ≡ true
-        → All (CanEnd x.tried (setup_of probe.old)) (worlds_of x.met.nodes.items)
-        → NoneIsEndless orders (setup_of probe.old))) }
-    ensures filling { IfOk result (λ o. IfSome o (λ x. x.complete ≡ true
-        → All (CanEnd x.tried (setup_of probe.old)) (worlds_of x.met.nodes.items)
-        → EachEndsOrFills orders (setup_of probe.old))) }
-    ensures depth { IfOk result (λ o. IfSome o (λ x. IfSome x.depth
-        (λ d. (orders ≡ Every)
-        × IsWholeTo d orders (setup_of probe.old) (outcomes_of x.found.items)))) }
-    ensures cut { IfOk result (λ o. IfSome o (λ x. x.complete ≡ false → x.whole ≡ true
-        → limit ≤ length x.met.nodes.items)) }
-    ensures tried { IfOk result (λ o. IfSome o (λ x. (x.tried ≡ orders) ⊎ (orders ≡ Every))) }
     ensures setup { setup_of probe.new ≡ setup_of probe.old }
 {
-    let mut found = Vec::new(alloc);
+    let mut found = Outcomes::none(alloc);
     let Some(mut met) = beginning(alloc, probe)? else {
         return Ok(None);
     };
@@ -371,7 +353,11 @@ pub(crate) fn search<W: Watch>(
         whole = whole && is_enough;
         number += 1;
         level = level_after(level, number, met.nodes.len());
-        watch.tried(number);
+        watch.tried(SoFar {
+            worlds: number,
+            waiting: met.nodes.len().saturating_sub(number),
+            outcomes: found.list.len(),
+        });
     }
     let complete = is_complete(whole, number, met.nodes.len());
     Ok(Some(Searched {
@@ -405,25 +391,8 @@ fn try_orders<W: Watch>(
     limit: u32,
     watch: &W,
 ) -> Result<Option<Searched>, AllocError>
-    ensures shown { IfOk result (λ o. IfSome o
-        (λ x. All (Shows orders (setup_of probe.old)) x.found.items)) }
-    ensures once { IfOk result (λ o. IfSome o (λ x. AreDistinct (outcomes_of x.found.items))) }
-    ensures reached { IfOk result (λ o. IfSome o
-        (λ x. All (IsReached orders (setup_of probe.old)) (worlds_of x.met.nodes.items))) }
-    ensures whole { IfOk result (λ o. IfSome o (λ x. x.complete ≡ true
-        → IsWhole orders (setup_of probe.old) (outcomes_of x.found.items))) }
-    ensures ending { IfOk result (λ o. IfSome o (λ x. x.reduced ≡ false → x.complete ≡ true
-        → All (CanEnd x.tried (setup_of probe.old)) (worlds_of x.met.nodes.items)
-        → NoneIsEndless orders (setup_of probe.old))) }
-    ensures filling { IfOk result (λ o. IfSome o (λ x. x.complete ≡ true
-        → All (CanEnd x.tried (setup_of probe.old)) (worlds_of x.met.nodes.items)
-        → EachEndsOrFills orders (setup_of probe.old))) }
-    ensures depth { IfOk result (λ o. IfSome o (λ x. IfSome x.depth
-        (λ d. (orders ≡ Every)
-        × IsWholeTo d orders (setup_of probe.old) (outcomes_of x.found.items)))) }
-    ensures cut { IfOk result (λ o. IfSome o (λ x. x.complete ≡ false → x.whole ≡ true
-        → limit ≤ length x.met.nodes.items)) }
-    ensures tried { IfOk result (λ o. IfSome o (λ x. (x.tried ≡ orders) ⊎ (orders ≡ Every))) }
+    ensures search { IfOk result (λ o. IfSome o
+        (IsSearch orders true limit (setup_of probe.old))) }
     ensures setup { setup_of probe.new ≡ setup_of probe.old }
 {
     if !is_unlimited(probe, orders) {
@@ -447,29 +416,8 @@ fn search_alone<W: Watch>(
     limit: u32,
     watch: &W,
 ) -> Result<Option<Searched>, AllocError>
-    ensures shown { IfOk result (λ o. IfSome o
-        (λ x. All (Shows orders (setup_of probe.old)) x.found.items)) }
-    ensures once { IfOk result (λ o. IfSome o (λ x. AreDistinct (outcomes_of x.found.items))) }
-    ensures reached { IfOk result (λ o. IfSome o
-        (λ x. All (IsReached orders (setup_of probe.old)) (worlds_of x.met.nodes.items))) }
-    ensures whole { IfOk result (λ o. IfSome o (λ x. x.complete ≡ true
-        → IsWhole orders (setup_of probe.old) (outcomes_of x.found.items))) }
-    ensures expanded { calls ≡ true → IfOk result (λ o. IfSome o (λ x. x.complete ≡ true
-        → AllAreExpanded orders (setup_of probe.old) (worlds_of x.met.nodes.items)
-        (outcomes_of x.found.items))) }
-    ensures plain { calls ≡ true → IfOk result (λ o. IfSome o (λ x. x.reduced ≡ false)) }
-    ensures ending { IfOk result (λ o. IfSome o (λ x. x.reduced ≡ false → x.complete ≡ true
-        → All (CanEnd x.tried (setup_of probe.old)) (worlds_of x.met.nodes.items)
-        → NoneIsEndless orders (setup_of probe.old))) }
-    ensures filling { IfOk result (λ o. IfSome o (λ x. x.complete ≡ true
-        → All (CanEnd x.tried (setup_of probe.old)) (worlds_of x.met.nodes.items)
-        → EachEndsOrFills orders (setup_of probe.old))) }
-    ensures depth { IfOk result (λ o. IfSome o (λ x. IfSome x.depth
-        (λ d. (orders ≡ Every)
-        × IsWholeTo d orders (setup_of probe.old) (outcomes_of x.found.items)))) }
-    ensures cut { IfOk result (λ o. IfSome o (λ x. x.complete ≡ false → x.whole ≡ true
-        → limit ≤ length x.met.nodes.items)) }
-    ensures tried { IfOk result (λ o. IfSome o (λ x. (x.tried ≡ orders) ⊎ (orders ≡ Every))) }
+    ensures search { IfOk result (λ o. IfSome o
+        (IsSearch orders (not calls) limit (setup_of probe.old))) }
     ensures setup { setup_of probe.new ≡ setup_of probe.old }
 {
     if calls {
@@ -487,29 +435,8 @@ fn search_for<W: Watch>(
     limit: u32,
     watch: &W,
 ) -> Result<Option<Searched>, AllocError>
-    ensures shown { IfOk result (λ o. IfSome o
-        (λ x. All (Shows orders (setup_of probe.old)) x.found.items)) }
-    ensures once { IfOk result (λ o. IfSome o (λ x. AreDistinct (outcomes_of x.found.items))) }
-    ensures reached { IfOk result (λ o. IfSome o
-        (λ x. All (IsReached orders (setup_of probe.old)) (worlds_of x.met.nodes.items))) }
-    ensures whole { IfOk result (λ o. IfSome o (λ x. x.complete ≡ true
-        → IsWhole orders (setup_of probe.old) (outcomes_of x.found.items))) }
-    ensures expanded { calls ≡ true → IfOk result (λ o. IfSome o (λ x. x.complete ≡ true
-        → AllAreExpanded orders (setup_of probe.old) (worlds_of x.met.nodes.items)
-        (outcomes_of x.found.items))) }
-    ensures plain { calls ≡ true → IfOk result (λ o. IfSome o (λ x. x.reduced ≡ false)) }
-    ensures ending { IfOk result (λ o. IfSome o (λ x. x.reduced ≡ false → x.complete ≡ true
-        → All (CanEnd x.tried (setup_of probe.old)) (worlds_of x.met.nodes.items)
-        → NoneIsEndless orders (setup_of probe.old))) }
-    ensures filling { IfOk result (λ o. IfSome o (λ x. x.complete ≡ true
-        → All (CanEnd x.tried (setup_of probe.old)) (worlds_of x.met.nodes.items)
-        → EachEndsOrFills orders (setup_of probe.old))) }
-    ensures depth { IfOk result (λ o. IfSome o (λ x. IfSome x.depth
-        (λ d. (orders ≡ Every)
-        × IsWholeTo d orders (setup_of probe.old) (outcomes_of x.found.items)))) }
-    ensures cut { IfOk result (λ o. IfSome o (λ x. x.complete ≡ false → x.whole ≡ true
-        → limit ≤ length x.met.nodes.items)) }
-    ensures tried { IfOk result (λ o. IfSome o (λ x. (x.tried ≡ orders) ⊎ (orders ≡ Every))) }
+    ensures search { IfOk result (λ o. IfSome o
+        (IsSearch orders (not calls) limit (setup_of probe.old))) }
     ensures setup { setup_of probe.new ≡ setup_of probe.old }
 {
     let Some(mut searched) = search_alone(probe, alloc, orders, calls, limit, watch)? else {
@@ -533,12 +460,12 @@ fn calls_in(
 ) -> Result<Counted, AllocError>
     ensures counted { IfOk result (λ c. wanted ≡ true → c.whole ≡ true
         → AllAreExpanded orders (setup_of probe.old) (worlds_of searched.now.met.nodes.items)
-        (outcomes_of searched.now.found.items)
-        → AreCounted orders (setup_of probe.old) (outcomes_of searched.now.found.items)
+        (outcomes_of searched.now.found.list.items)
+        → AreCounted orders (setup_of probe.old) (outcomes_of searched.now.found.list.items)
         c.calls.items) }
     ensures met { IfOk result (λ c. wanted ≡ true
         → All (IsReached orders (setup_of probe.old)) (worlds_of searched.now.met.nodes.items)
-        → AreMetSoFar orders (setup_of probe.old) (outcomes_of searched.now.found.items)
+        → AreMetSoFar orders (setup_of probe.old) (outcomes_of searched.now.found.list.items)
         c.calls.items) }
     ensures setup { setup_of probe.new ≡ setup_of probe.old }
 {
@@ -554,7 +481,7 @@ fn calls_in(
         alloc,
         orders,
         &searched.met.nodes,
-        &searched.found,
+        &searched.found.list,
         states,
     )
 }
@@ -618,9 +545,9 @@ pub fn explore<W: Watch>(
         &sights.sights,
         complete,
     )?;
-    let late = late_among(&mut probe, alloc, &found, limit)?;
+    let late = late_among(&mut probe, alloc, &found.list, limit)?;
     Ok(Explored {
-        found,
+        found: found.list,
         late: late.numbers,
         marked: late.marked,
         endless: endless.endless,

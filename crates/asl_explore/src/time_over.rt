@@ -11,7 +11,7 @@ ghost use Rattle.asl_explore.specs.TimeOver.{IsWitnessed, RunsOut};
 
 use crate::found::Found;
 use crate::orders::Orders;
-use crate::visiting::is_found;
+use crate::outcomes::Outcomes;
 use asl_exec::{Probe, deadline_of};
 use asl_history::Place;
 use asl_run_input::{Setup, StepAt};
@@ -78,28 +78,28 @@ pub(crate) fn put_time_over(
     probe: &mut Probe,
     alloc: Global,
     orders: Orders,
-    found: &mut Vec<Found>,
+    found: &mut Outcomes,
 ) -> Result<bool, AllocError>
     ensures there { IfOk result (λ b. b ≡ true → orders ≡ Every
-        → IsSome (deadline_of (setup_of probe.old)) → Contains (outcomes_of found.new.items) TimedOut) }
+        → IsSome (deadline_of (setup_of probe.old)) → Contains (outcomes_of found.new.list.items) TimedOut) }
     ensures later { (ws : List World)
-        → IsLater ws (outcomes_of found.old.items) ws (outcomes_of found.new.items) }
-    ensures shown { All (Shows orders (setup_of probe.old)) found.old.items
-        → All (IsWitnessed orders (setup_of probe.old)) found.new.items }
-    ensures once { AreDistinct (outcomes_of found.old.items)
-        → AreDistinct (outcomes_of found.new.items) }
+        → IsLater ws (outcomes_of found.old.list.items) ws (outcomes_of found.new.list.items) }
+    ensures shown { All (Shows orders (setup_of probe.old)) found.old.list.items
+        → All (IsWitnessed orders (setup_of probe.old)) found.new.list.items }
+    ensures once { AreDistinct (outcomes_of found.old.list.items)
+        → AreDistinct (outcomes_of found.new.list.items) }
     ensures setup { setup_of probe.new ≡ setup_of probe.old }
 {
     let Some(deadline) = late_from(probe.setup(), orders) else {
         return Ok(true);
     };
-    if is_found(found, &Outcome::TimedOut) {
+    if found.has(alloc, &Outcome::TimedOut)? {
         return Ok(true);
     }
     let Some(late) = late_found(probe, alloc, deadline)? else {
         return Ok(false);
     };
-    found.push(late)?;
+    found.push(alloc, late)?;
     Ok(true)
 }
 

@@ -14,6 +14,7 @@ use crate::found::Found;
 use crate::met::{Met, Node};
 use crate::order::{path, replay};
 use crate::orders::Orders;
+use crate::outcomes::Outcomes;
 use asl_exec::Probe;
 use asl_history::Place;
 use asl_run_branches::Earliest;
@@ -41,20 +42,6 @@ pub(crate) fn turns_in(alloc: Global, world: &World) -> Result<Option<Vec<Earlie
     Ok(Some(turns))
 }
 
-/// Whether an outcome was found.
-pub(crate) fn is_found(found: &[Found], outcome: &Outcome) -> bool
-    ensures there { result ≡ true → Contains (outcomes_of found.now) outcome.now }
-    ensures new { result ≡ false
-        → All (λ (o : Outcome). o ≡ outcome.now → ⊥) (outcomes_of found.now) }
-{
-    for one in found {
-        if one.outcome == *outcome {
-            return true;
-        }
-    }
-    false
-}
-
 /// Goes on from a world, without its history, if this is true. The error is that memory ran out.
 pub(crate) fn enter(probe: &mut Probe, alloc: Global, world: &World) -> Result<bool, AllocError>
     ensures world { IfOk result (λ b. b ≡ true → world_of probe.new ≡ bare world.now) }
@@ -75,20 +62,20 @@ pub(crate) fn put_found(
     probe: &mut Probe,
     alloc: Global,
     orders: Orders,
-    found: &mut Vec<Found>,
+    found: &mut Outcomes,
     outcome: &Outcome,
     steps: Vec<StepAt>,
 ) -> Result<bool, AllocError>
     requires over { is_over outcome.now ≡ true }
-    requires new { All (λ (o : Outcome). o ≡ outcome.now → ⊥) (outcomes_of found.old.items) }
+    requires new { All (λ (o : Outcome). o ≡ outcome.now → ⊥) (outcomes_of found.old.list.items) }
     ensures met { IfOk result
-        (λ b. b ≡ true → Contains (outcomes_of found.new.items) outcome.now) }
+        (λ b. b ≡ true → Contains (outcomes_of found.new.list.items) outcome.now) }
     ensures later { (ws : List World)
-        → IsLater ws (outcomes_of found.old.items) ws (outcomes_of found.new.items) }
-    ensures shown { All (Shows orders (setup_of probe.old)) found.old.items
-        → All (Shows orders (setup_of probe.old)) found.new.items }
-    ensures once { AreDistinct (outcomes_of found.old.items)
-        → AreDistinct (outcomes_of found.new.items) }
+        → IsLater ws (outcomes_of found.old.list.items) ws (outcomes_of found.new.list.items) }
+    ensures shown { All (Shows orders (setup_of probe.old)) found.old.list.items
+        → All (Shows orders (setup_of probe.old)) found.new.list.items }
+    ensures once { AreDistinct (outcomes_of found.old.list.items)
+        → AreDistinct (outcomes_of found.new.list.items) }
     ensures setup { setup_of probe.new ≡ setup_of probe.old }
 {
     if !replay(probe, alloc, orders, &steps)? {
@@ -98,7 +85,7 @@ pub(crate) fn put_found(
         return Ok(false);
     }
     let outcome = outcome.try_clone(alloc)?;
-    found.push(Found { outcome, steps })?;
+    found.push(alloc, Found { outcome, steps })?;
     Ok(true)
 }
 
@@ -109,23 +96,23 @@ fn conclude(
     alloc: Global,
     orders: Orders,
     nodes: &[Node],
-    found: &mut Vec<Found>,
+    found: &mut Outcomes,
     outcome: &Outcome,
     parent: usize,
     at: StepAt,
 ) -> Result<bool, AllocError>
     requires { is_over outcome.now ≡ true }
     ensures met { IfOk result
-        (λ b. b ≡ true → Contains (outcomes_of found.new.items) outcome.now) }
+        (λ b. b ≡ true → Contains (outcomes_of found.new.list.items) outcome.now) }
     ensures later { (ws : List World)
-        → IsLater ws (outcomes_of found.old.items) ws (outcomes_of found.new.items) }
-    ensures shown { All (Shows orders (setup_of probe.old)) found.old.items
-        → All (Shows orders (setup_of probe.old)) found.new.items }
-    ensures once { AreDistinct (outcomes_of found.old.items)
-        → AreDistinct (outcomes_of found.new.items) }
+        → IsLater ws (outcomes_of found.old.list.items) ws (outcomes_of found.new.list.items) }
+    ensures shown { All (Shows orders (setup_of probe.old)) found.old.list.items
+        → All (Shows orders (setup_of probe.old)) found.new.list.items }
+    ensures once { AreDistinct (outcomes_of found.old.list.items)
+        → AreDistinct (outcomes_of found.new.list.items) }
     ensures setup { setup_of probe.new ≡ setup_of probe.old }
 {
-    if is_found(found, outcome) {
+    if found.has(alloc, outcome)? {
         return Ok(true);
     }
     let steps = path(alloc, nodes, parent, at)?;
@@ -138,7 +125,7 @@ pub(crate) fn visit(
     alloc: Global,
     orders: Orders,
     met: &mut Met,
-    found: &mut Vec<Found>,
+    found: &mut Outcomes,
     number: usize,
     at: StepAt,
 ) -> Result<bool, AllocError>
@@ -146,7 +133,7 @@ pub(crate) fn visit(
     requires runs { (d : World)
         → is_over (slice_index_or (worlds_of met.old.nodes.items) number d).outcome ≡ false }
     ensures met { IfOk result (λ b. b ≡ true → (d : World)
-        → IsMet (worlds_of met.new.nodes.items) (outcomes_of found.new.items)
+        → IsMet (worlds_of met.new.nodes.items) (outcomes_of found.new.list.items)
         (step (setup_of probe.old) (slice_index_or (worlds_of met.old.nodes.items) number d)
         at.place at.moment)) }
     ensures reached { (o : Orders) → IfOk result (λ b.
@@ -156,12 +143,12 @@ pub(crate) fn visit(
         → IsReached o (setup_of probe.old) (bare (step (setup_of probe.old)
         (slice_index_or (worlds_of met.old.nodes.items) number d) at.place at.moment)))
         → All (IsReached o (setup_of probe.old)) (worlds_of met.new.nodes.items)) }
-    ensures later { IsLater (worlds_of met.old.nodes.items) (outcomes_of found.old.items)
-        (worlds_of met.new.nodes.items) (outcomes_of found.new.items) }
-    ensures shown { All (Shows orders (setup_of probe.old)) found.old.items
-        → All (Shows orders (setup_of probe.old)) found.new.items }
-    ensures once { AreDistinct (outcomes_of found.old.items)
-        → AreDistinct (outcomes_of found.new.items) }
+    ensures later { IsLater (worlds_of met.old.nodes.items) (outcomes_of found.old.list.items)
+        (worlds_of met.new.nodes.items) (outcomes_of found.new.list.items) }
+    ensures shown { All (Shows orders (setup_of probe.old)) found.old.list.items
+        → All (Shows orders (setup_of probe.old)) found.new.list.items }
+    ensures once { AreDistinct (outcomes_of found.old.list.items)
+        → AreDistinct (outcomes_of found.new.list.items) }
     ensures setup { setup_of probe.new ≡ setup_of probe.old }
 {
     let node = &met.nodes[number];
@@ -175,7 +162,7 @@ pub(crate) fn visit(
         return Ok(false);
     };
     if next.is_running() {
-        let _index = met.put(next, number, at)?;
+        let _index = met.put(alloc, next, number, at)?;
         return Ok(true);
     }
     conclude(

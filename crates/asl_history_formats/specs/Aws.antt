@@ -68,9 +68,9 @@ resource_told r =
     codes "\"resourceType\":"
     ++ (quoted (resource_type r) ++ (codes ",\"resource\":" ++ quoted (resource_name r)))
 
--- the emulator is in no region: it tells always the same
-unfoldable pub region_told : List ℕ
-region_told = codes ",\"region\":\"us-east-1\","
+-- in which region
+unfoldable pub region_told : List ℕ → List ℕ
+region_told region = codes ",\"region\":" ++ (quoted region ++ codes ",")
 
 -- a limit of so many seconds behind what stands before
 unfoldable pub seconds_told : List ℕ → ℕ → List ℕ
@@ -85,10 +85,10 @@ limit_told k None = []
 unfoldable pub limits_told : Limits → List ℕ
 limits_told l = limit_told (codes "timeout") l.timeout ++ limit_told (codes "heartbeat") l.heartbeat
 
--- how a Task is called: of this resource, with these limits and this
-unfoldable pub scheduled_told : List ℕ → Limits → Data → List ℕ
-scheduled_told r l d =
-    resource_told r ++ (region_told ++ (parameters_told d ++ limits_told l))
+-- how a Task is called: of this resource, in this region, with these limits and this
+unfoldable pub scheduled_told : List ℕ → List ℕ → Limits → Data → List ℕ
+scheduled_told r region l d =
+    resource_told r ++ (region_told region ++ (parameters_told d ++ limits_told l))
 
 -- over the table of Tasks
 abbrev pub details_inside : TaskTable → Form → Event → List ℕ
@@ -98,7 +98,7 @@ details_inside ts Output e = said (codes "output") (data_of e.body)
 details_inside ts StateInput e = named e ++ said (codes "input") (data_of e.body)
 details_inside ts StateOutput e = named e ++ said (codes "output") (data_of e.body)
 details_inside ts Parameters e =
-    scheduled_told (ts.resource e.name) (ts.limits e.name) (data_of e.body)
+    scheduled_told (ts.resource e.name) ts.region (ts.limits e.name) (data_of e.body)
 details_inside ts Resource e = resource_told (ts.resource e.name)
 details_inside ts TaskOutput e =
     resource_told (ts.resource e.name) ++ 44 ∷ said (codes "output") (data_of e.body)

@@ -162,12 +162,15 @@ fn put_resource(alloc: Global, out: &mut String, resource: &str) -> Result<(), A
     put_resource_name(out, resource)
 }
 
-/// Appends the region, which is always the same.
+/// Appends the region in which a Task is called.
 #[tactic(auto, unfolding(crate::specs::Aws::region_told))]
-fn put_region(out: &mut String) -> Result<(), AllocError>
-    ensures { OnOk result (string_bytes out.new ≡ string_bytes out.old ++ region_told) }
+fn put_region(out: &mut String, region: &str) -> Result<(), AllocError>
+    ensures { OnOk result (string_bytes out.new
+        ≡ string_bytes out.old ++ region_told region.now) }
 {
-    out.push_str(",\"region\":\"us-east-1\",")
+    out.push_str(",\"region\":")?;
+    put_quoted(out, region)?;
+    out.push_str(",")
 }
 
 /// Appends a limit of so many seconds behind what stands before.
@@ -201,20 +204,21 @@ fn put_limits(out: &mut String, limits: Limits) -> Result<(), AllocError>
     put_limit(out, "heartbeat", limits.heartbeat)
 }
 
-/// Appends how a Task of this resource is called, with these limits.
+/// Appends how a Task of this resource is called, in this region, with these limits.
 #[tactic(auto, unfolding(crate::specs::Aws::scheduled_told))]
 fn put_scheduled(
     alloc: Global,
     out: &mut String,
     resource: &str,
+    region: &str,
     limits: Limits,
     event: &Event,
 ) -> Result<(), AllocError>
     ensures { OnOk result (string_bytes out.new ≡ string_bytes out.old
-        ++ scheduled_told resource.now limits (data_of event.now.body)) }
+        ++ scheduled_told resource.now region.now limits (data_of event.now.body)) }
 {
     put_resource(alloc, out, resource)?;
-    put_region(out)?;
+    put_region(out, region)?;
     put_parameters(alloc, out, &event.body)?;
     put_limits(out, limits)
 }
@@ -277,9 +281,14 @@ fn put_inside<T: Tasks>(
         Form::Output => put_said(alloc, out, "output", body),
         Form::StateInput => put_state_said(alloc, out, "input", event),
         Form::StateOutput => put_state_said(alloc, out, "output", event),
-        Form::Parameters => {
-            put_scheduled(alloc, out, tasks.resource(name), tasks.limits(name), event)
-        }
+        Form::Parameters => put_scheduled(
+            alloc,
+            out,
+            tasks.resource(name),
+            tasks.region(),
+            tasks.limits(name),
+            event,
+        ),
         Form::Resource => put_resource(alloc, out, tasks.resource(name)),
         Form::TaskOutput => put_task_output(alloc, out, tasks.resource(name), event),
         Form::TaskError => put_task_error(alloc, out, tasks.resource(name), event),

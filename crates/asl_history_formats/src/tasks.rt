@@ -22,4 +22,8 @@ pub trait Tasks {
     /// How long the Task of this name may take; without limits where there is none.
     fn limits(&self, name: &str) -> Limits
         ensures { result ≡ (table self.now).limits name.now };
+
+    /// The region in which Tasks are called, as `us-east-1`.
+    fn region(&self) -> &str
+        ensures { result.now ≡ (table self.now).region };
 }

@@ -8,7 +8,9 @@ use Rattle.asl_lint.specs.declared.rule.Rule.{Rule}
 use Rattle.asl_lint.specs.declared.rule.Rule.TheVariants as rule
 use Rattle.asl_lint.specs.declared.rule.MockRule.{MockRule}
 use Rattle.asl_lint.specs.declared.rule.MockRule.TheVariants as mock
-use Rattle.asl_lint.specs.Rules.{fault_sentence, warning_sentence, mock_sentence, sentence}
+use Rattle.asl_lint.specs.declared.rule.FileRule.{FileRule}
+use Rattle.asl_lint.specs.declared.rule.FileRule.TheVariants as file
+use Rattle.asl_lint.specs.Rules.{fault_sentence, warning_sentence, mock_sentence, file_sentence, sentence}
 use Rattle.asl_lint.specs.Told.{has_some}
 
 fault_says : (k : FaultKind) → has_some (fault_sentence k) ≡ true
@@ -58,12 +60,28 @@ mock_says mock.UnansweredTask = refl
 mock_says mock.UnusedResponse = refl
 mock_says mock.MissingAnswer = refl
 
+file_says : (r : FileRule) → has_some (file_sentence r) ≡ true
+unfolding file_sentence
+file_says file.Kind = refl
+file_says file.Syntax = refl
+file_says file.Duplicate = refl
+file_says file.Depth = refl
+file_says file.Number = refl
+file_says file.Size = refl
+file_says file.Utf8 = refl
+file_says file.ExpectJson = refl
+file_says file.ExpectShape = refl
+file_says file.NoCase = refl
+file_says file.StepLine = refl
+file_says file.ScriptLine = refl
+
 pub says : (r : Rule) → has_some (sentence r) ≡ true
 unfolding sentence
 says rule.Json = refl
 says (rule.Fault k) = fault_says k
 says (rule.Warning k) = warning_says k
 says (rule.Mock r) = mock_says r
+says (rule.File r) = file_says r
 
 pub says_behind : (front behind : List ℕ) → has_some behind ≡ true → has_some (front ++ behind) ≡ true
 says_behind [] behind h = h

@@ -1,12 +1,15 @@
 -- Lists of JSON, written one item after another.
-use Rattle.std.proofs.Common.{◌≡◌, ℕ, Bool, true, false, List, [], ◌∷◌, ◌++◌, refl, ap, ◌∙◌, append_assoc}
+use Rattle.std.proofs.Common.{◌≡◌, ℕ, Bool, true, false, List, [], ◌∷◌, ◌++◌, refl, sym, ap, ◌∙◌, append_assoc}
 use Rattle.std.specs.Prelude.{map}
 use Rattle.std.proofs.lemmas.List.{append-nil}
 use Rattle.asl_json_data.specs.Data.{Data, chain}
 use Rattle.asl_json_data.specs.Parts.{comma}
 use Rattle.asl_json_data.specs.Compact.{compact, compact_items, compact_more_items}
 use Rattle.asl_lint.specs.Told.{has_some}
-use Rattle.asl_lint.specs.private.Writing.{more_items}
+use Rattle.asl_lint.specs.declared.finding.Finding.{Finding}
+use Rattle.asl_lint.specs.declared.report.FileReport.{FileReport}
+use Rattle.asl_lint.specs.Sarif.{result_object, results, uri}
+use Rattle.asl_lint.specs.private.Writing.{more_items, more_results}
 
 more_then : {A : Type 0} (f : A → Data) (xs : List A) (ds : List Data) → more_items f true xs ++ compact_more_items (chain ds) ≡ compact_more_items (chain (map f xs ++ ds))
 more_then f [] ds = refl
@@ -28,10 +31,33 @@ items_of_both f g (x ∷ xs) ys =
     append_assoc (compact (f x)) (more_items f true xs) (more_items g true ys ++ 93 ∷ [])
     ∙ ap (λ (t : List ℕ). compact (f x) ++ t) (ap (λ (t : List ℕ). more_items f true xs ++ t) (more_end g ys) ∙ more_then f xs (map g ys))
 
--- results of both files
-pub both_written : {A : Type 0} (f g : A → Data) (xs ys fs hs gs : List A) (begun : Bool) → fs ≡ xs → hs ≡ xs → gs ≡ ys → begun ≡ has_some hs → (91 ∷ []) ++ (more_items f false fs ++ (more_items g begun gs ++ 93 ∷ [])) ≡ 91 ∷ compact_items (chain (map f xs ++ map g ys))
-both_written f g xs ys fs hs gs begun fs_are hs_are gs_are is_begun =
-    ap (λ (zs : List _). 91 ∷ (more_items f false zs ++ (more_items g begun gs ++ 93 ∷ []))) fs_are
-    ∙ ap (λ (x : Bool). 91 ∷ (more_items f false xs ++ (more_items g x gs ++ 93 ∷ []))) (is_begun ∙ ap has_some hs_are)
-    ∙ ap (λ (zs : List _). 91 ∷ (more_items f false xs ++ (more_items g (has_some xs) zs ++ 93 ∷ []))) gs_are
+-- two lists in brackets
+pub both_written : {A B : Type 0} (f : A → Data) (g : B → Data) (xs : List A) (ys : List B) → has_some xs ≡ true → (91 ∷ []) ++ (more_items f false xs ++ (more_items g true ys ++ 93 ∷ [])) ≡ 91 ∷ compact_items (chain (map f xs ++ map g ys))
+both_written f g xs ys begun =
+    ap (λ (b : Bool). 91 ∷ (more_items f false xs ++ (more_items g b ys ++ 93 ∷ []))) (sym begun)
     ∙ ap (λ (t : List ℕ). 91 ∷ t) (items_of_both f g xs ys)
+
+-- ---- results of several files
+
+more_files_end : (rs : List FileReport) → more_results true rs ++ 93 ∷ [] ≡ compact_more_items (chain (results rs))
+more_files_end [] = refl
+more_files_end (r ∷ rs) =
+    let f = result_object (uri r.name.now) in
+    append_assoc (more_items f true r.findings.items) (more_results true rs) (93 ∷ [])
+    ∙ ap (λ (t : List ℕ). more_items f true r.findings.items ++ t) (more_files_end rs)
+    ∙ more_then f r.findings.items (results rs)
+
+first_file : (f : Finding → Data) (fs : List Finding) (rs : List FileReport) → more_results false rs ++ 93 ∷ [] ≡ compact_items (chain (results rs))
+    → (more_items f false fs ++ more_results (has_some fs) rs) ++ 93 ∷ [] ≡ compact_items (chain (map f fs ++ results rs))
+first_file f [] rs others = others
+first_file f (x ∷ xs) rs others =
+    append_assoc (compact (f x) ++ more_items f true xs) (more_results true rs) (93 ∷ [])
+    ∙ append_assoc (compact (f x)) (more_items f true xs) (more_results true rs ++ 93 ∷ [])
+    ∙ ap (λ (t : List ℕ). compact (f x) ++ t) (ap (λ (t : List ℕ). more_items f true xs ++ t) (more_files_end rs) ∙ more_then f xs (results rs))
+
+files_end : (rs : List FileReport) → more_results false rs ++ 93 ∷ [] ≡ compact_items (chain (results rs))
+files_end [] = refl
+files_end (r ∷ rs) = first_file (result_object (uri r.name.now)) r.findings.items rs (files_end rs)
+
+pub files_written : (rs : List FileReport) → (91 ∷ []) ++ (more_results false rs ++ 93 ∷ []) ≡ 91 ∷ compact_items (chain (results rs))
+files_written rs = ap (λ (t : List ℕ). 91 ∷ t) (files_end rs)

@@ -83,6 +83,7 @@ part_of (rule.Warning warning.NoDefault) = Key
 part_of (rule.Warning warning.EndlessWait) = Key
 part_of (rule.Warning k) = Value
 part_of (rule.Mock r) = part_of_mock r
+part_of (rule.File r) = Value
 
 abbrev pub pointed_by : Part → List ℕ → List ℕ
 pointed_by Key is = is

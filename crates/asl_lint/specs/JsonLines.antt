@@ -5,7 +5,7 @@ use Rattle.std.specs.Fmt.{decimal}
 use Rattle.asl_json_data.specs.Data.{Data, number, text, dict, pairs}
 use Rattle.asl_json_data.specs.Compact.{compact}
 use Rattle.asl_lint.specs.declared.finding.Finding.{Finding}
-use Rattle.asl_lint.specs.declared.report.Report.{Report}
+use Rattle.asl_lint.specs.declared.report.FileReport.{FileReport}
 use Rattle.asl_lint.specs.Lines.{line_of, column_of}
 use Rattle.asl_lint.specs.Rules.{severity_of, word_of, rule_name}
 
@@ -34,7 +34,9 @@ finding_object file f =
 unfoldable pub json_line : List ℕ → Finding → List ℕ
 json_line file f = compact (finding_object file f) ++ 10 ∷ []
 
--- those in the definition, then those in the mock file; these are the names of the files
-abbrev pub json_lines : List ℕ → List ℕ → Report → List ℕ
-json_lines definition mocks r =
-    flat_map (json_line definition) r.definition.items ++ flat_map (json_line mocks) r.mocks.items
+abbrev pub file_json_lines : FileReport → List ℕ
+file_json_lines r = flat_map (json_line r.name.now) r.findings.items
+
+-- those of each file, in order
+abbrev pub json_lines : List FileReport → List ℕ
+json_lines rs = flat_map file_json_lines rs

@@ -4,7 +4,7 @@ use Rattle.std.specs.List.{flat_map}
 use Rattle.std.specs.Fmt.{decimal}
 use Rattle.asl_text.specs.Shown.{shown}
 use Rattle.asl_lint.specs.declared.finding.Finding.{Finding}
-use Rattle.asl_lint.specs.declared.report.Report.{Report}
+use Rattle.asl_lint.specs.declared.report.FileReport.{FileReport}
 use Rattle.asl_lint.specs.declared.rule.Severity.TheVariants as severity
 use Rattle.asl_lint.specs.Reports.{count, is_of}
 use Rattle.asl_lint.specs.Rules.{severity_of, word_of, rule_name}
@@ -54,8 +54,11 @@ total_line errors warnings =
 
 -- ---- all
 
--- the findings in the definition, then those in the mock file; these are the names of the files
-abbrev pub lines_of : List ℕ → List ℕ → Report → List ℕ
-lines_of definition mocks r =
-    flat_map (finding_line definition) r.definition.items
-    ++ (flat_map (finding_line mocks) r.mocks.items ++ total_line (count severity.Error r) (count severity.Warning r))
+-- the findings in a file
+abbrev pub file_lines : FileReport → List ℕ
+file_lines r = flat_map (finding_line r.name.now) r.findings.items
+
+-- those of each file, in order
+abbrev pub lines_of : List FileReport → List ℕ
+lines_of rs =
+    flat_map file_lines rs ++ total_line (count severity.Error rs) (count severity.Warning rs)

@@ -13,6 +13,7 @@ use Rattle.asl_lint.specs.declared.rule.Rule.{Rule}
 use Rattle.asl_lint.specs.declared.part.Part.{Part}
 use Rattle.asl_lint.specs.declared.part.Part.TheVariants.{Key, Value, End}
 use Rattle.asl_lint.specs.declared.finding.Finding.{Finding}
+use Rattle.asl_lint.specs.declared.finding.Found.{Found}
 use Rattle.asl_lint.specs.Findings.{Noted, part_of, pointed}
 
 -- at the line and the column where its stretch of the text begins
@@ -24,6 +25,10 @@ pub record IsAt (b : List ℕ) (f : Finding) : Type 0 where
 abbrev pub AreIn : Option (List ℕ) → List Finding → Type 0
 AreIn None fs = fs ≡ []
 AreIn (Some b) fs = All (IsAt b) fs
+
+-- what a finding that isn't placed yet is of, and its place
+abbrev pub noted : Found → Noted
+noted f = (f.rule, f.place.items)
 
 -- ---- the stretch of the text at which a finding points
 

@@ -11,6 +11,8 @@ use Rattle.asl_lint.specs.declared.rule.Rule.{Rule}
 use Rattle.asl_lint.specs.declared.rule.Rule.TheVariants as rule
 use Rattle.asl_lint.specs.declared.rule.MockRule.{MockRule}
 use Rattle.asl_lint.specs.declared.rule.MockRule.TheVariants as mock
+use Rattle.asl_lint.specs.declared.rule.FileRule.{FileRule}
+use Rattle.asl_lint.specs.declared.rule.FileRule.TheVariants as file
 use Rattle.asl_lint.specs.Reports.{is_error}
 
 abbrev pub severity_of : Rule → Severity
@@ -51,11 +53,26 @@ fault_name fault.Path = codes "F13"
 fault_name fault.Expression = codes "F14"
 fault_name fault.Nesting = codes "F15"
 
+unfoldable pub file_name : FileRule → List ℕ
+file_name file.Kind = codes "kind"
+file_name file.Syntax = codes "J1"
+file_name file.Duplicate = codes "J2"
+file_name file.Depth = codes "J3"
+file_name file.Number = codes "J4"
+file_name file.Size = codes "J5"
+file_name file.Utf8 = codes "J6"
+file_name file.ExpectJson = codes "X1"
+file_name file.ExpectShape = codes "X2"
+file_name file.NoCase = codes "nocase"
+file_name file.StepLine = codes "E1"
+file_name file.ScriptLine = codes "E2"
+
 unfoldable pub rule_name : Rule → List ℕ
 rule_name rule.Json = codes "F1"
 rule_name (rule.Fault k) = fault_name k
 rule_name (rule.Warning k) = name_of k
 rule_name (rule.Mock r) = mock_name r
+rule_name (rule.File r) = file_name r
 
 -- ---- sentences
 
@@ -112,8 +129,23 @@ mock_sentence mock.UnansweredTask = codes "No case of the mock file has an answe
 mock_sentence mock.UnusedResponse = codes "No case names this response."
 mock_sentence mock.MissingAnswer = codes "A response leaves out a number below its last one."
 
+unfoldable pub file_sentence : FileRule → List ℕ
+file_sentence file.Kind = codes "It isn't clear what the file is."
+file_sentence file.Syntax = codes "The input isn't written as JSON is."
+file_sentence file.Duplicate = codes "An object of the input has a key twice."
+file_sentence file.Depth = codes "Lists and objects of the input stand too deep."
+file_sentence file.Number = codes "A number of the input is past the limits."
+file_sentence file.Size = codes "The input is too long."
+file_sentence file.Utf8 = codes "Bytes of the input are no UTF-8."
+file_sentence file.ExpectJson = codes "The expectation file is no JSON text."
+file_sentence file.ExpectShape = codes "A value of the expectation file doesn't fit."
+file_sentence file.NoCase = codes "A test names a test case that the mock file doesn't have."
+file_sentence file.StepLine = codes "A line of the steps file is no step."
+file_sentence file.ScriptLine = codes "A line of the script is no command."
+
 unfoldable pub sentence : Rule → List ℕ
 sentence rule.Json = codes "The definition is no JSON text."
 sentence (rule.Fault k) = fault_sentence k
 sentence (rule.Warning k) = warning_sentence k
 sentence (rule.Mock r) = mock_sentence r
+sentence (rule.File r) = file_sentence r

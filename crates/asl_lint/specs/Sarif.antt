@@ -1,5 +1,5 @@
 -- The format `sarif`: a log of one run (Static Analysis Results Interchange Format, version 2.1.0, OASIS).
-use Rattle.std.specs.Prelude.{ℕ, List, [], ◌∷◌, ◌++◌, ◌==◌, ◌||◌, ◌/◌, ◌%◌, ◌+◌, nat_lt, Bool, codes, map, if◌then◌else◌, string_bytes}
+use Rattle.std.specs.Prelude.{ℕ, List, [], ◌∷◌, ◌++◌, ◌==◌, ◌||◌, ◌/◌, ◌%◌, ◌+◌, nat_lt, Bool, true, false, codes, map, if◌then◌else◌, string_bytes}
 use Rattle.std.specs.Char.{encode_utf8, is_ascii_alphanumeric}
 use Rattle.std.specs.List.{flat_map}
 use Rattle.asl_json_data.specs.Data.{Data, text, list, chain}
@@ -9,14 +9,16 @@ use Rattle.asl_lint_warnings.specs.declared.warning.WarningKind.TheVariants as w
 use Rattle.asl_lint.specs.declared.rule.Rule.{Rule}
 use Rattle.asl_lint.specs.declared.rule.Rule.TheVariants as rule
 use Rattle.asl_lint.specs.declared.rule.MockRule.TheVariants as mock
+use Rattle.asl_lint.specs.declared.rule.FileRule.TheVariants as file
 use Rattle.asl_lint.specs.declared.finding.Finding.{Finding}
-use Rattle.asl_lint.specs.declared.report.Report.{Report}
+use Rattle.asl_lint.specs.declared.report.FileReport.{FileReport}
 use Rattle.asl_lint.specs.JsonLines.{object, counting}
 use Rattle.asl_lint.specs.Lines.{line_of, column_of}
 use Rattle.asl_lint.specs.Rules.{severity_of, word_of, rule_name, sentence}
 
 -- ---- rules (SARIF, section 3.49)
 
+-- of definitions and mock files
 unfoldable pub rules : List Rule
 rules =
     rule.Json
@@ -60,6 +62,23 @@ rules =
     ∷ rule.Mock mock.MissingAnswer
     ∷ []
 
+-- of other files
+unfoldable pub file_rules : List Rule
+file_rules =
+    rule.File file.Kind
+    ∷ rule.File file.Syntax
+    ∷ rule.File file.Duplicate
+    ∷ rule.File file.Depth
+    ∷ rule.File file.Number
+    ∷ rule.File file.Size
+    ∷ rule.File file.Utf8
+    ∷ rule.File file.ExpectJson
+    ∷ rule.File file.ExpectShape
+    ∷ rule.File file.NoCase
+    ∷ rule.File file.StepLine
+    ∷ rule.File file.ScriptLine
+    ∷ []
+
 abbrev pub message : List ℕ → Data
 message t = object ((codes "text", text t) ∷ [])
 
@@ -76,6 +95,14 @@ rule_object r =
     ∷ (codes "shortDescription", message (sentence r))
     ∷ (codes "defaultConfiguration", configuration r)
     ∷ [])
+
+-- where there are such
+abbrev pub more_rules : Bool → List Rule
+more_rules true = file_rules
+more_rules false = []
+
+abbrev pub rules_told : Bool → List Data
+rules_told has_others = map rule_object rules ++ map rule_object (more_rules has_others)
 
 -- ---- results (SARIF, section 3.27)
 
@@ -126,45 +153,47 @@ result_object u f =
     ∷ (codes "locations", locations u f)
     ∷ [])
 
--- those in the definition, then those in the mock file; these are the URIs of the files
-abbrev pub results : List ℕ → List ℕ → Report → List Data
-results definition mocks r =
-    map (result_object definition) r.definition.items ++ map (result_object mocks) r.mocks.items
+-- those of each file, in order
+abbrev pub file_results : FileReport → List Data
+file_results r = map (result_object (uri r.name.now)) r.findings.items
+
+abbrev pub results : List FileReport → List Data
+results rs = flat_map file_results rs
 
 -- ---- the log (SARIF, sections 3.13, 3.14, 3.18 and 3.19)
 
-abbrev pub driver : List Rule → Data
-driver rs =
+-- whether there are other files than definitions and mock files decides which rules are told
+abbrev pub driver : Bool → Data
+driver has_others =
     object
     ((codes "name", text (codes "asl"))
     ∷ (codes "version", text (codes "0.1.0"))
-    ∷ (codes "rules", list (chain (map rule_object rs)))
+    ∷ (codes "rules", list (chain (rules_told has_others)))
     ∷ [])
 
-abbrev pub tool : List Rule → Data
-tool rs = object ((codes "driver", driver rs) ∷ [])
+abbrev pub tool : Bool → Data
+tool has_others = object ((codes "driver", driver has_others) ∷ [])
 
 -- columns count characters
-abbrev pub run : List Rule → List Data → Data
-run rs results =
+abbrev pub run : Bool → List Data → Data
+run has_others results =
     object
-    ((codes "tool", tool rs)
+    ((codes "tool", tool has_others)
     ∷ (codes "columnKind", text (codes "unicodeCodePoints"))
     ∷ (codes "results", list (chain results))
     ∷ [])
 
-abbrev pub runs : List Rule → List Data → Data
-runs rs results = list (chain (run rs results ∷ []))
+abbrev pub runs : Bool → List Data → Data
+runs has_others results = list (chain (run has_others results ∷ []))
 
-abbrev pub log : List Rule → List Data → Data
-log rs results =
+abbrev pub log : Bool → List Data → Data
+log has_others results =
     object
     ((codes "$schema", text (codes "https://json.schemastore.org/sarif-2.1.0.json"))
     ∷ (codes "version", text (codes "2.1.0"))
-    ∷ (codes "runs", runs rs results)
+    ∷ (codes "runs", runs has_others results)
     ∷ [])
 
--- on one line; these are the names of the files
-abbrev pub sarif_text : List ℕ → List ℕ → Report → List ℕ
-sarif_text definition mocks r =
-    compact (log rules (results (uri definition) (uri mocks) r)) ++ 10 ∷ []
+-- on one line
+abbrev pub sarif_text : Bool → List FileReport → List ℕ
+sarif_text has_others rs = compact (log has_others (results rs)) ++ 10 ∷ []

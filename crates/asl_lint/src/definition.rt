@@ -5,7 +5,8 @@ ghost use Rattle.asl_lint_warnings.specs.Warnings.{warnings_of};
 ghost use Rattle.asl_lint.specs.Findings.{numbers, of_fault, of_warning, is_of_ways, is_kept, is_faulty, told_of, warnings_told, AreFound};
 ghost use Rattle.asl_lint.specs.private.Founds.{noted};
 
-use crate::finding::{Found, said};
+use crate::finding::Found;
+use crate::noting::told_at;
 use crate::rule::Rule;
 use asl_def_schema::{Fault, FaultKind, Step};
 use asl_json::Json;
@@ -49,7 +50,6 @@ fn number_of(before: &[Fault], fault: &Fault) -> usize {
     number
 }
 
-#[tactic(auto, unfolding(crate::specs::Told::is_told))]
 fn found_of<'a>(
     alloc: Global,
     places: &mut Places<'a>,
@@ -74,11 +74,8 @@ fn found_of<'a>(
         effort,
     )?;
     let rule = Rule::Fault(fault.kind());
-    Ok(Found {
-        rule,
-        place: place_of(alloc, steps)?,
-        message: said(rule, message)?,
-    })
+    let place = place_of(alloc, steps)?;
+    told_at(rule, place, message)
 }
 
 /// Whether a warning is of the way through the states, which the faults of a definition may break.
@@ -95,7 +92,6 @@ fn is_kept(is_faulty: bool, warning: &Warning) -> bool
     !(is_faulty && is_of_ways(warning.kind()))
 }
 
-#[tactic(auto, unfolding(crate::specs::Told::is_told))]
 fn found_of_warning<'a>(
     alloc: Global,
     places: &mut Places<'a>,
@@ -110,11 +106,8 @@ fn found_of_warning<'a>(
     let mut message = String::new(alloc);
     put_warning(alloc, &mut message, warning.kind(), &standing, effort)?;
     let rule = Rule::Warning(warning.kind());
-    Ok(Found {
-        rule,
-        place: place_of(alloc, steps)?,
-        message: said(rule, message)?,
-    })
+    let place = place_of(alloc, steps)?;
+    told_at(rule, place, message)
 }
 
 /// Adds a warning, where it is told.

@@ -8,12 +8,12 @@ use std::alloc::AllocError;
 
 /// A finding that isn't placed yet: its place is the numbers of members and items, from the outermost value in.
 #[derive(Drop)]
-pub(crate) struct Found {
-    pub(crate) rule: Rule,
-    pub(crate) place: Vec<usize>,
-    pub(crate) message: String,
+pub struct Found {
+    pub rule: Rule,
+    pub place: Vec<usize>,
+    pub message: String,
     /// The message was made for this rule at this place.
-    ghost told: { is_told rule place.items (string_bytes message) ≡ true },
+    pub ghost told: { is_told rule place.items (string_bytes message) ≡ true },
 }
 
 /// Something that is wrong or suspicious, and where it stands in its file.

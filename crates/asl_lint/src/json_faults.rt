@@ -3,8 +3,8 @@ ghost use Rattle.std.specs.Prelude.{◌≡◌, ◌∷◌, [], map, IfOk};
 ghost use Rattle.std.specs.List.{All};
 ghost use Rattle.asl_lint.specs.Places.{IsAt};
 
-use crate::finding::{Finding, said};
-use crate::placing::position_of;
+use crate::finding::Finding;
+use crate::placing::alone;
 use crate::rule::Rule;
 use asl_json_read::JsonFault;
 use asl_json_spans::Span;
@@ -212,8 +212,7 @@ fn put_unread(out: &mut String, text: &[u8], fault: JsonFault) -> Result<(), All
 }
 
 /// The finding of a text that is no JSON, at its byte. The error is that memory ran out.
-#[tactic(auto, unfolding(crate::specs::Told::is_told))]
-pub(crate) fn unread(
+pub fn unread(
     alloc: Global,
     rule: Rule,
     text: &[u8],
@@ -225,13 +224,5 @@ pub(crate) fn unread(
     let at = byte_of(fault);
     let mut message = String::new(alloc);
     put_unread(&mut message, text, fault)?;
-    let mut findings = Vec::new(alloc);
-    findings.push(Finding {
-        rule,
-        place: Vec::new(alloc),
-        span: Span { begin: at, end: at },
-        position: position_of(text, at),
-        message: said(rule, message)?,
-    })?;
-    Ok(findings)
+    alone(alloc, text, rule, Span { begin: at, end: at }, message)
 }

@@ -3,13 +3,13 @@ ghost use Rattle.std.specs.Prelude.{◌≡◌, ◌++◌, IfOk, OnOk, string_byte
 ghost use Rattle.std.specs.List.{flat_map};
 ghost use Rattle.asl_json_data.specs.Compact.{compact};
 ghost use Rattle.asl_writing.specs.Appends.{Appends};
-ghost use Rattle.asl_lint.specs.JsonLines.{finding_object, json_line, json_lines};
+ghost use Rattle.asl_lint.specs.JsonLines.{file_json_lines, finding_object, json_line, json_lines};
 
 use crate::finding::Finding;
 use crate::pieces::{
     put_char, put_column, put_level, put_line, put_name, put_offset, put_text, put_words,
 };
-use crate::report::Report;
+use crate::report::FileReport;
 use std::alloc::{AllocError, Global};
 
 /// Appends the object of a finding in a file of this name.
@@ -56,18 +56,21 @@ fn put_findings(out: &mut String, file: &str, findings: &[Finding]) -> Result<()
     Ok(())
 }
 
+fn put_files(out: &mut String, files: &[FileReport<'_>]) -> Result<(), AllocError>
+    ensures { OnOk result (Appends (string_bytes out.old) (flat_map file_json_lines files.now) (string_bytes out.new)) }
+{
+    for file in files {
+        put_findings(out, file.name, &file.findings)?;
+    }
+    Ok(())
+}
+
 /// The findings, a JSON object each on a line: `file`, `line` and `column` from 1, `begin` and `end` in bytes from 0, `severity`, `name` and
-/// `message`. (JSON Lines.) The files have these names. The error is that memory ran out.
-pub fn json(
-    alloc: Global,
-    definition: &str,
-    mocks: &str,
-    report: &Report,
-) -> Result<String, AllocError>
-    ensures { IfOk result (λ t. string_bytes t ≡ json_lines definition.now mocks.now report.now) }
+/// `message`. (JSON Lines.) The error is that memory ran out.
+pub fn json(alloc: Global, files: &[FileReport<'_>]) -> Result<String, AllocError>
+    ensures { IfOk result (λ t. string_bytes t ≡ json_lines files.now) }
 {
     let mut out = String::new(alloc);
-    put_findings(&mut out, definition, &report.definition)?;
-    put_findings(&mut out, mocks, &report.mocks)?;
+    put_files(&mut out, files)?;
     Ok(out)
 }

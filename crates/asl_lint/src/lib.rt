@@ -1,6 +1,6 @@
 //! Everything that is wrong or suspicious in a definition and in the mock file beside it, where it stands, and how it is mended.
 //!
-//! Modules in reading order: `rule`, `finding` and `report` are what is told, and `part` at what it points; `json_faults` says what is wrong with a text that is no JSON; `placing` finds
+//! Modules in reading order: `rule`, `finding` and `report` are what is told, and `part` at what it points, and `noting` tells something at a place; `json_faults` says what is wrong with a text that is no JSON; `placing` finds
 //! lines and columns; `definition` has the findings of a definition, `mocks` those of a mock file, by itself and beside a definition, `mock_words` and `gaps` what
 //! is said of them, and `linting` all; `lines`, `json_lines` and `sarif_log` are the formats, and `pieces` what they share.
 #![tactic(auto)]
@@ -14,6 +14,7 @@ mod lines;
 mod linting;
 mod mock_words;
 mod mocks;
+mod noting;
 mod part;
 mod pieces;
 mod placing;
@@ -21,10 +22,13 @@ mod report;
 mod rule;
 mod sarif_log;
 
-pub use finding::Finding;
+pub use finding::{Finding, Found};
+pub use json_faults::unread;
 pub use json_lines::json;
 pub use lines::{errors, text};
-pub use linting::{Source, lint, unread_in};
-pub use report::Report;
-pub use rule::{MockRule, Rule, Severity};
+pub use linting::{Source, lint, lint_mocks, unread_in};
+pub use noting::told_at;
+pub use placing::{alone, placed};
+pub use report::{FileReport, Report, is_good};
+pub use rule::{FileRule, MockRule, Rule, Severity};
 pub use sarif_log::sarif;

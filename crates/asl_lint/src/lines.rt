@@ -1,11 +1,11 @@
 // Findings as lines for people.
 ghost use Rattle.std.specs.Prelude.{◌≡◌, ◌++◌, IfOk, OnOk, string_bytes};
 ghost use Rattle.std.specs.List.{flat_map};
-ghost use Rattle.asl_lint.specs.Lines.{counted, error_line, error_lines, finding_line, lines_of, place_text, told_text, total_line};
+ghost use Rattle.asl_lint.specs.Lines.{counted, error_line, error_lines, file_lines, finding_line, lines_of, place_text, told_text, total_line};
 
 use crate::finding::Finding;
 use crate::pieces::{column_of, line_of};
-use crate::report::{Report, is_of};
+use crate::report::{FileReport, count, is_of};
 use crate::rule::Severity;
 use asl_text::put_shown;
 use std::alloc::{AllocError, Global};
@@ -103,20 +103,24 @@ fn put_total(out: &mut String, errors: u128, warnings: u128) -> Result<(), Alloc
     out.push('\n')
 }
 
-/// The findings, each on a line, and a line that says how many there are. The files have these names. The error is that memory ran out.
-pub fn text(
-    alloc: Global,
-    definition: &str,
-    mocks: &str,
-    report: &Report,
-) -> Result<String, AllocError>
-    ensures { IfOk result (λ t. string_bytes t ≡ lines_of definition.now mocks.now report.now) }
+/// Appends each finding of each of these files on a line.
+fn put_files(out: &mut String, files: &[FileReport<'_>]) -> Result<(), AllocError>
+    ensures { OnOk result (string_bytes out.new ≡ string_bytes out.old ++ flat_map file_lines files.now) }
+{
+    for file in files {
+        put_findings(out, file.name, &file.findings)?;
+    }
+    Ok(())
+}
+
+/// The findings, each on a line, and a line that says how many there are. The error is that memory ran out.
+pub fn text(alloc: Global, files: &[FileReport<'_>]) -> Result<String, AllocError>
+    ensures { IfOk result (λ t. string_bytes t ≡ lines_of files.now) }
 {
     let mut out = String::new(alloc);
-    put_findings(&mut out, definition, &report.definition)?;
-    put_findings(&mut out, mocks, &report.mocks)?;
-    let errors = report.count(Severity::Error);
-    let warnings = report.count(Severity::Warning);
+    put_files(&mut out, files)?;
+    let errors = count(files, Severity::Error);
+    let warnings = count(files, Severity::Warning);
     put_total(&mut out, errors, warnings)?;
     Ok(out)
 }

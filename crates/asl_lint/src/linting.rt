@@ -107,13 +107,17 @@ fn lint_alone(
         (option_map (λ b. b.now) mocks.entry) fs.items) }
 {
     match mocks {
-        Some(text) => lint_text(alloc, text, machine),
+        Some(text) => lint_mocks(alloc, text, machine),
         None => Ok(Vec::new(alloc)),
     }
 }
 
-/// What is wrong with the text of a mock file by itself.
-fn lint_text(alloc: Global, text: &[u8], machine: Option<&str>) -> Result<Vec<Finding>, AllocError>
+/// Everything that is wrong or suspicious in a mock file by itself, in the order of their places. The error is that memory ran out.
+pub fn lint_mocks(
+    alloc: Global,
+    text: &[u8],
+    machine: Option<&str>,
+) -> Result<Vec<Finding>, AllocError>
     ensures at { IfOk result (λ fs. All (IsAt text.now) fs.items) }
     ensures told { IfOk result (λ fs. AreMocksLinted (option_map (λ k. k.now) machine.entry) None
         (Some text.now) fs.items) }

@@ -11,8 +11,9 @@ ghost use Rattle.asl_lint_mocks.specs.Places.{AreAt, numbers_of};
 ghost use Rattle.asl_lint.specs.Mocks.{beside_told, each_of, is_a_task, is_state, is_task, keyed, may_be_task, mocks_told, own_told, told_if, unanswered, without_answer};
 ghost use Rattle.asl_lint.specs.private.Founds.{Grows, IsKnown, noted};
 
-use crate::finding::{Found, said};
+use crate::finding::Found;
 use crate::mock_words::{Beside, put_mock};
+use crate::noting::told_at;
 use crate::rule::{MockRule, Rule};
 use asl_def_schema::Kind;
 use asl_json::Json;
@@ -24,7 +25,6 @@ use asl_lint_mocks::{
 use std::alloc::{AllocError, Global};
 use std::collections::HashSet;
 
-#[tactic(auto, unfolding(crate::specs::Told::is_told))]
 fn found_at(
     alloc: Global,
     file: &Json,
@@ -37,12 +37,7 @@ fn found_at(
 {
     let mut message = String::new(alloc);
     put_mock(alloc, &mut message, rule, file, beside, &place, effort)?;
-    let rule = Rule::Mock(rule);
-    Ok(Found {
-        rule,
-        place,
-        message: said(rule, message)?,
-    })
+    told_at(Rule::Mock(rule), place, message)
 }
 
 /// Adds what is found at these places.
@@ -291,7 +286,6 @@ fn lacks_answer(answered: &HashSet<String>, state: &State<'_>) -> bool
 }
 
 /// A Task that no case answers.
-#[tactic(auto, unfolding(crate::specs::Told::is_told))]
 fn found_task(alloc: Global, state: &State<'_>) -> Result<Found, AllocError>
     ensures { IfOk result (λ f. noted f ≡ (Rule.Mock MockRule.UnansweredTask, state.now.place)) }
 {
@@ -300,12 +294,8 @@ fn found_task(alloc: Global, state: &State<'_>) -> Result<Found, AllocError>
         "no case of the mock file has an answer for the Task ",
     )?;
     put_name(&mut message, state.name())?;
-    let rule = Rule::Mock(MockRule::UnansweredTask);
-    Ok(Found {
-        rule,
-        place: state.place(alloc)?,
-        message: said(rule, message)?,
-    })
+    let place = state.place(alloc)?;
+    told_at(Rule::Mock(MockRule::UnansweredTask), place, message)
 }
 
 /// Adds a state, if it is told.

@@ -54,7 +54,7 @@ pub(crate) fn part_of(rule: Rule) -> Part
     ensures { result ≡ part_of rule }
 {
     match rule {
-        Rule::Json => Part::Value,
+        Rule::Json | Rule::File(_) => Part::Value,
         Rule::Fault(kind) => part_of_fault(kind),
         Rule::Warning(kind) => part_of_warning(kind),
         Rule::Mock(rule) => part_of_mock(rule),

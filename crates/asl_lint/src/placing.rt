@@ -1,5 +1,5 @@
 // Where findings stand in their text.
-ghost use Rattle.std.specs.Prelude.{◌≡◌, ◌≤◌, ℕ, List, length, map, take, IfOk};
+ghost use Rattle.std.specs.Prelude.{◌≡◌, ◌≤◌, ◌∷◌, [], ℕ, List, length, map, take, IfOk};
 ghost use Rattle.std.specs.List.{All};
 ghost use Rattle.asl_json_data.specs.Data.{Data};
 ghost use Rattle.asl_json_data.specs.Grammar.{IsText};
@@ -11,7 +11,7 @@ ghost use Rattle.asl_lint.specs.Told.{has_some};
 ghost use Rattle.asl_lint.specs.Places.{IsAt, end_of, span_by, AllPoint, ArePlaced, ruled};
 ghost use Rattle.asl_lint.specs.private.Founds.{noted, spanned, front, behind, with_nodes};
 
-use crate::finding::{Finding, Found};
+use crate::finding::{Finding, Found, said};
 use crate::part::{Part, part_of};
 use crate::rule::Rule;
 use asl_json::Json;
@@ -149,7 +149,7 @@ fn reached(text: &[u8], here: Position, to: usize) -> Position
 }
 
 /// The line and the column of a byte.
-pub(crate) fn position_of(text: &[u8], to: usize) -> Position
+fn position_of(text: &[u8], to: usize) -> Position
     ensures at { to ≤ length text.now → result.at ≡ to }
     ensures position { IsPosition (take result.at text.now) result.lines result.characters }
 {
@@ -189,7 +189,7 @@ fn has_some(found: &[Found]) -> bool
 /// Places findings in the text of this value, and orders them by their places. Those at one place keep their order. The error is that memory ran
 /// out.
 #[tactic(auto, using(crate::proofs::Sorting::none_placed))]
-pub(crate) fn placed(
+pub fn placed(
     alloc: Global,
     text: &[u8],
     value: &Json,
@@ -206,5 +206,29 @@ pub(crate) fn placed(
     let mut all = with_spans(alloc, &outline, found)?;
     all.sort_by_key(|spanned| spanned.span.begin)?;
     let findings = positioned(alloc, text, all)?;
+    Ok(findings)
+}
+
+/// The one finding of a text, at a stretch of it. The error is that memory ran out.
+#[tactic(auto, unfolding(crate::specs::Told::is_told))]
+pub fn alone(
+    alloc: Global,
+    text: &[u8],
+    rule: Rule,
+    span: Span,
+    message: String,
+) -> Result<Vec<Finding>, AllocError>
+    ensures at { IfOk result (λ fs. All (IsAt text.now) fs.items) }
+    ensures only { IfOk result (λ fs. map ruled fs.items ≡ (rule, span) ∷ []) }
+    ensures rule { IfOk result (λ fs. map (λ f. f.rule) fs.items ≡ rule ∷ []) }
+{
+    let mut findings = Vec::new(alloc);
+    findings.push(Finding {
+        rule,
+        place: Vec::new(alloc),
+        span,
+        position: position_of(text, span.begin),
+        message: said(rule, message)?,
+    })?;
     Ok(findings)
 }

@@ -1,7 +1,7 @@
 // All that is told, and how much.
-ghost use Rattle.std.specs.Prelude.{◌≡◌, count_by};
+ghost use Rattle.std.specs.Prelude.{◌≡◌, ◌≤◌, ◌+◌, ◌*◌, ◌^◌, length, count_by};
 ghost use Rattle.std.specs.List.{list_any};
-ghost use Rattle.asl_lint.specs.Reports.{count, counts, is_good, is_of};
+ghost use Rattle.asl_lint.specs.Reports.{count, counts, is_good, is_of, has_any};
 
 use crate::finding::Finding;
 use crate::rule::Severity;
@@ -13,6 +13,14 @@ pub struct Report {
     pub definition: Vec<Finding>,
     /// The same of the mock file.
     pub mocks: Vec<Finding>,
+}
+
+/// All that is found in a file of this name.
+#[derive(Drop)]
+pub struct FileReport<'a> {
+    pub name: &'a str,
+    /// In the order of their places.
+    pub findings: Vec<Finding>,
 }
 
 /// Whether a finding is so bad.
@@ -36,7 +44,7 @@ fn count_in(findings: &[Finding], severity: Severity) -> usize
 
 /// Whether one of these counts as an error.
 fn has_any(findings: &[Finding], strict: bool) -> bool
-    ensures { result ≡ list_any (counts strict) findings.now }
+    ensures { result ≡ has_any strict findings.now }
 {
     for finding in findings {
         if strict || finding.rule.is_error() {
@@ -46,20 +54,25 @@ fn has_any(findings: &[Finding], strict: bool) -> bool
     false
 }
 
-impl Report {
-    /// How many findings are so bad.
-    pub fn count(&self, severity: Severity) -> u128
-        ensures { result ≡ count severity self.now }
-    {
-        let definition = count_in(&self.definition, severity);
-        let mocks = count_in(&self.mocks, severity);
-        definition as u128 + mocks as u128
+/// How many findings in these files are so bad.
+pub(crate) fn count(files: &[FileReport<'_>], severity: Severity) -> u128
+    ensures { result ≡ count severity files.now }
+{
+    let mut total: u128 = 0;
+    for file in files {
+        total += count_in(&file.findings, severity) as u128;
     }
+    total
+}
 
-    /// Whether nothing is wrong: no error and, where warnings count as errors, no warning.
-    pub fn is_good(&self, strict: bool) -> bool
-        ensures { result ≡ is_good strict self.now }
-    {
-        !has_any(&self.definition, strict) && !has_any(&self.mocks, strict)
+/// Whether nothing is wrong in these files: no error and, where warnings count as errors, no warning.
+pub fn is_good(files: &[FileReport<'_>], strict: bool) -> bool
+    ensures { result ≡ is_good strict files.now }
+{
+    for file in files {
+        if has_any(&file.findings, strict) {
+            return false;
+        }
     }
+    true
 }

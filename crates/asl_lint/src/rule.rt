@@ -1,7 +1,7 @@
 // What a finding is of.
 ghost use Rattle.std.specs.Prelude.{◌≡◌};
 ghost use Rattle.asl_lint.specs.Reports.{is_mock_error, is_error};
-ghost use Rattle.asl_lint.specs.Rules.{severity_of, word_of, rule_name, fault_name, mock_name, sentence, fault_sentence, warning_sentence, mock_sentence};
+ghost use Rattle.asl_lint.specs.Rules.{severity_of, word_of, rule_name, fault_name, mock_name, file_name, sentence, fault_sentence, warning_sentence, mock_sentence, file_sentence};
 
 use asl_def_schema::FaultKind;
 use asl_lint_warnings::WarningKind;
@@ -55,6 +55,35 @@ pub enum MockRule {
     MissingAnswer,
 }
 
+/// What can be wrong with a file that is neither a definition nor a mock file.
+#[derive(Clone, Copy, Debug, PartialEq, Eq)]
+pub enum FileRule {
+    /// It isn't clear what the file is.
+    Kind,
+    /// J1: an input isn't written as JSON is.
+    Syntax,
+    /// J2: an object of an input has a key twice.
+    Duplicate,
+    /// J3: lists and objects of an input stand too deep.
+    Depth,
+    /// J4: a number of an input is past the limits.
+    Number,
+    /// J5: an input is too long.
+    Size,
+    /// J6: bytes of an input are no UTF-8.
+    Utf8,
+    /// X1: an expectation file is no JSON text.
+    ExpectJson,
+    /// X2: a value of an expectation file doesn't fit.
+    ExpectShape,
+    /// A test names a test case that the mock file doesn't have.
+    NoCase,
+    /// E1: a line of a steps file is no step.
+    StepLine,
+    /// E2: a line of a script is no command.
+    ScriptLine,
+}
+
 /// What a finding is of.
 #[derive(Clone, Copy, Debug, PartialEq, Eq)]
 pub enum Rule {
@@ -66,6 +95,8 @@ pub enum Rule {
     Warning(WarningKind),
     /// Something of the mock file.
     Mock(MockRule),
+    /// Something of a file that is neither.
+    File(FileRule),
 }
 
 impl Rule {
@@ -74,7 +105,7 @@ impl Rule {
         ensures { result ≡ is_error self }
     {
         match self {
-            Rule::Json | Rule::Fault(_) => true,
+            Rule::Json | Rule::Fault(_) | Rule::File(_) => true,
             Rule::Warning(_) => false,
             Rule::Mock(rule) => is_mock_error(rule),
         }
@@ -101,6 +132,7 @@ impl Rule {
             Rule::Fault(kind) => fault_name(kind),
             Rule::Warning(kind) => kind.name(),
             Rule::Mock(rule) => mock_name(rule),
+            Rule::File(rule) => file_name(rule),
         }
     }
 
@@ -114,6 +146,7 @@ impl Rule {
             Rule::Fault(kind) => fault_sentence(kind),
             Rule::Warning(kind) => warning_sentence(kind),
             Rule::Mock(rule) => mock_sentence(rule),
+            Rule::File(rule) => file_sentence(rule),
         }
     }
 }
@@ -237,5 +270,45 @@ fn mock_sentence(rule: MockRule) -> &'static str
         MockRule::UnansweredTask => "No case of the mock file has an answer for this Task.",
         MockRule::UnusedResponse => "No case names this response.",
         MockRule::MissingAnswer => "A response leaves out a number below its last one.",
+    }
+}
+
+#[tactic(auto, unfolding(crate::specs::Rules::file_name))]
+fn file_name(rule: FileRule) -> &'static str
+    ensures { result.now ≡ file_name rule }
+{
+    match rule {
+        FileRule::Kind => "kind",
+        FileRule::Syntax => "J1",
+        FileRule::Duplicate => "J2",
+        FileRule::Depth => "J3",
+        FileRule::Number => "J4",
+        FileRule::Size => "J5",
+        FileRule::Utf8 => "J6",
+        FileRule::ExpectJson => "X1",
+        FileRule::ExpectShape => "X2",
+        FileRule::NoCase => "nocase",
+        FileRule::StepLine => "E1",
+        FileRule::ScriptLine => "E2",
+    }
+}
+
+#[tactic(auto, unfolding(crate::specs::Rules::file_sentence))]
+fn file_sentence(rule: FileRule) -> &'static str
+    ensures { result.now ≡ file_sentence rule }
+{
+    match rule {
+        FileRule::Kind => "It isn't clear what the file is.",
+        FileRule::Syntax => "The input isn't written as JSON is.",
+        FileRule::Duplicate => "An object of the input has a key twice.",
+        FileRule::Depth => "Lists and objects of the input stand too deep.",
+        FileRule::Number => "A number of the input is past the limits.",
+        FileRule::Size => "The input is too long.",
+        FileRule::Utf8 => "Bytes of the input are no UTF-8.",
+        FileRule::ExpectJson => "The expectation file is no JSON text.",
+        FileRule::ExpectShape => "A value of the expectation file doesn't fit.",
+        FileRule::NoCase => "A test names a test case that the mock file doesn't have.",
+        FileRule::StepLine => "A line of the steps file is no step.",
+        FileRule::ScriptLine => "A line of the script is no command.",
     }
 }

@@ -1,17 +1,17 @@
 // Findings in SARIF. (Static Analysis Results Interchange Format, version 2.1.0, OASIS.)
-ghost use Rattle.std.specs.Prelude.{◌≡◌, ◌<◌, ◌∷◌, ◌++◌, false, IfOk, OnOk, map, string_bytes};
+ghost use Rattle.std.specs.Prelude.{◌≡◌, ◌<◌, ◌∷◌, ◌++◌, ◌||◌, true, false, IfOk, OnOk, map, string_bytes};
 ghost use Rattle.asl_json_data.specs.Data.{chain};
 ghost use Rattle.asl_json_data.specs.Compact.{compact, compact_items};
 ghost use Rattle.asl_writing.specs.Appends.{Appends};
 ghost use Rattle.asl_lint.specs.Rules.{sentence};
-ghost use Rattle.asl_lint.specs.Sarif.{artifact, configuration, driver, is_unreserved, location, locations, log, message, region, result_object, results, rule_object, rules, run, runs, sarif_text, stretch, tool, upper_digit, uri, uri_byte};
+ghost use Rattle.asl_lint.specs.Sarif.{artifact, configuration, driver, file_rules, is_unreserved, location, locations, log, message, more_rules, region, result_object, results, rule_object, rules, rules_told, run, runs, sarif_text, stretch, tool, upper_digit, uri, uri_byte};
 ghost use Rattle.asl_lint.specs.Told.{has_some};
-ghost use Rattle.asl_lint.specs.private.Writing.{comma_if, more_items};
+ghost use Rattle.asl_lint.specs.private.Writing.{comma_if, more_items, more_results};
 
 use crate::finding::Finding;
 use crate::pieces::{put_char, put_column, put_key, put_level, put_line, put_name, put_text};
-use crate::report::Report;
-use crate::rule::{MockRule, Rule};
+use crate::report::FileReport;
+use crate::rule::{FileRule, MockRule, Rule};
 use asl_def_schema::FaultKind;
 use asl_lint_warnings::WarningKind;
 use std::alloc::{AllocError, Global};
@@ -58,12 +58,35 @@ const RULES: &[Rule] = &[
     Rule::Mock(MockRule::MissingAnswer),
 ];
 
-/// All rules.
+const FILE_RULES: &[Rule] = &[
+    Rule::File(FileRule::Kind),
+    Rule::File(FileRule::Syntax),
+    Rule::File(FileRule::Duplicate),
+    Rule::File(FileRule::Depth),
+    Rule::File(FileRule::Number),
+    Rule::File(FileRule::Size),
+    Rule::File(FileRule::Utf8),
+    Rule::File(FileRule::ExpectJson),
+    Rule::File(FileRule::ExpectShape),
+    Rule::File(FileRule::NoCase),
+    Rule::File(FileRule::StepLine),
+    Rule::File(FileRule::ScriptLine),
+];
+
+/// The rules of definitions and mock files.
 #[tactic(auto, unfolding(crate::specs::Sarif::rules))]
 fn rules() -> &'static [Rule]
     ensures { result.now ≡ rules }
 {
     RULES
+}
+
+/// The rules of other files, where there are such.
+#[tactic(auto, unfolding(crate::specs::Sarif::file_rules))]
+fn more_rules(has_others: bool) -> &'static [Rule]
+    ensures { result.now ≡ more_rules has_others }
+{
+    if has_others { FILE_RULES } else { &[] }
 }
 
 /// Appends a comma where something stands before.
@@ -118,11 +141,11 @@ fn put_rule(out: &mut String, rule: Rule) -> Result<(), AllocError>
     Ok(())
 }
 
-/// Appends each of these rules, with commas between.
-fn put_each_rule(out: &mut String, rules: &[Rule]) -> Result<(), AllocError>
-    ensures { OnOk result (Appends (string_bytes out.old) (more_items rule_object false rules.now) (string_bytes out.new)) }
+/// Appends each of these rules, with commas between, and one before where something stands before.
+fn put_each_rule(out: &mut String, is_begun: bool, rules: &[Rule]) -> Result<(), AllocError>
+    ensures { OnOk result (Appends (string_bytes out.old) (more_items rule_object is_begun rules.now) (string_bytes out.new)) }
 {
-    let mut is_begun = false;
+    let mut is_begun = is_begun;
     for rule in rules {
         separate(out, is_begun)?;
         put_rule(out, *rule)?;
@@ -131,19 +154,21 @@ fn put_each_rule(out: &mut String, rules: &[Rule]) -> Result<(), AllocError>
     Ok(())
 }
 
-/// Appends these rules as a list.
-fn put_rules(out: &mut String, rules: &[Rule]) -> Result<(), AllocError>
-    ensures { OnOk result (Appends (string_bytes out.old) (91 ∷ compact_items (chain (map rule_object rules.now))) (string_bytes out.new)) }
+/// Appends the rules as a list.
+#[tactic(auto, unfolding(crate::specs::Sarif::rules))]
+fn put_rules(out: &mut String, has_others: bool) -> Result<(), AllocError>
+    ensures { OnOk result (Appends (string_bytes out.old) (91 ∷ compact_items (chain (rules_told has_others))) (string_bytes out.new)) }
 {
     put_char(out, '[')?;
-    put_each_rule(out, rules)?;
+    put_each_rule(out, false, rules())?;
+    put_each_rule(out, true, more_rules(has_others))?;
     put_char(out, ']')?;
     Ok(())
 }
 
-/// Appends what the program is, with these rules.
-fn put_driver(out: &mut String, rules: &[Rule]) -> Result<(), AllocError>
-    ensures { OnOk result (Appends (string_bytes out.old) (compact (driver rules.now)) (string_bytes out.new)) }
+/// Appends what the program is, with its rules.
+fn put_driver(out: &mut String, has_others: bool) -> Result<(), AllocError>
+    ensures { OnOk result (Appends (string_bytes out.old) (compact (driver has_others)) (string_bytes out.new)) }
 {
     put_char(out, '{')?;
     put_text(out, "name", "asl")?;
@@ -151,7 +176,7 @@ fn put_driver(out: &mut String, rules: &[Rule]) -> Result<(), AllocError>
     put_text(out, "version", "0.1.0")?;
     put_char(out, ',')?;
     put_key(out, "rules")?;
-    put_rules(out, rules)?;
+    put_rules(out, has_others)?;
     put_char(out, '}')?;
     Ok(())
 }
@@ -312,82 +337,104 @@ fn has_some(findings: &[Finding]) -> bool
     }
 }
 
-/// Appends the findings as a list. The files have these URIs.
-fn put_results(
+/// Appends each finding of a file, with commas between, and one before where something stands before.
+fn put_file(
+    alloc: Global,
     out: &mut String,
-    definition: &str,
-    mocks: &str,
-    report: &Report,
+    is_begun: bool,
+    file: &FileReport<'_>,
 ) -> Result<(), AllocError>
-    ensures { OnOk result (Appends (string_bytes out.old) (91 ∷ compact_items (chain (results definition.now mocks.now report.now))) (string_bytes out.new)) }
+    ensures { OnOk result (Appends (string_bytes out.old) (more_items (result_object (uri file.now.name.now)) is_begun file.now.findings.items) (string_bytes out.new)) }
+{
+    let uri = uri_of(alloc, file.name)?;
+    put_each_result(out, is_begun, uri.as_str(), &file.findings)
+}
+
+/// Whether something stands before what comes behind a file.
+fn is_begun_behind(is_begun: bool, file: &FileReport<'_>) -> bool
+    ensures { result ≡ (is_begun || has_some file.now.findings.items) }
+{
+    is_begun || has_some(&file.findings)
+}
+
+/// Appends each finding of each of these files, with commas between.
+fn put_files(alloc: Global, out: &mut String, files: &[FileReport<'_>]) -> Result<(), AllocError>
+    ensures { OnOk result (Appends (string_bytes out.old) (more_results false files.now) (string_bytes out.new)) }
+{
+    let mut is_begun = false;
+    for file in files {
+        put_file(alloc, out, is_begun, file)?;
+        is_begun = is_begun_behind(is_begun, file);
+    }
+    Ok(())
+}
+
+/// Appends the findings as a list.
+fn put_results(alloc: Global, out: &mut String, files: &[FileReport<'_>]) -> Result<(), AllocError>
+    ensures { OnOk result (Appends (string_bytes out.old) (91 ∷ compact_items (chain (results files.now))) (string_bytes out.new)) }
 {
     put_char(out, '[')?;
-    put_each_result(out, false, definition, &report.definition)?;
-    let is_begun = has_some(&report.definition);
-    put_each_result(out, is_begun, mocks, &report.mocks)?;
+    put_files(alloc, out, files)?;
     put_char(out, ']')?;
     Ok(())
 }
 
-/// Appends the program that made the log, with these rules.
-fn put_tool(out: &mut String, rules: &[Rule]) -> Result<(), AllocError>
-    ensures { OnOk result (Appends (string_bytes out.old) (compact (tool rules.now)) (string_bytes out.new)) }
+/// Appends the program that made the log, with its rules.
+fn put_tool(out: &mut String, has_others: bool) -> Result<(), AllocError>
+    ensures { OnOk result (Appends (string_bytes out.old) (compact (tool has_others)) (string_bytes out.new)) }
 {
     put_char(out, '{')?;
     put_key(out, "driver")?;
-    put_driver(out, rules)?;
+    put_driver(out, has_others)?;
     put_char(out, '}')?;
     Ok(())
 }
 
-/// Appends the run, with these rules. The files have these URIs.
+/// Appends the run, with the rules.
 fn put_run(
+    alloc: Global,
     out: &mut String,
-    rules: &[Rule],
-    definition: &str,
-    mocks: &str,
-    report: &Report,
+    has_others: bool,
+    files: &[FileReport<'_>],
 ) -> Result<(), AllocError>
-    ensures { OnOk result (Appends (string_bytes out.old) (compact (run rules.now (results definition.now mocks.now report.now))) (string_bytes out.new)) }
+    ensures { OnOk result (Appends (string_bytes out.old) (compact (run has_others (results files.now))) (string_bytes out.new)) }
 {
     put_char(out, '{')?;
     put_key(out, "tool")?;
-    put_tool(out, rules)?;
+    put_tool(out, has_others)?;
     put_char(out, ',')?;
     put_text(out, "columnKind", "unicodeCodePoints")?;
     put_char(out, ',')?;
     put_key(out, "results")?;
-    put_results(out, definition, mocks, report)?;
+    put_results(alloc, out, files)?;
     put_char(out, '}')?;
     Ok(())
 }
 
-/// Appends a list of the one run, with these rules. The files have these URIs.
+/// Appends a list of the one run, with the rules.
 fn put_runs(
+    alloc: Global,
     out: &mut String,
-    rules: &[Rule],
-    definition: &str,
-    mocks: &str,
-    report: &Report,
+    has_others: bool,
+    files: &[FileReport<'_>],
 ) -> Result<(), AllocError>
     ensures { OnOk result (Appends (string_bytes out.old)
-        (compact (runs rules.now (results definition.now mocks.now report.now))) (string_bytes out.new)) }
+        (compact (runs has_others (results files.now))) (string_bytes out.new)) }
 {
     put_char(out, '[')?;
-    put_run(out, rules, definition, mocks, report)?;
+    put_run(alloc, out, has_others, files)?;
     put_char(out, ']')?;
     Ok(())
 }
 
-/// Appends the log, with these rules. The files have these URIs.
+/// Appends the log, with the rules.
 fn put_log(
+    alloc: Global,
     out: &mut String,
-    rules: &[Rule],
-    definition: &str,
-    mocks: &str,
-    report: &Report,
+    has_others: bool,
+    files: &[FileReport<'_>],
 ) -> Result<(), AllocError>
-    ensures { OnOk result (Appends (string_bytes out.old) (compact (log rules.now (results definition.now mocks.now report.now))) (string_bytes out.new)) }
+    ensures { OnOk result (Appends (string_bytes out.old) (compact (log has_others (results files.now))) (string_bytes out.new)) }
 {
     put_char(out, '{')?;
     put_text(
@@ -399,30 +446,22 @@ fn put_log(
     put_text(out, "version", "2.1.0")?;
     put_char(out, ',')?;
     put_key(out, "runs")?;
-    put_runs(out, rules, definition, mocks, report)?;
+    put_runs(alloc, out, has_others, files)?;
     put_char(out, '}')?;
     Ok(())
 }
 
-/// The findings as a log of one run in SARIF 2.1.0, on one line. The files have these names. The error is that memory ran out.
+/// The findings as a log of one run in SARIF 2.1.0, on one line, with the rules of definitions and mock files, and with those of other files, if
+/// there are such. The error is that memory ran out.
 pub fn sarif(
     alloc: Global,
-    definition: &str,
-    mocks: &str,
-    report: &Report,
+    has_others: bool,
+    files: &[FileReport<'_>],
 ) -> Result<String, AllocError>
-    ensures { IfOk result (λ t. string_bytes t ≡ sarif_text definition.now mocks.now report.now) }
+    ensures { IfOk result (λ t. string_bytes t ≡ sarif_text has_others files.now) }
 {
-    let definition = uri_of(alloc, definition)?;
-    let mocks = uri_of(alloc, mocks)?;
     let mut out = String::new(alloc);
-    put_log(
-        &mut out,
-        rules(),
-        definition.as_str(),
-        mocks.as_str(),
-        report,
-    )?;
+    put_log(alloc, &mut out, has_others, files)?;
     put_char(&mut out, '\n')?;
     Ok(out)
 }

@@ -2,6 +2,7 @@ mod Each
 mod Below
 mod Numerals
 mod Spots
+mod Lasting
 mod Giving
 mod Names
 mod Equals

@@ -13,7 +13,7 @@ use Rattle.asl_mock.specs.declared.key.Span.{Span}
 use Rattle.asl_mock.specs.declared.response.Answer.{Answer}
 use Rattle.asl_mock.specs.declared.response.Ranged.{Ranged}
 
-each_at : (P : Ranged → Type 0) (rs : List Ranged) (i : ℕ) (d : Ranged) → EachRanged P rs → i < length rs → P (get_or rs i d)
+pub each_at : (P : Ranged → Type 0) (rs : List Ranged) (i : ℕ) (d : Ranged) → EachRanged P rs → i < length rs → P (get_or rs i d)
 each_at P [] i d h lt = absurd (omega (arith, lt))
 each_at P (r ∷ rs) zero d h lt = h.0
 each_at P (r ∷ rs) (suc i) d h lt = each_at P rs i d h.1 (omega (arith, lt))

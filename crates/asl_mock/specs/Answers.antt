@@ -1,5 +1,5 @@
 -- What the answers of a mock file are, and which one is given.
-use Rattle.std.specs.Prelude.{ℕ, List, [], ◌∷◌, Bool, ◌&&◌, nat_le, nat_lt, Option, Some, None, if◌then◌else◌, codes, map, unwrap_or}
+use Rattle.std.specs.Prelude.{ℕ, ◌-◌, List, [], ◌∷◌, Bool, ◌&&◌, nat_le, nat_lt, Option, Some, None, if◌then◌else◌, codes, map, unwrap_or}
 use Rattle.asl_json_data.specs.Data.{Data, text}
 use Rattle.asl_json.specs.View.{json_of}
 use Rattle.asl_json_data.specs.Distinct.{Members}
@@ -114,3 +114,20 @@ answer_in n (Some r) = first_with n r
 -- one
 abbrev pub answer_to : Case → List ℕ → ℕ → Option Answer
 answer_to c state n = answer_in n (value_for state c)
+
+-- ---- how far one answer reaches
+
+-- of answers in the order of their numbers: the last number up to which each one from n on has the same answer, or none has any
+abbrev pub last_alike : ℕ → List Ranged → ℕ
+last_alike n [] = 4294967295
+last_alike n (a ∷ rs) =
+    if nat_lt n a.span.low then a.span.low - 1
+    else if nat_le n a.span.high then a.span.high else last_alike n rs
+
+abbrev pub last_in : ℕ → Option Response → ℕ
+last_in n None = 4294967295
+last_in n (Some r) = last_alike n r
+
+-- the same of the state of this name
+abbrev pub last_to : Case → List ℕ → ℕ → ℕ
+last_to c state n = last_in n (value_for state c)

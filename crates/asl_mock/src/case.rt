@@ -1,10 +1,10 @@
 // The cases of a mock file.
-ghost use Rattle.std.specs.Prelude.{◌≡◌, ◌↔◌, [], IfOk, IsTrue, Some, option_map};
+ghost use Rattle.std.specs.Prelude.{◌≡◌, ◌≤◌, ◌↔◌, [], ℕ, IfOk, IsTrue, Some, option_map};
 ghost use Rattle.asl_json_data.specs.Distinct.{AreDistinct};
 ghost use Rattle.asl_json.specs.View.{data_of, members_of};
 ghost use Rattle.asl_mock.specs.Tables.{named, value_for};
 ghost use Rattle.asl_mock.specs.Places.{in_each};
-ghost use Rattle.asl_mock.specs.Answers.{text_of, case_of, machine_of, machines_of, answer_to};
+ghost use Rattle.asl_mock.specs.Answers.{text_of, case_of, machine_of, machines_of, answer_to, last_to};
 ghost use Rattle.asl_mock.specs.Faults.{lost_name, lost_in_case, lost_in_machine, is_response};
 ghost use Rattle.asl_mock.specs.Gives.{Gives};
 
@@ -134,6 +134,20 @@ pub fn answer<'a>(case: &'a Case, state: &str, n: u32) -> Option<&'a Answer>
 {
     let response = case.response(state)?;
     response.answer(n)
+}
+
+/// The last number up to which the answers to the state of this name, from number n on, are all that of number n, or none is there: the end of
+/// the range of numbers that has n, or the last number before the next range. Its cost is that of `answer`.
+pub fn last_alike(case: &Case, state: &str, n: u32) -> u32
+    ensures exact { result ≡ last_to case.now state.now n }
+    ensures within { n ≤ result }
+    ensures alike { (k : ℕ) → n ≤ k → k ≤ result
+        → answer_to case.now state.now k ≡ answer_to case.now state.now n }
+{
+    match case.response(state) {
+        Some(response) => response.last_alike(n),
+        None => u32::MAX,
+    }
 }
 
 /// The cases of a machine by name.

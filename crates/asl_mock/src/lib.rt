@@ -25,7 +25,7 @@ mod responses;
 mod shape;
 mod table;
 
-pub use case::{Case, answer};
+pub use case::{Case, answer, last_alike};
 pub use choosing::chosen;
 pub use fault::{CaseFault, MockFault};
 pub use key::{Span, span_in};

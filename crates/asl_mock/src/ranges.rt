@@ -2,7 +2,7 @@
 ghost use Rattle.std.specs.Prelude.{◌≡◌, ◌≤◌, ◌<◌, ℕ, IfOk, IfErr, length, slice_index_or, option_map};
 ghost use Rattle.asl_json.specs.View.{data_of};
 ghost use Rattle.asl_mock.specs.Key.{span_in};
-ghost use Rattle.asl_mock.specs.Answers.{first_with};
+ghost use Rattle.asl_mock.specs.Answers.{first_with, last_alike};
 ghost use Rattle.asl_mock.specs.private.Apart.{AreApart, Meets, IsGap, Added};
 ghost use Rattle.asl_mock.specs.declared.response.Ranged.{Ranged};
 
@@ -51,6 +51,28 @@ pub(crate) fn answer_at(answers: &[Ranged], number: u32) -> Option<&Answer>
     match spot(answers, only) {
         Ok(at) => Some(&answers[at].answer),
         Err(_) => None,
+    }
+}
+
+/// The last number up to which each one from this one on has the same answer, or none has any. Its cost is the logarithm of how many answers
+/// there are.
+pub(crate) fn last_alike(answers: &[Ranged], number: u32) -> u32
+    requires { AreApart answers.now }
+    ensures { result ≡ last_alike number answers.now }
+{
+    let only = Span {
+        low: number,
+        high: number,
+    };
+    match spot(answers, only) {
+        Ok(at) => answers[at].span.high,
+        Err(at) => {
+            if at < answers.len() {
+                answers[at].span.low - 1
+            } else {
+                u32::MAX
+            }
+        }
     }
 }
 

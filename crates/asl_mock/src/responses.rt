@@ -1,16 +1,16 @@
 // The responses of a mock file.
-ghost use Rattle.std.specs.Prelude.{◌≡◌, [], IfOk, option_map};
+ghost use Rattle.std.specs.Prelude.{◌≡◌, ◌≤◌, [], ℕ, IfOk, option_map};
 ghost use Rattle.asl_json_data.specs.Distinct.{AreDistinct};
 ghost use Rattle.asl_json.specs.View.{members_of};
 ghost use Rattle.asl_mock.specs.Tables.{named};
 ghost use Rattle.asl_mock.specs.Places.{in_each};
-ghost use Rattle.asl_mock.specs.Answers.{first_with, response_of, responses_of};
+ghost use Rattle.asl_mock.specs.Answers.{first_with, last_alike, response_of, responses_of};
 ghost use Rattle.asl_mock.specs.Faults.{overlaps_behind, overlaps_in};
 ghost use Rattle.asl_mock.specs.private.Apart.{AreApart};
 ghost use Rattle.asl_mock.specs.Gives.{Gives};
 
 use crate::place::Place;
-use crate::ranges::{added, answer_at};
+use crate::ranges::{added, answer_at, last_alike};
 use crate::response::{Answer, Ranged};
 use crate::table::add;
 use asl_json::Member;
@@ -71,6 +71,16 @@ impl Response {
         ensures { option_map (λ a. a.now) result ≡ first_with number self.now }
     {
         answer_at(&self.answers, number)
+    }
+
+    /// The last number up to which each one from this one on has the same answer, or none has any.
+    pub(crate) fn last_alike(&self, number: u32) -> u32
+        ensures exact { result ≡ last_alike number self.now }
+        ensures within { number ≤ result }
+        ensures alike { (k : ℕ) → number ≤ k → k ≤ result
+            → first_with k self.now ≡ first_with number self.now }
+    {
+        last_alike(&self.answers, number)
     }
 }
 

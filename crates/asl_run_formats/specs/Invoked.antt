@@ -1,5 +1,6 @@
 -- What a definition says of its Tasks.
 use Rattle.std.specs.Prelude.{List, ℕ, [], Option, Some, None, unwrap_or, if◌then◌else◌, codes}
+use Rattle.std.specs.Borrow.{Bor}
 use Rattle.asl_json_data.specs.Data.{Data}
 use Rattle.asl_json.specs.Meaning.{value_in}
 use Rattle.asl_def_fields.specs.Retries.{whole_in}
@@ -35,9 +36,15 @@ abbrev pub limits_by : Option Data → Limits
 limits_by None = unlimited
 limits_by (Some d) = limits_of d
 
--- of the Tasks of a definition, by their names
-abbrev pub tasks_in : Data → TaskTable
-tasks_in m = record {
+-- the region that is named; the emulator is in none, so it is always the same where none is
+abbrev pub region_of : Option (Bor (List ℕ)) → List ℕ
+region_of None = codes "us-east-1"
+region_of (Some region) = region.now
+
+-- of the Tasks of a definition, by their names, which are called in this region
+abbrev pub tasks_in : List ℕ → Data → TaskTable
+tasks_in region m = record {
   resource = λ n. resource_by (state_object n m);
   limits = λ n. limits_by (state_object n m);
+  region = region;
 }

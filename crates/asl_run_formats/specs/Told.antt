@@ -15,13 +15,13 @@ use Rattle.asl_run_input.specs.StepsFile.{steps_file}
 use Rattle.asl_trace.specs.declared.tree.Shows.TheVariants.{Changes, Stages}
 use Rattle.asl_run_formats.specs.Taken.{taken_by}
 use Rattle.asl_run_formats.specs.Trees.{tree_text}
-use Rattle.asl_run_formats.specs.Invoked.{tasks_in}
+use Rattle.asl_run_formats.specs.Invoked.{region_of, tasks_in}
 
 -- what is printed of an execution that began with this, and took these steps from the world w to the
 -- world u
 abbrev pub told : Format → Setup → World → List StepAt → World → List ℕ
 told Json s w ss u = json_lines_text u.events
-told Aws s w ss u = aws_text (tasks_in s.machine) u.events
+told (Aws region) s w ss u = aws_text (tasks_in (region_of region) s.machine) u.events
 told Steps s w ss u = steps_file ss
 told Tree s w ss u = tree_text Changes s w ss u
 told Data s w ss u = tree_text Stages s w ss u

@@ -22,12 +22,12 @@ use std::alloc::{AllocError, Global};
 /// ran out.
 fn run_as(
     alloc: Global,
-    format: Format,
+    format: Format<'_>,
     setup: Setup,
     steps: Option<Vec<StepAt>>,
     limit: u32,
 ) -> Result<Emulated, AllocError>
-    ensures text { IfOk result (λ e. string_bytes e.text ≡ told format setup (opening setup)
+    ensures text { IfOk result (λ e. string_bytes e.text ≡ told format.entry setup (opening setup)
         (taken_by limit setup (opening setup) (steps_in steps))
         (world_by limit setup (opening setup) (steps_in steps))) }
     ensures good { IfOk result (λ e. e.good
@@ -62,11 +62,11 @@ fn copied(alloc: Global, steps: &[StepAt]) -> Result<Vec<StepAt>, AllocError>
 /// What the run of these steps prints in a format. The error is that memory ran out.
 pub fn printed_steps(
     alloc: Global,
-    format: Format,
+    format: Format<'_>,
     setup: Setup,
     steps: &[StepAt],
 ) -> Result<String, AllocError>
-    ensures { IfOk result (λ t. string_bytes t ≡ told format setup (opening setup) steps.now
+    ensures { IfOk result (λ t. string_bytes t ≡ told format.entry setup (opening setup) steps.now
         (world_after setup (opening setup) steps.now)) }
 {
     let steps = copied(alloc, steps)?;
@@ -77,12 +77,12 @@ pub fn printed_steps(
 /// Runs an execution as `asl_exec::emulate_texts` does, with its faults, and prints it in a format.
 pub fn emulate_as(
     alloc: Global,
-    format: Format,
+    format: Format<'_>,
     texts: &RunTexts<'_>,
     limit: u32,
 ) -> Result<Emulated, EmulateFault>
     ensures run { IfOk result
-        (λ e. IsToldRunOf format (texts_of texts.now) limit (string_bytes e.text) e.good) }
+        (λ e. IsToldRunOf format.entry (texts_of texts.now) limit (string_bytes e.text) e.good) }
     ensures lacking { IfOk result (λ e. IsLackingIn (texts_of texts.now) limit e.lacking) }
     ensures end { IfOk result (λ e. IsEndIn (texts_of texts.now) limit e.end) }
     ensures fault { IfErr result (Unless (IsRefused (texts_of texts.now))) }

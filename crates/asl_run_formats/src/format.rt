@@ -5,11 +5,11 @@ ghost use Rattle.asl_exec.specs.RunText.{world_by};
 ghost use Rattle.asl_exec.specs.Views.{setup_of, world_of};
 ghost use Rattle.asl_run_formats.specs.Taken.{taken_by};
 ghost use Rattle.asl_history_formats.specs.Aws.{aws_text};
-ghost use Rattle.asl_run_formats.specs.Invoked.{tasks_in};
+ghost use Rattle.asl_run_formats.specs.Invoked.{region_of, tasks_in};
 ghost use Rattle.asl_run_formats.specs.Told.{told};
 
 use crate::driving::take_by;
-use crate::invoking::Invoked;
+use crate::invoking::{Invoked, region_of};
 use crate::treeing::tree_by;
 use asl_exec::Execution;
 use asl_history_formats::{aws_json, lines_of_json};
@@ -18,12 +18,13 @@ use asl_trace::Shows;
 use std::alloc::{AllocError, Global};
 
 /// How a run is printed.
-#[derive(Clone, Copy, Debug, PartialEq, Eq)]
-pub enum Format {
+#[derive(Clone, Copy)]
+pub enum Format<'a> {
     /// Its history, a JSON object each on a line.
     Json,
-    /// Its history as one JSON text, in the shape in which the service tells one.
-    Aws,
+    /// Its history as one JSON text, in the shape in which the service tells one: Tasks are called in the region of this name, `us-east-1`
+    /// where none is named.
+    Aws(Option<&'a str>),
     /// The steps that it took, as a file of steps.
     Steps,
     /// What happened at each state, for a person.
@@ -32,14 +33,16 @@ pub enum Format {
     Data,
 }
 
-/// The history so far, in the shape in which the service tells one. The error is that memory ran out.
-fn aws_of(alloc: Global, execution: &Execution) -> Result<String, AllocError>
+/// The history so far, in the shape in which the service tells one of this region. The error is that memory ran out.
+fn aws_of(alloc: Global, region: Option<&str>, execution: &Execution) -> Result<String, AllocError>
     ensures { IfOk result (λ t. string_bytes t
-        ≡ aws_text (tasks_in (setup_of execution.now).machine) (world_of execution.now).events) }
+        ≡ aws_text (tasks_in (region_of region.entry) (setup_of execution.now).machine)
+        (world_of execution.now).events) }
 {
     let setup = execution.setup();
     let invoked = Invoked {
         machine: &setup.machine,
+        region: region_of(region),
     };
     aws_json(alloc, &invoked, execution.history().events())
 }
@@ -48,13 +51,13 @@ fn aws_of(alloc: Global, execution: &Execution) -> Result<String, AllocError>
 /// memory ran out.
 pub(crate) fn printed(
     alloc: Global,
-    format: Format,
+    format: Format<'_>,
     execution: &mut Execution,
     steps: Option<Vec<StepAt>>,
     limit: u32,
 ) -> Result<String, AllocError>
     ensures text { IfOk result (λ t. string_bytes t
-        ≡ told format (setup_of execution.old) (world_of execution.old)
+        ≡ told format.entry (setup_of execution.old) (world_of execution.old)
         (taken_by limit (setup_of execution.old) (world_of execution.old) (steps_in steps))
         (world_by limit (setup_of execution.old) (world_of execution.old) (steps_in steps))) }
     ensures world { OnOk result (world_of execution.new
@@ -66,9 +69,9 @@ pub(crate) fn printed(
             take_by(alloc, execution, steps, limit)?;
             lines_of_json(alloc, execution.history().events())
         }
-        Format::Aws => {
+        Format::Aws(region) => {
             take_by(alloc, execution, steps, limit)?;
-            aws_of(alloc, execution)
+            aws_of(alloc, region, execution)
         }
         Format::Steps => {
             let steps = take_by(alloc, execution, steps, limit)?;

@@ -4,17 +4,28 @@ ghost use Rattle.asl_json_data.specs.Data.{number};
 ghost use Rattle.asl_def_schema.specs.Canon.{Named};
 ghost use Rattle.asl_def_fields.specs.Retries.{whole_in};
 ghost use Rattle.asl_def_states.specs.Show.{state_of as state_shown, task_object};
-ghost use Rattle.asl_run_formats.specs.Invoked.{resource_of, limits_of, own_limits, unlimited};
+ghost use Rattle.asl_run_formats.specs.Invoked.{resource_of, limits_of, own_limits, unlimited, region_of};
 
 use asl_def::Machine;
 use asl_def_fields::Count;
 use asl_def_states::{State, Task};
 use asl_history_formats::{Limits, Tasks};
 
-/// The Tasks of a definition.
+/// The Tasks of a definition, which are called in this region.
 #[derive(Drop)]
 pub(crate) struct Invoked<'a> {
     pub(crate) machine: &'a Machine,
+    pub(crate) region: &'a str,
+}
+
+/// The region that is named; the emulator is in none, so it is always the same where none is.
+pub(crate) fn region_of(region: Option<&str>) -> &str
+    ensures { result.now ≡ region_of region.entry }
+{
+    match region {
+        Some(region) => region,
+        None => "us-east-1",
+    }
 }
 
 /// The resource that a state invokes; empty where it is no Task.
@@ -82,7 +93,7 @@ fn limits_of(state: &State) -> Limits
 impl Tasks for Invoked<'_> {
     ghost use Rattle.asl_run_formats.specs.Invoked.{tasks_in};
 
-    ghost table = { λ x. tasks_in x.machine.now };
+    ghost table = { λ x. tasks_in x.region.now x.machine.now };
 
     fn resource(&self, name: &str) -> &str {
         match self.machine.find(name) {
@@ -96,5 +107,9 @@ impl Tasks for Invoked<'_> {
             Some((_, state)) => limits_of(state),
             None => unlimited(),
         }
+    }
+
+    fn region(&self) -> &str {
+        self.region
     }
 }

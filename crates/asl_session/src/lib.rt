@@ -27,5 +27,7 @@ pub use laws::{
 };
 pub use reply::Reply;
 pub use script::run_script;
-pub use script_file::{ScriptFault, files_spell_one_script, read_command, read_count, read_place};
+pub use script_file::{
+    ScriptFault, files_spell_one_script, read_command, read_count, read_place, read_script,
+};
 pub use session::Session;

@@ -220,7 +220,7 @@ pub fn read_command(alloc: Global, line: &[u8]) -> Result<Option<Command>, Alloc
 /// # Errors
 ///
 /// The number of the first line that is no command, or that memory ran out.
-pub(crate) fn read_script(alloc: Global, bytes: &[u8]) -> Result<Vec<Command>, ScriptFault>
+pub fn read_script(alloc: Global, bytes: &[u8]) -> Result<Vec<Command>, ScriptFault>
     ensures found { IfOk result (λ commands. IsScript bytes.now commands.items) }
     // A file of these commands is read as these commands.
     ensures only { (cs : List Command) → IsScript bytes.now cs

@@ -4,7 +4,7 @@ use Rattle.std.specs.Prelude.{string_bytes}
 use Rattle.asl_session_repl.specs.declared.console.Answer.{Answer}
 use Rattle.asl_session_repl.specs.declared.request.Request.{Request}
 use Rattle.asl_session_repl.specs.Requests.{IsRequest}
-use Rattle.asl_session_repl.specs.Answers.{Console, started, answer_to, next_console, is_quit, swap_line, swap_text, IsAnswer, Obeyed}
+use Rattle.asl_session_repl.specs.Answers.{Console, started, answer_to, next_console, is_quit, is_refused, swap_line, swap_text, IsAnswer, Obeyed, IsRefusedLine, Asks}
 use Rattle.asl_run_state.specs.World.{World}
 use Rattle.asl_run_input.specs.declared.setup.Setup.{Setup}
 use Rattle.asl_run_input.specs.declared.step_at.StepAt.{StepAt}
@@ -18,6 +18,12 @@ pub obeyed : {E : Type 0} (r : Result Answer E) (c d : Console) (line : List ℕ
     → IfOk r (λ a. IsAnswer c line (string_bytes a.text) a.quits d)
 obeyed (Ok a) c d line q asks text quits next = Obeyed q asks text quits next
 obeyed (Err e) c d line q asks text quits next = text
+
+-- and whether it was refused
+pub asked : {E : Type 0} (r : Result Answer E) (c : Console) (line : List ℕ) (q : Request) → IsRequest line q
+    → IfOk r (λ a. a.refused ≡ is_refused (started c q) q) → IfOk r (λ a. IsRefusedLine c line a.refused)
+asked (Ok a) c line q asks refused = Asks q asks refused
+asked (Err e) c line q asks refused = refused
 
 -- what is told of two steps is told of the session's setup and world
 pub swapped : {E : Type 0} (r : Result Unit E) (new old : List ℕ) (s : Session) (setup : Setup) (w : World) (a b : StepAt) (o : Option Obstacle)

@@ -1,5 +1,6 @@
 -- What the debugger answers to a line, and what the line makes of its session.
-use Rattle.std.specs.Prelude.{ℕ, ◌≡◌, Bool, true, false, ◌||◌, List, [], ◌∷◌, ◌++◌, Option, Some, None, codes}
+use Rattle.std.specs.Prelude.{ℕ, ◌≡◌, Bool, true, false, ◌||◌, List, [], ◌∷◌, ◌++◌, Option, Some, None, is_none, codes}
+use Rattle.asl_run_branches.specs.Branches.{record_at}
 use Rattle.asl_run_input.specs.declared.setup.Setup.{Setup}
 use Rattle.asl_run_input.specs.declared.step_at.StepAt.{StepAt}
 use Rattle.asl_run_input.specs.StepsFile.{steps_file}
@@ -10,7 +11,7 @@ use Rattle.asl_session.specs.Sessions.{Session, opened, restarted, world_in, rep
 use Rattle.asl_session.specs.ReplyLines.{answer_line}
 use Rattle.asl_session.specs.declared.command.Command.TheVariants as command
 use Rattle.asl_session.specs.declared.reply.Reply.{Reply}
-use Rattle.asl_session.specs.declared.reply.Reply.TheVariants.{Set, Cleared}
+use Rattle.asl_session.specs.declared.reply.Reply.TheVariants.{Set, Cleared, Refused, Paused, NotPaused, NoSuchState, NoSuchPlace, TooFar}
 use Rattle.asl_session_repl.specs.declared.request.Request.{Request}
 use Rattle.asl_session_repl.specs.declared.request.Request.TheVariants.{Told, Halt, Step, Next, Continue, Until, Places, Data, Events, Steps, Swap, Help, Quit}
 use Rattle.asl_session_repl.specs.declared.timed.When.{When}
@@ -93,6 +94,25 @@ abbrev pub is_quit : Request → Bool
 is_quit Quit = true
 is_quit r = false
 
+-- ---- what isn't carried out
+
+-- the reply to a command that wasn't
+abbrev pub is_refusal : Reply → Bool
+is_refusal (Refused r) = true
+is_refusal (Paused n) = true
+is_refusal NotPaused = true
+is_refusal NoSuchState = true
+is_refusal NoSuchPlace = true
+is_refusal TooFar = true
+is_refusal r = false
+
+-- whether a request isn't; where no step comes next, nothing is refused
+abbrev pub is_refused : Session → Request → Bool
+is_refused s (Told c) = is_refusal (reply_to s c)
+is_refused s (Step p w) = is_refusal (reply_to s (command.Step (dated_step s p w)))
+is_refused s (Data p) = is_none (record_at p (world_in s).branches)
+is_refused s r = false
+
 -- ---- where an execution starts
 
 -- the start is settled by the first request that takes steps
@@ -138,6 +158,11 @@ next_console c r = record {
   settled = c.settled || settles r;
   halting = halts_behind c.halting r;
 }
+
+-- a line isn't carried out: it asks for nothing, or for what is refused
+pub data IsRefusedLine (c : Console) (line : List ℕ) (refused : Bool) : Type 0 where
+  Asks : (r : Request) → IsRequest line r → refused ≡ is_refused (started c r) r → IsRefusedLine c line refused
+  AsksNothing : ((r : Request) → IsRequest line r → ⊥) → refused ≡ true → IsRefusedLine c line refused
 
 -- a line was answered: what it asks for was done; or it asks for nothing, and what it could be was
 -- told

@@ -1,10 +1,13 @@
 // What is answered to a line.
-ghost use Rattle.std.specs.Prelude.{◌≡◌, ◌++◌, ◌||◌, false, IfOk, OnOk, OnErr, string_bytes};
-ghost use Rattle.asl_session.specs.Sessions.{next_session, reply_to};
+ghost use Rattle.std.specs.Prelude.{◌≡◌, ◌++◌, ◌||◌, false, true, is_none, IfOk, OnOk, OnErr, string_bytes};
+ghost use Rattle.asl_run_branches.specs.Branches.{record_at};
+ghost use Rattle.asl_session.specs.ReplyLines.{answer_line};
+ghost use Rattle.asl_session.specs.Sessions.{next_session, reply_to, world_in};
+ghost use Rattle.asl_session_repl.specs.Views.{data_text};
 ghost use Rattle.asl_session.specs.declared.command.Command.TheVariants.{Step};
 ghost use Rattle.asl_session_repl.specs.Dated.{dated, dated_step};
 ghost use Rattle.asl_session_repl.specs.Requests.{complaint};
-ghost use Rattle.asl_session_repl.specs.Answers.{first_console, most_moves, step_answer, halt_answer, halts_behind, start_in, started, answer_to, after, settles, is_quit, next_console, swap_line, swap_text, IsAnswer};
+ghost use Rattle.asl_session_repl.specs.Answers.{first_console, most_moves, step_answer, halt_answer, halts_behind, start_in, started, answer_to, after, settles, is_quit, is_refusal, is_refused, IsRefusedLine, next_console, swap_line, swap_text, IsAnswer};
 
 use crate::dated::{dated, dated_step, last_moment, moment_of};
 use crate::going::{go, put_step_line};
@@ -61,6 +64,8 @@ pub struct Answer {
     pub text: String,
     /// Whether no further line is read.
     pub quits: bool,
+    /// Whether the line isn't carried out: it asks for nothing, or for what is refused.
+    pub refused: bool,
 }
 
 impl Drop for Answer {
@@ -68,6 +73,7 @@ impl Drop for Answer {
         let Answer {
             text: _text,
             quits: _quits,
+            refused: _refused,
         } = self;
     }
 }
@@ -127,23 +133,74 @@ fn put_step_answer(
     }
 }
 
-/// Takes the step that is named, and appends what is answered. The error is that memory ran out.
+/// Whether this is the reply to a command that wasn't carried out.
+fn is_refusal(reply: &Reply) -> bool
+    ensures { result ≡ is_refusal reply.now }
+{
+    match reply {
+        Reply::Refused(_)
+        | Reply::Paused(_)
+        | Reply::NotPaused
+        | Reply::NoSuchState
+        | Reply::NoSuchPlace
+        | Reply::TooFar => true,
+        _ => false,
+    }
+}
+
+/// Takes the step that is named, and appends what is answered; tells whether it is refused. The error is that memory ran out.
 fn take_named(
     alloc: Global,
     out: &mut String,
     session: &mut Session,
     place: &Place,
     when: Option<When>,
-) -> Result<(), AllocError>
+) -> Result<bool, AllocError>
     ensures text { OnOk result (string_bytes out.new ≡ string_bytes out.old
         ++ step_answer when (dated_step session.old place.now when)
         (reply_to session.old (Step (dated_step session.old place.now when)))) }
     ensures next { OnOk result (session.new
         ≡ next_session session.old (Step (dated_step session.old place.now when))) }
+    ensures refused { IfOk result (λ b. b
+        ≡ is_refusal (reply_to session.old (Step (dated_step session.old place.now when)))) }
 {
     let at = dated_step(session, place, when)?;
     let reply = session.apply(&Command::Step(at.try_clone()?))?;
-    put_step_answer(alloc, out, when, &at, &reply)
+    put_step_answer(alloc, out, when, &at, &reply)?;
+    Ok(is_refusal(&reply))
+}
+
+/// Carries out a command, and appends the reply; tells whether it is refused. The error is that memory ran out.
+fn tell(
+    alloc: Global,
+    out: &mut String,
+    session: &mut Session,
+    command: &Command,
+) -> Result<bool, AllocError>
+    ensures text { OnOk result (string_bytes out.new
+        ≡ string_bytes out.old ++ answer_line (reply_to session.old command.now)) }
+    ensures next { OnOk result (session.new ≡ next_session session.old command.now) }
+    ensures refused { IfOk result (λ b. b ≡ is_refusal (reply_to session.old command.now)) }
+{
+    let reply = session.apply(command)?;
+    put_answer(alloc, out, &reply)?;
+    Ok(is_refusal(&reply))
+}
+
+/// Appends the data of the branch at a place; tells whether no branch runs there. The error is that memory ran out.
+fn show_data(
+    alloc: Global,
+    out: &mut String,
+    session: &Session,
+    place: &Place,
+) -> Result<bool, AllocError>
+    ensures text { OnOk result (string_bytes out.new
+        ≡ string_bytes out.old ++ data_text session.now place.now) }
+    ensures refused { IfOk result (λ b. b
+        ≡ is_none (record_at place.now (world_in session.now).branches)) }
+{
+    put_data(alloc, out, session, place)?;
+    Ok(session.execution().view(place).is_none())
 }
 
 /// Whether the start is settled by a request.
@@ -194,10 +251,15 @@ fn halts_behind(halting: bool, request: &Request) -> bool
 fn complain(alloc: Global, line: &[u8]) -> Result<Answer, AllocError>
     ensures text { IfOk result (λ a. string_bytes a.text ≡ complaint line.now) }
     ensures quits { IfOk result (λ a. a.quits ≡ false) }
+    ensures refused { IfOk result (λ a. a.refused ≡ true) }
 {
     let mut text = String::new(alloc);
     put_complaint(&mut text, line)?;
-    Ok(Answer { text, quits: false })
+    Ok(Answer {
+        text,
+        quits: false,
+        refused: true,
+    })
 }
 
 impl Console {
@@ -230,8 +292,9 @@ impl Console {
 
     /// Answers a line: carries out what it asks for, or tells what it could be. The error is that memory ran out.
     pub fn answer(&mut self, line: &[u8]) -> Result<Answer, AllocError>
-        ensures { IfOk result (λ a.
+        ensures answer { IfOk result (λ a.
             IsAnswer self.old line.now (string_bytes a.text) a.quits self.new) }
+        ensures refused { IfOk result (λ a. IsRefusedLine self.old line.now a.refused) }
     {
         match read_request(self.alloc, line)? {
             Some(request) => self.carry_out(&request),
@@ -244,17 +307,20 @@ impl Console {
         ensures text { IfOk result (λ a. string_bytes a.text
             ≡ answer_to self.old.halting (started self.old request.now) request.now) }
         ensures quits { IfOk result (λ a. a.quits ≡ is_quit request.now) }
+        ensures refused { IfOk result (λ a. a.refused
+            ≡ is_refused (started self.old request.now) request.now) }
         ensures next { OnOk result (self.new ≡ next_console self.old request.now) }
     {
         let mut text = String::new(self.alloc);
         self.start(request)?;
         // (also where memory runs out behind the first of several steps)
         self.settled = is_settled(self.settled, request);
-        self.obey(&mut text, request)?;
+        let refused = self.obey(&mut text, request)?;
         self.halting = halts_behind(self.halting, request);
         Ok(Answer {
             text,
             quits: matches!(request, Request::Quit),
+            refused,
         })
     }
 
@@ -275,10 +341,11 @@ impl Console {
         }
     }
 
-    /// Carries out a request, and appends what is answered. The error is that memory ran out.
-    fn obey(&mut self, out: &mut String, request: &Request) -> Result<(), AllocError>
+    /// Carries out a request, and appends what is answered; tells whether it is refused. The error is that memory ran out.
+    fn obey(&mut self, out: &mut String, request: &Request) -> Result<bool, AllocError>
         ensures text { OnOk result (string_bytes out.new
             ≡ string_bytes out.old ++ answer_to self.old.halting self.old.session request.now) }
+        ensures refused { IfOk result (λ b. b ≡ is_refused self.old.session request.now) }
         ensures next { OnOk result (self.new.session
             ≡ after self.old.halting self.old.session request.now) }
         ensures settled { self.new.settled ≡ self.old.settled }
@@ -286,12 +353,12 @@ impl Console {
     {
         let (alloc, halting) = (self.alloc, self.halting);
         match request {
-            Request::Told(command) => {
-                let reply = self.session.apply(command)?;
-                put_answer(alloc, out, &reply)
+            Request::Told(command) => return tell(alloc, out, &mut self.session, command),
+            Request::Step(place, when) => {
+                return take_named(alloc, out, &mut self.session, place, *when);
             }
-            Request::Halt(halts) => put_answer(alloc, out, &halt_answer(*halts)),
-            Request::Step(place, when) => take_named(alloc, out, &mut self.session, place, *when),
+            Request::Data(place) => return show_data(alloc, out, &self.session, place),
+            Request::Halt(halts) => put_answer(alloc, out, &halt_answer(*halts))?,
             Request::Next(count) => go(
                 alloc,
                 out,
@@ -299,7 +366,7 @@ impl Console {
                 halting,
                 *count,
                 last_moment(),
-            ),
+            )?,
             Request::Continue => go(
                 alloc,
                 out,
@@ -307,18 +374,18 @@ impl Console {
                 halting,
                 most_moves(),
                 last_moment(),
-            ),
+            )?,
             Request::Until(when) => {
                 let until = moment_of(&self.session, *when);
-                go(alloc, out, &mut self.session, halting, most_moves(), until)
+                go(alloc, out, &mut self.session, halting, most_moves(), until)?;
             }
-            Request::Places => put_places(alloc, out, &self.session),
-            Request::Data(place) => put_data(alloc, out, &self.session, place),
-            Request::Events(count) => put_events(out, &self.session, *count),
-            Request::Steps => put_steps(out, self.session.steps()),
-            Request::Swap(one, other) => put_swap(out, &self.session, one, other),
-            Request::Help => put_help(out),
-            Request::Quit => Ok(()),
+            Request::Places => put_places(alloc, out, &self.session)?,
+            Request::Events(count) => put_events(out, &self.session, *count)?,
+            Request::Steps => put_steps(out, self.session.steps())?,
+            Request::Swap(one, other) => put_swap(out, &self.session, one, other)?,
+            Request::Help => put_help(out)?,
+            Request::Quit => {}
         }
+        Ok(false)
     }
 }

@@ -5,7 +5,7 @@ ghost use Rattle.asl_exec.specs.Steps.{world_after};
 ghost use Rattle.asl_exec.specs.Views.{setup_of, world_of};
 ghost use Rattle.asl_trace.specs.Steps.{tree_lines};
 ghost use Rattle.asl_session.specs.Sessions.{world_in};
-ghost use Rattle.asl_session_repl.specs.Answers.{first_console};
+ghost use Rattle.asl_session_repl.specs.Answers.{first_console, IsRefusedLine};
 ghost use Rattle.asl_session_repl.specs.Telling.{AreShown, AreToldThere, IsToldOf, told_back, IsTold, Answers, greeting, IsEndText};
 ghost use Rattle.asl_session_repl.specs.private.Shadows.{IsBehind};
 
@@ -225,8 +225,9 @@ impl Teller {
 
     /// Answers a line, and tells so of its steps. The error is that memory ran out.
     pub fn answer(&mut self, look: Look, line: &[u8]) -> Result<Answer, AllocError>
-        ensures { IfOk result (λ a.
+        ensures answer { IfOk result (λ a.
             Answers look self.old line.now (string_bytes a.text) a.quits self.new) }
+        ensures refused { IfOk result (λ a. IsRefusedLine self.old line.now a.refused) }
     {
         match look {
             Look::Transcript => {
@@ -240,8 +241,9 @@ impl Teller {
     /// Answers a line, and tells what happened at each state in its steps, and where each branch stands where steps were taken back. The
     /// error is that memory ran out.
     fn tell(&mut self, look: Look, line: &[u8]) -> Result<Answer, AllocError>
-        ensures { IfOk result (λ a.
+        ensures told { IfOk result (λ a.
             IsTold look self.old line.now (string_bytes a.text) a.quits self.new) }
+        ensures refused { IfOk result (λ a. IsRefusedLine self.old line.now a.refused) }
     {
         let shadow = self.shadow.take();
         let kept = kept_where(self.console.is_settled(), shadow);
@@ -253,6 +255,7 @@ impl Teller {
             return Ok(Answer {
                 text,
                 quits: answer.quits,
+                refused: answer.refused,
             });
         }
         self.shadow = kept_where(before == after, kept);

@@ -66,10 +66,21 @@ counts fs =
 
 -- what stands before the test cases of a suite of this name
 unfoldable pub suite_head : List ℕ → List Finding → List ℕ
-suite_head n fs =
-    codes "<?xml version=\"1.0\" encoding=\"UTF-8\"?>\n<testsuites" ++ (counts fs
-    ++ (codes ">\n  <testsuite" ++ (text_attribute (codes "name") n ++ (counts fs ++ codes ">\n"))))
+suite_head n fs = codes "  <testsuite" ++ (text_attribute (codes "name") n ++ (counts fs ++ codes ">\n"))
 
+abbrev pub suite_element : List ℕ → List Finding → List ℕ
+suite_element n fs = suite_head n fs ++ (flat_map case_element fs ++ codes "  </testsuite>\n")
+
+unfoldable pub document_head : List ℕ
+document_head = codes "<?xml version=\"1.0\" encoding=\"UTF-8\"?>\n<testsuites"
+
+unfoldable pub document_tail : List ℕ
+document_tail = codes "</testsuites>\n"
+
+-- of one suite
 abbrev pub junit_text : List ℕ → List Finding → List ℕ
-junit_text n fs =
-    suite_head n fs ++ (flat_map case_element fs ++ codes "  </testsuite>\n</testsuites>\n")
+junit_text n fs = document_head ++ (counts fs ++ (codes ">\n" ++ (suite_element n fs ++ document_tail)))
+
+-- of several, of which these are the elements
+abbrev pub junit_suites : List ℕ → List ℕ
+junit_suites elements = document_head ++ (codes ">\n" ++ (elements ++ document_tail))

@@ -17,6 +17,7 @@ use std::alloc::{AllocError, Global};
 pub struct Source<'a> {
     pub definition: &'a str,
     pub mocks: &'a str,
+    pub expectations: &'a str,
     pub first: usize,
     pub apart: usize,
     pub numbers: Option<&'a [usize]>,
@@ -106,7 +107,7 @@ fn finding_of<'a>(
     let mut alone = String::new(alloc);
     if !is_passed(report) && place < suite.tests.list.len() {
         put_why(alloc, &mut difference, suite, place, report)?;
-        put_alone(alloc, &mut alone, source, &suite.tests.list[place])?;
+        put_alone(&mut alone, source, number)?;
     }
     Ok(Finding {
         number,

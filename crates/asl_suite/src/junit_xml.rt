@@ -3,7 +3,7 @@ ghost use Rattle.std.specs.Prelude.{◌≡◌, ◌++◌, IfOk, OnOk, string_byte
 ghost use Rattle.std.specs.List.{flat_map};
 ghost use Rattle.asl_writing.specs.Appends.{Appends};
 ghost use Rattle.asl_suite.specs.Xml.{xml_text};
-ghost use Rattle.asl_suite.specs.Junit.{count_attribute, class, type_attribute, message, own_name, case_name, case_head, failure_head, failure, case_tail, case_element, failed, counts, suite_head, junit_text};
+ghost use Rattle.asl_suite.specs.Junit.{count_attribute, class, type_attribute, message, own_name, case_name, case_head, failure_head, failure, case_tail, case_element, failed, counts, suite_head, suite_element, document_head, document_tail, junit_text, junit_suites};
 
 use crate::finding::{Finding, is_good};
 use crate::xml::{put_attribute, put_count, put_number, put_plain, put_xml};
@@ -172,12 +172,7 @@ fn put_suite_head(out: &mut String, name: &str, findings: &[Finding<'_>]) -> Res
     ensures { OnOk result (Appends (string_bytes out.old) (suite_head name.now findings.now)
         (string_bytes out.new)) }
 {
-    put_plain(
-        out,
-        "<?xml version=\"1.0\" encoding=\"UTF-8\"?>\n<testsuites",
-    )?;
-    put_counts(out, findings)?;
-    put_plain(out, ">\n  <testsuite")?;
+    put_plain(out, "  <testsuite")?;
     put_attribute(out, "name", name)?;
     put_counts(out, findings)?;
     put_plain(out, ">\n")?;
@@ -185,12 +180,43 @@ fn put_suite_head(out: &mut String, name: &str, findings: &[Finding<'_>]) -> Res
 }
 
 fn put_suite(out: &mut String, name: &str, findings: &[Finding<'_>]) -> Result<(), AllocError>
-    ensures { OnOk result (Appends (string_bytes out.old) (junit_text name.now findings.now)
+    ensures { OnOk result (Appends (string_bytes out.old) (suite_element name.now findings.now)
         (string_bytes out.new)) }
 {
     put_suite_head(out, name, findings)?;
     put_cases(out, findings)?;
-    put_plain(out, "  </testsuite>\n</testsuites>\n")?;
+    put_plain(out, "  </testsuite>\n")?;
+    Ok(())
+}
+
+// ---- the document
+
+#[tactic(auto, unfolding(crate::specs::Junit::document_head))]
+fn put_head(out: &mut String) -> Result<(), AllocError>
+    ensures { OnOk result (Appends (string_bytes out.old) document_head (string_bytes out.new)) }
+{
+    put_plain(
+        out,
+        "<?xml version=\"1.0\" encoding=\"UTF-8\"?>\n<testsuites",
+    )
+}
+
+#[tactic(auto, unfolding(crate::specs::Junit::document_tail))]
+fn put_tail(out: &mut String) -> Result<(), AllocError>
+    ensures { OnOk result (Appends (string_bytes out.old) document_tail (string_bytes out.new)) }
+{
+    put_plain(out, "</testsuites>\n")
+}
+
+fn put_document(out: &mut String, name: &str, findings: &[Finding<'_>]) -> Result<(), AllocError>
+    ensures { OnOk result (Appends (string_bytes out.old) (junit_text name.now findings.now)
+        (string_bytes out.new)) }
+{
+    put_head(out)?;
+    put_counts(out, findings)?;
+    put_plain(out, ">\n")?;
+    put_suite(out, name, findings)?;
+    put_tail(out)?;
     Ok(())
 }
 
@@ -201,6 +227,38 @@ pub fn junit(alloc: Global, name: &str, findings: &[Finding<'_>]) -> Result<Stri
     ensures { IfOk result (λ t. string_bytes t ≡ junit_text name.now findings.now) }
 {
     let mut text = String::new(alloc);
+    put_document(&mut text, name, findings)?;
+    Ok(text)
+}
+
+/// The element of a test suite alone, as it stands among those of others. The error is that memory ran out.
+pub fn junit_suite(
+    alloc: Global,
+    name: &str,
+    findings: &[Finding<'_>],
+) -> Result<String, AllocError>
+    ensures { IfOk result (λ t. string_bytes t ≡ suite_element name.now findings.now) }
+{
+    let mut text = String::new(alloc);
     put_suite(&mut text, name, findings)?;
+    Ok(text)
+}
+
+fn put_suites(out: &mut String, elements: &str) -> Result<(), AllocError>
+    ensures { OnOk result (Appends (string_bytes out.old) (junit_suites elements.now) (string_bytes out.new)) }
+{
+    put_head(out)?;
+    put_plain(out, ">\n")?;
+    put_plain(out, elements)?;
+    put_tail(out)?;
+    Ok(())
+}
+
+/// The document of test suites of which these are the elements. The error is that memory ran out.
+pub fn junit_suites(alloc: Global, elements: &str) -> Result<String, AllocError>
+    ensures { IfOk result (λ t. string_bytes t ≡ junit_suites elements.now) }
+{
+    let mut text = String::new(alloc);
+    put_suites(&mut text, elements)?;
     Ok(text)
 }

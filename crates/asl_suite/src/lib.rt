@@ -28,7 +28,7 @@ pub use doubting::strictly;
 pub use explaining::explain;
 pub use finding::{Finding, Source, findings};
 pub use json_lines::json;
-pub use junit_xml::junit;
+pub use junit_xml::{junit, junit_suite, junit_suites};
 pub use reason::Reason;
 pub use reporting::{all_passed, report};
 pub use running::{run_case, setup_in};

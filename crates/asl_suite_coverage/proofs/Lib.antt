@@ -1,3 +1,4 @@
 pub mod Covering
 pub mod Counting
 mod Driving
+mod Lines

@@ -1,6 +1,6 @@
 -- Which answer of a mock file an invocation has.
 use Rattle.std.specs.Prelude.{ℕ, suc, Bool, false, ◌&&◌, nat_le, List, [], ◌∷◌, codes, if◌then◌else◌, Option, Some, None}
-use Rattle.asl_json_data.specs.Data.{Data, number, text}
+use Rattle.asl_json_data.specs.Data.{Data, text}
 use Rattle.asl_json_data.specs.Distinct.{Members}
 use Rattle.asl_json.specs.Meaning.{value_in}
 use Rattle.asl_mock.specs.Key.{span_in}

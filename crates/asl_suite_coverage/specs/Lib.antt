@@ -4,3 +4,6 @@ pub mod Answers
 pub mod Listed
 pub mod Covered
 pub mod Views
+pub mod Sites
+pub mod JsonText
+pub mod LcovText

@@ -9,14 +9,14 @@ use crate::spot::Part;
 use asl_text::put_decimal;
 use std::alloc::{AllocError, Global};
 
-fn is_covered(point: &Point) -> bool
+pub(crate) fn is_covered(point: &Point) -> bool
     ensures { result ≡ is_covered point.now }
 {
     point.covered
 }
 
 /// How many points are covered.
-fn covered(points: &[Point]) -> usize
+pub(crate) fn covered(points: &[Point]) -> usize
     ensures { result ≡ covered points.now }
 {
     points.iter().filter(|point| is_covered(point)).count()
@@ -24,7 +24,7 @@ fn covered(points: &[Point]) -> usize
 
 /// So many of all, as a whole percent, rounded down; 100 where there are none.
 #[tactic(auto, using(crate::proofs::Counting::percent_few))]
-fn percent(number: usize, all: usize) -> u32
+pub(crate) fn percent(number: usize, all: usize) -> u32
     requires { number ≤ all }
     ensures { result ≡ percent number all }
 {
@@ -45,7 +45,7 @@ pub(crate) fn percent_of(points: &[Point]) -> u32
 
 /// A file of which there are points.
 #[derive(Clone, Copy)]
-pub(crate) enum File {
+pub enum File {
     Definition,
     Mocks,
 }
@@ -57,7 +57,7 @@ fn is_answer(part: Part) -> bool
 }
 
 /// Whether a point is one of this file.
-fn is_in(file: File, point: &Point) -> bool
+pub(crate) fn is_in(file: File, point: &Point) -> bool
     ensures { result ≡ is_in file point.now }
 {
     match file {
@@ -73,14 +73,14 @@ fn is_covered_in(file: File, point: &Point) -> bool
 }
 
 /// How many points of this file there are.
-fn points_in(file: File, points: &[Point]) -> usize
+pub(crate) fn points_in(file: File, points: &[Point]) -> usize
     ensures { result ≡ points_in file points.now }
 {
     points.iter().filter(|point| is_in(file, point)).count()
 }
 
 /// How many points of this file are covered.
-fn covered_in(file: File, points: &[Point]) -> usize
+pub(crate) fn covered_in(file: File, points: &[Point]) -> usize
     ensures { result ≡ covered_in file points.now }
 {
     points

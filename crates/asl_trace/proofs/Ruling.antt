@@ -1,16 +1,15 @@
 -- The first rule that holds.
-use Rattle.std.proofs.Common.{◌≡◌, ℕ, Bool, suc, ◌<◌, ◌+◌, List, [], ◌∷◌, ◌++◌, length, get_or, drop, refl, sym, ap, ◌∙◌, arith}
+use Rattle.std.proofs.Common.{◌≡◌, ℕ, Bool, suc, ◌<◌, ◌+◌, List, length, get_or, drop, refl, sym, ap, ◌∙◌, arith}
 use Rattle.std.proofs.lemmas.List.{drop_more}
 use Rattle.std.proofs.lemmas.Option.{same_Some}
 use Rattle.std.specs.Prelude.{Option, Some, None, Ok, Err, codes}
 use Rattle.std.specs.Result.{result_ok}
 use Rattle.asl_intrinsic_functions.proofs.Converting.{list_back}
-use Rattle.asl_json_data.specs.Data.{Data, dict, pairs, list, chain}
+use Rattle.asl_json_data.specs.Data.{Data, list, chain}
 use Rattle.asl_json.specs.View.{data_of}
 use Rattle.asl_json.specs.declared.value.Json.{Json}
-use Rattle.asl_json_data.specs.Distinct.{Members}
-use Rattle.asl_json.specs.Meaning.{value_at, value_in}
-use Rattle.asl_choice.specs.Truth.{Verdict, variable, holds, decided}
+use Rattle.asl_json.specs.Meaning.{value_in}
+use Rattle.asl_choice.specs.Truth.{Verdict, holds}
 use Rattle.asl_step_io.specs.Paths.{Given, taken}
 use Rattle.asl_trace_data.proofs.Giving.{given_ok}
 use Rattle.asl_kinds.specs.Members.{values_in}
@@ -20,21 +19,6 @@ use Rattle.asl_trace.specs.declared.deciding.Deciding.{Deciding}
 use Rattle.asl_trace.specs.declared.deciding.Deciding.TheVariants.{Nothing}
 use Rattle.asl_trace.specs.Deciding.{rule_by, first_rule, rule_on, rule_with}
 use Rattle.asl_trace.specs.private.Known.{said}
-
--- ---- `Next` decides no rule
-
-variable_before : (ms : Members) (d : Data) → value_at (codes "Variable") (pairs (ms ++ (codes "Next", d) ∷ [])) ≡ value_at (codes "Variable") (pairs ms)
-variable_before [] d = refl
-variable_before (m ∷ ms) d = rw (variable_before ms d) refl
-
-decided_before : (p : List ℕ) (ms : Members) (d x c : Data) → decided p (pairs (ms ++ (codes "Next", d) ∷ [])) x c ≡ decided p (pairs ms) x c
-decided_before p [] d x c = refl
-decided_before p (m ∷ ms) d x c = rw (decided_before p ms d x c) refl
-
-pub holds_with_next : (ms : Members) (d x c : Data) → holds (dict (pairs (ms ++ (codes "Next", d) ∷ []))) x c ≡ holds (dict (pairs ms)) x c
-holds_with_next ms d x c =
-    ap (λ (v : Option Data). decided (variable v) (pairs (ms ++ (codes "Next", d) ∷ [])) x c) (variable_before ms d)
-    ∙ decided_before (variable (value_at (codes "Variable") (pairs ms))) ms d x c
 
 -- ---- one rule after another
 

@@ -152,7 +152,7 @@ const ROWS: &[Row] = &[
         name: "T",
         body: "{\"p\":\"\\\\\"}",
         member: "taskScheduledEventDetails",
-        details: "{\"resourceType\":\"lambda\",\"resource\":\"invoke\",\"region\":\"us-east-1\",\"parameters\":\"{\\\"p\\\":\\\"\\\\\\\\\\\"}\"}",
+        details: "{\"resourceType\":\"lambda\",\"resource\":\"invoke\",\"region\":\"eu-central-1\",\"parameters\":\"{\\\"p\\\":\\\"\\\\\\\\\\\"}\"}",
     },
     Row {
         kind: EventKind::TaskStarted,
@@ -306,7 +306,7 @@ struct Invoke {
 impl Tasks for Invoke {
     ghost use Rattle.std.specs.Prelude.{codes};
 
-    ghost table = { λ x. record { resource = λ n. codes "arn:aws:states:::lambda:invoke"; limits = λ n. x.limits } };
+    ghost table = { λ x. record { resource = λ n. codes "arn:aws:states:::lambda:invoke"; limits = λ n. x.limits; region = codes "eu-central-1" } };
 
     fn resource(&self, _name: &str) -> &str {
         "arn:aws:states:::lambda:invoke"
@@ -314,6 +314,10 @@ impl Tasks for Invoke {
 
     fn limits(&self, _name: &str) -> Limits {
         self.limits
+    }
+
+    fn region(&self) -> &str {
+        "eu-central-1"
     }
 }
 

@@ -23,6 +23,7 @@ use Rattle.asl_words.specs.declared.words.SetupWords.{SetupWords}
 use Rattle.asl_words.specs.declared.words.Begin.{Begin}
 use Rattle.asl_words.specs.declared.words.Begin.TheVariants as begin
 use Rattle.asl_words.specs.declared.words.ChosenWords.{ChosenWords}
+use Rattle.asl_words.specs.declared.words.TestedWords.{TestedWords}
 use Rattle.asl_words.specs.declared.words.Shard.{Shard}
 use Rattle.asl_words.specs.declared.words.LintFormat.{LintFormat}
 use Rattle.asl_words.specs.declared.words.LintFormat.TheVariants as lint
@@ -34,6 +35,8 @@ use Rattle.asl_words.specs.declared.words.DebugFormat.{DebugFormat}
 use Rattle.asl_words.specs.declared.words.DebugFormat.TheVariants as debug
 use Rattle.asl_words.specs.declared.words.ReportFormat.{ReportFormat}
 use Rattle.asl_words.specs.declared.words.ReportFormat.TheVariants as report
+use Rattle.asl_words.specs.declared.words.CoverageFormat.{CoverageFormat}
+use Rattle.asl_words.specs.declared.words.CoverageFormat.TheVariants as coverage
 use Rattle.asl_words.specs.declared.words.WitnessFormat.{WitnessFormat}
 use Rattle.asl_words.specs.declared.words.WitnessFormat.TheVariants as witness
 
@@ -57,14 +60,18 @@ abbrev pub graph_formats : List (List ℕ × GraphFormat)
 graph_formats =
     (codes "mermaid", graph.Mermaid) ∷ (codes "markdown", graph.Markdown) ∷ (codes "dot", graph.Dot) ∷ []
 
-abbrev pub run_formats : List (List ℕ × RunFormat)
-run_formats =
-    (codes "text", run.Text) ∷ (codes "json", run.Json) ∷ (codes "aws", run.Aws)
+-- that of the service tells of the region that is named
+abbrev pub run_formats : Word → List (List ℕ × RunFormat)
+run_formats region =
+    (codes "text", run.Text) ∷ (codes "json", run.Json) ∷ (codes "aws", run.Aws region)
     ∷ (codes "steps", run.Steps) ∷ (codes "tree", run.Tree) ∷ (codes "data", run.Data) ∷ []
 
 abbrev pub report_formats : List (List ℕ × ReportFormat)
 report_formats =
     (codes "text", report.Text) ∷ (codes "junit", report.JUnit) ∷ (codes "json", report.Json) ∷ []
+
+abbrev pub coverage_formats : List (List ℕ × CoverageFormat)
+coverage_formats = (codes "text", coverage.Text) ∷ (codes "json", coverage.Json) ∷ (codes "lcov", coverage.Lcov) ∷ []
 
 abbrev pub witness_formats : List (List ℕ × WitnessFormat)
 witness_formats = (codes "steps", witness.Steps) ∷ (codes "tree", witness.Tree) ∷ (codes "data", witness.Data) ∷ []
@@ -108,10 +115,14 @@ is_slash c = c == 47
 abbrev pub shard_by : List ℕ → List ℕ → Option Shard
 shard_by first apart = option_and_then (λ f. option_and_then (shard_between f) (digits_in apart)) (digits_in first)
 
+-- what two texts name with the first of these marks between them
+abbrev pub at_mark : {T : Type 0} → (ℕ → Bool) → (List ℕ → List ℕ → Option T) → List ℕ → Option T
+at_mark is_mark by text =
+    if list_any is_mark text then by (before_first is_mark text) (after_first is_mark text) else None
+
 -- `I/N`, two numbers with a slash (47) between them, the first from 1 to the second
 abbrev pub shard_in : List ℕ → Option Shard
-shard_in text =
-    if list_any is_slash text then shard_by (before_first is_slash text) (after_first is_slash text) else None
+shard_in = at_mark is_slash shard_by
 
 -- the whole where there is no word
 abbrev pub shard_asked : Word → Option Shard
@@ -143,6 +154,9 @@ abbrev pub print_asked : Given → Option PrintWords
 print_asked g = option_map (λ d. record { definition = d; pretty = g.pretty }) (definition_asked g)
 
 -- of a word and the option that may stand for it one is there, and not both
+abbrev pub mocks_file : Given → Word
+mocks_file g = option_xor g.mocks g.mocks_option
+
 abbrev pub setup_asked : Given → Option SetupWords
 setup_asked g = option_and_then (λ definition. option_and_then (λ mocks.
     option_and_then (λ chosen. option_map (λ input. record {
@@ -151,7 +165,7 @@ setup_asked g = option_and_then (λ definition. option_and_then (λ mocks.
       chosen = chosen;
       input = input;
     }) (option_xor g.input g.input_option)) (option_xor g.chosen g.case_option))
-    (option_xor g.mocks g.mocks_option)) g.definition
+    (mocks_file g)) g.definition
 
 -- the word or the option, and not both; neither need be there
 abbrev pub either_asked : Word → Word → Option Word
@@ -184,33 +198,70 @@ chosen_asked g = if names_more g then None else option_and_then (λ chosen. opti
   input = input;
 }) (either_asked g.mocks g.input_option)) (option_xor g.definition g.case_option)
 
--- what a run begins with
-abbrev pub begin_asked : Given → Option Begin
-begin_asked g =
+-- something is named that a test names, or a project
+abbrev pub names_beside_test : Given → Bool
+names_beside_test g = is_some g.chosen || (is_some g.case_option || (is_some g.input
+    || (is_some g.input_option || is_some g.project)))
+
+-- a number from 1, in decimal digits alone
+abbrev pub number_from_one : List ℕ → Option ℕ
+number_from_one text = option_and_then (λ n. if n == 0 then None else Some n) (digits_in text)
+
+-- `SUITE#N`: the name of a file of tests, and the number of one of them, from 1
+abbrev pub test_by : List ℕ → List ℕ → Option ℕ
+test_by suite number = number_from_one number
+
+abbrev pub test_number : List ℕ → Option ℕ
+test_number = at_mark is_case_mark test_by
+
+-- what the execution of a test begins with
+abbrev pub tested_asked : Given → Bor (List ℕ) → Option TestedWords
+tested_asked g test = if names_beside_test g then None else option_and_then (λ definition.
+    option_and_then (λ mocks. option_map (λ number. record {
+      definition = definition;
+      mocks = mocks;
+      test = test;
+      number = number;
+    }) (test_number test.now)) (mocks_file g)) g.definition
+
+-- a test is named, or else a project may be meant, or else the files themselves are
+abbrev pub begin_by : Given → Word → Option Begin
+begin_by g (Some test) = option_map begin.Test (tested_asked g test)
+begin_by g None =
     if names_chosen g then option_map begin.Project (chosen_asked g) else option_map begin.Files (setup_asked g)
 
-abbrev pub lint_one_asked : Given → DefinitionWords → Option Words
-lint_one_asked g d = option_map (λ format. words.Lint (record {
-  definition = d.definition;
-  mocks = g.mocks;
-  machine = g.machine;
+-- what a run begins with
+abbrev pub begin_asked : Given → Option Begin
+begin_asked g = begin_by g g.test
+
+-- a file is named that is to be judged
+abbrev pub names_files : Given → Bool
+names_files g = is_some g.file || (is_some g.mocks_option || (is_some g.expect_option
+    || (is_some g.input_option || (is_some g.steps || is_some g.script_option))))
+
+-- files, and no project
+abbrev pub lint_files_asked : Given → Option Words
+lint_files_asked g = if is_some g.project then None else option_map (λ format. words.Lint (record {
+  mocks = g.mocks_option;
+  expectations = g.expect_option;
+  input = g.input_option;
+  steps = g.steps;
+  script = g.script_option;
+  machine = g.machine_option;
   format = format;
   strict = g.strict;
 })) (format_asked lint_formats g.format)
 
-abbrev pub lint_all_asked : Given → ProjectWords → Option Words
-lint_all_asked g p = option_map (λ format. words.LintAll (record {
-  project = p;
+-- a project, which names its machines itself
+abbrev pub lint_all_asked : Given → Option Words
+lint_all_asked g = if is_some g.machine_option then None else option_map (λ format. words.LintAll (record {
+  project = record { project = g.project };
   format = format;
   strict = g.strict;
 })) (format_asked lint_formats g.format)
-
-abbrev pub lint_of : Given → Subject → Option Words
-lint_of g (subject.Definition d) = lint_one_asked g d
-lint_of g (subject.Project p) = lint_all_asked g p
 
 abbrev pub lint_asked : Given → Option Words
-lint_asked g = option_and_then (lint_of g) (subject_asked g)
+lint_asked g = if names_files g then lint_files_asked g else lint_all_asked g
 
 -- something is named that only a run needs
 abbrev pub names_run : Given → Bool
@@ -236,41 +287,30 @@ tells_of_states run.Tree = true
 tells_of_states run.Data = true
 tells_of_states _ = false
 
+-- a run is printed in the shape in which the service tells one
+abbrev pub is_of_service : RunFormat → Bool
+is_of_service (run.Aws region) = true
+is_of_service _ = false
+
+-- how a run is printed; a region is named beside the service's format alone
+abbrev pub run_format_asked : Word → Word → Option RunFormat
+run_format_asked w region = option_and_then (λ format.
+    if is_some region && not (is_of_service format) then None else Some format)
+    (format_asked (run_formats region) w)
+
 -- at most so many steps are taken where no file names them; both aren't given
 abbrev pub most_asked : Word → Word → Option (Option ℕ)
 most_asked (Some steps) (Some w) = None
 most_asked steps w = number_if_asked 1 1000000 w
 
--- how many steps are taken at most, how the run is printed, and whether in colours
-abbrev pub run_options : Given → Screen → Option (Option ℕ × RunFormat × Bool)
-run_options g s = option_and_then (λ format.
-    option_map (λ most. (most, format, s.coloured && tells_of_states format)) (most_asked g.steps g.most_steps))
-    (format_asked run_formats g.format)
-
-abbrev pub run_one_asked : Given → Screen → SetupWords → Option Words
-run_one_asked g s setup = option_map (λ o. words.Run (record {
-  setup = setup;
-  steps = g.steps;
-  most_steps = o.0;
-  format = o.1;
-  coloured = o.2;
-})) (run_options g s)
-
-abbrev pub run_in_asked : Given → Screen → ChosenWords → Option Words
-run_in_asked g s chosen = option_map (λ o. words.RunIn (record {
-  chosen = chosen;
-  steps = g.steps;
-  most_steps = o.0;
-  format = o.1;
-  coloured = o.2;
-})) (run_options g s)
-
-abbrev pub run_of : Given → Screen → Begin → Option Words
-run_of g s (begin.Files setup) = run_one_asked g s setup
-run_of g s (begin.Project chosen) = run_in_asked g s chosen
-
 abbrev pub run_asked : Given → Screen → Option Words
-run_asked g s = option_and_then (run_of g s) (begin_asked g)
+run_asked g s = option_and_then (λ format. option_and_then (λ begin. option_map (λ most. words.Run (record {
+  begin = begin;
+  steps = g.steps;
+  most_steps = most;
+  format = format;
+  coloured = s.coloured && tells_of_states format;
+})) (most_asked g.steps g.most_steps)) (begin_asked g)) (run_format_asked g.format g.region)
 
 -- a script is told as text; without one it is the tree where a person types and reads, and nothing
 -- else is named
@@ -280,39 +320,32 @@ debug_format (Some w) typed has_script =
     if bytes_eq w.now (codes "text") then Some debug.Text
     else (if bytes_eq w.now (codes "tree") && not has_script then Some debug.Tree else None)
 
--- the script, where there is one, and how the steps of lines are told
-abbrev pub debug_options : Given → Screen → Option (Word × DebugFormat)
-debug_options g s = option_and_then (λ script.
-    option_map (λ format. (script, format)) (debug_format g.format s.typed (is_some script)))
-    (either_asked g.script g.script_option)
-
-abbrev pub debug_one_asked : Given → Screen → SetupWords → Option Words
-debug_one_asked g s setup = option_map (λ o. words.Debug (record {
-  setup = setup;
-  script = o.0;
-  format = o.1;
-  coloured = s.coloured;
-})) (debug_options g s)
-
-abbrev pub debug_in_asked : Given → Screen → ChosenWords → Option Words
-debug_in_asked g s chosen = option_map (λ o. words.DebugIn (record {
-  chosen = chosen;
-  script = o.0;
-  format = o.1;
-  coloured = s.coloured;
-})) (debug_options g s)
-
-abbrev pub debug_of : Given → Screen → Begin → Option Words
-debug_of g s (begin.Files setup) = debug_one_asked g s setup
-debug_of g s (begin.Project chosen) = debug_in_asked g s chosen
+-- lines are to end a talk, and a script is named in their place
+abbrev pub debugs_by_script : Given → Bool
+debugs_by_script g = g.strict && (is_some g.script || is_some g.script_option)
 
 abbrev pub debug_asked : Given → Screen → Option Words
-debug_asked g s = option_and_then (debug_of g s) (begin_asked g)
+debug_asked g s = if debugs_by_script g then None else option_and_then (λ script. option_and_then (λ begin. option_map (λ format. words.Debug (record {
+  begin = begin;
+  script = script;
+  format = format;
+  coloured = s.coloured;
+  strict = g.strict;
+})) (debug_format g.format s.typed (is_some script))) (begin_asked g)) (either_asked g.script g.script_option)
 
 -- the least percent that is to be covered; 0 where only the flag is there
 abbrev pub coverage_asked : Word → Bool → Option (Option ℕ)
 coverage_asked (Some w) flag = option_map Some (number_in 0 100 w.now)
 coverage_asked None flag = Some (if flag then Some 0 else None)
+
+-- it is told what tests cover
+abbrev pub covers : Given → Bool
+covers g = g.coverage || is_some g.least
+
+-- and how; nothing is said of it where it isn't told
+abbrev pub coverage_format_asked : Word → Bool → Option CoverageFormat
+coverage_format_asked None covered = Some coverage.Text
+coverage_format_asked (Some w) covered = if covered then named coverage_formats w.now else None
 
 -- reports are to be written of tests that are listed alone
 abbrev pub lists_reports : Given → Bool
@@ -320,7 +353,7 @@ lists_reports g = g.list && (is_some g.junit || is_some g.json)
 
 abbrev pub test_one_asked : Given → DefinitionWords → Option Words
 test_one_asked g d = option_and_then (λ mocks. option_and_then (λ expectations.
-    option_and_then (λ workers. option_and_then (λ format. option_and_then (λ shard. option_map (λ coverage.
+    option_and_then (λ workers. option_and_then (λ format. option_and_then (λ shard. option_and_then (λ least. option_map (λ told.
     words.Test (record {
       definition = d.definition;
       mocks = mocks;
@@ -332,31 +365,28 @@ test_one_asked g d = option_and_then (λ mocks. option_and_then (λ expectations
       shard = shard;
       filter = g.filter;
       list = g.list;
-      coverage = coverage;
+      coverage = least;
+      coverage_format = told;
       strict = g.strict;
-    })) (coverage_asked g.least g.coverage)) (shard_asked g.shard)) (format_asked report_formats g.format))
+      among = false;
+    })) (coverage_format_asked g.coverage_format (covers g))) (coverage_asked g.least g.coverage)) (shard_asked g.shard)) (format_asked report_formats g.format))
     (number_asked 1 64 g.workers)) g.expectations) g.mocks
 
-abbrev pub is_junit : Word → Bool
-is_junit None = false
-is_junit (Some w) = bytes_eq w.now (codes "junit")
-
--- reports are to be one text: that of a file, or of a format that isn't one of lines
-abbrev pub joins_reports : Given → Bool
-joins_reports g = is_some g.junit || (is_some g.json || is_junit g.format)
-
 abbrev pub test_all_asked : Given → ProjectWords → Option Words
-test_all_asked g p = if joins_reports g then None else option_and_then (λ workers. option_and_then (λ format.
-    option_and_then (λ shard. option_map (λ coverage. words.TestAll (record {
+test_all_asked g p = option_and_then (λ workers. option_and_then (λ format.
+    option_and_then (λ shard. option_and_then (λ least. option_map (λ told. words.TestAll (record {
       project = p;
       workers = workers;
       format = format;
+      junit = g.junit;
+      json = g.json;
       shard = shard;
       filter = g.filter;
       list = g.list;
-      coverage = coverage;
+      coverage = least;
+      coverage_format = told;
       strict = g.strict;
-    })) (coverage_asked g.least g.coverage)) (shard_asked g.shard)) (format_asked report_formats g.format))
+    })) (coverage_format_asked g.coverage_format (covers g))) (coverage_asked g.least g.coverage)) (shard_asked g.shard)) (format_asked report_formats g.format))
     (number_asked 1 64 g.workers)
 
 abbrev pub test_of : Given → Subject → Option Words
@@ -372,41 +402,18 @@ witness_format number None = Some witness.Steps
 witness_format None (Some w) = None
 witness_format (Some n) (Some w) = named witness_formats w.now
 
--- how many worlds are tried at most, and the number of the outcome whose steps are to be printed, if one
--- is, and how
-abbrev pub explore_options : Given → Option (ℕ × Option ℕ × WitnessFormat)
-explore_options g = option_and_then (λ limit. option_and_then (λ number.
-    option_map (λ format. (limit, number, format)) (witness_format g.witness g.format))
-    (number_if_asked 1 1000000 g.witness)) (number_asked 1 1000000 g.limit)
-
-abbrev pub explore_one_asked : Given → Screen → SetupWords → Option Words
-explore_one_asked g s setup = option_map (λ o. words.Explore (record {
-  setup = setup;
-  limit = o.0;
-  prompt = g.prompt;
-  calls = g.calls;
-  witness = o.1;
-  format = o.2;
-  coloured = s.coloured;
-})) (explore_options g)
-
-abbrev pub explore_in_asked : Given → Screen → ChosenWords → Option Words
-explore_in_asked g s chosen = option_map (λ o. words.ExploreIn (record {
-  chosen = chosen;
-  limit = o.0;
-  prompt = g.prompt;
-  calls = g.calls;
-  witness = o.1;
-  format = o.2;
-  coloured = s.coloured;
-})) (explore_options g)
-
-abbrev pub explore_of : Given → Screen → Begin → Option Words
-explore_of g s (begin.Files setup) = explore_one_asked g s setup
-explore_of g s (begin.Project chosen) = explore_in_asked g s chosen
-
 abbrev pub explore_asked : Given → Screen → Option Words
-explore_asked g s = option_and_then (explore_of g s) (begin_asked g)
+explore_asked g s = option_and_then (λ begin. option_and_then (λ limit. option_and_then (λ number.
+    option_map (λ format. words.Explore (record {
+      begin = begin;
+      limit = limit;
+      prompt = g.prompt;
+      calls = g.calls;
+      witness = number;
+      format = format;
+      coloured = s.coloured;
+    })) (witness_format g.witness g.format)) (number_if_asked 1 1000000 g.witness))
+    (number_asked 1 1000000 g.limit)) (begin_asked g)
 
 -- what a command is to do, where answers are read on this screen; nothing where what is given doesn't
 -- fit together

@@ -9,6 +9,8 @@ pub struct Given<'a> {
     pub input: Option<&'a str>,
     pub script: Option<&'a str>,
     pub machine: Option<&'a str>,
+    /// The first of the files that are named one after another.
+    pub file: Option<&'a str>,
     pub expectations: Option<&'a str>,
     pub code: Option<&'a str>,
     /// The options that may stand for words.
@@ -16,6 +18,8 @@ pub struct Given<'a> {
     pub case_option: Option<&'a str>,
     pub input_option: Option<&'a str>,
     pub script_option: Option<&'a str>,
+    pub expect_option: Option<&'a str>,
+    pub machine_option: Option<&'a str>,
     pub steps: Option<&'a str>,
     pub format: Option<&'a str>,
     pub shard: Option<&'a str>,
@@ -27,7 +31,10 @@ pub struct Given<'a> {
     pub most_steps: Option<&'a str>,
     pub junit: Option<&'a str>,
     pub json: Option<&'a str>,
+    pub region: Option<&'a str>,
+    pub coverage_format: Option<&'a str>,
     pub project: Option<&'a str>,
+    pub test: Option<&'a str>,
     pub strict: bool,
     pub run: bool,
     pub coverage: bool,

@@ -17,8 +17,8 @@ pub use misuse::{Misuse, misuse_of, put_misuse};
 pub use screen::Screen;
 pub use verbs::Verb;
 pub use words::{
-    Asked, Begin, ChosenWords, DebugFormat, DebugInWords, DebugWords, DefinitionWords,
-    ExplainWords, ExploreInWords, ExploreWords, GraphFormat, GraphWords, LintAllWords, LintFormat,
-    LintWords, MocksWords, PrintWords, ProjectWords, ReportFormat, RunFormat, RunInWords, RunWords,
-    SetupWords, Shard, Subject, TestAllWords, TestWords, WitnessFormat, Words,
+    Asked, Begin, ChosenWords, CoverageFormat, DebugFormat, DebugWords, DefinitionWords,
+    ExplainWords, ExploreWords, GraphFormat, GraphWords, LintAllWords, LintFormat, LintWords,
+    MocksWords, PrintWords, ProjectWords, ReportFormat, RunFormat, RunWords, SetupWords, Shard,
+    Subject, TestAllWords, TestWords, TestedWords, WitnessFormat, Words,
 };

@@ -2,22 +2,22 @@
 ghost use Rattle.std.specs.Prelude.{◌≡◌};
 ghost use Rattle.std.specs.List.{list_any};
 ghost use Rattle.std.specs.Str.{all_ascii_digits};
-ghost use Rattle.asl_words.specs.Asked.{subject_asked, check_asked, lint_all_asked, lint_one_asked, joins_reports, is_junit, test_all_asked, test_one_asked};
-ghost use Rattle.asl_words.specs.Asked.{asked, words_asked, definition_asked, print_asked, setup_asked, lint_asked, graph_asked, mocks_asked};
+ghost use Rattle.asl_words.specs.Asked.{subject_asked, check_asked, lint_all_asked, lint_files_asked, names_files, test_all_asked, test_one_asked};
+ghost use Rattle.asl_words.specs.Asked.{asked, words_asked, definition_asked, print_asked, mocks_file, setup_asked, lint_asked, graph_asked, mocks_asked};
 ghost use Rattle.asl_words.specs.Asked.{run_asked, debug_asked, test_asked, explore_asked, names_run, marked_run, most_asked, lists_reports};
 ghost use Rattle.asl_words.specs.Asked.{format_asked, lint_formats, graph_formats, run_formats, report_formats, witness_formats, witness_format};
-ghost use Rattle.asl_words.specs.Asked.{tells_of_states, either_asked, debug_format, coverage_asked};
-ghost use Rattle.asl_words.specs.Asked.{has_case, is_case_mark, names_chosen, names_more, chosen_asked, begin_asked, run_options, run_one_asked, run_in_asked, debug_options, debug_one_asked, debug_in_asked, explore_options, explore_one_asked, explore_in_asked};
+ghost use Rattle.asl_words.specs.Asked.{tells_of_states, either_asked, debug_format, debugs_by_script, coverage_asked, covers, coverage_format_asked, run_format_asked, is_of_service};
+ghost use Rattle.asl_words.specs.Asked.{has_case, is_case_mark, names_chosen, names_more, names_beside_test, chosen_asked, number_from_one, test_number, tested_asked, begin_asked};
 ghost use Rattle.asl_words.specs.Asked.{number_in, number_asked, number_if_asked, digits_in, shard_between, shard_by, shard_in, shard_asked};
 
 use crate::given::Given;
 use crate::screen::Screen;
 use crate::verbs::Verb;
 use crate::words::{
-    Asked, Begin, ChosenWords, DebugFormat, DebugInWords, DebugWords, DefinitionWords,
-    ExplainWords, ExploreInWords, ExploreWords, GraphFormat, GraphWords, LintAllWords, LintFormat,
-    LintWords, MocksWords, PrintWords, ProjectWords, ReportFormat, RunFormat, RunInWords, RunWords,
-    SetupWords, Shard, Subject, TestAllWords, TestWords, WitnessFormat, Words,
+    Asked, Begin, ChosenWords, CoverageFormat, DebugFormat, DebugWords, DefinitionWords,
+    ExplainWords, ExploreWords, GraphFormat, GraphWords, LintAllWords, LintFormat, LintWords,
+    MocksWords, PrintWords, ProjectWords, ReportFormat, RunFormat, RunWords, SetupWords, Shard,
+    Subject, TestAllWords, TestWords, TestedWords, WitnessFormat, Words,
 };
 
 /// What a command asks for, where answers are read on this screen; none where what is given doesn't fit together.
@@ -86,22 +86,32 @@ fn print_of<'a>(given: &Given<'a>) -> Option<PrintWords<'a>>
     })
 }
 
+/// The mock file, as a word or as the option that stands for it.
+fn mocks_file_of<'a>(given: &Given<'a>) -> Option<&'a str>
+    ensures { result ≡ mocks_file given.now }
+{
+    given.mocks.xor(given.mocks_option)
+}
+
 /// What a run begins with: each of its texts as a word or as the option that stands for it.
 fn setup_of<'a>(given: &Given<'a>) -> Option<SetupWords<'a>>
     ensures { result ≡ setup_asked given.now }
 {
     Some(SetupWords {
         definition: given.definition?,
-        mocks: given.mocks.xor(given.mocks_option)?,
+        mocks: mocks_file_of(given)?,
         chosen: given.chosen.xor(given.case_option)?,
         input: given.input.xor(given.input_option)?,
     })
 }
 
-/// What a run begins with, where a project may name the files.
+/// What a run begins with, where a project may name the files, and a test its case and its input.
 fn begin_of<'a>(given: &Given<'a>) -> Option<Begin<'a>>
     ensures { result ≡ begin_asked given.now }
 {
+    if let Some(test) = given.test {
+        return Some(Begin::Test(tested_of(given, test)?));
+    }
     if names_chosen(given) {
         return Some(Begin::Project(chosen_of(given)?));
     }
@@ -158,33 +168,104 @@ pub(crate) fn names_more(given: &Given<'_>) -> bool
     given.chosen.is_some() || given.input.is_some() || given.mocks_option.is_some()
 }
 
+/// Whether a file is named that `lint` is to judge.
+pub(crate) fn names_files(given: &Given<'_>) -> bool
+    ensures { result ≡ names_files given.now }
+{
+    given.file.is_some()
+        || given.mocks_option.is_some()
+        || given.expect_option.is_some()
+        || given.input_option.is_some()
+        || given.steps.is_some()
+        || given.script_option.is_some()
+}
+
+/// What the execution of a test begins with.
+fn tested_of<'a>(given: &Given<'a>, test: &'a str) -> Option<TestedWords<'a>>
+    ensures { result ≡ tested_asked given.now test.entry }
+{
+    if names_beside_test(given) {
+        return None;
+    }
+    Some(TestedWords {
+        definition: given.definition?,
+        mocks: mocks_file_of(given)?,
+        test,
+        number: test_number(test)?,
+    })
+}
+
+/// Whether something is named that a test names, or a project.
+pub(crate) fn names_beside_test(given: &Given<'_>) -> bool
+    ensures { result ≡ names_beside_test given.now }
+{
+    given.chosen.is_some()
+        || given.case_option.is_some()
+        || given.input.is_some()
+        || given.input_option.is_some()
+        || given.project.is_some()
+}
+
+/// The number of the test that `SUITE#N` names.
+pub(crate) fn test_number(text: &str) -> Option<usize>
+    ensures { result ≡ test_number text.now }
+{
+    match text.split_once('#') {
+        Some((_, number)) => number_from_one(number),
+        None => None,
+    }
+}
+
+/// The number from 1 that decimal digits spell.
+fn number_from_one(digits: &str) -> Option<usize>
+    ensures { result ≡ number_from_one digits.now }
+{
+    match digits_in(digits)? {
+        0 => None,
+        number => Some(number),
+    }
+}
+
 fn lint_of<'a>(given: &Given<'a>) -> Option<Words<'a>>
     ensures { result ≡ lint_asked given.now }
 {
-    match subject_of(given)? {
-        Subject::Definition(definition) => lint_one(given, definition),
-        Subject::Project(project) => lint_all(given, project),
+    if names_files(given) {
+        lint_files_of(given)
+    } else {
+        lint_all_of(given)
     }
 }
 
 /// All workflows of a project.
-fn lint_all<'a>(given: &Given<'a>, project: ProjectWords<'a>) -> Option<Words<'a>>
-    ensures { result ≡ lint_all_asked given.now project.entry }
+fn lint_all_of<'a>(given: &Given<'a>) -> Option<Words<'a>>
+    ensures { result ≡ lint_all_asked given.now }
 {
+    if given.machine_option.is_some() {
+        return None;
+    }
     Some(Words::LintAll(LintAllWords {
-        project,
+        project: ProjectWords {
+            project: given.project,
+        },
         format: lint_format_of(given.format)?,
         strict: given.strict,
     }))
 }
 
-fn lint_one<'a>(given: &Given<'a>, definition: DefinitionWords<'a>) -> Option<Words<'a>>
-    ensures { result ≡ lint_one_asked given.now definition.entry }
+/// The files that are named.
+fn lint_files_of<'a>(given: &Given<'a>) -> Option<Words<'a>>
+    ensures { result ≡ lint_files_asked given.now }
 {
+    if given.project.is_some() {
+        return None;
+    }
     Some(Words::Lint(LintWords {
-        definition: definition.definition,
-        mocks: given.mocks,
-        machine: given.machine,
+        mocks: given.mocks_option,
+        expectations: given.expect_option,
+        input: given.input_option,
+        steps: given.steps,
+        script: given.script_option,
+        machine: given.machine_option,
         format: lint_format_of(given.format)?,
         strict: given.strict,
     }))
@@ -260,50 +341,14 @@ fn mocks_of<'a>(given: &Given<'a>) -> Option<Words<'a>>
 fn run_of<'a>(given: &Given<'a>, screen: Screen) -> Option<Words<'a>>
     ensures { result ≡ run_asked given.now screen }
 {
-    match begin_of(given)? {
-        Begin::Files(setup) => run_one(given, screen, setup),
-        Begin::Project(chosen) => run_in(given, screen, chosen),
-    }
-}
-
-fn run_one<'a>(given: &Given<'a>, screen: Screen, setup: SetupWords<'a>) -> Option<Words<'a>>
-    ensures { result ≡ run_one_asked given.now screen setup.entry }
-{
-    let (most_steps, format, coloured) = run_options(given, screen)?;
+    let format = run_format_of(given.format, given.region)?;
     Some(Words::Run(RunWords {
-        setup,
+        begin: begin_of(given)?,
         steps: given.steps,
-        most_steps,
+        most_steps: most_of(given.steps, given.most_steps)?,
         format,
-        coloured,
+        coloured: screen.coloured && tells_of_states(format),
     }))
-}
-
-/// The same of a workflow of a project.
-fn run_in<'a>(given: &Given<'a>, screen: Screen, chosen: ChosenWords<'a>) -> Option<Words<'a>>
-    ensures { result ≡ run_in_asked given.now screen chosen.entry }
-{
-    let (most_steps, format, coloured) = run_options(given, screen)?;
-    Some(Words::RunIn(RunInWords {
-        chosen,
-        steps: given.steps,
-        most_steps,
-        format,
-        coloured,
-    }))
-}
-
-/// How many steps are taken at most, how a run is printed, and whether in colours.
-fn run_options(given: &Given<'_>, screen: Screen) -> Option<(Option<u32>, RunFormat, bool)>
-    ensures { result ≡ run_options given.now screen }
-{
-    let format = run_format_of(given.format)?;
-    let most_steps = most_of(given.steps, given.most_steps)?;
-    Some((
-        most_steps,
-        format,
-        screen.coloured && tells_of_states(format),
-    ))
 }
 
 /// How many of the steps that come next are taken at most, where that is said; it can't be where a file names the steps.
@@ -316,13 +361,31 @@ fn most_of(steps: Option<&str>, word: Option<&str>) -> Option<Option<u32>>
     }
 }
 
-fn run_format_of(word: Option<&str>) -> Option<RunFormat>
-    ensures { result ≡ format_asked run_formats word.entry }
+/// The format that a word names; a region is named beside that of the service alone.
+fn run_format_of<'a>(word: Option<&str>, region: Option<&'a str>) -> Option<RunFormat<'a>>
+    ensures { result ≡ run_format_asked word.entry region.entry }
+{
+    let format = run_format_named(word, region)?;
+    if region.is_some() && !is_of_service(format) {
+        return None;
+    }
+    Some(format)
+}
+
+/// Whether a run is printed in the shape in which the service tells one.
+fn is_of_service(format: RunFormat<'_>) -> bool
+    ensures { result ≡ is_of_service format.entry }
+{
+    matches!(format, RunFormat::Aws(_))
+}
+
+fn run_format_named<'a>(word: Option<&str>, region: Option<&'a str>) -> Option<RunFormat<'a>>
+    ensures { result ≡ format_asked (run_formats region.entry) word.entry }
 {
     match word? {
         "text" => Some(RunFormat::Text),
         "json" => Some(RunFormat::Json),
-        "aws" => Some(RunFormat::Aws),
+        "aws" => Some(RunFormat::Aws(region)),
         "steps" => Some(RunFormat::Steps),
         "tree" => Some(RunFormat::Tree),
         "data" => Some(RunFormat::Data),
@@ -331,8 +394,8 @@ fn run_format_of(word: Option<&str>) -> Option<RunFormat>
 }
 
 /// Whether a run is printed by what happened at each state.
-fn tells_of_states(format: RunFormat) -> bool
-    ensures { result ≡ tells_of_states format }
+fn tells_of_states(format: RunFormat<'_>) -> bool
+    ensures { result ≡ tells_of_states format.entry }
 {
     matches!(format, RunFormat::Tree | RunFormat::Data)
 }
@@ -340,44 +403,17 @@ fn tells_of_states(format: RunFormat) -> bool
 fn debug_of<'a>(given: &Given<'a>, screen: Screen) -> Option<Words<'a>>
     ensures { result ≡ debug_asked given.now screen }
 {
-    match begin_of(given)? {
-        Begin::Files(setup) => debug_one(given, screen, setup),
-        Begin::Project(chosen) => debug_in(given, screen, chosen),
+    if debugs_by_script(given) {
+        return None;
     }
-}
-
-fn debug_one<'a>(given: &Given<'a>, screen: Screen, setup: SetupWords<'a>) -> Option<Words<'a>>
-    ensures { result ≡ debug_one_asked given.now screen setup.entry }
-{
-    let (script, format) = debug_options(given, screen)?;
-    Some(Words::Debug(DebugWords {
-        setup,
-        script,
-        format,
-        coloured: screen.coloured,
-    }))
-}
-
-/// The same of a workflow of a project.
-fn debug_in<'a>(given: &Given<'a>, screen: Screen, chosen: ChosenWords<'a>) -> Option<Words<'a>>
-    ensures { result ≡ debug_in_asked given.now screen chosen.entry }
-{
-    let (script, format) = debug_options(given, screen)?;
-    Some(Words::DebugIn(DebugInWords {
-        chosen,
-        script,
-        format,
-        coloured: screen.coloured,
-    }))
-}
-
-/// The script, where there is one, and how the steps of lines are told.
-fn debug_options<'a>(given: &Given<'a>, screen: Screen) -> Option<(Option<&'a str>, DebugFormat)>
-    ensures { result ≡ debug_options given.now screen }
-{
     let script = either_of(given.script, given.script_option)?;
-    let format = debug_format_of(given.format, screen.typed, script.is_some())?;
-    Some((script, format))
+    Some(Words::Debug(DebugWords {
+        begin: begin_of(given)?,
+        script,
+        format: debug_format_of(given.format, screen.typed, script.is_some())?,
+        coloured: screen.coloured,
+        strict: given.strict,
+    }))
 }
 
 /// What is named by a word or by the option that stands for it, where it may be left out.
@@ -404,6 +440,13 @@ fn debug_format_of(word: Option<&str>, typed: bool, has_script: bool) -> Option<
     }
 }
 
+/// Whether lines are to end a talk, and a script is named in their place.
+pub(crate) fn debugs_by_script(given: &Given<'_>) -> bool
+    ensures { result ≡ debugs_by_script given.now }
+{
+    given.strict && (given.script.is_some() || given.script_option.is_some())
+}
+
 /// Whether reports are to be written of tests that are listed alone.
 pub(crate) fn lists_reports(given: &Given<'_>) -> bool
     ensures { result ≡ lists_reports given.now }
@@ -423,38 +466,22 @@ fn test_of<'a>(given: &Given<'a>) -> Option<Words<'a>>
     }
 }
 
-/// Whether reports are to be one text: that of a file, or of a format that isn't one of lines.
-pub(crate) fn joins_reports(given: &Given<'_>) -> bool
-    ensures { result ≡ joins_reports given.now }
-{
-    given.junit.is_some() || given.json.is_some() || is_junit(given.format)
-}
-
-fn is_junit(word: Option<&str>) -> bool
-    ensures { result ≡ is_junit word.entry }
-{
-    match word {
-        Some(text) => text == "junit",
-        None => false,
-    }
-}
-
-/// The tests of all workflows of a project: reports stand one behind another, and are no one text.
+/// The tests of all workflows of a project.
 fn test_all<'a>(given: &Given<'a>, project: ProjectWords<'a>) -> Option<Words<'a>>
     ensures { result ≡ test_all_asked given.now project.entry }
 {
-    if joins_reports(given) {
-        return None;
-    }
     let (filter, list) = (given.filter, given.list);
     Some(Words::TestAll(TestAllWords {
         project,
         workers: workers_of(given.workers)?,
         format: report_format_of(given.format)?,
+        junit: given.junit,
+        json: given.json,
         shard: shard_of(given.shard)?,
         filter,
         list,
         coverage: coverage_of(given.least, given.coverage)?,
+        coverage_format: coverage_format_of(given.coverage_format, covers(given))?,
         strict: given.strict,
     }))
 }
@@ -481,7 +508,9 @@ fn test_one<'a>(given: &Given<'a>, definition: DefinitionWords<'a>) -> Option<Wo
         filter: given.filter,
         list: given.list,
         coverage: coverage_of(given.least, given.coverage)?,
+        coverage_format: coverage_format_of(given.coverage_format, covers(given))?,
         strict: given.strict,
+        among: false,
     }))
 }
 
@@ -504,6 +533,31 @@ fn coverage_of(least: Option<&str>, flag: bool) -> Option<Option<u32>>
         Some(text) => Some(Some(number_in(text, 0, 100)?)),
         None if flag => Some(Some(0)),
         None => Some(None),
+    }
+}
+
+/// Whether it is told what tests cover.
+pub(crate) fn covers(given: &Given<'_>) -> bool
+    ensures { result ≡ covers given.now }
+{
+    given.coverage || given.least.is_some()
+}
+
+/// The format that a word names for what tests cover; there is no such word where that isn't told.
+fn coverage_format_of(word: Option<&str>, covers: bool) -> Option<CoverageFormat>
+    ensures { result ≡ coverage_format_asked word.entry covers }
+{
+    let Some(word) = word else {
+        return Some(CoverageFormat::Text);
+    };
+    if !covers {
+        return None;
+    }
+    match word {
+        "text" => Some(CoverageFormat::Text),
+        "json" => Some(CoverageFormat::Json),
+        "lcov" => Some(CoverageFormat::Lcov),
+        _ => None,
     }
 }
 
@@ -570,51 +624,15 @@ fn are_digits(bytes: &[u8]) -> bool
 fn explore_of<'a>(given: &Given<'a>, screen: Screen) -> Option<Words<'a>>
     ensures { result ≡ explore_asked given.now screen }
 {
-    match begin_of(given)? {
-        Begin::Files(setup) => explore_one(given, screen, setup),
-        Begin::Project(chosen) => explore_in(given, screen, chosen),
-    }
-}
-
-fn explore_one<'a>(given: &Given<'a>, screen: Screen, setup: SetupWords<'a>) -> Option<Words<'a>>
-    ensures { result ≡ explore_one_asked given.now screen setup.entry }
-{
-    let (limit, witness, format) = explore_options(given)?;
     Some(Words::Explore(ExploreWords {
-        setup,
-        limit,
+        begin: begin_of(given)?,
+        limit: number_of(given.limit, 1, 1_000_000)?,
         prompt: given.prompt,
         calls: given.calls,
-        witness,
-        format,
+        witness: number_if(given.witness, 1, 1_000_000)?,
+        format: witness_format_of(given.witness, given.format)?,
         coloured: screen.coloured,
     }))
-}
-
-/// The same of a workflow of a project.
-fn explore_in<'a>(given: &Given<'a>, screen: Screen, chosen: ChosenWords<'a>) -> Option<Words<'a>>
-    ensures { result ≡ explore_in_asked given.now screen chosen.entry }
-{
-    let (limit, witness, format) = explore_options(given)?;
-    Some(Words::ExploreIn(ExploreInWords {
-        chosen,
-        limit,
-        prompt: given.prompt,
-        calls: given.calls,
-        witness,
-        format,
-        coloured: screen.coloured,
-    }))
-}
-
-/// How many worlds are tried at most, and the number of the outcome whose steps are to be printed, if one is, and how.
-fn explore_options(given: &Given<'_>) -> Option<(u32, Option<u32>, WitnessFormat)>
-    ensures { result ≡ explore_options given.now }
-{
-    let limit = number_of(given.limit, 1, 1_000_000)?;
-    let witness = number_if(given.witness, 1, 1_000_000)?;
-    let format = witness_format_of(given.witness, given.format)?;
-    Some((limit, witness, format))
 }
 
 /// The format that a word names for the steps of one outcome; there is no such word where all outcomes are printed.

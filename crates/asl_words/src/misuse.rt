@@ -1,6 +1,9 @@
 // What is wrong with words that clap takes.
 use crate::given::Given;
-use crate::meaning::{joins_reports, lists_reports, names_chosen, names_more, names_run};
+use crate::meaning::{
+    covers, debugs_by_script, lists_reports, names_beside_test, names_chosen, names_files,
+    names_more, names_run, test_number,
+};
 use crate::verbs::Verb;
 use std::alloc::AllocError;
 
@@ -13,16 +16,22 @@ pub enum Misuse {
     Twice(&'static str, &'static str),
     /// Texts of a suite are lacking: the mock file, the expectations.
     Suiteless(bool, bool),
-    /// The reports of a project's tests are to be one text, by this argument.
-    Joined(&'static str),
     /// Texts of a run are named, and none is asked for.
     Runless,
+    /// A machine is named, and no file of it.
+    Fileless,
     /// A shard isn't two numbers.
     Shard,
+    /// A test isn't a file and a number.
+    Test,
     /// A script is to be told as a tree.
     TreeOfScript,
     /// The steps of one outcome are to be told in a format, and none is named.
     Witnessless,
+    /// A region is named, and the run isn't printed in the service's format.
+    Regional,
+    /// What tests cover is to be told in a format, and it isn't told.
+    Coverless,
     /// A word isn't UTF-8.
     Malformed,
     /// A word names an outcome that isn't there.
@@ -33,19 +42,73 @@ pub enum Misuse {
 pub fn misuse_of(verb: Verb, given: &Given<'_>) -> Misuse {
     match verb {
         Verb::Test if lists_reports(given) => misuse_of_list(given),
-        Verb::Check | Verb::Lint | Verb::Test if are_both(given.definition, given.project) => {
+        Verb::Lint => misuse_of_lint(given),
+        Verb::Check | Verb::Test if are_both(given.definition, given.project) => {
             Misuse::Twice("[DEF]", "--project <FILE>")
         }
         Verb::Test if given.definition.is_some() => misuse_of_suite(given),
-        Verb::Test if joins_reports(given) => misuse_of_joined(given),
-        Verb::Test => Misuse::Shard,
+        Verb::Test => misuse_of_rest(given),
         Verb::Explore if given.witness.is_none() && given.format.is_some() => Misuse::Witnessless,
         Verb::Run if are_both(given.steps, given.most_steps) => {
             Misuse::Twice("--steps <FILE>", "--max-steps <N>")
         }
+        Verb::Run if given.region.is_some() && !is_aws(given.format) => Misuse::Regional,
+        Verb::Debug if debugs_by_script(given) => misuse_of_strict(given),
         Verb::Graph if !given.run && names_run(given) => Misuse::Runless,
-        Verb::Run | Verb::Debug | Verb::Explore if names_chosen(given) => misuse_of_chosen(given),
+        Verb::Run | Verb::Debug | Verb::Explore => misuse_of_begin(given),
         _ => misuse_of_run(given),
+    }
+}
+
+fn misuse_of_lint(given: &Given<'_>) -> Misuse {
+    if names_files(given) {
+        Misuse::Twice("[FILE]...", "--project <FILE>")
+    } else {
+        Misuse::Fileless
+    }
+}
+
+fn misuse_of_begin(given: &Given<'_>) -> Misuse {
+    match given.test {
+        Some(test) => misuse_of_test(given, test),
+        None if names_chosen(given) => misuse_of_chosen(given),
+        None => misuse_of_run(given),
+    }
+}
+
+fn misuse_of_test(given: &Given<'_>, test: &str) -> Misuse {
+    if names_beside_test(given) {
+        Misuse::Twice(named_beside_test(given), "--test <SUITE#N>")
+    } else if test_number(test).is_none() {
+        Misuse::Test
+    } else if are_both(given.mocks, given.mocks_option) {
+        Misuse::Twice("[MOCKS]", "--mocks <FILE>")
+    } else if are_both(given.script, given.script_option) {
+        Misuse::Twice("[SCRIPT]", "--script <FILE>")
+    } else if given.definition.is_none() || is_neither(given.mocks, given.mocks_option) {
+        lacking_of_test(given)
+    } else {
+        Misuse::TreeOfScript
+    }
+}
+
+fn lacking_of_test(given: &Given<'_>) -> Misuse {
+    let mocks = is_neither(given.mocks, given.mocks_option);
+    Misuse::Lacking(given.definition.is_none(), mocks, false, false)
+}
+
+/// The first argument that a test stands for.
+fn named_beside_test(given: &Given<'_>) -> &'static str {
+    if given.chosen.is_some() {
+        "[CHOSEN]"
+    } else if given.case_option.is_some() {
+        "--case <CHOSEN>"
+    } else if given.input.is_some() {
+        "[INPUT]"
+    } else if given.input_option.is_some() {
+        "--input <FILE>"
+    } else {
+        "--project <FILE>"
     }
 }
 
@@ -62,15 +125,31 @@ fn misuse_of_suite(given: &Given<'_>) -> Misuse {
     if mocks || expectations {
         Misuse::Suiteless(mocks, expectations)
     } else {
+        misuse_of_rest(given)
+    }
+}
+
+/// What is wrong with the options of tests that are named.
+fn misuse_of_rest(given: &Given<'_>) -> Misuse {
+    if given.coverage_format.is_some() && !covers(given) {
+        Misuse::Coverless
+    } else {
         Misuse::Shard
     }
 }
 
-fn misuse_of_joined(given: &Given<'_>) -> Misuse {
-    match (given.junit, given.json) {
-        (Some(_), _) => Misuse::Joined("--junit <FILE>"),
-        (None, Some(_)) => Misuse::Joined("--json <FILE>"),
-        (None, None) => Misuse::Joined("--format junit"),
+fn misuse_of_strict(given: &Given<'_>) -> Misuse {
+    match given.script {
+        Some(_) => Misuse::Twice("--strict", "[SCRIPT]"),
+        None => Misuse::Twice("--strict", "--script <FILE>"),
+    }
+}
+
+/// Whether a word names the format of the service.
+fn is_aws(word: Option<&str>) -> bool {
+    match word {
+        Some(text) => text == "aws",
+        None => false,
     }
 }
 
@@ -143,18 +222,24 @@ pub fn put_misuse(out: &mut String, misuse: Misuse) -> Result<(), AllocError> {
             write!(out, "the argument '{word}' cannot be used with '{option}'")
         }
         Misuse::Suiteless(mocks, expectations) => put_suiteless(out, mocks, expectations),
-        Misuse::Joined(word) => write!(
-            out,
-            "the argument '{word}' is for the tests of one definition: name DEF, MOCKS and EXPECT"
-        ),
         Misuse::Runless => out.push_str(
             "the following required arguments were not provided:\n  --run",
+        ),
+        Misuse::Fileless => out.push_str(
+            "the following required arguments were not provided:\n  <FILE>...",
         ),
         Misuse::Witnessless => out.push_str(
             "the following required arguments were not provided:\n  --witness <I>",
         ),
+        Misuse::Coverless => out.push_str(
+            "the following required arguments were not provided:\n  --coverage",
+        ),
+        Misuse::Regional => out.push_str("the argument '--region <NAME>' is for --format aws"),
         Misuse::Shard => {
             out.push_str("a shard is I/N: two numbers from 1, the first at most the second")
+        }
+        Misuse::Test => {
+            out.push_str("a test is SUITE#N: the file of tests, and the number of one, from 1")
         }
         Misuse::TreeOfScript => {
             out.push_str("a script is told as text: --format tree is for lines that are typed")

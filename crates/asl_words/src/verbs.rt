@@ -23,7 +23,7 @@ impl Verb {
             Verb::Check =>
                 "Judges a state machine's definition: prints ok, or tells its first fault",
             Verb::Lint =>
-                "Tells everything that is wrong or suspicious in a definition, and where it stands",
+                "Tells everything that is wrong or suspicious in files, and where it stands",
             Verb::Print =>
                 "Prints a definition's canonical form as compact JSON, or tells its first fault",
             Verb::Upgrade =>

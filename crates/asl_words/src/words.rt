@@ -15,9 +15,9 @@ pub enum Words<'a> {
     Check(DefinitionWords<'a>),
     /// The same of each workflow of a project.
     CheckAll(ProjectWords<'a>),
-    /// All that is wrong with a definition and its mock file is to be told.
+    /// All that is wrong with some files is to be told.
     Lint(LintWords<'a>),
-    /// The same of each workflow of a project.
+    /// The same of the definition and the mock file of each workflow of a project.
     LintAll(LintAllWords<'a>),
     /// A definition is to be printed in its canonical form.
     Print(PrintWords<'a>),
@@ -29,20 +29,14 @@ pub enum Words<'a> {
     Mocks(MocksWords<'a>),
     /// An execution is to be emulated.
     Run(RunWords<'a>),
-    /// The same of a workflow of a project.
-    RunIn(RunInWords<'a>),
     /// An execution is to be debugged.
     Debug(DebugWords<'a>),
-    /// The same of a workflow of a project.
-    DebugIn(DebugInWords<'a>),
     /// The tests of a suite are to be run.
     Test(TestWords<'a>),
     /// The tests of each workflow of a project are to be run.
     TestAll(TestAllWords<'a>),
     /// Every order of an execution is to be tried.
     Explore(ExploreWords<'a>),
-    /// The same of a workflow of a project.
-    ExploreIn(ExploreInWords<'a>),
     /// A code is to be explained, or all are to be listed.
     Explain(ExplainWords<'a>),
 }
@@ -88,12 +82,15 @@ pub enum LintFormat {
     Sarif,
 }
 
-/// The words of `lint`.
+/// The words of `lint`, beside the names of files that stand one after another.
 #[derive(Clone, Copy)]
 pub struct LintWords<'a> {
-    pub definition: &'a str,
-    /// The name of a file, where the mocked tasks are judged too.
+    /// The names of files of which it is said what they are.
     pub mocks: Option<&'a str>,
+    pub expectations: Option<&'a str>,
+    pub input: Option<&'a str>,
+    pub steps: Option<&'a str>,
+    pub script: Option<&'a str>,
     /// The name that the machine has in the mock file; none where that has only one.
     pub machine: Option<&'a str>,
     pub format: LintFormat,
@@ -159,22 +156,33 @@ pub struct ChosenWords<'a> {
     pub input: Option<&'a str>,
 }
 
-/// What an execution begins with: the files themselves are named, or a project that names them.
+/// What the execution of a test begins with.
+#[derive(Clone, Copy)]
+pub struct TestedWords<'a> {
+    pub definition: &'a str,
+    pub mocks: &'a str,
+    /// The file of tests, and behind a number sign the number, from 1, of one of them.
+    pub test: &'a str,
+    pub number: usize,
+}
+
+/// What an execution begins with: the files themselves are named, a project that names them, or a test that names its case and its input.
 #[derive(Clone, Copy)]
 pub enum Begin<'a> {
     Files(SetupWords<'a>),
     Project(ChosenWords<'a>),
+    Test(TestedWords<'a>),
 }
 
 /// How a run is printed.
 #[derive(Clone, Copy)]
-pub enum RunFormat {
+pub enum RunFormat<'a> {
     /// Its replies, its history and its status.
     Text,
     /// Its history, a JSON object each on a line.
     Json,
-    /// Its history as one JSON text, in the shape in which the service tells one.
-    Aws,
+    /// Its history as one JSON text, in the shape in which the service tells one of the region of this name; none where it is the usual one.
+    Aws(Option<&'a str>),
     /// The steps that it took, as a file of steps.
     Steps,
     /// What happened at each state, for a person.
@@ -186,23 +194,13 @@ pub enum RunFormat {
 /// The words of `run`.
 #[derive(Clone, Copy)]
 pub struct RunWords<'a> {
-    pub setup: SetupWords<'a>,
+    pub begin: Begin<'a>,
     /// The name of a file. Where no file of steps is named, the execution takes the steps that come next.
     pub steps: Option<&'a str>,
     /// So many of the steps that come next, from 1 to 1,000,000, are taken at most; none where nothing is said of it.
     pub most_steps: Option<u32>,
-    pub format: RunFormat,
+    pub format: RunFormat<'a>,
     /// Whether what happened at each state is told in colours.
-    pub coloured: bool,
-}
-
-/// The words of `run` on a project.
-#[derive(Clone, Copy)]
-pub struct RunInWords<'a> {
-    pub chosen: ChosenWords<'a>,
-    pub steps: Option<&'a str>,
-    pub most_steps: Option<u32>,
-    pub format: RunFormat,
     pub coloured: bool,
 }
 
@@ -218,22 +216,15 @@ pub enum DebugFormat {
 /// The words of `debug`.
 #[derive(Clone, Copy)]
 pub struct DebugWords<'a> {
-    pub setup: SetupWords<'a>,
+    pub begin: Begin<'a>,
     /// The name of a file. Where no script is named, lines are read that are typed.
     pub script: Option<&'a str>,
     /// How lines that are typed are answered; a script is told as text.
     pub format: DebugFormat,
     /// Whether what happened at each state is told in colours.
     pub coloured: bool,
-}
-
-/// The words of `debug` on a project.
-#[derive(Clone, Copy)]
-pub struct DebugInWords<'a> {
-    pub chosen: ChosenWords<'a>,
-    pub script: Option<&'a str>,
-    pub format: DebugFormat,
-    pub coloured: bool,
+    /// Whether the first line that isn't carried out ends the talk.
+    pub strict: bool,
 }
 
 /// How the reports of a suite are printed.
@@ -245,6 +236,17 @@ pub enum ReportFormat {
     JUnit,
     /// A JSON object a test, each on a line.
     Json,
+}
+
+/// How it is told what tests cover.
+#[derive(Clone, Copy)]
+pub enum CoverageFormat {
+    /// How much, and a line for each point that isn't covered.
+    Text,
+    /// One JSON object.
+    Json,
+    /// A tracefile of LCOV.
+    Lcov,
 }
 
 /// A part of a suite: the tests of these numbers, from 1: `first`, and each that stands `apart` behind one of them.
@@ -274,20 +276,27 @@ pub struct TestWords<'a> {
     pub list: bool,
     /// The least percent that the tests are to cover; none where nothing is told of what they cover.
     pub coverage: Option<u32>,
+    /// How this is told.
+    pub coverage_format: CoverageFormat,
     /// Whether a test fails that may not mean what it says.
     pub strict: bool,
+    /// Whether its reports stand among those of other files of tests.
+    pub among: bool,
 }
 
-/// The words of `test` on a project. What they say holds for each file of tests by itself.
+/// The words of `test` on a project. What they say of tests holds for each file of tests by itself.
 #[derive(Clone, Copy)]
 pub struct TestAllWords<'a> {
     pub project: ProjectWords<'a>,
     pub workers: usize,
     pub format: ReportFormat,
+    pub junit: Option<&'a str>,
+    pub json: Option<&'a str>,
     pub shard: Shard,
     pub filter: Option<&'a str>,
     pub list: bool,
     pub coverage: Option<u32>,
+    pub coverage_format: CoverageFormat,
     pub strict: bool,
 }
 
@@ -305,7 +314,7 @@ pub enum WitnessFormat {
 /// The words of `explore`.
 #[derive(Clone, Copy)]
 pub struct ExploreWords<'a> {
-    pub setup: SetupWords<'a>,
+    pub begin: Begin<'a>,
     /// So many worlds, from 1 to 1,000,000, are tried at most.
     pub limit: u32,
     /// Whether only orders are tried in which no branch is late.
@@ -317,18 +326,6 @@ pub struct ExploreWords<'a> {
     /// How these are printed.
     pub format: WitnessFormat,
     /// Whether what happened at each state is told in colours.
-    pub coloured: bool,
-}
-
-/// The words of `explore` on a project.
-#[derive(Clone, Copy)]
-pub struct ExploreInWords<'a> {
-    pub chosen: ChosenWords<'a>,
-    pub limit: u32,
-    pub prompt: bool,
-    pub calls: bool,
-    pub witness: Option<u32>,
-    pub format: WitnessFormat,
     pub coloured: bool,
 }
 

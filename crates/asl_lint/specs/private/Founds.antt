@@ -10,9 +10,7 @@ use Rattle.asl_lint.specs.declared.placing.Spanned.{Spanned}
 use Rattle.asl_lint.specs.Findings.{Noted, part_of}
 use Rattle.asl_lint.specs.Mocks.{Keyed, keyed, is_state, is_task}
 use Rattle.asl_lint.specs.Places.{Ruled, span_by}
-
-abbrev pub noted : Found → Noted
-noted f = (f.rule, f.place.items)
+pub use Rattle.asl_lint.specs.Places.{noted}
 
 abbrev pub spanned : Spanned → Ruled
 spanned s = (s.found.rule, s.span)

@@ -3,3 +3,6 @@ use Rattle.asl_cli.proofs.command.obey.Goals as goal
 
 pub returns-in-Run : goal.returns-in-Run
 returns-in-Run g c = rw c.in-Run.is (refl, c.run.ensures)
+
+pub returns-in-Lint : goal.returns-in-Lint
+returns-in-Lint g c = rw c.in-Lint.is (refl, rw c.deref.ensures.value at c.lint.ensures)

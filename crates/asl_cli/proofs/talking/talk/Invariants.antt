@@ -3,5 +3,5 @@ use Rattle.asl_cli.specs.Streams.{input_use}
 use Rattle.asl_cli.specs.Talking.{AreAnswered}
 use Rattle.asl_cli.proofs.talking.talk.Given as goal
 
-abbrev pub invariant-loop : goal.invariant-loop
-invariant-loop g l = AreAnswered (input_use g.I.Input.given l.fn.input l.input) (sink_use g.O.Sink.taken g.O.Sink.failures l.fn.out l.out) l.look l.fn.console l.console
+abbrev pub invariant-loop-number : goal.invariant-loop-number
+invariant-loop-number g l = AreAnswered (input_use g.I.Input.given l.fn.input l.input) (sink_use g.O.Sink.taken g.O.Sink.failures l.fn.out l.out) l.strict l.look l.fn.console l.console l.number

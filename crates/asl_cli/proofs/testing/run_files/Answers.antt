@@ -27,7 +27,7 @@ returns-in-Ok-covered-clause-reported g c =
           are_mocks = subst (λ (m : Machines). IsMockFile texts.mocks.items m) (sym c.in_ok-suite.ensures.mocks) c.in_ok-spelled.ensures.spelled.are_mocks;
           drafts = spelled.drafts.list.items;
           are_drafts = c.in_ok-spelled.ensures.spelled.are_drafts;
-          are_tests = tests-before (g.F.Files.gives c.args.files.now) (g.F.Files.gives c.read_suite_texts.new.files) (g.F.Files.lacks c.args.files.now) (g.F.Files.lacks c.read_suite_texts.new.files) c.in_ok-texts.ensures.kept c.in_ok-texts.ensures.lacking c.args.words.now.expectations.now spelled.drafts.list.items c.in_ok-suite.suite.tests.list.items c.in_ok-suite.ensures.tests;
+          are_tests = tests-before (g.F.Files.gives c.args.files.now) (g.F.Files.gives c.read_suite.new.files) (g.F.Files.lacks c.args.files.now) (g.F.Files.lacks c.read_suite.new.files) c.in_ok-texts.ensures.kept c.in_ok-texts.ensures.lacking c.args.words.now.expectations.now spelled.drafts.list.items c.in_ok-suite.suite.tests.list.items c.in_ok-suite.ensures.tests;
         };
       };
       is_report = rw (← c.in-Ok-covered.ensures.text) at c.in-Ok.ensures.report;
@@ -51,6 +51,6 @@ returns-in_err-suite-clause-refused g c =
       given = c.in_ok-texts.ensures.given;
       spelled = spelled;
       is_spelled = c.in_ok-spelled.ensures.spelled;
-      lost = unless-map (IsFirstLost (gives c.read_suite_texts.new.files) (lacks c.read_suite_texts.new.files) file drafts) (IsFirstLost (gives c.args.files.now) (lacks c.args.files.now) file drafts) c.in_err-suite.field-0.0
-          (λ r h. first-before (gives c.args.files.now) (gives c.read_suite_texts.new.files) (lacks c.args.files.now) (lacks c.read_suite_texts.new.files) c.in_ok-texts.ensures.kept c.in_ok-texts.ensures.lacking file drafts r h) c.in_err-suite.ensures.lost;
+      lost = unless-map (IsFirstLost (gives c.read_suite.new.files) (lacks c.read_suite.new.files) file drafts) (IsFirstLost (gives c.args.files.now) (lacks c.args.files.now) file drafts) c.in_err-suite.field-0.0
+          (λ r h. first-before (gives c.args.files.now) (gives c.read_suite.new.files) (lacks c.args.files.now) (lacks c.read_suite.new.files) c.in_ok-texts.ensures.kept c.in_ok-texts.ensures.lacking file drafts r h) c.in_err-suite.ensures.lost;
     }))

@@ -1,17 +1,19 @@
-use Rattle.std.proofs.Common.{inr, sym}
+use Rattle.std.proofs.Common.{inr}
+use Rattle.std.proofs.lemmas.Result.{IfErr-weaker, IfOk-weaker}
 use Rattle.asl_command_line.proofs.reading.read_command.Goals as goal
 
-pub returns-in-Some-clause-ok : goal.returns-in-Some-clause-ok
-returns-in-Some-clause-ok g c = record {
-  given = c.in-Ok.given;
+pub returns-in-Ok-clause-ok : goal.returns-in-Ok-clause-ok
+returns-in-Ok-clause-ok g c = IfOk-weaker c.line_by.result _ _ (λ l h. record {
+  taken = c.in-Ok.taken;
   takes = c.in-Ok.ensures.ok.0;
   gives = c.in-Ok.ensures.ok.1;
-  asks = sym c.in-Some.ensures;
-}
+  asks = h.0;
+  files = h.1;
+}) c.line_by.ensures.ok
 
-pub returns-in-None-clause-err : goal.returns-in-None-clause-err
-returns-in-None-clause-err g c = inr (inr (record {
-  given = c.in-Ok.given;
+pub returns-in-Ok-clause-err : goal.returns-in-Ok-clause-err
+returns-in-Ok-clause-err g c = IfErr-weaker c.line_by.result _ _ (λ a none. inr (inr (record {
+  taken = c.in-Ok.taken;
   gives = c.in-Ok.ensures.ok.1;
-  asks = sym c.in-None.ensures;
-}))
+  asks = none;
+}))) c.line_by.ensures.err

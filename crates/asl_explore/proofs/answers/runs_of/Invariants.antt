@@ -1,12 +1,13 @@
-use Rattle.std.proofs.Common.{ℕ, ◌≡◌, ◌≤◌}
-use Rattle.asl_mock.specs.Answers.{answer_to}
+use Rattle.std.proofs.Common.{◌≤◌, ◌-◌}
 use Rattle.asl_explore.specs.Remarks.{AreRuns}
 use Rattle.asl_explore.proofs.answers.runs_of.Given as goal
 
--- the runs so far go up to the low number, and from there on up to here the answers are equal
-abbrev pub invariant-loop-number : goal.invariant-loop-number
-invariant-loop-number l = record {
+-- the runs so far go up to the low number
+abbrev pub invariant-loop-low : goal.invariant-loop-low
+invariant-loop-low l = record {
   runs : AreRuns l.case l.task 0 l.low l.runs.items;
-  low : l.low ≤ l.number;
-  one : (i : ℕ) → l.low ≤ i → i ≤ l.number → answer_to l.case l.task i ≡ answer_to l.case l.task l.low;
+  within : l.low ≤ 10000;
 }
+
+abbrev pub decreases-loop-low : goal.decreases-loop-low
+decreases-loop-low l = 10000 - l.low

@@ -1,4 +1,4 @@
-use Rattle.std.proofs.Common.{[], sym, subst, arith}
+use Rattle.std.proofs.Common.{[], sym, subst, arith, get_or}
 use Rattle.std.proofs.lemmas.Bool.Decides.{nat_tests}
 use Rattle.std.proofs.lemmas.List.{length-map}
 use Rattle.asl_run_state.specs.Bare.{bare}
@@ -8,7 +8,8 @@ use Rattle.asl_explore.specs.declared.orders.Orders.TheVariants.{Prompt}
 use Rattle.asl_explore.specs.Settled.{AreSettledFrom}
 use Rattle.asl_explore.specs.declared.met.Node.{Node}
 use Rattle.asl_explore.specs.Searches.{worlds_of}
-use Rattle.asl_explore.proofs.Expanding.{node-at}
+use Rattle.asl_explore.proofs.Behind.{behind-next}
+use Rattle.asl_explore.proofs.Expanding.{next-is, node-at}
 use Rattle.asl_explore.proofs.Growing.{later-same}
 use Rattle.asl_explore.proofs.Quieting.{reduced-is}
 use Rattle.asl_explore.proofs.Reached.{quiet-put}
@@ -61,3 +62,12 @@ returns-clause-reached c all =
     (λ e. node-at ns c.args.number c.index-node.result.now e c.requires.there c.index-node.ensures)
     (c.in_ok-step_quietly.ensures.quiet c.if-not-branch-2.false) (c.in_ok-step_quietly.ensures.world c.if-not-branch-2.false)
     (rw c.world.ensures at (rw c.in-Some.is at c.in_ok-next.ensures)) all)
+
+pub put-requires-clause-behind : goal.put-requires-clause-behind
+put-requires-clause-behind c d =
+    let s = setup_of c.args.probe.now in
+    let ns = c.args.met.now.nodes.items in
+    behind-next s (get_or (worlds_of ns) c.args.number d) c.in-Some.next _ _
+    (next-is s (setup_of c.enter.new.probe) (worlds_of ns) c.args.number c.index-node.result.now.world (world_of c.enter.new.probe) (world_of c.step_quietly.new.probe) c.in-Some.next d _ _
+    c.enter.ensures.setup (c.in_ok-enter.ensures.world c.if-not-branch.false) (c.in_ok-step_quietly.ensures.world c.if-not-branch-2.false) (rw c.world.ensures at (rw c.in-Some.is at c.in_ok-next.ensures))
+    (node-at ns c.args.number c.index-node.result.now d c.requires.there c.index-node.ensures))

@@ -9,7 +9,7 @@ use Rattle.asl_explore.proofs.sampling.put_samples.Given as goal
 abbrev pub invariant-loop-number : goal.invariant-loop-number
 invariant-loop-number l = record {
   setup : setup_of l.probe ≡ setup_of l.fn.probe;
-  later : (ws : List World) → IsLater ws (outcomes_of l.fn.found.items) ws (outcomes_of l.found.items);
-  shown : All (Shows l.orders (setup_of l.fn.probe)) l.fn.found.items → All (Shows l.orders (setup_of l.fn.probe)) l.found.items;
-  once : AreDistinct (outcomes_of l.fn.found.items) → AreDistinct (outcomes_of l.found.items);
+  later : (ws : List World) → IsLater ws (outcomes_of l.fn.found.list.items) ws (outcomes_of l.found.list.items);
+  shown : All (Shows l.orders (setup_of l.fn.probe)) l.fn.found.list.items → All (Shows l.orders (setup_of l.fn.probe)) l.found.list.items;
+  once : AreDistinct (outcomes_of l.fn.found.list.items) → AreDistinct (outcomes_of l.found.list.items);
 }

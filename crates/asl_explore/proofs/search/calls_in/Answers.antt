@@ -14,7 +14,7 @@ returns-clause-counted c =
     let s = setup_of c.args.probe.now in
     let x = c.args.searched.now in
     IfOk-weaker c.count_calls.result _ _
-    (λ k h w t closed. counted-all c.args.orders s c.setup.result.now x.met.nodes.items c.deref.result.now x.found.items c.deref-2.result.now k.calls.items c.len-states.result c.deref.ensures.value c.deref-2.ensures.value c.setup.ensures c.len-states.ensures closed (h t))
+    (λ k h w t closed. counted-all c.args.orders s c.setup.result.now x.met.nodes.items c.deref.result.now x.found.list.items c.deref-2.result.now k.calls.items c.len-states.result c.deref.ensures.value c.deref-2.ensures.value c.setup.ensures c.len-states.ensures closed (h t))
     c.count_calls.ensures.counted
 
 pub returns-clause-met : goal.returns-clause-met

@@ -12,17 +12,17 @@ use Rattle.asl_explore.proofs.search.expand.Goals as goal
 use Rattle.asl_explore.proofs.search.expand.Goals.{then-whole, else-whole}
 
 pub returns-in_err-turns-clause-later : goal.returns-in_err-turns-clause-later
-returns-in_err-turns-clause-later c = later-same (worlds_of c.args.met.now.nodes.items) (outcomes_of c.args.found.now.items)
+returns-in_err-turns-clause-later c = later-same (worlds_of c.args.met.now.nodes.items) (outcomes_of c.args.found.now.list.items)
 
 pub returns-in_default-clause-later : goal.returns-in_default-clause-later
-returns-in_default-clause-later c = later-same (worlds_of c.args.met.now.nodes.items) (outcomes_of c.args.found.now.items)
+returns-in_default-clause-later c = later-same (worlds_of c.args.met.now.nodes.items) (outcomes_of c.args.found.now.list.items)
 
 pub returns-in_err-bound-clause-later : goal.returns-in_err-bound-clause-later
-returns-in_err-bound-clause-later c = later-same (worlds_of c.args.met.now.nodes.items) (outcomes_of c.args.found.now.items)
+returns-in_err-bound-clause-later c = later-same (worlds_of c.args.met.now.nodes.items) (outcomes_of c.args.found.now.list.items)
 
 pub loop-index-init : goal.loop-index-init
 loop-index-init c = record {
-  later = later-same (worlds_of c.args.met.now.nodes.items) (outcomes_of c.args.found.now.items);
+  later = later-same (worlds_of c.args.met.now.nodes.items) (outcomes_of c.args.found.now.list.items);
   setup = c.in_ok-bound.ensures.setup;
   shown = λ h. h;
   once = λ h. h;
@@ -34,18 +34,18 @@ pub take-requires-clause-there : goal.take-requires-clause-there
 take-requires-clause-there c =
     let ns = c.args.met.now.nodes.items in
     let ms = c.loop-index.met.nodes.items in
-    omega (arith, c.requires, later-length (worlds_of ns) (worlds_of ms) (outcomes_of c.args.found.now.items) (outcomes_of c.loop-index.found.items) c.loop-index.invariant.later, length-map ns (λ (n : Node). bare n.world), length-map ms (λ (n : Node). bare n.world))
+    omega (arith, c.requires, later-length (worlds_of ns) (worlds_of ms) (outcomes_of c.args.found.now.list.items) (outcomes_of c.loop-index.found.list.items) c.loop-index.invariant.later, length-map ns (λ (n : Node). bare n.world), length-map ms (λ (n : Node). bare n.world))
 
 pub take-requires-clause-runs : goal.take-requires-clause-runs
 take-requires-clause-runs c d =
     let ns = c.args.met.now.nodes.items in
     let ms = c.loop-index.met.nodes.items in
     let lt : c.args.number < length (worlds_of ns) = omega (arith, c.requires, length-map ns (λ (n : Node). bare n.world)) in
-    runs-still (worlds_of ns) (worlds_of ms) (outcomes_of c.args.found.now.items) (outcomes_of c.loop-index.found.items) c.args.number d c.index.result.now.world c.loop-index.invariant.later lt
+    runs-still (worlds_of ns) (worlds_of ms) (outcomes_of c.args.found.now.list.items) (outcomes_of c.loop-index.found.list.items) c.args.number d c.index.result.now.world c.loop-index.invariant.later lt
     (node-at ns c.args.number c.index.result.now d c.requires c.index.ensures) (rw c.in-Some.is at c.in_ok-turns.ensures.runs)
 
 pub returns-in_err-is_met-clause-shown : goal.returns-in_err-is_met-clause-shown
-returns-in_err-is_met-clause-shown c h = shown-as c.args.orders (setup_of c.loop-index.probe) (setup_of c.args.probe.now) c.loop-index.found.items c.take.new.found.items c.loop-index.invariant.setup c.take.ensures.shown (c.loop-index.invariant.shown h)
+returns-in_err-is_met-clause-shown c h = shown-as c.args.orders (setup_of c.loop-index.probe) (setup_of c.args.probe.now) c.loop-index.found.list.items c.take.new.found.list.items c.loop-index.invariant.setup c.take.ensures.shown (c.loop-index.invariant.shown h)
 
 pub returns-in_err-is_met-clause-once : goal.returns-in_err-is_met-clause-once
 returns-in_err-is_met-clause-once c h = c.take.ensures.once (c.loop-index.invariant.once h)
@@ -56,9 +56,9 @@ loop-index-preserved c =
     let ws = worlds_of c.args.met.now.nodes.items in
     let vs = worlds_of c.loop-index.met.nodes.items in
     let xs = worlds_of c.take.new.met.nodes.items in
-    let os = outcomes_of c.args.found.now.items in
-    let us = outcomes_of c.loop-index.found.items in
-    let ys = outcomes_of c.take.new.found.items in
+    let os = outcomes_of c.args.found.now.list.items in
+    let us = outcomes_of c.loop-index.found.list.items in
+    let ys = outcomes_of c.take.new.found.list.items in
     let i = c.loop-index.index in
     let turns = c.in-Some.turns.items in
     let inv = c.loop-index.invariant in
@@ -67,7 +67,7 @@ loop-index-preserved c =
     record {
       later = later-then ws vs xs os us ys inv.later c.take.ensures.later;
       setup = c.take.ensures.setup ∙ inv.setup;
-      shown = λ h. shown-as c.args.orders (setup_of c.loop-index.probe) s c.loop-index.found.items c.take.new.found.items inv.setup c.take.ensures.shown (inv.shown h);
+      shown = λ h. shown-as c.args.orders (setup_of c.loop-index.probe) s c.loop-index.found.list.items c.take.new.found.list.items inv.setup c.take.ensures.shown (inv.shown h);
       once = λ h. c.take.ensures.once (inv.once h);
       reached = λ all.
           let w : World = c.index.result.now.world in
@@ -88,8 +88,8 @@ returns-clause-expanded c t =
     let s = setup_of c.args.probe.now in
     let ns = c.args.met.now.nodes.items in
     let ms = c.loop-index.met.nodes.items in
-    let os = outcomes_of c.args.found.now.items in
-    let us = outcomes_of c.loop-index.found.items in
+    let os = outcomes_of c.args.found.now.list.items in
+    let us = outcomes_of c.loop-index.found.list.items in
     let turns = c.in-Some.turns.items in
     let inv = c.loop-index.invariant in
     let lt : c.args.number < length (worlds_of ns) = omega (arith, c.requires, length-map ns (λ (n : Node). bare n.world)) in
@@ -101,7 +101,7 @@ returns-clause-expanded c t =
     (rw c.in-Some.is at c.in_ok-turns.ensures.runs) (rw c.in-Some.is at c.in_ok-turns.ensures.root) (rw c.in-Some.is at c.in_ok-turns.ensures.turns) le (subst (λ (w : World). IsBound c.args.orders s w c.in_ok-bound.bound) same c.in_ok-bound.ensures.bound) (inv.met t)
 
 pub returns-then-not-is_bounded-clause-later : goal.returns-then-not-is_bounded-clause-later
-returns-then-not-is_bounded-clause-later c = later-same (worlds_of c.args.met.now.nodes.items) (outcomes_of c.args.found.now.items)
+returns-then-not-is_bounded-clause-later c = later-same (worlds_of c.args.met.now.nodes.items) (outcomes_of c.args.found.now.list.items)
 
 pub returns-clause-reached : goal.returns-clause-reached
 returns-clause-reached c all = c.loop-index.invariant.reached all

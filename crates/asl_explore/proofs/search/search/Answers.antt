@@ -27,45 +27,30 @@ returns-clause-closed g c t =
     let le : length (worlds_of ns) ≤ c.loop-number.number = omega (arith, length-map ns (λ (n : Node). bare n.world), c.loop-number.met.nodes.ok.0, all.1, c.len-2.ensures) in
     record { begins = inv.begins; taken = λ i l d. inv.taken all.0 i (omega (arith, l, le)) d }
 
-pub returns-clause-expanded : goal.returns-clause-expanded
-returns-clause-expanded g c plain t =
+pub returns-clause-search : goal.returns-clause-search
+returns-clause-search g c =
+    let s = setup_of c.args.probe.now in
     let ns = c.loop-number.met.nodes.items in
+    let ws = worlds_of ns in
+    let os = outcomes_of c.loop-number.found.list.items in
     let inv = c.loop-number.invariant in
-    let all = c.is_complete-complete.ensures.yes t in
-    let le : length (worlds_of ns) ≤ c.loop-number.number = omega (arith, length-map ns (λ (n : Node). bare n.world), c.loop-number.met.nodes.ok.0, all.1, c.len-2.ensures) in
-    record { begins = inv.begins; expanded = λ i d l. inv.expanded plain all.0 i d (omega arith) (omega (arith, l, le)) }
-
-pub returns-clause-whole : goal.returns-clause-whole
-returns-clause-whole g c t =
-    let ns = c.loop-number.met.nodes.items in
-    let inv = c.loop-number.invariant in
-    let all = c.is_complete-complete.ensures.yes t in
-    let le : length (worlds_of ns) ≤ c.loop-number.number = omega (arith, length-map ns (λ (n : Node). bare n.world), c.loop-number.met.nodes.ok.0, all.1, c.len-2.ensures) in
-    all-whole c.args.orders (setup_of c.args.probe.now) (worlds_of ns) (outcomes_of c.loop-number.found.items) c.loop-number.number le inv.begins (inv.taken all.0)
-
-pub returns-clause-ending : goal.returns-clause-ending
-returns-clause-ending g c r t ends =
-    let ns = c.loop-number.met.nodes.items in
-    let inv = c.loop-number.invariant in
-    let all = c.is_complete-complete.ensures.yes t in
-    let le : length (worlds_of ns) ≤ c.loop-number.number = omega (arith, length-map ns (λ (n : Node). bare n.world), c.loop-number.met.nodes.ok.0, all.1, c.len-2.ensures) in
-    searched-ends c.args.orders (setup_of c.args.probe.now) (worlds_of ns) (outcomes_of c.loop-number.found.items) c.args.alone inv.begins (c.is_reduced.ensures.other r)
-    (λ plain i d l. inv.expanded plain all.0 i d (omega arith) (omega (arith, l, le))) (λ i l d. inv.taken all.0 i (omega (arith, l, le)) d) ends
-
-pub returns-clause-filling : goal.returns-clause-filling
-returns-clause-filling g c t ends =
-    let ns = c.loop-number.met.nodes.items in
-    let inv = c.loop-number.invariant in
-    let all = c.is_complete-complete.ensures.yes t in
-    let le : length (worlds_of ns) ≤ c.loop-number.number = omega (arith, length-map ns (λ (n : Node). bare n.world), c.loop-number.met.nodes.ok.0, all.1, c.len-2.ensures) in
-    searched-fills c.args.orders (setup_of c.args.probe.now) (worlds_of ns) (outcomes_of c.loop-number.found.items) inv.begins (λ i l d. inv.taken all.0 i (omega (arith, l, le)) d) ends
-
-pub returns-clause-depth : goal.returns-clause-depth
-returns-clause-depth g c =
-    depth-told c.args.orders (setup_of c.args.probe.now) (worlds_of c.loop-number.met.nodes.items) (outcomes_of c.loop-number.found.items) c.loop-number.level c.loop-number.whole c.depth_of.result c.loop-number.invariant.deep c.depth_of.ensures
-
-pub returns-clause-tried : goal.returns-clause-tried
-returns-clause-tried g c = inl refl
+    let le : c.is_complete-complete.result ≡ true → length ws ≤ c.loop-number.number = λ t. omega (arith, length-map ns (λ (n : Node). bare n.world), c.loop-number.met.nodes.ok.0, (c.is_complete-complete.ensures.yes t).1, c.len-2.ensures) in
+    record {
+      shown = inv.shown;
+      once = inv.once;
+      reached = inv.reached;
+      whole = λ t. all-whole c.args.orders s ws os c.loop-number.number (le t) inv.begins (inv.taken (c.is_complete-complete.ensures.yes t).0);
+      expanded = λ plain t. record { begins = inv.begins; expanded = λ i d l. inv.expanded plain (c.is_complete-complete.ensures.yes t).0 i d (omega arith) (omega (arith, l, le t)) };
+      plain = c.is_reduced.ensures.plain;
+      ending = λ r t ends.
+          let all = (c.is_complete-complete.ensures.yes t).0 in
+          searched-ends c.args.orders s ws os c.args.alone inv.begins (c.is_reduced.ensures.other r)
+          (λ plain i d l. inv.expanded plain all i d (omega arith) (omega (arith, l, le t))) (λ i l d. inv.taken all i (omega (arith, l, le t)) d) ends;
+      filling = λ t ends. searched-fills c.args.orders s ws os inv.begins (λ i l d. inv.taken (c.is_complete-complete.ensures.yes t).0 i (omega (arith, l, le t)) d) ends;
+      depth = depth-told c.args.orders s ws os c.loop-number.level c.loop-number.whole c.depth_of.result c.loop-number.invariant.deep c.depth_of.ensures;
+      cut = search rules;
+      tried = inl refl;
+    }
 
 pub go_on-requires-clause-settled : goal.go_on-requires-clause-settled
 go_on-requires-clause-settled g c = subst (λ (s : Setup). AreSettledFrom s c.in_ok-settling.settling.from.items) (sym c.loop-number.invariant.setup) c.in_ok-settling.ensures
@@ -74,7 +59,7 @@ pub loop-number-init : goal.loop-number-init
 loop-number-init g c =
     let s = setup_of c.args.probe.now in
     let ws = worlds_of c.in-Some.met.nodes.items in
-    let os = outcomes_of c.new-found.result.items in
+    let os = outcomes_of c.none-found.result.list.items in
     let first : ws ≡ bare (opening s) ∷ [] = rw c.in-Some.is at c.in_ok-met.ensures in
     let begins : IsMet ws os (opening s) = met-first s s ws os refl first in
     record {
@@ -97,15 +82,15 @@ loop-number-preserved g c =
     let z = setup_of c.loop-number.probe in
     let ns = c.loop-number.met.nodes.items in
     let ms = c.go_on.new.met.nodes.items in
-    let os = outcomes_of c.loop-number.found.items in
-    let us = outcomes_of c.go_on.new.found.items in
+    let os = outcomes_of c.loop-number.found.list.items in
+    let us = outcomes_of c.go_on.new.found.list.items in
     let i = c.loop-number.number in
     let inv = c.loop-number.invariant in
     let more = later-length (worlds_of ns) (worlds_of ms) os us c.go_on.ensures.later in
     let lt : i < length (worlds_of ns) = omega (arith, length-map ns (λ (n : Node). bare n.world), c.loop-number.met.nodes.ok.0, c.loop-number-test.true, c.len.ensures) in
     record {
       setup = c.go_on.ensures.setup ∙ inv.setup;
-      shown = shown-as c.args.orders z s c.loop-number.found.items c.go_on.new.found.items inv.setup c.go_on.ensures.shown inv.shown;
+      shown = shown-as c.args.orders z s c.loop-number.found.list.items c.go_on.new.found.list.items inv.setup c.go_on.ensures.shown inv.shown;
       once = c.go_on.ensures.once inv.once;
       begins = met-later (worlds_of ns) (worlds_of ms) os us (opening s) c.go_on.ensures.later inv.begins;
       reached = subst (λ (x : Setup). All (IsReached c.args.orders x) (worlds_of ns) → All (IsReached c.args.orders x) (worlds_of ms)) inv.setup c.in_ok-is_enough.ensures.reached inv.reached;
@@ -125,6 +110,3 @@ loop-number-preserved g c =
           let both : (c.loop-number.whole ≡ true) × (c.in_ok-is_enough.is_enough ≡ true) = elim c.if-whole.branch [ then-whole b ↦ (b.if-whole.true, sym b.whole-is ∙ w) | else-whole b ↦ let e : true ≡ false = sym w ∙ b.whole-is ∙ b.if-whole.false in absurd (cc) ] in
           expanded-more c.args.orders s z (worlds_of ns) (worlds_of ms) os us i inv.setup c.go_on.ensures.later inv.within (inv.expanded plain both.0) (c.in_ok-is_enough.ensures.expanded plain both.1);
     }
-
-pub returns-clause-reached : goal.returns-clause-reached
-returns-clause-reached g c = c.loop-number.invariant.reached

@@ -11,10 +11,10 @@ use Rattle.asl_explore.proofs.Growing.{later-same}
 use Rattle.asl_explore.proofs.search.take.Goals as goal
 
 pub returns-then-is_beyond-clause-later : goal.returns-then-is_beyond-clause-later
-returns-then-is_beyond-clause-later c = later-same (worlds_of c.args.met.now.nodes.items) (outcomes_of c.args.found.now.items)
+returns-then-is_beyond-clause-later c = later-same (worlds_of c.args.met.now.nodes.items) (outcomes_of c.args.found.now.list.items)
 
 pub returns-in_err-try_clone-clause-later : goal.returns-in_err-try_clone-clause-later
-returns-in_err-try_clone-clause-later c = later-same (worlds_of c.args.met.now.nodes.items) (outcomes_of c.args.found.now.items)
+returns-in_err-try_clone-clause-later c = later-same (worlds_of c.args.met.now.nodes.items) (outcomes_of c.args.found.now.list.items)
 
 pub returns-clause-reached : goal.returns-clause-reached
 returns-clause-reached c o =

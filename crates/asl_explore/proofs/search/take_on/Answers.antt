@@ -21,19 +21,19 @@ expand-requires-in-Prompt c =
 pub returns-else-branch-clause-taken : goal.returns-else-branch-clause-taken
 returns-else-branch-clause-taken c =
     let ws = worlds_of c.expand-in-Prompt.new.met.nodes.items in
-    let os = outcomes_of c.expand-in-Prompt.new.found.items in
+    let os = outcomes_of c.expand-in-Prompt.new.found.list.items in
     IfOk-weaker c.expand-in-Prompt.result _ _
     (λ b h t d. subst (λ (s : Setup). IsTakenOn c.args.orders s ws os c.args.number (get_or ws c.args.number d)) c.quietly.ensures.setup (inl (h t d)))
     c.expand-in-Prompt.ensures.expanded
 
 pub returns-else-branch-clause-later : goal.returns-else-branch-clause-later
 returns-else-branch-clause-later c =
-    let os = outcomes_of c.args.found.now.items in
-    later-then (worlds_of c.args.met.now.nodes.items) (worlds_of c.quietly.new.met.nodes.items) (worlds_of c.expand-in-Prompt.new.met.nodes.items) os os (outcomes_of c.expand-in-Prompt.new.found.items) (c.quietly.ensures.later os) c.expand-in-Prompt.ensures.later
+    let os = outcomes_of c.args.found.now.list.items in
+    later-then (worlds_of c.args.met.now.nodes.items) (worlds_of c.quietly.new.met.nodes.items) (worlds_of c.expand-in-Prompt.new.met.nodes.items) os os (outcomes_of c.expand-in-Prompt.new.found.list.items) (c.quietly.ensures.later os) c.expand-in-Prompt.ensures.later
 
 pub returns-else-branch-clause-shown : goal.returns-else-branch-clause-shown
 returns-else-branch-clause-shown c h =
-    shown-as c.args.orders (setup_of c.quietly.new.probe) (setup_of c.args.probe.now) c.args.found.now.items c.expand-in-Prompt.new.found.items c.quietly.ensures.setup c.expand-in-Prompt.ensures.shown h
+    shown-as c.args.orders (setup_of c.quietly.new.probe) (setup_of c.args.probe.now) c.args.found.now.list.items c.expand-in-Prompt.new.found.list.items c.quietly.ensures.setup c.expand-in-Prompt.ensures.shown h
 
 pub returns-then-branch-clause-reached : goal.returns-then-branch-clause-reached
 returns-then-branch-clause-reached c =

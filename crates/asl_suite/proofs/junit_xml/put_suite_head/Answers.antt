@@ -5,4 +5,4 @@ use Rattle.asl_suite.proofs.junit_xml.put_suite_head.Goals as goal
 
 pub returns : goal.returns
 unfolding suite_head
-returns c = written (right c.in_ok-put_plain.ensures (right c.in_ok-put_counts.ensures (right c.in_ok-put_plain-2.ensures (right c.in_ok-put_attribute.ensures (right c.in_ok-put_counts-2.ensures c.in_ok-put_plain-3.ensures))))) refl
+returns c = written (right c.in_ok-put_plain.ensures (right c.in_ok-put_attribute.ensures (right c.in_ok-put_counts.ensures c.in_ok-put_plain-2.ensures))) refl

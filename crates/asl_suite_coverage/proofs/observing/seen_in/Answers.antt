@@ -1,6 +1,5 @@
-use Rattle.std.proofs.Common.{◌≡◌, ◌++◌, ◌∙◌, List, Option, ap}
+use Rattle.std.proofs.Common.{◌++◌, ◌∙◌, ap}
 use Rattle.std.specs.Prelude.{option_map}
-use Rattle.asl_json_data.specs.Data.{Data}
 use Rattle.asl_json.specs.View.{data_of}
 use Rattle.asl_suite_coverage.specs.Answers.{case_in}
 use Rattle.asl_suite_coverage.specs.Covered.{spots_by}

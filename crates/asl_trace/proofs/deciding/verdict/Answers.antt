@@ -2,7 +2,7 @@ use Rattle.std.proofs.Common.{◌∙◌, sym, ap}
 use Rattle.asl_json_data.specs.Data.{text}
 use Rattle.asl_json.specs.View.{data_of}
 use Rattle.asl_trace.specs.private.Known.{said}
-use Rattle.asl_trace.proofs.Ruling.{holds_with_next}
+use Rattle.asl_def_states.proofs.Nexts.{holds_with_next}
 use Rattle.asl_trace.proofs.deciding.verdict.Goals as goal
 
 pub returns-in-Ok : goal.returns-in-Ok

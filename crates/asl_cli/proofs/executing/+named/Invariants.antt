@@ -1,5 +1,0 @@
-use Rattle.std.proofs.Common.{length}
-use Rattle.asl_cli.proofs.executing.+named.Given as goal
-
-abbrev pub decreases-named : goal.decreases-named
-decreases-named l = length l.workflows.now

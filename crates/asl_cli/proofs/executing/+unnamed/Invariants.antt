@@ -1,5 +1,0 @@
-use Rattle.std.proofs.Common.{length}
-use Rattle.asl_cli.proofs.executing.+unnamed.Given as goal
-
-abbrev pub decreases-unnamed : goal.decreases-unnamed
-decreases-unnamed l = length l.workflows.now
