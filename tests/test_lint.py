@@ -102,6 +102,14 @@ MISTAKES = [
         'error F4: a Fail state has no member "Cause.$"; did you mean "CausePath"?'),
     (',\n      "Default": "Ship"', "", "11:5",
         'warning no-default: the Choice state "Paid?" has no Default: where no rule holds, the execution fails with States.NoChoiceMatched'),
+    ('"Default": "Ship"', '"Default": "Paid?"', "14:18",
+        "warning own-default: Default leads back to this Choice, where the same input meets the same rules again"),
+    ('"Next": "Ship" }]', '"Next": "Ship" },\n        { "Variable": "$.paid", "BooleanEquals": true, "Next": "Charge card" }]', "14:9",
+        "warning repeated-rule: this rule never decides: one before it has the same test"),
+    ('lambda:invoke"', 'lambda:invoke.waitForTaskToken"', "6:19",
+        "warning unsent-token: nobody gets the token that this Task waits for: no path in its Parameters reaches $$.Task.Token"),
+    ('"States": {', '"TimeoutSeconds": 60,\n  "States": {\n    "Pause": { "Type": "Wait", "Seconds": 60, "Next": "Ship" },', "3:21",
+        "warning limit-below-wait: TimeoutSeconds is not above the Seconds of a Wait, so an execution that comes to it is timed out there"),
     ('"Next": "Paid?"', '"Next": "Ship"', "11:5", 'warning unreachable-state: nothing leads to the state "Paid?" from StartAt'),
 ]
 
@@ -156,6 +164,20 @@ class LintTest(ProgramTest):
                 ran = self.lint(GOOD.replace(old, new, 1))
                 self.assertIn(f"d.json:{place}: {words}", ran.stdout.splitlines())
                 self.assertEqual(ran.returncode, 1 if ": error " in ran.stdout else 0)
+
+    def test_what_comes_close_to_a_warning(self):
+        waiting = GOOD.replace("lambda:invoke", "lambda:invoke.waitForTaskToken").replace('"Parameters"', '"TimeoutSeconds": 9, "Parameters"')
+        limited = GOOD.replace('"Type": "Pass"', '"Type": "Wait", "Seconds": 60')
+        close = [
+            GOOD.replace('"Default": "Ship"', '"Default": "Paid?", "OutputPath": "$.next"'),
+            GOOD.replace('"Next": "Ship" }]', '"Next": "Ship" }, { "Variable": "$.paid", "BooleanEquals": false, "Next": "Ship" }]'),
+            waiting.replace('"$.id"', '"$$.Task.Token"'),
+            waiting.replace('"Parameters"', '"InputPath": "$$.Task", "Parameters"'),
+            limited.replace('"States": {', '"TimeoutSeconds": 61,\n  "States": {'),
+        ]
+        for text in close:
+            with self.subTest(text):
+                self.assertEqual(self.lint(text).stdout, "no findings\n")
 
     def test_typical_mistakes_of_mock_files(self):
         for old, new, place, words in MOCK_MISTAKES:

@@ -122,12 +122,92 @@ fn no_default(rt: HostRuntime) -> Result<(), Fail> {
 }
 
 #[test]
+fn own_defaults(rt: HostRuntime) -> Result<(), Fail> {
+    let out = told(
+        rt.alloc(),
+        r#"{"StartAt":"A","States":{"A":{"Type":"Choice","Choices":[{"Variable":"$.a","IsNull":true,"Next":"B"}],"Default":"A"},"B":{"Type":"Choice","Choices":[{"Variable":"$.a","IsNull":true,"Next":"B"}],"Default":"C"},"C":{"Type":"Choice","InputPath":"$.c","Choices":[{"Variable":"$.a","IsNull":true,"Next":"D"}],"Default":"C"},"D":{"Type":"Choice","OutputPath":"$.d","Choices":[{"Variable":"$.a","IsNull":true,"Next":"E"}],"Default":"D"},"E":{"Type":"Pass","Default":"E","End":true}}}"#,
+    )?;
+    assert_eq!(rt; out.as_str(), "own-default /States/A/Default\n");
+    Ok(())
+}
+
+#[test]
+fn repeated_rules(rt: HostRuntime) -> Result<(), Fail> {
+    let out = told(
+        rt.alloc(),
+        r#"{"StartAt":"A","States":{"A":{"Type":"Choice","Choices":[{"Variable":"$.a","NumericEquals":1,"Next":"A"},{"Variable":"$.a","NumericEquals":2,"Next":"A"},{"Comment":"c","Variable":"$.a","NumericEquals":1,"Next":"B"},{"And":[{"Variable":"$.a","IsNull":true},{"Variable":"$.a","IsNull":true}],"Next":"B"},{"Next":"A","And":[{"Variable":"$.a","IsNull":true},{"Variable":"$.a","IsNull":true}]},{"NumericEquals":1,"Variable":"$.a","Next":"B"},{"Variable":"$.a","NumericEquals":1.0,"Next":"B"},{"Variable":"$.a","NumericEquals":2,"Next":"A"}],"Default":"B"},"B":{"Type":"Choice","Choices":[{"Variable":"$.a","NumericEquals":1,"Next":"C"}],"Default":"C"},"C":{"Type":"Fail"}}}"#,
+    )?;
+    assert_eq!(rt;
+        out.as_str(),
+        "repeated-rule /States/A/Choices/2\nrepeated-rule /States/A/Choices/4\nrepeated-rule /States/A/Choices/7\n"
+    );
+    Ok(())
+}
+
+#[test]
 fn waits(rt: HostRuntime) -> Result<(), Fail> {
     let out = told(
         rt.alloc(),
-        r#"{"StartAt":"A","States":{"A":{"Type":"Task","Resource":"q.waitForTaskToken","Next":"B"},"B":{"Type":"Task","Resource":"q.waitForTaskToken","HeartbeatSeconds":5,"End":true}}}"#,
+        r#"{"StartAt":"A","States":{"A":{"Type":"Task","Resource":"q.waitForTaskToken","Parameters":{"t.$":"$$.Task.Token"},"Next":"B"},"B":{"Type":"Task","Resource":"q.waitForTaskToken","Parameters":{"t.$":"$$.Task.Token"},"HeartbeatSeconds":5,"End":true}}}"#,
     )?;
     assert_eq!(rt; out.as_str(), "endless-wait /States/A\n");
+    Ok(())
+}
+
+/// The warnings of a Task that waits for its token, with a time limit and these members behind.
+fn told_of_token(alloc: Global, members: &str) -> Result<String, Fail> {
+    let mut text = String::new(alloc);
+    text.push_str(
+        r#"{"StartAt":"A","States":{"A":{"Type":"Task","Resource":"q.waitForTaskToken","TimeoutSeconds":9,"End":true"#,
+    )?;
+    text.push_str(members)?;
+    text.push_str("}}}")?;
+    told(alloc, text.as_str())
+}
+
+#[test]
+fn unsent_tokens(rt: HostRuntime) -> Result<(), Fail> {
+    let unsent = [
+        "",
+        r#","Parameters":{}"#,
+        r#","Parameters":{"a.$":"$.Task.Token","b.$":"$$.Execution.Id","c":"$5","d.$":"States.Format('{}',$.a)","e":"costs $$"}"#,
+        r#","InputPath":"$.a""#,
+        r#","InputPath":null"#,
+        r#","ResultSelector":{"t.$":"$$.Task.Token"}"#,
+    ];
+    for members in unsent {
+        let out = told_of_token(rt.alloc(), members)?;
+        assert_eq!(rt; out.as_str(), "unsent-token /States/A/Resource\n");
+    }
+    Ok(())
+}
+
+#[test]
+fn sent_tokens(rt: HostRuntime) -> Result<(), Fail> {
+    let sent = [
+        r#","Parameters":{"t.$":"$$.Task.Token"}"#,
+        r#","Parameters":{"a":[1,{"b":{"t.$":"$$.Task"}}]}"#,
+        r#","Parameters":{"all.$":"$$"}"#,
+        r#","Parameters":{"t.$":"$$['Task']['Token']"}"#,
+        r#","Parameters":{"t.$":"States.Format('{} {}',$.id,$$.Task.Token)"}"#,
+        r#","InputPath":"$$.Task""#,
+        r#","InputPath":"$$","Parameters":{"t.$":"$.Task.Token"}"#,
+    ];
+    for members in sent {
+        let out = told_of_token(rt.alloc(), members)?;
+        assert_eq!(rt; out.as_str(), "");
+    }
+    Ok(())
+}
+
+/// One mistake is told once; another resource waits for no token, and a state of another type has none.
+#[test]
+fn no_tokens(rt: HostRuntime) -> Result<(), Fail> {
+    let out = told(
+        rt.alloc(),
+        r#"{"StartAt":"A","States":{"A":{"Type":"Task","Resource":"q.waitForTaskToken","TimeoutSeconds":9,"Parameters":{"t":"$$.Task.Token"},"Next":"B"},"B":{"Type":"Task","Resource":"waitForTaskToken","Next":"C"},"C":{"Type":"Pass","Resource":"q.waitForTaskToken","End":true}}}"#,
+    )?;
+    assert_eq!(rt; out.as_str(), "forgotten-dollar /States/A/Parameters/t\n");
     Ok(())
 }
 
@@ -141,6 +221,21 @@ fn heartbeats(rt: HostRuntime) -> Result<(), Fail> {
         out.as_str(),
         "heartbeat-not-shorter /States/A/HeartbeatSeconds\n"
     );
+    Ok(())
+}
+
+#[test]
+fn limits(rt: HostRuntime) -> Result<(), Fail> {
+    let short = told(
+        rt.alloc(),
+        r#"{"StartAt":"A","TimeoutSeconds":60,"States":{"A":{"Type":"Wait","Seconds":59,"Next":"B"},"B":{"Type":"Wait","Seconds":6e1,"End":true}}}"#,
+    )?;
+    assert_eq!(rt; short.as_str(), "limit-below-wait /TimeoutSeconds\n");
+    let long = told(
+        rt.alloc(),
+        r#"{"StartAt":"A","TimeoutSeconds":60,"States":{"A":{"Type":"Wait","Seconds":59,"Next":"B"},"B":{"Type":"Wait","SecondsPath":"$.s","Next":"C"},"C":{"Type":"Pass","Seconds":60,"Next":"D"},"D":{"Type":"Task","Resource":"r","TimeoutSeconds":70,"Next":"E"},"E":{"Type":"Map","ItemProcessor":{"StartAt":"F","TimeoutSeconds":5,"States":{"F":{"Type":"Wait","Seconds":60,"End":true}}},"End":true}}}"#,
+    )?;
+    assert_eq!(rt; long.as_str(), "");
     Ok(())
 }
 

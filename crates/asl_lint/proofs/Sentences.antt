@@ -35,8 +35,12 @@ unfolding warning_sentence
 warning_says warning.UnreachableState = refl
 warning_says warning.NoEnd = refl
 warning_says warning.NoDefault = refl
+warning_says warning.OwnDefault = refl
+warning_says warning.RepeatedRule = refl
 warning_says warning.EndlessWait = refl
+warning_says warning.UnsentToken = refl
 warning_says warning.HeartbeatNotShorter = refl
+warning_says warning.LimitBelowWait = refl
 warning_says warning.UnaskedHandler = refl
 warning_says warning.UnknownError = refl
 warning_says warning.RepeatedError = refl

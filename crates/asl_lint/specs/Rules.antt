@@ -97,9 +97,15 @@ unfoldable pub warning_sentence : WarningKind → List ℕ
 warning_sentence warning.UnreachableState = codes "Nothing leads to a state."
 warning_sentence warning.NoEnd = codes "From a state no end can be reached."
 warning_sentence warning.NoDefault = codes "A Choice has no Default."
+warning_sentence warning.OwnDefault = codes "The Default of a Choice leads back to it."
+warning_sentence warning.RepeatedRule = codes "An earlier rule of the Choice has the same test."
 warning_sentence warning.EndlessWait = codes "A Task that waits for a token has no time limit."
+warning_sentence warning.UnsentToken =
+    codes "A Task that waits for a token gives it to nobody."
 warning_sentence warning.HeartbeatNotShorter =
     codes "A heartbeat isn't shorter than the time limit."
+warning_sentence warning.LimitBelowWait =
+    codes "A Wait lasts as long as the time limit, or longer."
 warning_sentence warning.UnaskedHandler =
     codes "Retriers or catchers before it are for all that this one names."
 warning_sentence warning.UnknownError = codes "No error of the language has this name."

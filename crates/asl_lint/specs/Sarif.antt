@@ -39,8 +39,12 @@ rules =
     ∷ rule.Warning warning.UnreachableState
     ∷ rule.Warning warning.NoEnd
     ∷ rule.Warning warning.NoDefault
+    ∷ rule.Warning warning.OwnDefault
+    ∷ rule.Warning warning.RepeatedRule
     ∷ rule.Warning warning.EndlessWait
+    ∷ rule.Warning warning.UnsentToken
     ∷ rule.Warning warning.HeartbeatNotShorter
+    ∷ rule.Warning warning.LimitBelowWait
     ∷ rule.Warning warning.UnaskedHandler
     ∷ rule.Warning warning.UnknownError
     ∷ rule.Warning warning.RepeatedError

@@ -219,8 +219,12 @@ fn warning_sentence(kind: WarningKind) -> &'static str
         WarningKind::UnreachableState => "Nothing leads to a state.",
         WarningKind::NoEnd => "From a state no end can be reached.",
         WarningKind::NoDefault => "A Choice has no Default.",
+        WarningKind::OwnDefault => "The Default of a Choice leads back to it.",
+        WarningKind::RepeatedRule => "An earlier rule of the Choice has the same test.",
         WarningKind::EndlessWait => "A Task that waits for a token has no time limit.",
+        WarningKind::UnsentToken => "A Task that waits for a token gives it to nobody.",
         WarningKind::HeartbeatNotShorter => "A heartbeat isn't shorter than the time limit.",
+        WarningKind::LimitBelowWait => "A Wait lasts as long as the time limit, or longer.",
         WarningKind::UnaskedHandler =>
             "Retriers or catchers before it are for all that this one names.",
         WarningKind::UnknownError => "No error of the language has this name.",

@@ -36,14 +36,26 @@ pub fn put_warning(
             standing.key,
             " has no Default: where no rule holds, the execution fails with States.NoChoiceMatched",
         ),
+        WarningKind::OwnDefault => out.push_str(
+            "Default leads back to this Choice, where the same input meets the same rules again",
+        ),
+        WarningKind::RepeatedRule => out.push_str(
+            "this rule never decides: one before it has the same test",
+        ),
         WarningKind::EndlessWait => put_state(
             out,
             "the Task ",
             standing.key,
             " waits for its token without end: HeartbeatSeconds or TimeoutSeconds limits that",
         ),
+        WarningKind::UnsentToken => out.push_str(
+            "nobody gets the token that this Task waits for: no path in its Parameters reaches $$.Task.Token",
+        ),
         WarningKind::HeartbeatNotShorter => out.push_str(
             "HeartbeatSeconds is not shorter than TimeoutSeconds, so no heartbeat is ever missed first",
+        ),
+        WarningKind::LimitBelowWait => out.push_str(
+            "TimeoutSeconds is not above the Seconds of a Wait, so an execution that comes to it is timed out there",
         ),
         WarningKind::UnaskedHandler => out.push_str(unasked(standing.sort)),
         WarningKind::UnknownError => {

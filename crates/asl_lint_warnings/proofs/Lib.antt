@@ -2,6 +2,7 @@ pub mod Growing
 pub mod Joining
 pub mod Listing
 pub mod Marking
+pub mod Passing
 pub mod Placing
 pub mod Searching
 pub mod Telling

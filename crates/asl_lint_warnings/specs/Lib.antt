@@ -1,8 +1,10 @@
 pub mod Kinds
 pub mod Texts
+pub mod Questions
 pub mod Handlers
 pub mod Graphs
 pub mod Ways
+pub mod Tokens
 pub mod States
 pub mod Constants
 pub mod Laws

@@ -12,7 +12,7 @@ use Rattle.asl_lint_warnings.specs.declared.warning.WarningKind.TheVariants as k
 use Rattle.asl_lint_warnings.specs.Kinds.{Noted, noted, kind_if}
 use Rattle.asl_lint_warnings.specs.Texts.{text_kind}
 use Rattle.asl_lint_warnings.specs.Handlers.{brings, item_kind}
-use Rattle.asl_lint_warnings.specs.States.{state_kind, member_kind, retrier_kind}
+use Rattle.asl_lint_warnings.specs.States.{state_kind, member_kind, default_kind, limit_kind, retrier_kind}
 use Rattle.asl_lint_warnings.specs.Constants.{result_warnings}
 use Rattle.asl_lint_warnings.specs.Graphs.{is_reached, is_ending}
 
@@ -54,10 +54,13 @@ standing p i =
 
 -- of a member beside the others of a state
 abbrev pub in_state : Spot → Pairs → List ℕ → Data → List Noted
-in_state p all k d = noted p.place (member_kind all k d) ++ result_warnings p.place all k d
+in_state p all k d =
+    noted p.place (member_kind all k d)
+    ++ (noted p.place (default_kind p.place all k d) ++ result_warnings p.place all k d)
 
 -- of a member beside the others of an object of this sort
 abbrev pub beside : Spot → Sort → Pairs → ℕ → List ℕ → Data → List Noted
+beside p sort.Definition all i k d = noted p.place (limit_kind all k d)
 beside p sort.States all i k d = standing p i
 beside p sort.State all i k d = in_state p all k d
 beside p sort.Retrier all i k d = noted p.place (retrier_kind all k d)

@@ -91,7 +91,7 @@ const COMPUTED_FRONTS: &[&str] = &[
     "States.UUID(",
 ];
 
-fn begins(text: &str, front: &str) -> bool
+pub(crate) fn begins(text: &str, front: &str) -> bool
     ensures { result ≡ begins text.now front.now }
 {
     text.as_bytes().starts_with(front.as_bytes())

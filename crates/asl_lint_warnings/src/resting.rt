@@ -1,14 +1,19 @@
 // One state by itself, and one retrier.
-ghost use Rattle.std.specs.Prelude.{◌≡◌, option_map};
+ghost use Rattle.std.specs.Prelude.{◌≡◌, ◌++◌, OnOk, option_map};
 ghost use Rattle.asl_json_data.specs.Data.{pairs};
 ghost use Rattle.asl_json.specs.View.{data_of, members_of};
 ghost use Rattle.asl_def_schema.specs.declared.sort.Kind.{Kind};
-ghost use Rattle.asl_lint_warnings.specs.States.{has, is_waiting, is_limited, kind_by, state_kind, heartbeat_kind, is_fail_text, is_fail, constant_kind, member_kind, has_delay, attempts_kind, delay_kind, retrier_kind};
+ghost use Rattle.asl_lint_warnings.specs.private.Trails.{steps_of};
+ghost use Rattle.asl_lint_warnings.specs.Kinds.{noted};
+ghost use Rattle.asl_lint_warnings.specs.States.{has, is_waiting, is_limited, kind_by, state_kind, heartbeat_kind, is_fail_text, is_fail, constant_kind, is_task, resource_kind, member_kind, is_choice, keeps_input, is_default, default_kind, has_delay, attempts_kind, delay_kind, retrier_kind};
 
 use crate::naming::seems_computed;
-use crate::warning::{WarningKind, kind_if};
+use crate::token::sends_token;
+use crate::trail::{Trail, is_inside, tell};
+use crate::warning::{Warning, WarningKind, kind_if};
 use asl_def_schema::{Kind, find, kind_named};
 use asl_json::{Json, Member};
+use std::alloc::{AllocError, Global};
 
 fn has(members: &[Member], key: &str) -> bool
     ensures { result ≡ has key.now (pairs (members_of members.now)) }
@@ -97,6 +102,20 @@ fn constant_kind(value: &Json) -> Option<WarningKind>
     }
 }
 
+fn is_task(kind: Option<Kind>) -> bool
+    ensures { result ≡ is_task kind }
+{
+    matches!(kind, Some(Kind::Task))
+}
+
+/// What the resource of a Task is warned of beside its other members.
+fn resource_kind(members: &[Member], resource: &Json) -> Option<WarningKind>
+    ensures { result ≡ resource_kind (pairs (members_of members.now)) (data_of resource.now) }
+{
+    let unsent = is_waiting(Some(resource)) && !sends_token(members);
+    kind_if(unsent, WarningKind::UnsentToken)
+}
+
 /// What the member of this key and value is warned of, of a state of these members.
 pub(crate) fn member_kind(members: &[Member], key: &str, value: &Json) -> Option<WarningKind>
     ensures { result ≡ member_kind (pairs (members_of members.now)) key.now (data_of value.now) }
@@ -105,8 +124,52 @@ pub(crate) fn member_kind(members: &[Member], key: &str, value: &Json) -> Option
         heartbeat_kind(value, find(members, "TimeoutSeconds"))
     } else if is_fail_text(key) && is_fail(kind_named(find(members, "Type"))) {
         constant_kind(value)
+    } else if key == "Resource" && is_task(kind_named(find(members, "Type"))) {
+        resource_kind(members, value)
     } else {
         None
+    }
+}
+
+fn is_choice(kind: Option<Kind>) -> bool
+    ensures { result ≡ is_choice kind }
+{
+    matches!(kind, Some(Kind::Choice))
+}
+
+/// Whether the output of a Choice of these members is its raw input.
+fn keeps_input(members: &[Member]) -> bool
+    ensures { result ≡ keeps_input (pairs (members_of members.now)) }
+{
+    !(has(members, "InputPath") || has(members, "OutputPath"))
+}
+
+/// Whether the member of this key is the `Default` of a Choice that puts out its input.
+fn is_default(members: &[Member], key: &str) -> bool
+    ensures { result ≡ is_default (pairs (members_of members.now)) key.now }
+{
+    key == "Default" && is_choice(kind_named(find(members, "Type"))) && keeps_input(members)
+}
+
+/// Tells what a member of a state is warned of where it leads back to the state.
+pub(crate) fn tell_default(
+    alloc: Global,
+    told: &mut Vec<Warning>,
+    trail: &Trail,
+    members: &[Member],
+    member: &Member,
+) -> Result<(), AllocError>
+    ensures { OnOk result (told.new.items ≡ told.old.items
+        ++ noted (steps_of trail.now) (default_kind (steps_of trail.now)
+        (pairs (members_of members.now)) member.now.key (data_of member.now.value))) }
+{
+    match &member.value {
+        Json::Text(target) => {
+            let own = is_default(members, member.key.as_str())
+                && is_inside(alloc, trail, target.as_str())?;
+            tell(alloc, told, trail, kind_if(own, WarningKind::OwnDefault))
+        }
+        _ => Ok(()),
     }
 }
 

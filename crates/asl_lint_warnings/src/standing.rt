@@ -37,7 +37,7 @@ fn places<'a>(alloc: Global, states: &'a [Member]) -> Result<HashMap<&'a str, us
 }
 
 /// The states of a machine.
-fn states_in(machine: &[Member]) -> &[Member]
+pub(crate) fn states_in(machine: &[Member]) -> &[Member]
     ensures { pairs (members_of result.now) ≡ states_of (pairs (members_of machine.now)) }
 {
     match find(machine, "States") {

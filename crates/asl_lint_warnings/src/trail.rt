@@ -4,6 +4,7 @@ ghost use Rattle.std.specs.Fmt.{decimal};
 ghost use Rattle.asl_def_schema.specs.Claims.{step};
 ghost use Rattle.asl_lint_warnings.specs.private.Trails.{steps_of};
 ghost use Rattle.asl_lint_warnings.specs.Kinds.{noted};
+ghost use Rattle.asl_lint_warnings.specs.States.{is_named, is_inside};
 
 use crate::warning::{Warning, WarningKind};
 use asl_def_schema::Step;
@@ -50,6 +51,27 @@ fn add_steps(alloc: Global, steps: &mut Vec<Step>, trail: &Trail) -> Result<(), 
             steps.push(item_step(alloc, *at)?)?;
             add_steps(alloc, steps, outer)
         }
+    }
+}
+
+/// Whether the last step of a trail is to a member of this name.
+fn is_named(alloc: Global, trail: &Trail, name: &str) -> Result<bool, AllocError>
+    ensures { IfOk result (λ named. named ≡ is_named (steps_of trail.now) name.now) }
+{
+    match trail {
+        Trail::Root => Ok(false),
+        Trail::Member(_, own, _) => Ok(*own == name),
+        Trail::Item(at, _) => Ok(item_step(alloc, *at)?.name.as_str() == name),
+    }
+}
+
+/// Whether the value at the end of a trail is in one of this name.
+pub(crate) fn is_inside(alloc: Global, trail: &Trail, name: &str) -> Result<bool, AllocError>
+    ensures { IfOk result (λ inside. inside ≡ is_inside (steps_of trail.now) name.now) }
+{
+    match trail {
+        Trail::Root => Ok(false),
+        Trail::Member(_, _, outer) | Trail::Item(_, outer) => is_named(alloc, outer, name),
     }
 }
 

@@ -8,8 +8,9 @@ ghost use Rattle.asl_lint_warnings.specs.Warnings.{object_kind, own_kind, standi
 
 use crate::constant::tell_result;
 use crate::handling::{item_kind, list_brought};
+use crate::limit::limit_kind;
 use crate::naming::text_kind;
-use crate::resting::{member_kind, retrier_kind, state_kind};
+use crate::resting::{member_kind, retrier_kind, state_kind, tell_default};
 use crate::standing::{Standing, standing_of};
 use crate::trail::{Trail, tell};
 use crate::warning::{Warning, WarningKind, kind_if};
@@ -76,6 +77,7 @@ fn tell_in_state(
 {
     let kind = member_kind(members, member.key.as_str(), &member.value);
     tell(alloc, told, spot.trail, kind)?;
+    tell_default(alloc, told, spot.trail, members, member)?;
     tell_result(alloc, told, spot.trail, members, member)
 }
 
@@ -94,6 +96,10 @@ fn tell_beside(
         (data_of member.now.value)) }
 {
     match sort {
+        Sort::Definition => {
+            let kind = limit_kind(members, member.key.as_str(), &member.value);
+            tell(alloc, told, spot.trail, kind)
+        }
         Sort::States => tell_standing(alloc, told, spot, at),
         Sort::State => tell_in_state(alloc, told, spot, members, member),
         Sort::Retrier => {
@@ -153,7 +159,8 @@ fn tell_items(
             trail: &trail,
             standing: spot.standing,
         };
-        tell(alloc, told, inner.trail, item_kind(sort, &listed, item))?;
+        let kind = item_kind(alloc, sort, &listed, item)?;
+        tell(alloc, told, inner.trail, kind)?;
         tell_value(alloc, told, inner, item_sort(sort), item)?;
         list_brought(alloc, &mut listed, sort, item)?;
     }

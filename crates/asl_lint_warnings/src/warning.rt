@@ -14,10 +14,18 @@ pub enum WarningKind {
     NoEnd,
     /// `no-default`: a Choice has no `Default`.
     NoDefault,
+    /// `own-default`: the `Default` of a Choice leads back to it.
+    OwnDefault,
+    /// `repeated-rule`: an earlier rule of a Choice has the same test.
+    RepeatedRule,
     /// `endless-wait`: a Task that waits for a token has no time limit.
     EndlessWait,
+    /// `unsent-token`: a Task that waits for a token gives it to nobody.
+    UnsentToken,
     /// `heartbeat-not-shorter`: a heartbeat isn't shorter than the time limit.
     HeartbeatNotShorter,
+    /// `limit-below-wait`: a Wait lasts as long as the time limit of the execution, or longer.
+    LimitBelowWait,
     /// `unasked-handler`: an earlier retrier or catcher is for each error that this one is for.
     UnaskedHandler,
     /// `unknown-error`: no error has this name.
@@ -45,8 +53,12 @@ impl WarningKind {
             WarningKind::UnreachableState => "unreachable-state",
             WarningKind::NoEnd => "no-end",
             WarningKind::NoDefault => "no-default",
+            WarningKind::OwnDefault => "own-default",
+            WarningKind::RepeatedRule => "repeated-rule",
             WarningKind::EndlessWait => "endless-wait",
+            WarningKind::UnsentToken => "unsent-token",
             WarningKind::HeartbeatNotShorter => "heartbeat-not-shorter",
+            WarningKind::LimitBelowWait => "limit-below-wait",
             WarningKind::UnaskedHandler => "unasked-handler",
             WarningKind::UnknownError => "unknown-error",
             WarningKind::RepeatedError => "repeated-error",
