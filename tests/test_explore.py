@@ -233,6 +233,11 @@ class Exploring(Searches):
                         shown = run_program("explore", *words, "--witness", str(number), "--format", form)
                         of_run = run_program("run", *words, "--steps", file.name, "--format", form)
                         self.assertEqual((shown.returncode, shown.stdout, shown.stderr), (0, of_run.stdout, ""))
+                with tempfile.NamedTemporaryFile("w", prefix="asl-test-") as file:
+                    file.write(run_program("explore", *words, "--witness", str(number), "--format", "test").stdout)
+                    file.flush()
+                    tested = run_program("test", *words[:2], file.name).stdout.splitlines()
+                    self.assertEqual((tested[0].split()[:2], tested[1:]), (["ok", chosen], ["1 passed, 0 failed"]))
                 self.assertEqual(again[: len(lines)], [f"step {place} ok" for place in one.places])
                 self.assertEqual(again[-1], f"status {one.outcome}")
             with open(stored, encoding="utf-8") as file:

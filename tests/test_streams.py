@@ -27,6 +27,8 @@ COMMANDS = [
     ["test", DEFINITION, MOCKS, f"{EXAMPLE}/expectations.json", "--workers", "2"],
     ["explore", *SETUP, "--calls"],
     ["explore", *SETUP, "--witness", "2"],
+    ["explore", *SETUP, "--witness", "2", "--format", "test"],
+    ["test", DEFINITION, MOCKS, f"{EXAMPLE}/expectations.json", "--orders"],
 ]
 
 STEPS = "/ 2024-01-01T00:00:00Z\n/ 2024-01-01T00:00:01Z\n"

@@ -51,6 +51,8 @@ pub record IsGiven (value : List ℕ → Option (List ℕ)) (g : Given) : Type 0
   pub coverage : g.coverage ≡ is_set (value (codes "coverage"))
   pub prompt : g.prompt ≡ is_set (value (codes "prompt"))
   pub calls : g.calls ≡ is_set (value (codes "calls"))
+  pub orders : g.orders ≡ is_set (value (codes "orders"))
+  pub every : g.every ≡ is_set (value (codes "every"))
   pub list : g.list ≡ is_set (value (codes "list"))
   pub pretty : g.pretty ≡ is_set (value (codes "pretty"))
   pub quiet : g.quiet ≡ is_set (value (codes "quiet"))

@@ -109,13 +109,14 @@ test_arguments =
     ∷ free (codes "coverage") flag
     ∷ free (codes "min") (number 0 100)
     ∷ free (codes "coverage-format") (choice (codes "text" ∷ codes "json" ∷ codes "lcov" ∷ []))
-    ∷ free (codes "strict") flag ∷ project_argument)
+    ∷ free (codes "strict") flag ∷ free (codes "orders") flag ∷ free (codes "every") flag
+    ∷ free (codes "limit") (number 1 1000000) ∷ project_argument)
 
 abbrev pub explore_arguments : List Argument
 explore_arguments = begin_arguments (preset (codes "limit") (number 1 1000000) (codes "100000")
     ∷ free (codes "prompt") flag ∷ free (codes "calls") flag
     ∷ free (codes "witness") (number 1 1000000)
-    ∷ free (codes "format") (choice (codes "steps" ∷ codes "tree" ∷ codes "data" ∷ [])) ∷ project_argument)
+    ∷ free (codes "format") (choice (codes "steps" ∷ codes "tree" ∷ codes "data" ∷ codes "test" ∷ [])) ∷ project_argument)
 
 -- each command may be told to be quiet
 abbrev pub quiet : Argument

@@ -333,6 +333,24 @@ const TEST: &[Argument] = &[
         presence: Optional,
         help: Help::TestStrict,
     },
+    Argument {
+        name: "orders",
+        kind: Flag,
+        presence: Optional,
+        help: Help::TestOrders,
+    },
+    Argument {
+        name: "every",
+        kind: Flag,
+        presence: Optional,
+        help: Help::TestEvery,
+    },
+    Argument {
+        name: "limit",
+        kind: Number("N", 1, 1_000_000),
+        presence: Optional,
+        help: Help::TestLimit,
+    },
     PROJECT,
     QUIET,
 ];
@@ -372,7 +390,7 @@ const EXPLORE: &[Argument] = &[
     },
     Argument {
         name: "format",
-        kind: Choice(&["steps", "tree", "data"]),
+        kind: Choice(&["steps", "tree", "data", "test"]),
         presence: Optional,
         help: Help::ExploreFormat,
     },

@@ -147,6 +147,8 @@ fn given_by<'a>(matches: &ArgMatches<'a>) -> Given<'a>
         coverage: is_set(matches, "coverage"),
         prompt: is_set(matches, "prompt"),
         calls: is_set(matches, "calls"),
+        orders: is_set(matches, "orders"),
+        every: is_set(matches, "every"),
         list: is_set(matches, "list"),
         pretty: is_set(matches, "pretty"),
         quiet: is_set(matches, "quiet"),

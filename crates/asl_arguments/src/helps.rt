@@ -38,6 +38,9 @@ pub enum Help {
     TestMin,
     TestCoverageFormat,
     TestStrict,
+    TestOrders,
+    TestEvery,
+    TestLimit,
     ExploreLimit,
     ExplorePrompt,
     ExploreCalls,
@@ -109,6 +112,11 @@ impl Help {
                 "How it is told what the tests cover: as text, which is the default, as JSON, or as a tracefile of LCOV",
             Help::TestStrict =>
                 "Fails a test that is ok though its run lacked an answer, or failed by accident",
+            Help::TestOrders =>
+                "Each test has to hold in every order of its branches in which none is late",
+            Help::TestEvery => "With --orders: also in orders in which a branch is late",
+            Help::TestLimit =>
+                "With --orders: how many worlds are tried at most for each test, from 1 to 1000000; 100000 if it isn't given",
             Help::ExploreLimit => "How many worlds are tried at most, from 1 to 1000000",
             Help::ExplorePrompt =>
                 "Tries only orders in which no branch is late: one steps only where none may step earlier",
@@ -117,7 +125,7 @@ impl Help {
             Help::ExploreWitness =>
                 "Prints the steps of the outcome of this number alone, as a steps file",
             Help::ExploreFormat =>
-                "How the steps of --witness are printed: as a steps file, which is the default, or by what happened at each state",
+                "How the steps of --witness are printed: as a steps file, which is the default, by what happened at each state, or as a file of one test",
             Help::ExplainCode =>
                 "A code that a command told, as F10, no-default or States.Timeout; without it, all codes are listed",
             Help::Definition =>

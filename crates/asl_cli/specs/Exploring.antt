@@ -1,5 +1,6 @@
 -- What the command `explore` finds, prints and tells.
 use Rattle.std.specs.Prelude.{ℕ, zero, suc, Bool, true, false, List, Option, Some, None, ◌≡◌, ◌⊎◌, ⊤, slice_get, codes}
+use Rattle.asl_run_input.specs.Chosen.{case_name}
 use Rattle.asl_run_input.specs.declared.setup.Setup.{Setup}
 use Rattle.asl_exec.specs.Steps.{opening, world_after}
 use Rattle.asl_run_formats.specs.declared.format.Format.{Format}
@@ -11,6 +12,7 @@ use Rattle.asl_explore.specs.declared.orders.Orders.{Orders}
 use Rattle.asl_explore.specs.declared.orders.Orders.TheVariants.{Every, Prompt}
 use Rattle.asl_explore.specs.Finding.{IsFound}
 use Rattle.asl_explore.specs.Reports.{explored_text, is_good}
+use Rattle.asl_suite_orders.specs.Keeping.{kept_text}
 use Rattle.asl_words.specs.declared.words.ExploreWords.{ExploreWords}
 use Rattle.asl_words.specs.declared.words.WitnessFormat.{WitnessFormat}
 use Rattle.asl_words.specs.declared.words.WitnessFormat.TheVariants as format
@@ -32,31 +34,39 @@ abbrev pub numbered : List Found → ℕ → Option Found
 numbered fs zero = None
 numbered fs (suc n) = slice_get fs n
 
-abbrev pub format_for : WitnessFormat → Format
-format_for format.Steps = Steps
-format_for format.Tree = Tree
-format_for format.Data = Data
+-- the format of a run in which the steps are printed; none where they are a test's
+abbrev pub format_for : WitnessFormat → Option Format
+format_for format.Steps = Some Steps
+format_for format.Tree = Some Tree
+format_for format.Data = Some Data
+format_for format.Test = None
 
 -- what happened at each state may have colours
 abbrev pub has_colours : WitnessFormat → Bool → Bool
 has_colours format.Steps coloured = false
+has_colours format.Test coloured = false
 has_colours f coloured = coloured
 
--- the steps of an outcome in a format
-abbrev pub witness_text : WitnessFormat → Setup → Found → List ℕ
-witness_text f s x =
-    told (format_for f) s (opening s) x.steps.items (world_after s (opening s) x.steps.items)
+-- the steps of an outcome in a format, or the outcome as a test of the case that is chosen
+abbrev pub text_in : Option Format → List ℕ → Setup → Found → List ℕ
+text_in None chosen s x = kept_text (case_name chosen) s x
+text_in (Some f) chosen s x =
+    told f s (opening s) x.steps.items (world_after s (opening s) x.steps.items)
+
+abbrev pub witness_text : WitnessFormat → List ℕ → Setup → Found → List ℕ
+witness_text f chosen s x = text_in (format_for f) chosen s x
 
 -- this is shown of an outcome, where it is there
-abbrev pub IsWitnessOf : ExploreWords → Setup → Option Found → Option (List ℕ) → Type 0
-IsWitnessOf w s None None = ⊤
-IsWitnessOf w s (Some x) (Some t) = IsShownIn (has_colours w.format w.coloured) (witness_text w.format s x) t
-IsWitnessOf w s x t = ⊥
+abbrev pub IsWitnessOf : ExploreWords → List ℕ → Setup → Option Found → Option (List ℕ) → Type 0
+IsWitnessOf w chosen s None None = ⊤
+IsWitnessOf w chosen s (Some x) (Some t) =
+    IsShownIn (has_colours w.format w.coloured) (witness_text w.format chosen s x) t
+IsWitnessOf w chosen s x t = ⊥
 
 -- the same of the outcome of a number, where one is wanted alone
-abbrev pub IsWitness : ExploreWords → Setup → List Found → Option ℕ → Option (List ℕ) → Type 0
-IsWitness w s fs None t = t ≡ None
-IsWitness w s fs (Some n) t = IsWitnessOf w s (numbered fs n) t
+abbrev pub IsWitness : ExploreWords → List ℕ → Setup → List Found → Option ℕ → Option (List ℕ) → Type 0
+IsWitness w chosen s fs None t = t ≡ None
+IsWitness w chosen s fs (Some n) t = IsWitnessOf w chosen s (numbered fs n) t
 
 -- what a search may find for the setup that the files may give, what is told of the answers that its
 -- outcomes lacked, and what is shown of the outcome that is wanted alone
@@ -66,7 +76,7 @@ pub record IsFoundFor (gives : List ℕ → List ℕ → Type 0) (w : ExploreWor
   pub begins : IsBegun gives w.begin setup
   pub found : IsFound (orders_for w.prompt) w.calls w.limit setup x
   pub notes_are : notes ≡ notes_for w.witness begins.texts.chosen setup x.found.items
-  pub is_witness : IsWitness w setup x.found.items w.witness witness
+  pub is_witness : IsWitness w begins.texts.chosen setup x.found.items w.witness witness
 
 -- ---- what is printed
 

@@ -132,6 +132,7 @@ pub record IsTestOf (a : TestAllWords) (s : SuiteFile) (t : TestWords) : Type 0 
   pub coverage : t.coverage ≡ a.coverage
   pub coverage_format : t.coverage_format ≡ a.coverage_format
   pub strict : t.strict ≡ a.strict
+  pub orders : t.orders ≡ a.orders
   pub among : t.among ≡ true
 
 -- what a file of tests adds to the report

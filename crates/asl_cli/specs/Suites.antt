@@ -21,7 +21,9 @@ use Rattle.asl_suite.specs.Junit.{suite_element, junit_text}
 use Rattle.asl_suite.specs.declared.finding.Finding.{Finding}
 use Rattle.asl_suite.specs.declared.suite.Suite.{Suite}
 use Rattle.asl_suite.specs.declared.case_report.CaseReport.{CaseReport}
+use Rattle.asl_suite_orders.specs.Suites.{AreReported}
 use Rattle.asl_words.specs.declared.words.TestWords.{TestWords}
+use Rattle.asl_words.specs.declared.words.OrderWords.{OrderWords}
 use Rattle.asl_words.specs.declared.words.ReportFormat.{ReportFormat}
 use Rattle.asl_words.specs.declared.words.ReportFormat.TheVariants as format
 use Rattle.asl_words.specs.declared.words.CoverageFormat.{CoverageFormat}
@@ -33,6 +35,7 @@ use Rattle.asl_cli.specs.declared.testing.SpelledSuite.{SpelledSuite}
 use Rattle.asl_cli.specs.declared.leaving.Left.{Left}
 use Rattle.asl_cli.specs.declared.fault.CommandFault.TheVariants.{File, Definition, Emulation, Expectations, Output, OutOfMemory}
 use Rattle.asl_cli.specs.Choosing.{list_text, meant}
+use Rattle.asl_cli.specs.Exploring.{orders_for}
 use Rattle.asl_cli.specs.Covers.{ArePointsOf, IsJsonTold, IsLcovTold}
 use Rattle.asl_cli.specs.Inputs.{AreTestsOn, IsFirstLost, Unless}
 use Rattle.asl_cli.specs.Streams.{FileSystem, OutputUse, IsUnused, Writes, Io, Prints, AreTold}
@@ -177,11 +180,19 @@ pub record AreFileTexts (w : TestWords) (reports : List CaseReport) (junit json 
 abbrev pub judged : Bool → List CaseReport → List CaseReport
 judged strict reports = if strict then map strict_report reports else reports
 
--- the text and the success of a suite are those of the reports of its tests
-abbrev pub IsReport : TestWords → Suite → List ℕ → Bool → Type 0
-IsReport w s text good =
-    IsReportText w.among w.format (judged w.strict (reports_of s)) text
-    × (good ≡ list_all is_passed (judged w.strict (reports_of s)))
+-- these are the reports of the tests of a suite: of the driven run of each, or of all its orders
+abbrev pub AreReportsOf : Option OrderWords → Suite → List CaseReport → Type 0
+AreReportsOf None s reports = reports ≡ reports_of s
+AreReportsOf (Some o) s reports = AreReported (orders_for (not o.every)) o.limit s reports
+
+-- the text and the success of a suite, and the texts for files, are those of the reports of its tests
+pub record IsReport (w : TestWords) (s : Suite) (text : List ℕ) (good : Bool) (junit json : List ℕ) : Type 0
+  where
+    pub reports : List CaseReport
+    pub are_reports : AreReportsOf w.orders s reports
+    pub is_text : IsReportText w.among w.format (judged w.strict reports) text
+    pub is_good : good ≡ list_all is_passed (judged w.strict reports)
+    pub are_files : AreFileTexts w (judged w.strict reports) junit json
 
 unfoldable pub percent_words : ℕ → List ℕ
 percent_words percent = codes "coverage " ++ (decimal percent ++ codes "%")
@@ -237,8 +248,7 @@ pub record IsReported (gives : List ℕ → List ℕ → Type 0) (quiet : Bool) 
   pub passed : Bool
   pub remarks : List ℕ
   pub is_in : IsSuiteIn gives w suite
-  pub is_report : IsReport w suite text passed
-  pub are_files : AreFileTexts w (judged w.strict (reports_of suite)) junit json
+  pub is_report : IsReport w suite text passed junit json
   pub are_remarks : AreRemarks quiet remarks
   pub is_good : IsGood w is_in.definition is_in.mocks suite w.coverage remarks passed good told
 

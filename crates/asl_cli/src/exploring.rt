@@ -21,7 +21,8 @@ use asl_history::Sink;
 use asl_host::{Files, tell_fault, write_piece};
 use asl_run_formats::{Format, printed_steps};
 use asl_run_input::Setup;
-use asl_run_notes::notes_of_search;
+use asl_run_notes::{case_name, notes_of_search};
+use asl_suite_orders::kept_test;
 use asl_words::{ExploreWords, WitnessFormat};
 use std::alloc::{AllocError, Global};
 
@@ -59,7 +60,7 @@ pub struct Searched {
 }
 
 /// The orders that are tried: those in which no branch is late, if only these are wanted.
-fn orders_for(prompt: bool) -> Orders
+pub(crate) fn orders_for(prompt: bool) -> Orders
     ensures { result ≡ orders_for prompt }
 {
     if prompt {
@@ -102,7 +103,7 @@ fn search_from<W: Watch>(
         words.now.limit setup r.explored) }
     ensures notes { IfOk result (λ r. string_bytes r.notes
         ≡ notes_for words.now.witness chosen.now setup r.explored.found.items) }
-    ensures witness { IfOk result (λ r. IsWitness words.now setup r.explored.found.items
+    ensures witness { IfOk result (λ r. IsWitness words.now chosen.now setup r.explored.found.items
         words.now.witness (option_map string_bytes r.witness)) }
 {
     let again = setup.try_clone(alloc)?;
@@ -126,14 +127,14 @@ fn told_of(
 ) -> Result<(String, Option<String>), AllocError>
     ensures notes { IfOk result (λ r. string_bytes r.0
         ≡ notes_for words.now.witness chosen.now setup found.now) }
-    ensures witness { IfOk result (λ r. IsWitness words.now setup found.now words.now.witness
+    ensures witness { IfOk result (λ r. IsWitness words.now chosen.now setup found.now words.now.witness
         (option_map string_bytes r.1)) }
 {
     match words.witness {
         None => Ok((notes_of_search(alloc, chosen, setup, found)?, None)),
         Some(number) => Ok((
             String::new(alloc),
-            witness_of(alloc, words, setup, found, number)?,
+            witness_of(alloc, words, chosen, setup, found, number)?,
         )),
     }
 }
@@ -142,17 +143,18 @@ fn told_of(
 fn witness_of(
     alloc: Global,
     words: &ExploreWords<'_>,
+    chosen: &str,
     setup: Setup,
     found: &[Found],
     number: u32,
 ) -> Result<Option<String>, AllocError>
-    ensures { IfOk result (λ o. IsWitnessOf words.now setup (numbered found.now number)
+    ensures { IfOk result (λ o. IsWitnessOf words.now chosen.now setup (numbered found.now number)
         (option_map string_bytes o)) }
 {
     let Some(found) = outcome_of(found, number) else {
         return Ok(None);
     };
-    let text = shown_of(alloc, words, setup, found)?;
+    let text = shown_of(alloc, words, chosen, setup, found)?;
     Ok(Some(text))
 }
 
@@ -160,23 +162,42 @@ fn witness_of(
 fn shown_of(
     alloc: Global,
     words: &ExploreWords<'_>,
+    chosen: &str,
     setup: Setup,
     found: &Found,
 ) -> Result<String, AllocError>
     ensures { IfOk result (λ t. IsShownIn (has_colours words.now.format words.now.coloured)
-        (witness_text words.now.format setup found.now) (string_bytes t)) }
+        (witness_text words.now.format chosen.now setup found.now) (string_bytes t)) }
 {
-    let text = printed_steps(alloc, format_for(words.format), setup, &found.steps)?;
+    let text = witness_text(alloc, words.format, chosen, setup, found)?;
     shown_as(alloc, has_colours(words.format, words.coloured), text)
 }
 
-fn format_for(format: WitnessFormat) -> Format<'static>
+/// The steps of an outcome in a format, or the outcome as a test.
+fn witness_text(
+    alloc: Global,
+    format: WitnessFormat,
+    chosen: &str,
+    setup: Setup,
+    found: &Found,
+) -> Result<String, AllocError>
+    ensures { IfOk result (λ t. string_bytes t ≡ witness_text format chosen.now setup found.now) }
+{
+    match format_for(format) {
+        Some(format) => printed_steps(alloc, format, setup, &found.steps),
+        None => kept_test(alloc, case_name(chosen), &setup, found),
+    }
+}
+
+/// The format of a run in which steps are printed; none where they are a test's.
+fn format_for(format: WitnessFormat) -> Option<Format<'static>>
     ensures { result ≡ format_for format }
 {
     match format {
-        WitnessFormat::Steps => Format::Steps,
-        WitnessFormat::Tree => Format::Tree,
-        WitnessFormat::Data => Format::Data,
+        WitnessFormat::Steps => Some(Format::Steps),
+        WitnessFormat::Tree => Some(Format::Tree),
+        WitnessFormat::Data => Some(Format::Data),
+        WitnessFormat::Test => None,
     }
 }
 
@@ -185,7 +206,7 @@ fn has_colours(format: WitnessFormat, coloured: bool) -> bool
     ensures { result ≡ has_colours format coloured }
 {
     match format {
-        WitnessFormat::Steps => false,
+        WitnessFormat::Steps | WitnessFormat::Test => false,
         WitnessFormat::Tree | WitnessFormat::Data => coloured,
     }
 }

@@ -105,6 +105,7 @@ fn words_of<'a>(words: &TestAllWords<'a>, suite: &SuiteNames<'a>) -> TestWords<'
         coverage: words.coverage,
         coverage_format: words.coverage_format,
         strict: words.strict,
+        orders: words.orders,
         among: true,
     }
 }

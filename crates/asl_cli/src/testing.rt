@@ -1,10 +1,9 @@
 // The command `test`.
-ghost use Rattle.std.specs.Prelude.{◌≡◌, ℕ, List, [], true, is_some, IfOk, IfErr, OnOk, OnErr, string_bytes};
+ghost use Rattle.std.specs.Prelude.{◌≡◌, ◌≤◌, ℕ, List, [], true, is_some, IfOk, IfErr, OnOk, OnErr, string_bytes};
 ghost use Rattle.std.specs.List.{list_all};
 ghost use Rattle.asl_check.specs.Judged.{IsMachineOf};
 ghost use Rattle.asl_mock.specs.Told.{IsMockFile};
 ghost use Rattle.asl_suite_file.specs.Told.{IsExpectationsFile};
-ghost use Rattle.asl_suite.specs.Cases.{reports_of};
 ghost use Rattle.asl_suite.specs.Findings.{reports_in};
 ghost use Rattle.asl_suite.specs.Reports.{is_passed};
 ghost use Rattle.asl_host.specs.Outcomes.{sink_use};
@@ -12,16 +11,18 @@ ghost use Rattle.asl_cli.specs.Streams.{file_system, output_use, io};
 ghost use Rattle.asl_cli.specs.Choosing.{list_text, meant};
 ghost use Rattle.asl_cli.specs.Inputs.{AreTestsOn, IsFirstLost, Unless};
 ghost use Rattle.asl_cli.specs.Faults.{IsTestsTextReason};
-ghost use Rattle.asl_cli.specs.Suites.{AreDraftsOf, IsSpelled, IsListOf, IsListReason, IsUndone, IsListing, IsShown, IsSuiteOf, AreRemarks, IsGood, IsCovered, chosen, IsDefinitionTextReason, IsMocksTextReason, IsSuiteTextReason, IsSuiteReason, IsReportText, AreFileTexts, judged, IsReport, IsReported, junit_part, leaving, leaving_of, IsTested};
+ghost use Rattle.asl_cli.specs.Suites.{AreDraftsOf, IsSpelled, IsListOf, IsListReason, IsUndone, IsListing, IsShown, IsSuiteOf, AreRemarks, IsGood, IsCovered, chosen, IsDefinitionTextReason, IsMocksTextReason, IsSuiteTextReason, IsSuiteReason, IsReportText, AreFileTexts, AreReportsOf, judged, IsReport, IsReported, junit_part, leaving, leaving_of, IsTested};
 
 use crate::choosing::{keep_meant, list_of, numbers_of};
 use crate::command::{FAILED, GOOD, REFUSED};
 use crate::covering::{coverage_of, coverage_shown};
+use crate::exploring::orders_for;
 use crate::failing::failures;
 use crate::fault::CommandFault;
 use crate::inputs::with_inputs;
 use crate::leaving::{Left, leave};
 use crate::misnaming::misnamed;
+use crate::ordering::searched;
 use crate::reading::{SuiteTexts, read_suite};
 use asl_check::{Fault, accept};
 use asl_def::Machine;
@@ -35,9 +36,10 @@ use asl_suite::{
     remarks as remarks_of, report, strictly,
 };
 use asl_suite_file::{Drafts, ExpectFault};
+use asl_suite_orders::run_suite_in_orders;
 use asl_suite_workers::{SuiteFault, run_suite};
 use asl_threads_base::Gate;
-use asl_words::{ReportFormat, TestWords};
+use asl_words::{OrderWords, ReportFormat, TestWords};
 use std::alloc::{AllocError, Global};
 use std::sync::Wait;
 use std::thread::Threads;
@@ -277,6 +279,27 @@ fn with_coverage(
     })
 }
 
+/// The reports of the tests of a suite by so many workers: of the driven run of each, or of all its orders. The fault is that memory ran out.
+fn reports_of<R: Threads + Wait + Sync, G: Gate + Sync>(
+    rt: &R,
+    gate: &G,
+    alloc: Global,
+    orders: Option<OrderWords>,
+    workers: usize,
+    suite: &Suite,
+) -> Result<Vec<CaseReport>, SuiteFault>
+    requires { (1 ≤ workers) × (workers ≤ 64) }
+    ensures { IfOk result (λ v. AreReportsOf orders suite.now v.items) }
+{
+    match orders {
+        None => run_suite(rt, alloc, suite, workers, gate),
+        Some(words) => {
+            let orders = orders_for(!words.every);
+            run_suite_in_orders(rt, alloc, suite, orders, words.limit, workers, gate)
+        }
+    }
+}
+
 /// Runs the tests of a suite that these texts spell. The fault is that memory ran out.
 fn reported_of<R: Threads + Wait + Sync, G: Gate + Sync>(
     rt: &R,
@@ -287,14 +310,13 @@ fn reported_of<R: Threads + Wait + Sync, G: Gate + Sync>(
     texts: &SuiteTexts,
     suite: &Suite,
 ) -> Result<Reported, SuiteFault>
-    ensures report { IfOk result (λ r. IsReport words.now suite.now (string_bytes r.text) r.good) }
-    ensures files { IfOk result (λ r. AreFileTexts words.now (judged words.now.strict (reports_of suite.now))
+    ensures report { IfOk result (λ r. IsReport words.now suite.now (string_bytes r.text) r.good
         (string_bytes r.junit) (string_bytes r.json)) }
     ensures remarks { IfOk result (λ r. AreRemarks quiet (string_bytes r.remarks)) }
 {
     // The command line's reader takes no other number.
     let workers = words.workers.clamp(1, MOST_WORKERS);
-    let reports = run_suite(rt, alloc, suite, workers, gate)?;
+    let reports = reports_of(rt, gate, alloc, words.orders, workers, suite)?;
     let reports = judged(alloc, words.strict, reports)?;
     Ok(told_of(alloc, words, quiet, texts, suite, &reports)?)
 }
@@ -330,13 +352,14 @@ fn told_of(
     let numbers = numbers_in(alloc, words, texts)?;
     let source = source_of(words, numbers.as_deref());
     let findings = findings(alloc, &source, suite, reports)?;
-    // Why tests aren't `ok`, what may be other than it is meant, and which names no state has.
+    // Why tests aren't `ok`, what may be other than it is meant, which names no state has, and how much was tried.
     let mut remarks = String::new(alloc);
     if !quiet {
         remarks.push_str(remarks_of(alloc, &findings)?.as_str())?;
         remarks.push_str(notes(alloc, &findings)?.as_str())?;
         remarks.push_str(misnamed(alloc, suite, texts.definition.as_slice(), &findings)?.as_str())?;
         remarks.push_str(failures(alloc, suite, &findings)?.as_str())?;
+        remarks.push_str(searched(alloc, reports)?.as_str())?;
     }
     reported_in(alloc, words, remarks, reports, &findings)
 }

@@ -154,6 +154,28 @@ Told by test.
 "#,
     },
     Explanation {
+        code: "endless",
+        name: None,
+        sentence: "an order of the test's branches never ends",
+        text: r#"With --orders each order of the branches has to end. The driven run ends, and so does whatever
+other outcome was found; but some order leads to where no end is reached any more. The command
+line behind the reports is that of explore, which prints the order and the loop.
+
+Told by test --orders.
+"#,
+    },
+    Explanation {
+        code: "cut",
+        name: None,
+        sentence: "the search of the test's orders was cut, so not every order was tried",
+        text: r#"With --orders at most so many worlds are tried for each test as --limit says, 100000 without it.
+What was found is as expected, but more waits to be tried. A greater limit tries more; so does a
+mock file that gives the Tasks of a Map one answer for all numbers, as with the key 0-9999.
+
+Told by test --orders.
+"#,
+    },
+    Explanation {
         code: "unanswered",
         name: None,
         sentence: "the test would be ok, but its run failed since its case has no answer",

@@ -58,6 +58,49 @@ Told by lint.
 "#,
     },
     Explanation {
+        code: "own-default",
+        name: None,
+        sentence: "the Default of a Choice is the Choice itself",
+        text: r#"A Choice without InputPath and OutputPath puts out its input, so the same value comes back to the
+same rules, again and again, until the history has 25,000 events. (Amazon States Language, "Choice
+State".) Lead to a Wait that comes back, or to a Fail. A Choice with one of the two paths isn't
+judged.
+
+Wrong:
+    {"StartAt": "A", "States": {"A": {"Type": "Choice", "Default": "A", "Choices":
+      [{"Variable": "$.n", "NumericEquals": 1, "Next": "B"}]}, "B": {"Type": "Succeed"}}}
+Right:
+    {"StartAt": "A", "States": {"A": {"Type": "Choice", "Default": "C", "Choices":
+      [{"Variable": "$.n", "NumericEquals": 1, "Next": "B"}]},
+      "B": {"Type": "Succeed"}, "C": {"Type": "Fail"}}}
+
+Told by lint.
+"#,
+    },
+    Explanation {
+        code: "repeated-rule",
+        name: None,
+        sentence: "a rule of a Choice has the test of one before it",
+        text: r#"Rules are tried in their order, and the first that holds says where to go on. (Amazon States
+Language, "Choice State".) So a later rule with the same test never decides. Take it out, or correct
+its test. Rules have the same test if they are the same but for Next and Comment, with their members
+in the same order.
+
+Wrong:
+    {"StartAt": "A", "States": {"A": {"Type": "Choice", "Default": "C", "Choices":
+      [{"Variable": "$.n", "NumericEquals": 1, "Next": "B"},
+       {"Variable": "$.n", "NumericEquals": 1, "Next": "C"}]},
+      "B": {"Type": "Succeed"}, "C": {"Type": "Fail"}}}
+Right:
+    {"StartAt": "A", "States": {"A": {"Type": "Choice", "Default": "C", "Choices":
+      [{"Variable": "$.n", "NumericEquals": 1, "Next": "B"},
+       {"Variable": "$.n", "NumericEquals": 2, "Next": "C"}]},
+      "B": {"Type": "Succeed"}, "C": {"Type": "Fail"}}}
+
+Told by lint.
+"#,
+    },
+    Explanation {
         code: "endless-wait",
         name: None,
         sentence: "a Task that waits for a token has no time limit",
@@ -67,10 +110,33 @@ HeartbeatSeconds, so that a lost token raises States.Timeout.
 
 Wrong:
     {"StartAt": "A", "States": {"A": {"Type": "Task", "End": true,
-      "Resource": "arn:aws:states:::sqs:sendMessage.waitForTaskToken"}}}
+      "Resource": "arn:aws:states:::sqs:sendMessage.waitForTaskToken",
+      "Parameters": {"MessageBody.$": "$$.Task.Token"}}}}
 Right:
     {"StartAt": "A", "States": {"A": {"Type": "Task", "End": true, "TimeoutSeconds": 3600,
-      "Resource": "arn:aws:states:::sqs:sendMessage.waitForTaskToken"}}}
+      "Resource": "arn:aws:states:::sqs:sendMessage.waitForTaskToken",
+      "Parameters": {"MessageBody.$": "$$.Task.Token"}}}}
+
+Told by lint.
+"#,
+    },
+    Explanation {
+        code: "unsent-token",
+        name: None,
+        sentence: "a Task that waits for a token gives it to nobody",
+        text: r#"A Resource that ends in .waitForTaskToken waits until somebody sends the token back. Only the Task's
+own Context Object has the token, at $$.Task.Token. (Developer Guide, "Wait for a Callback with Task
+Token".) Put it into Parameters. Whatever may reach it counts: a text that is $$, begins with
+$$.Task or $$[, or is a call with $$ in it, and an InputPath that begins with $$.
+
+Wrong:
+    {"StartAt": "A", "States": {"A": {"Type": "Task", "End": true, "TimeoutSeconds": 3600,
+      "Resource": "arn:aws:states:::sqs:sendMessage.waitForTaskToken",
+      "Parameters": {"MessageBody.$": "$.order"}}}}
+Right:
+    {"StartAt": "A", "States": {"A": {"Type": "Task", "End": true, "TimeoutSeconds": 3600,
+      "Resource": "arn:aws:states:::sqs:sendMessage.waitForTaskToken",
+      "Parameters": {"MessageBody": {"order.$": "$.order", "token.$": "$$.Task.Token"}}}}}
 
 Told by lint.
 "#,
@@ -89,6 +155,25 @@ Wrong:
 Right:
     {"StartAt": "A", "States": {"A": {"Type": "Task", "Resource": "r", "End": true,
       "TimeoutSeconds": 60, "HeartbeatSeconds": 20}}}
+
+Told by lint.
+"#,
+    },
+    Explanation {
+        code: "limit-below-wait",
+        name: None,
+        sentence: "TimeoutSeconds of the execution isn't above the Seconds of a Wait",
+        text: r#"TimeoutSeconds of the outermost machine is the time limit of the execution. (Amazon States Language,
+"Top-level fields".) It is over before such a Wait is, or with it: the execution times out there,
+whichever way it came. Raise the limit, or shorten the Wait. The Waits of the outermost machine
+with Seconds are looked at.
+
+Wrong:
+    {"StartAt": "A", "TimeoutSeconds": 60,
+      "States": {"A": {"Type": "Wait", "Seconds": 60, "End": true}}}
+Right:
+    {"StartAt": "A", "TimeoutSeconds": 90,
+      "States": {"A": {"Type": "Wait", "Seconds": 60, "End": true}}}
 
 Told by lint.
 "#,

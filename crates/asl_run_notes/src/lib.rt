@@ -6,5 +6,5 @@
 mod line;
 mod search;
 
-pub use line::note_of;
+pub use line::{case_name, note_of};
 pub use search::notes_of_search;

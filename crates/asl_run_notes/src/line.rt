@@ -11,7 +11,7 @@ use asl_text::{put_decimal, put_shown};
 use std::alloc::{AllocError, Global};
 
 /// The name of the case that is chosen.
-fn case_name(chosen: &str) -> &str
+pub fn case_name(chosen: &str) -> &str
     ensures { result.now ≡ case_name chosen.now }
 {
     match chosen.split_once('#') {

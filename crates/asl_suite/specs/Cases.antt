@@ -157,6 +157,7 @@ judged d x c w = record {
   status = status_of w.outcome;
   events = length w.events;
   doubt = doubt_of (verdict_on d x w) (doubt_on x c w);
+  search = None;
 }
 
 -- where the case isn't in the mock file
@@ -169,6 +170,7 @@ no_case x = record {
   status = status.None;
   events = 0;
   doubt = doubt.None;
+  search = None;
 }
 
 -- what its execution begins with; it starts at the moment of its first step, where the test has steps

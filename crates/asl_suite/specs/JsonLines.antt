@@ -4,6 +4,7 @@ use Rattle.std.specs.List.{flat_map}
 use Rattle.std.specs.Fmt.{decimal}
 use Rattle.asl_json_data.specs.Compact.{quoted}
 use Rattle.asl_suite.specs.Reports.{verdict_word, status_word}
+use Rattle.asl_suite.specs.declared.case_report.Search.{Search}
 use Rattle.asl_suite.specs.declared.finding.Finding.{Finding}
 use Rattle.asl_suite.specs.Findings.{is_good}
 
@@ -28,6 +29,12 @@ report_members f =
     ++ (text_member (codes "status") (status_word f.report.now.status)
     ++ (codes ",\"events\":" ++ decimal f.report.now.events))
 
+-- how many outcomes and worlds were found where every order was tried
+unfoldable pub search_members : Option Search → List ℕ
+search_members None = []
+search_members (Some s) =
+    codes ",\"outcomes\":" ++ (decimal s.outcomes ++ (codes ",\"worlds\":" ++ decimal s.worlds))
+
 -- why it isn't `ok`, and how it is run alone
 abbrev pub reason_members : Finding → List ℕ
 reason_members f =
@@ -39,7 +46,8 @@ maybe_reason f = if is_good f then [] else reason_members f
 
 -- as {"test":2,"machine":"M","case":"A","verdict":"ok","status":"SUCCEEDED","events":7}
 abbrev pub json_line : Finding → List ℕ
-json_line f = test_members f ++ (report_members f ++ (maybe_reason f ++ codes "}\n"))
+json_line f =
+    test_members f ++ (report_members f ++ (search_members f.report.now.search ++ (maybe_reason f ++ codes "}\n")))
 
 abbrev pub json_text : List Finding → List ℕ
 json_text fs = flat_map json_line fs

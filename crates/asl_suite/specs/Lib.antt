@@ -2,6 +2,7 @@ pub mod Doubts
 pub mod Cases
 pub mod Reports
 pub mod Reasons
+pub mod Orders
 pub mod Findings
 pub mod JsonLines
 pub mod Xml

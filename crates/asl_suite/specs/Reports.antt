@@ -6,7 +6,7 @@ use Rattle.asl_text.specs.Shown.{shown}
 use Rattle.asl_json_data.specs.Compact.{quoted}
 use Rattle.asl_suite.specs.declared.case_report.CaseReport.{CaseReport}
 use Rattle.asl_suite.specs.declared.case_report.Verdict.{Verdict}
-use Rattle.asl_suite.specs.declared.case_report.Verdict.TheVariants.{NoCase, Limit, Status as WrongStatus, Output, Match, Error, Cause, Visits, Invocations, Calls, Unanswered, Accident, Passed}
+use Rattle.asl_suite.specs.declared.case_report.Verdict.TheVariants.{NoCase, Limit, Status as WrongStatus, Output, Match, Error, Cause, Visits, Invocations, Calls, Endless, Cut, Unanswered, Accident, Passed}
 use Rattle.asl_suite.specs.declared.case_report.Status.{Status}
 use Rattle.asl_suite.specs.declared.case_report.Status.TheVariants.{None as NoStatus, Unfinished, Succeeded, Failed, TimedOut}
 
@@ -21,6 +21,8 @@ verdict_word Cause = codes "cause"
 verdict_word Visits = codes "visits"
 verdict_word Invocations = codes "invocations"
 verdict_word Calls = codes "calls"
+verdict_word Endless = codes "endless"
+verdict_word Cut = codes "cut"
 verdict_word Unanswered = codes "unanswered"
 verdict_word Accident = codes "accident"
 verdict_word Passed = codes "ok"
@@ -49,7 +51,7 @@ report_tail r =
 abbrev pub report_line : CaseReport → List ℕ
 report_line r = report_head r ++ 32 ∷ report_tail r
 
-abbrev pub is_good : Verdict → Bool
+unfoldable pub is_good : Verdict → Bool
 is_good Passed = true
 is_good v = false
 

@@ -1,6 +1,7 @@
 // What is reported of a test.
 use asl_exec::Invocation;
 use asl_json::Txt;
+use asl_run_input::StepAt;
 
 /// What comes of a test: the first of these that applies.
 #[derive(Clone, Copy, Debug, PartialEq, Eq)]
@@ -25,6 +26,10 @@ pub enum Verdict {
     Invocations,
     /// A Task invoked its service with other inputs.
     Calls,
+    /// An order of its branches never ends.
+    Endless,
+    /// The search of their orders was cut.
+    Cut,
     /// Its run failed since its case has no answer, where that counts.
     Unanswered,
     /// It failed by accident, where that counts.
@@ -69,6 +74,49 @@ impl Drop for Doubt {
     }
 }
 
+/// An outcome of a search that isn't as expected.
+pub struct Unmet {
+    /// Its number in the search, from 1.
+    pub number: usize,
+    /// Steps that end in it.
+    pub steps: Vec<StepAt>,
+}
+
+impl Drop for Unmet {
+    fn drop(self) {
+        let Unmet {
+            number: _number,
+            steps: _steps,
+        } = self;
+    }
+}
+
+/// What a search of the orders of a test's branches found.
+pub struct Search {
+    /// Whether only orders were tried in which no branch is late.
+    pub prompt: bool,
+    /// Whether it was counted how often Tasks are invoked.
+    pub calls: bool,
+    /// So many worlds were met.
+    pub worlds: usize,
+    /// So many outcomes were found.
+    pub outcomes: usize,
+    /// The first one that isn't as expected by these steps; none where other orders that end alike are why.
+    pub unmet: Option<Unmet>,
+}
+
+impl Drop for Search {
+    fn drop(self) {
+        let Search {
+            prompt: _prompt,
+            calls: _calls,
+            worlds: _worlds,
+            outcomes: _outcomes,
+            unmet: _unmet,
+        } = self;
+    }
+}
+
 /// What is reported of a test.
 pub struct CaseReport {
     /// What comes of it.
@@ -85,6 +133,8 @@ pub struct CaseReport {
     pub events: u64,
     /// Where it is `ok`, why that may not mean what it says.
     pub doubt: Doubt,
+    /// What was found where every order of its branches was tried.
+    pub search: Option<Search>,
 }
 
 impl Drop for CaseReport {
@@ -97,6 +147,7 @@ impl Drop for CaseReport {
             status: _status,
             events: _events,
             doubt: _doubt,
+            search: _search,
         } = self;
     }
 }

@@ -3,13 +3,14 @@ ghost use Rattle.std.specs.Prelude.{◌≡◌, ◌<◌, length, Ok, Some, IfOk, 
 ghost use Rattle.std.specs.Option.{option_map};
 ghost use Rattle.asl_suite.specs.Cases.{report_on, is_visited, is_invoked, is_called, inputs_of};
 ghost use Rattle.asl_suite.specs.Reasons.{no_output, output_difference, first_not, calls_difference, by_calls, reason_by_states, reason_by_error, reason_by_end, by_status, reason_in, reason_by, reason_within, reason_for, verdict_by};
+ghost use Rattle.asl_suite.specs.Orders.{order_reason_by, order_reason};
 
 use crate::judging::{
     entries, has_cause, has_error, invocations, invokes, is_called, is_invoked, is_visited,
     is_wanted,
 };
 use crate::reason::Reason;
-use crate::running::{case_of, execution_of};
+use crate::running::{case_of, execution_of, setup_of, stepped};
 use crate::suite::Suite;
 use asl_def::Machine;
 use asl_exec::{most_steps, unanswered};
@@ -17,6 +18,7 @@ use asl_history::Event;
 use asl_json::{Items, Json};
 use asl_json_write::Pointer;
 use asl_mock::Case;
+use asl_run_input::StepAt;
 use asl_run_state::{Outcome, World};
 use asl_suite_file::{
     Difference, Expectation, Likeness, StateCalls, StateCount, first_difference, list_difference,
@@ -92,7 +94,7 @@ fn first_uncalled<'a>(events: &[Event], wanted: &'a [StateCalls]) -> Option<&'a 
     None
 }
 
-fn copy_of(alloc: Global, count: &StateCount) -> Result<StateCount, AllocError>
+pub(crate) fn copy_of(alloc: Global, count: &StateCount) -> Result<StateCount, AllocError>
     ensures { IfOk result (λ c. c ≡ count.now) }
 {
     Ok(StateCount {
@@ -299,4 +301,34 @@ fn reason_numbered(alloc: Global, suite: &Suite, number: usize) -> Result<Reason
         (slice_get suite.now.tests.list.items number) ≡ Some r) }
 {
     reason_within(alloc, suite, &suite.tests.list[number], most_steps())
+}
+
+fn explain_order_with(
+    alloc: Global,
+    suite: &Suite,
+    test: &Expectation,
+    case: Case,
+    steps: &[StepAt],
+) -> Result<Reason, AllocError>
+    ensures { IfOk result (λ r. r ≡ order_reason_by suite.now test.now steps.now (Ok case)) }
+{
+    let own = case.try_clone()?;
+    let setup = setup_of(alloc, suite, test, own)?;
+    let execution = stepped(alloc, setup, steps)?;
+    reason_in(alloc, &suite.machine, test, &case, execution.world())
+}
+
+/// Why a test isn't passed whose execution takes these steps. The error is that memory ran out.
+pub(crate) fn explain_order(
+    alloc: Global,
+    suite: &Suite,
+    test: &Expectation,
+    steps: &[StepAt],
+) -> Result<Reason, AllocError>
+    ensures { IfOk result (λ r. r ≡ order_reason suite.now test.now steps.now) }
+{
+    match case_of(&suite.mocks, test)? {
+        Err(fault) => Ok(Reason::NoCase(fault)),
+        Ok(case) => explain_order_with(alloc, suite, test, case, steps),
+    }
 }

@@ -2,13 +2,16 @@
 ghost use Rattle.std.specs.Prelude.{◌≡◌, ◌<◌, length, IfOk};
 ghost use Rattle.asl_suite.specs.Findings.{is_good, reports_in};
 
-use crate::alone::put_alone;
-use crate::case_report::{CaseReport, Verdict};
+use crate::alone::{put_alone, put_search};
+use crate::case_report::{CaseReport, Search, Unmet, Verdict};
 use crate::difference::put_difference;
-use crate::explaining::explain;
+use crate::explaining::{explain, explain_order};
+use crate::ordering::for_orders;
 use crate::reporting::is_passed;
 use crate::suite::Suite;
 use crate::telling::put_doubt;
+use asl_suite_file::Expectation;
+use asl_text::put_decimal;
 use std::alloc::{AllocError, Global};
 
 /// Where the tests of a suite come from: the names of its files, and which tests of the file of expectations it has: that of the number `first`,
@@ -73,6 +76,14 @@ pub fn findings<'a>(
     Ok(findings)
 }
 
+/// The search that decides on a test; none where its driven run does.
+fn deciding(report: &CaseReport) -> Option<&Search> {
+    match report.verdict {
+        Verdict::Unanswered | Verdict::Accident => None,
+        _ => report.search.as_ref(),
+    }
+}
+
 /// Appends why the test at a place of the suite isn't `ok`, behind the verdict that is reported of it.
 fn put_why(
     alloc: Global,
@@ -86,10 +97,60 @@ fn put_why(
     out.push_str(report.verdict.word())?;
     out.push_str(": ")?;
     let test = &suite.tests.list[place];
+    if let Some(search) = deciding(report) {
+        return put_order(alloc, out, suite, test, report, search);
+    }
     match report.verdict {
         Verdict::Unanswered | Verdict::Accident => put_doubt(out, &report.doubt),
         _ => put_difference(alloc, out, test, report, &explain(alloc, suite, place)?),
     }
+}
+
+/// Appends what was found where every order of a test's branches was tried, and it isn't `ok`.
+fn put_order(
+    alloc: Global,
+    out: &mut String,
+    suite: &Suite,
+    test: &Expectation,
+    report: &CaseReport,
+    search: &Search,
+) -> Result<(), AllocError> {
+    match &search.unmet {
+        Some(unmet) => put_unmet(alloc, out, suite, test, report, unmet),
+        None => match report.verdict {
+            Verdict::Endless => out.push_str("an order of its branches never ends"),
+            Verdict::Cut => put_cut(out, search),
+            Verdict::Invocations => put_other_counts(out),
+            _ => Ok(()),
+        },
+    }
+}
+
+fn put_other_counts(out: &mut String) -> Result<(), AllocError> {
+    out.push_str(
+        "orders of its branches that end alike invoke a Task more or less often; explore --calls tells how often",
+    )
+}
+
+fn put_cut(out: &mut String, search: &Search) -> Result<(), AllocError> {
+    out.push_str("the search was cut behind ")?;
+    put_decimal(out, search.worlds as u64)?;
+    out.push_str(" worlds; --limit tries more")
+}
+
+/// Appends why a test isn't passed in the order that decides.
+fn put_unmet(
+    alloc: Global,
+    out: &mut String,
+    suite: &Suite,
+    test: &Expectation,
+    report: &CaseReport,
+    unmet: &Unmet,
+) -> Result<(), AllocError> {
+    out.push_str("in another order of its branches, ")?;
+    let own = for_orders(alloc, test)?;
+    let reason = explain_order(alloc, suite, &own, &unmet.steps)?;
+    put_difference(alloc, out, &own, report, &reason)
 }
 
 /// What is told of the test at a place of the suite.
@@ -107,7 +168,10 @@ fn finding_of<'a>(
     let mut alone = String::new(alloc);
     if !is_passed(report) && place < suite.tests.list.len() {
         put_why(alloc, &mut difference, suite, place, report)?;
-        put_alone(&mut alone, source, number)?;
+        match deciding(report) {
+            Some(search) => put_search(&mut alone, source, number, search)?,
+            None => put_alone(&mut alone, source, number)?,
+        }
     }
     Ok(Finding {
         number,

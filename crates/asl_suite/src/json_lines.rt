@@ -1,7 +1,8 @@
 // Reports as lines of JSON.
 ghost use Rattle.std.specs.Prelude.{◌≡◌, ◌++◌, IfOk, OnOk, string_bytes};
-ghost use Rattle.asl_suite.specs.JsonLines.{text_member, name_member, test_members, report_members, maybe_reason, reason_members, json_line, json_text};
+ghost use Rattle.asl_suite.specs.JsonLines.{text_member, name_member, test_members, report_members, search_members, maybe_reason, reason_members, json_line, json_text};
 
+use crate::case_report::Search;
 use crate::finding::{Finding, is_good};
 use asl_json::Txt;
 use asl_json_write::put_quoted;
@@ -51,6 +52,23 @@ fn put_report(out: &mut String, finding: &Finding<'_>) -> Result<(), AllocError>
     put_decimal(out, finding.report.events)
 }
 
+/// Appends how much was found where every order was tried.
+#[tactic(auto, unfolding(crate::specs::JsonLines::search_members))]
+fn put_search(out: &mut String, search: &Option<Search>) -> Result<(), AllocError>
+    ensures { OnOk result (string_bytes out.new
+        ≡ string_bytes out.old ++ search_members search.now) }
+{
+    match search {
+        Some(search) => {
+            out.push_str(",\"outcomes\":")?;
+            put_decimal(out, search.outcomes as u64)?;
+            out.push_str(",\"worlds\":")?;
+            put_decimal(out, search.worlds as u64)
+        }
+        None => Ok(()),
+    }
+}
+
 fn put_reason(out: &mut String, finding: &Finding<'_>) -> Result<(), AllocError>
     ensures { OnOk result (string_bytes out.new
         ≡ string_bytes out.old ++ reason_members finding.now) }
@@ -77,6 +95,7 @@ fn put_line(out: &mut String, finding: &Finding<'_>) -> Result<(), AllocError>
 {
     put_test(out, finding)?;
     put_report(out, finding)?;
+    put_search(out, &finding.report.search)?;
     put_maybe_reason(out, finding)?;
     out.push_str("}\n")
 }
@@ -90,8 +109,8 @@ fn put_lines(out: &mut String, findings: &[Finding<'_>]) -> Result<(), AllocErro
     Ok(())
 }
 
-/// The reports, a JSON object each on a line: `test`, `machine`, `case`, `name` if the test has one, `verdict`, `status` and `events`, and, where the test isn't `ok`,
-/// `difference` and `alone`. (JSON Lines.) The error is that memory ran out.
+/// The reports, a JSON object each on a line: `test`, `machine`, `case`, `name` if the test has one, `verdict`, `status` and `events`, where every
+/// order was tried `outcomes` and `worlds`, and, where the test isn't `ok`, `difference` and `alone`. (JSON Lines.) The error is that memory ran out.
 pub fn json(alloc: Global, findings: &[Finding<'_>]) -> Result<String, AllocError>
     ensures { IfOk result (λ t. string_bytes t ≡ json_text findings.now) }
 {

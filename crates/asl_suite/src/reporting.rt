@@ -2,7 +2,7 @@
 ghost use Rattle.std.specs.Prelude.{◌≡◌, ◌++◌, IfOk, OnOk, string_bytes};
 ghost use Rattle.std.specs.Fmt.{decimal};
 ghost use Rattle.std.specs.List.{flat_map, list_all};
-ghost use Rattle.asl_suite.specs.Reports.{verdict_word, status_word, report_head, report_name, report_tail, report_line, is_passed, passed, report_text};
+ghost use Rattle.asl_suite.specs.Reports.{verdict_word, status_word, report_head, report_name, report_tail, report_line, is_good, is_passed, passed, report_text};
 
 use crate::case_report::{CaseReport, Status, Verdict};
 use asl_json::Txt;
@@ -26,9 +26,22 @@ impl Verdict {
             Verdict::Visits => "visits",
             Verdict::Invocations => "invocations",
             Verdict::Calls => "calls",
+            Verdict::Endless => "endless",
+            Verdict::Cut => "cut",
             Verdict::Unanswered => "unanswered",
             Verdict::Accident => "accident",
             Verdict::Passed => "ok",
+        }
+    }
+
+    /// Whether it is `ok`.
+    #[tactic(auto, unfolding(crate::specs::Reports::is_good))]
+    fn is_good(self) -> bool
+        ensures { result ≡ is_good self }
+    {
+        match self {
+            Verdict::Passed => true,
+            _ => false,
         }
     }
 }
@@ -100,13 +113,11 @@ fn put_lines(out: &mut String, reports: &[CaseReport]) -> Result<(), AllocError>
     Ok(())
 }
 
-pub(crate) fn is_passed(report: &CaseReport) -> bool
+/// Whether a test is `ok`.
+pub fn is_passed(report: &CaseReport) -> bool
     ensures { result ≡ is_passed report.now }
 {
-    match report.verdict {
-        Verdict::Passed => true,
-        _ => false,
-    }
+    report.verdict.is_good()
 }
 
 fn passed(reports: &[CaseReport]) -> usize

@@ -6,6 +6,7 @@ ghost use Rattle.asl_exec.specs.Views.{world_of};
 ghost use Rattle.asl_run_input.specs.Chosen.{name_or_run, case_or_empty};
 ghost use Rattle.asl_run_input.specs.Texts.{start_of};
 ghost use Rattle.asl_suite.specs.Cases.{test_setup, setup_in, world_behind, test_world, judged, no_case, report_by, report_within, report_on};
+ghost use Rattle.asl_suite.specs.Orders.{order_by, order_report};
 
 use crate::case_report::{CaseReport, Doubt, Status, Verdict};
 use crate::doubting::doubt_of;
@@ -116,7 +117,11 @@ fn driven(alloc: Global, setup: Setup, limit: u32) -> Result<Execution, AllocErr
 }
 
 /// The execution of a setup behind these steps. The error is that memory ran out.
-fn stepped(alloc: Global, setup: Setup, steps: &[StepAt]) -> Result<Execution, AllocError>
+pub(crate) fn stepped(
+    alloc: Global,
+    setup: Setup,
+    steps: &[StepAt],
+) -> Result<Execution, AllocError>
     ensures { IfOk result (λ x. world_of x ≡ world_after setup (opening setup) steps.now) }
 {
     let mut execution = Execution::open(alloc, setup)?;
@@ -167,6 +172,7 @@ fn no_case(alloc: Global, test: &Expectation) -> Result<CaseReport, AllocError>
         status: Status::None,
         events: 0,
         doubt: Doubt::None,
+        search: None,
     })
 }
 
@@ -192,6 +198,7 @@ fn judged(
         status: status_of(world.outcome()),
         events: world.history().len() as u64,
         doubt,
+        search: None,
     })
 }
 
@@ -232,4 +239,34 @@ pub fn run_case(alloc: Global, suite: &Suite, number: usize) -> Result<CaseRepor
         (slice_get suite.now.tests.list.items number) ≡ Some r) }
 {
     run_test(alloc, suite, &suite.tests.list[number], most_steps())
+}
+
+fn run_order_with(
+    alloc: Global,
+    suite: &Suite,
+    test: &Expectation,
+    case: Case,
+    steps: &[StepAt],
+) -> Result<CaseReport, AllocError>
+    ensures { IfOk result (λ r. r ≡ order_by suite.now test.now steps.now (Ok case)) }
+{
+    let own = case.try_clone()?;
+    let setup = setup_of(alloc, suite, test, own)?;
+    let execution = stepped(alloc, setup, steps)?;
+    judged(alloc, &suite.machine, test, &case, execution.world())
+}
+
+/// What is reported of a test whose execution takes these steps. The error is that memory ran out.
+pub fn run_order(
+    alloc: Global,
+    suite: &Suite,
+    test: &Expectation,
+    steps: &[StepAt],
+) -> Result<CaseReport, AllocError>
+    ensures { IfOk result (λ r. r ≡ order_report suite.now test.now steps.now) }
+{
+    match case_of(&suite.mocks, test)? {
+        Err(_) => no_case(alloc, test),
+        Ok(case) => run_order_with(alloc, suite, test, case, steps),
+    }
 }

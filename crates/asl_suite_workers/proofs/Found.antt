@@ -1,4 +1,4 @@
-use Rattle.std.proofs.Common.{◌≡◌, ◌∙◌, ℕ, ◌<◌, ◌+◌, ◌++◌, Bool, true, false, List, [], ◌∷◌, length, get_or, set, slice_index_or, Option, Some, None, Result, Ok, refl, sym, ap, subst, arith}
+use Rattle.std.proofs.Common.{◌≡◌, ◌∙◌, ℕ, ◌<◌, ◌+◌, ◌++◌, Bool, true, false, List, [], ◌∷◌, length, get_or, set, slice_index_or, Option, None, Result, Ok, refl, sym, ap, subst, arith}
 use Rattle.std.specs.Prelude.{IfSome, nat_eq}
 use Rattle.std.specs.Option.{ForSome}
 use Rattle.std.proofs.lemmas.Bool.Decides.{nat_tests}
@@ -24,19 +24,23 @@ taken gives fs i o h lt is x e = subst (λ (r : Option (Result CaseReport AllocE
 not-same : (k i : ℕ) → nat_eq k i ≡ false → k ≡ i → ⊥
 not-same k i e q = grind (arith, nat_tests, e, q)
 
--- and the others stay
-pub left_behind : (gives : ℕ → Result CaseReport AllocError → Type 0) (fs gs : List (Option (Result CaseReport AllocError))) (i : ℕ) → gs ≡ set fs i None → i < length fs → IsAnswered gives fs → IsAnswered gives gs
-left_behind gives fs gs i e l h j d lt = by (nat_eq j i) refl
+-- what is written at a place is of its case, and the others stay
+pub written : (gives : ℕ → Result CaseReport AllocError → Type 0) (fs gs : List (Option (Result CaseReport AllocError))) (i : ℕ) (o : Option (Result CaseReport AllocError)) → gs ≡ set fs i o → i < length fs → IfSome o (gives i) → IsAnswered gives fs → IsAnswered gives gs
+written gives fs gs i o e l new h j d lt = by (nat_eq j i) refl
   where
     inside : j < length fs
-    inside = omega (arith, lt, ap length e, length-set fs i None)
+    inside = omega (arith, lt, ap length e, length-set fs i o)
 
     by : (c : Bool) → nat_eq j i ≡ c → IfSome (get_or gs j d) (gives j)
     by true q =
         let same : j ≡ i = grind (arith, nat_tests, q) in
-        subst (λ (r : Option (Result CaseReport AllocError)). IfSome r (gives j)) (sym (ap (λ (xs : List (Option (Result CaseReport AllocError))). get_or xs j d) e ∙ get_or-set_at fs i j None d same l)) tt
+        subst (λ (r : Option (Result CaseReport AllocError)). IfSome r (gives j)) (sym (ap (λ (xs : List (Option (Result CaseReport AllocError))). get_or xs j d) e ∙ get_or-set_at fs i j o d same l)) (subst (λ (k : ℕ). IfSome o (gives k)) (sym same) new)
     by false q =
-        subst (λ (r : Option (Result CaseReport AllocError)). IfSome r (gives j)) (sym (ap (λ (xs : List (Option (Result CaseReport AllocError))). get_or xs j d) e ∙ get_or-set_other fs i j None d (not-same j i q))) (h j d inside)
+        subst (λ (r : Option (Result CaseReport AllocError)). IfSome r (gives j)) (sym (ap (λ (xs : List (Option (Result CaseReport AllocError))). get_or xs j d) e ∙ get_or-set_other fs i j o d (not-same j i q))) (h j d inside)
+
+-- where nothing is left, the others stay
+pub left_behind : (gives : ℕ → Result CaseReport AllocError → Type 0) (fs gs : List (Option (Result CaseReport AllocError))) (i : ℕ) → gs ≡ set fs i None → i < length fs → IsAnswered gives fs → IsAnswered gives gs
+left_behind gives fs gs i e l h = written gives fs gs i None e l tt h
 
 -- one report more
 pub one_more : (gives : ℕ → Result CaseReport AllocError → Type 0) (rs ss : List CaseReport) (n : ℕ) (r : CaseReport) → ss ≡ rs ++ r ∷ [] → length rs ≡ n → gives n (Ok r) → ((i : ℕ) (d : CaseReport) → i < n → gives i (Ok (slice_index_or rs i d)))

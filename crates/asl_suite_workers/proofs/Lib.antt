@@ -1,3 +1,3 @@
-mod Crossing
+pub mod Crossing
 mod Found
 mod Whole

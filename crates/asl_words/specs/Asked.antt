@@ -24,6 +24,7 @@ use Rattle.asl_words.specs.declared.words.Begin.{Begin}
 use Rattle.asl_words.specs.declared.words.Begin.TheVariants as begin
 use Rattle.asl_words.specs.declared.words.ChosenWords.{ChosenWords}
 use Rattle.asl_words.specs.declared.words.TestedWords.{TestedWords}
+use Rattle.asl_words.specs.declared.words.OrderWords.{OrderWords}
 use Rattle.asl_words.specs.declared.words.Shard.{Shard}
 use Rattle.asl_words.specs.declared.words.LintFormat.{LintFormat}
 use Rattle.asl_words.specs.declared.words.LintFormat.TheVariants as lint
@@ -74,7 +75,8 @@ abbrev pub coverage_formats : List (List ℕ × CoverageFormat)
 coverage_formats = (codes "text", coverage.Text) ∷ (codes "json", coverage.Json) ∷ (codes "lcov", coverage.Lcov) ∷ []
 
 abbrev pub witness_formats : List (List ℕ × WitnessFormat)
-witness_formats = (codes "steps", witness.Steps) ∷ (codes "tree", witness.Tree) ∷ (codes "data", witness.Data) ∷ []
+witness_formats =
+    (codes "steps", witness.Steps) ∷ (codes "tree", witness.Tree) ∷ (codes "data", witness.Data) ∷ (codes "test", witness.Test) ∷ []
 
 -- decimal digits, one at least
 abbrev pub is_numeral : List ℕ → Bool
@@ -347,13 +349,24 @@ abbrev pub coverage_format_asked : Word → Bool → Option CoverageFormat
 coverage_format_asked None covered = Some coverage.Text
 coverage_format_asked (Some w) covered = if covered then named coverage_formats w.now else None
 
+-- so many worlds are tried at most for each test; 100000 where nothing is said of it
+abbrev pub limit_asked : Word → Option ℕ
+limit_asked None = Some 100000
+limit_asked (Some w) = number_in 1 1000000 w.now
+
+-- in which orders each test has to hold; nothing is said of them where they aren't asked for
+abbrev pub orders_asked : Bool → Bool → Word → Option (Option OrderWords)
+orders_asked orders every limit =
+    if orders then option_map (λ n. Some (record { every = every; limit = n })) (limit_asked limit)
+    else (if every || is_some limit then None else Some None)
+
 -- reports are to be written of tests that are listed alone
 abbrev pub lists_reports : Given → Bool
 lists_reports g = g.list && (is_some g.junit || is_some g.json)
 
 abbrev pub test_one_asked : Given → DefinitionWords → Option Words
 test_one_asked g d = option_and_then (λ mocks. option_and_then (λ expectations.
-    option_and_then (λ workers. option_and_then (λ format. option_and_then (λ shard. option_and_then (λ least. option_map (λ told.
+    option_and_then (λ workers. option_and_then (λ format. option_and_then (λ shard. option_and_then (λ least. option_and_then (λ told. option_map (λ orders.
     words.Test (record {
       definition = d.definition;
       mocks = mocks;
@@ -368,13 +381,14 @@ test_one_asked g d = option_and_then (λ mocks. option_and_then (λ expectations
       coverage = least;
       coverage_format = told;
       strict = g.strict;
+      orders = orders;
       among = false;
-    })) (coverage_format_asked g.coverage_format (covers g))) (coverage_asked g.least g.coverage)) (shard_asked g.shard)) (format_asked report_formats g.format))
+    })) (orders_asked g.orders g.every g.limit)) (coverage_format_asked g.coverage_format (covers g))) (coverage_asked g.least g.coverage)) (shard_asked g.shard)) (format_asked report_formats g.format))
     (number_asked 1 64 g.workers)) g.expectations) g.mocks
 
 abbrev pub test_all_asked : Given → ProjectWords → Option Words
 test_all_asked g p = option_and_then (λ workers. option_and_then (λ format.
-    option_and_then (λ shard. option_and_then (λ least. option_map (λ told. words.TestAll (record {
+    option_and_then (λ shard. option_and_then (λ least. option_and_then (λ told. option_map (λ orders. words.TestAll (record {
       project = p;
       workers = workers;
       format = format;
@@ -386,7 +400,8 @@ test_all_asked g p = option_and_then (λ workers. option_and_then (λ format.
       coverage = least;
       coverage_format = told;
       strict = g.strict;
-    })) (coverage_format_asked g.coverage_format (covers g))) (coverage_asked g.least g.coverage)) (shard_asked g.shard)) (format_asked report_formats g.format))
+      orders = orders;
+    })) (orders_asked g.orders g.every g.limit)) (coverage_format_asked g.coverage_format (covers g))) (coverage_asked g.least g.coverage)) (shard_asked g.shard)) (format_asked report_formats g.format))
     (number_asked 1 64 g.workers)
 
 abbrev pub test_of : Given → Subject → Option Words

@@ -40,6 +40,8 @@ pub struct Given<'a> {
     pub coverage: bool,
     pub prompt: bool,
     pub calls: bool,
+    pub orders: bool,
+    pub every: bool,
     pub list: bool,
     pub pretty: bool,
     pub quiet: bool,

@@ -19,6 +19,6 @@ pub use verbs::Verb;
 pub use words::{
     Asked, Begin, ChosenWords, CoverageFormat, DebugFormat, DebugWords, DefinitionWords,
     ExplainWords, ExploreWords, GraphFormat, GraphWords, LintAllWords, LintFormat, LintWords,
-    MocksWords, PrintWords, ProjectWords, ReportFormat, RunFormat, RunWords, SetupWords, Shard,
-    Subject, TestAllWords, TestWords, TestedWords, WitnessFormat, Words,
+    MocksWords, OrderWords, PrintWords, ProjectWords, ReportFormat, RunFormat, RunWords,
+    SetupWords, Shard, Subject, TestAllWords, TestWords, TestedWords, WitnessFormat, Words,
 };

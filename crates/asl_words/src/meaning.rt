@@ -6,7 +6,7 @@ ghost use Rattle.asl_words.specs.Asked.{subject_asked, check_asked, lint_all_ask
 ghost use Rattle.asl_words.specs.Asked.{asked, words_asked, definition_asked, print_asked, mocks_file, setup_asked, lint_asked, graph_asked, mocks_asked};
 ghost use Rattle.asl_words.specs.Asked.{run_asked, debug_asked, test_asked, explore_asked, names_run, marked_run, most_asked, lists_reports};
 ghost use Rattle.asl_words.specs.Asked.{format_asked, lint_formats, graph_formats, run_formats, report_formats, witness_formats, witness_format};
-ghost use Rattle.asl_words.specs.Asked.{tells_of_states, either_asked, debug_format, debugs_by_script, coverage_asked, covers, coverage_format_asked, run_format_asked, is_of_service};
+ghost use Rattle.asl_words.specs.Asked.{tells_of_states, either_asked, debug_format, debugs_by_script, coverage_asked, covers, coverage_format_asked, limit_asked, orders_asked, run_format_asked, is_of_service};
 ghost use Rattle.asl_words.specs.Asked.{has_case, is_case_mark, names_chosen, names_more, names_beside_test, chosen_asked, number_from_one, test_number, tested_asked, begin_asked};
 ghost use Rattle.asl_words.specs.Asked.{number_in, number_asked, number_if_asked, digits_in, shard_between, shard_by, shard_in, shard_asked};
 
@@ -16,8 +16,8 @@ use crate::verbs::Verb;
 use crate::words::{
     Asked, Begin, ChosenWords, CoverageFormat, DebugFormat, DebugWords, DefinitionWords,
     ExplainWords, ExploreWords, GraphFormat, GraphWords, LintAllWords, LintFormat, LintWords,
-    MocksWords, PrintWords, ProjectWords, ReportFormat, RunFormat, RunWords, SetupWords, Shard,
-    Subject, TestAllWords, TestWords, TestedWords, WitnessFormat, Words,
+    MocksWords, OrderWords, PrintWords, ProjectWords, ReportFormat, RunFormat, RunWords,
+    SetupWords, Shard, Subject, TestAllWords, TestWords, TestedWords, WitnessFormat, Words,
 };
 
 /// What a command asks for, where answers are read on this screen; none where what is given doesn't fit together.
@@ -483,6 +483,7 @@ fn test_all<'a>(given: &Given<'a>, project: ProjectWords<'a>) -> Option<Words<'a
         coverage: coverage_of(given.least, given.coverage)?,
         coverage_format: coverage_format_of(given.coverage_format, covers(given))?,
         strict: given.strict,
+        orders: orders_of(given.orders, given.every, given.limit)?,
     }))
 }
 
@@ -510,6 +511,7 @@ fn test_one<'a>(given: &Given<'a>, definition: DefinitionWords<'a>) -> Option<Wo
         coverage: coverage_of(given.least, given.coverage)?,
         coverage_format: coverage_format_of(given.coverage_format, covers(given))?,
         strict: given.strict,
+        orders: orders_of(given.orders, given.every, given.limit)?,
         among: false,
     }))
 }
@@ -558,6 +560,30 @@ fn coverage_format_of(word: Option<&str>, covers: bool) -> Option<CoverageFormat
         "json" => Some(CoverageFormat::Json),
         "lcov" => Some(CoverageFormat::Lcov),
         _ => None,
+    }
+}
+
+/// In which orders each test has to hold, where they are asked for; nothing is said of them where they aren't.
+fn orders_of(orders: bool, every: bool, limit: Option<&str>) -> Option<Option<OrderWords>>
+    ensures { result ≡ orders_asked orders every limit.entry }
+{
+    if orders {
+        let limit = limit_of(limit)?;
+        return Some(Some(OrderWords { every, limit }));
+    }
+    if every || limit.is_some() {
+        return None;
+    }
+    Some(None)
+}
+
+/// How many worlds are tried at most for each test.
+fn limit_of(word: Option<&str>) -> Option<u32>
+    ensures { result ≡ limit_asked word.entry }
+{
+    match word {
+        Some(text) => number_in(text, 1, 1_000_000),
+        None => Some(100_000),
     }
 }
 
@@ -647,6 +673,7 @@ fn witness_format_of(witness: Option<&str>, word: Option<&str>) -> Option<Witnes
         "steps" => Some(WitnessFormat::Steps),
         "tree" => Some(WitnessFormat::Tree),
         "data" => Some(WitnessFormat::Data),
+        "test" => Some(WitnessFormat::Test),
         _ => None,
     }
 }

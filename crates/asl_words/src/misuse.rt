@@ -32,6 +32,8 @@ pub enum Misuse {
     Regional,
     /// What tests cover is to be told in a format, and it isn't told.
     Coverless,
+    /// This option says something of orders, and none is asked for.
+    Orderless(&'static str),
     /// A word isn't UTF-8.
     Malformed,
     /// A word names an outcome that isn't there.
@@ -133,6 +135,10 @@ fn misuse_of_suite(given: &Given<'_>) -> Misuse {
 fn misuse_of_rest(given: &Given<'_>) -> Misuse {
     if given.coverage_format.is_some() && !covers(given) {
         Misuse::Coverless
+    } else if given.every && !given.orders {
+        Misuse::Orderless("--every")
+    } else if given.limit.is_some() && !given.orders {
+        Misuse::Orderless("--limit <N>")
     } else {
         Misuse::Shard
     }
@@ -234,6 +240,7 @@ pub fn put_misuse(out: &mut String, misuse: Misuse) -> Result<(), AllocError> {
         Misuse::Coverless => out.push_str(
             "the following required arguments were not provided:\n  --coverage",
         ),
+        Misuse::Orderless(option) => write!(out, "the argument '{option}' is for --orders"),
         Misuse::Regional => out.push_str("the argument '--region <NAME>' is for --format aws"),
         Misuse::Shard => {
             out.push_str("a shard is I/N: two numbers from 1, the first at most the second")

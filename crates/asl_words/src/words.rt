@@ -256,6 +256,15 @@ pub struct Shard {
     pub apart: usize,
 }
 
+/// In which orders of its branches each test has to hold.
+#[derive(Clone, Copy)]
+pub struct OrderWords {
+    /// Whether also in those in which a branch is late.
+    pub every: bool,
+    /// So many worlds, from 1 to 1,000,000, are tried at most for each test.
+    pub limit: u32,
+}
+
 /// The words of `test`.
 #[derive(Clone, Copy)]
 pub struct TestWords<'a> {
@@ -280,6 +289,8 @@ pub struct TestWords<'a> {
     pub coverage_format: CoverageFormat,
     /// Whether a test fails that may not mean what it says.
     pub strict: bool,
+    /// In which orders each test has to hold; none where only the order counts in which its run is driven.
+    pub orders: Option<OrderWords>,
     /// Whether its reports stand among those of other files of tests.
     pub among: bool,
 }
@@ -298,6 +309,8 @@ pub struct TestAllWords<'a> {
     pub coverage: Option<u32>,
     pub coverage_format: CoverageFormat,
     pub strict: bool,
+    /// In which orders each test has to hold; none where only the order counts in which its run is driven.
+    pub orders: Option<OrderWords>,
 }
 
 /// How the steps of one outcome of a search are printed.
@@ -309,6 +322,8 @@ pub enum WitnessFormat {
     Tree,
     /// The same, with the data of each.
     Data,
+    /// As an expectation file of one test that takes them.
+    Test,
 }
 
 /// The words of `explore`.

@@ -1,4 +1,4 @@
-use Rattle.std.proofs.Common.{inl, inr}
+use Rattle.std.proofs.Common.{inr}
 use Rattle.std.proofs.lemmas.Result.{IfOk-weaker, IfErr-weaker}
 use Rattle.asl_cli.specs.Beginnings.{texts_in}
 use Rattle.asl_cli.proofs.Held.{setup-before, unchosen-before}

@@ -1,6 +1,6 @@
-use Rattle.std.proofs.Common.{inl, inr, subst, sym}
+use Rattle.std.proofs.Common.{subst, sym}
 use Rattle.asl_cli.specs.Beginnings.{texts_in}
-use Rattle.asl_cli.proofs.Held.{of-test-before, test-reason-before}
+use Rattle.asl_cli.proofs.Held.{of-test-before}
 use Rattle.asl_cli.proofs.beginning.begin_test.Goals as goal
 
 pub returns-in-Ok-begin_one-clause-given : goal.returns-in-Ok-begin_one-clause-given

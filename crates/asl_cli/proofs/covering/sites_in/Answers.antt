@@ -1,4 +1,4 @@
-use Rattle.std.proofs.Common.{List, subst, sym, ℕ}
+use Rattle.std.proofs.Common.{subst, sym}
 use Rattle.std.specs.List.{All}
 use Rattle.asl_json_data.specs.Data.{Data}
 use Rattle.asl_json_data.specs.Grammar.{IsText}

@@ -1,4 +1,3 @@
-use Rattle.std.proofs.Common.{inl, inr}
 use Rattle.asl_cli.specs.Beginnings.{texts_in}
 use Rattle.asl_cli.proofs.debugging.setup_in.Goals as goal
 

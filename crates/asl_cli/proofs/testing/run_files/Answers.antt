@@ -30,8 +30,7 @@ returns-in-Ok-covered-clause-reported g c =
           are_tests = tests-before (g.F.Files.gives c.args.files.now) (g.F.Files.gives c.read_suite.new.files) (g.F.Files.lacks c.args.files.now) (g.F.Files.lacks c.read_suite.new.files) c.in_ok-texts.ensures.kept c.in_ok-texts.ensures.lacking c.args.words.now.expectations.now spelled.drafts.list.items c.in_ok-suite.suite.tests.list.items c.in_ok-suite.ensures.tests;
         };
       };
-      is_report = rw (← c.in-Ok-covered.ensures.text) at c.in-Ok.ensures.report;
-      are_files = rw (← c.in-Ok-covered.ensures.files.0, ← c.in-Ok-covered.ensures.files.1) at c.in-Ok.ensures.files;
+      is_report = rw (← c.in-Ok-covered.ensures.text, ← c.in-Ok-covered.ensures.files.0, ← c.in-Ok-covered.ensures.files.1) at c.in-Ok.ensures.report;
       are_remarks = c.in-Ok.ensures.remarks;
       is_good = c.in-Ok-covered.ensures.good;
     }
