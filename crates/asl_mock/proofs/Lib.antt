@@ -8,3 +8,4 @@ mod Names
 mod Equals
 mod Overlapping
 mod Judging
+mod Missing

@@ -3,6 +3,7 @@ pub mod Places
 pub mod Form
 pub mod Tables
 pub mod Answers
+pub mod Merged
 pub mod Faults
 pub mod Gives
 pub mod Told

@@ -7,6 +7,7 @@ ghost use Rattle.asl_mock.specs.Places.{in_each};
 ghost use Rattle.asl_mock.specs.Answers.{text_of, case_of, machine_of, machines_of, answer_to, last_to};
 ghost use Rattle.asl_mock.specs.Faults.{lost_name, lost_in_case, lost_in_machine, is_response};
 ghost use Rattle.asl_mock.specs.Gives.{Gives};
+ghost use Rattle.asl_mock.specs.private.Shared.{listed};
 
 use crate::place::Place;
 use crate::response::Answer;
@@ -55,7 +56,10 @@ impl Case {
         Case { states: None }
     }
 
-    fn of_states(alloc: Global, states: IndexMap<String, Response>) -> Result<Case, AllocError>
+    pub(crate) fn of_states(
+        alloc: Global,
+        states: IndexMap<String, Response>,
+    ) -> Result<Case, AllocError>
         ensures { IfOk result (λ c. c ≡ named states.entries) }
     {
         let states = Arc::new(alloc, states)?;
@@ -76,6 +80,16 @@ impl Case {
         }
     }
 
+    /// What the owners of the case share, where it names a state.
+    pub(crate) fn own_table(&self) -> Option<&IndexMap<String, Response>>
+        ensures { listed (option_map (λ m. m.now) result) ≡ self.now }
+    {
+        match &self.states {
+            Some(states) => Some(states),
+            None => None,
+        }
+    }
+
     /// Whether it names no state.
     fn is_empty(&self) -> bool
         ensures { IsTrue result ↔ (self.now ≡ []) }
@@ -87,7 +101,7 @@ impl Case {
     }
 
     /// The response of the state of this name.
-    fn response(&self, state: &str) -> Option<&Response>
+    pub fn response_for(&self, state: &str) -> Option<&Response>
         ensures { option_map (λ r. r.now) result ≡ value_for state.now self.now }
     {
         match &self.states {
@@ -132,7 +146,7 @@ impl Eq for Case {
 pub fn answer<'a>(case: &'a Case, state: &str, n: u32) -> Option<&'a Answer>
     ensures { option_map (λ a. a.now) result ≡ answer_to case.now state.now n }
 {
-    let response = case.response(state)?;
+    let response = case.response_for(state)?;
     response.answer(n)
 }
 
@@ -144,7 +158,7 @@ pub fn last_alike(case: &Case, state: &str, n: u32) -> u32
     ensures alike { (k : ℕ) → n ≤ k → k ≤ result
         → answer_to case.now state.now k ≡ answer_to case.now state.now n }
 {
-    match case.response(state) {
+    match case.response_for(state) {
         Some(response) => response.last_alike(n),
         None => u32::MAX,
     }

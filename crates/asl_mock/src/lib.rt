@@ -4,7 +4,7 @@
 //! Modules in reading order: `fault` is why a file is refused, `key` the numbers that an answer is for, `shape` what a file is
 //! made of, and `place` where a fault is. `form` finds the first value that doesn't fit, and `bad_key` the first bad key. `table`
 //! finds values by their names, `response` is an answer, `ranges` the answers in the order of their numbers, `responses` and
-//! `case` what is built of them, and `mocks` the whole file. `choosing` is which test case a word chooses: that of a machine, as
+//! `case` what is built of them, `merging` cases made of others, and `mocks` the whole file. `choosing` is which test case a word chooses: that of a machine, as
 //! `Machine#Case`, or that of the only machine of a file, as `Case`.
 //!
 //! `specs/Form.antt` says which values fit, `specs/Key.antt` what a key stands for, `specs/Faults.antt` which fault is answered,
@@ -17,6 +17,7 @@ mod choosing;
 mod fault;
 mod form;
 mod key;
+mod merging;
 mod mocks;
 mod place;
 mod ranges;

@@ -58,6 +58,31 @@ impl Eq for Answer {
     ghost laws = { answer_equivalence };
 }
 
+impl Answer {
+    /// A copy. The error is that memory ran out.
+    pub fn duplicate(&self, alloc: Global) -> Result<Answer, AllocError>
+        ensures { IfOk result (λ a. a ≡ self.now) }
+    {
+        match self {
+            Answer::Returns(value) => Ok(Answer::Returns(value.try_clone(alloc)?)),
+            Answer::Throws { error, cause } => Ok(Answer::Throws {
+                error: error.try_clone(alloc)?,
+                cause: copied(alloc, cause.as_ref())?,
+            }),
+        }
+    }
+}
+
+/// A copy of a text, where there is one. The error is that memory ran out.
+fn copied(alloc: Global, text: Option<&Txt>) -> Result<Option<Txt>, AllocError>
+    ensures { IfOk result (λ t. t ≡ option_map (λ s. s.now) text.entry) }
+{
+    match text {
+        Some(text) => Ok(Some(text.try_clone(alloc)?)),
+        None => Ok(None),
+    }
+}
+
 /// An answer and the numbers that it is for.
 #[derive(Drop)]
 pub struct Ranged {

@@ -50,7 +50,8 @@ impl Model for Response {
 }
 
 impl Response {
-    fn of_answers(alloc: Global, answers: Vec<Ranged>) -> Result<Response, AllocError>
+    /// The response with these answers. The error is that memory ran out.
+    pub fn of_answers(alloc: Global, answers: Vec<Ranged>) -> Result<Response, AllocError>
         requires { AreApart answers.items }
         ensures { IfOk result (λ r. r ≡ answers.items) }
     {
@@ -64,6 +65,14 @@ impl Response {
     {
         let answers = Arc::try_clone(&self.answers)?;
         Ok(Response { answers })
+    }
+
+    /// The answers in the order of their numbers.
+    pub fn by_number(&self) -> &[Ranged]
+        ensures all { result.now ≡ self.now }
+        ensures apart { AreApart self.now }
+    {
+        &self.answers
     }
 
     /// The answer of this number.

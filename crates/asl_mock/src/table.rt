@@ -1,5 +1,5 @@
 // Values under names.
-ghost use Rattle.std.specs.Prelude.{◌≡◌, ◌∷◌, ◌++◌, [], None, OnOk, OnErr, option_map};
+ghost use Rattle.std.specs.Prelude.{◌≡◌, ◌∷◌, ◌++◌, [], None, OnOk, OnErr, option_map, string_bytes};
 ghost use Rattle.asl_mock.specs.Tables.{named, value_for};
 
 use asl_json::Txt;
@@ -26,7 +26,20 @@ pub(crate) fn add<T: Drop>(
     ensures err { OnErr result (values.new.entries ≡ values.old.entries) }
 {
     let copy = name.try_clone(alloc)?;
-    let key = copy.into_string();
-    drop(values.insert(key, value)?);
+    push(values, copy.into_string(), value)
+}
+
+/// Adds a value under a name that no other has. The error is that memory ran out; then nothing is added.
+pub(crate) fn push<T: Drop>(
+    values: &mut IndexMap<String, T>,
+    name: String,
+    value: T,
+) -> Result<(), AllocError>
+    requires { value_for (string_bytes name) (named values.old.entries) ≡ None }
+    ensures ok { OnOk result (named values.new.entries
+        ≡ named values.old.entries ++ (string_bytes name, value) ∷ []) }
+    ensures err { OnErr result (values.new.entries ≡ values.old.entries) }
+{
+    drop(values.insert(name, value)?);
     Ok(())
 }

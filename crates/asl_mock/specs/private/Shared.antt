@@ -10,3 +10,7 @@ abbrev pub shared_states : {X Y Z : Type 0} → Option (Arc (IndexMap (String X)
     → List (Named Response)
 shared_states None = []
 shared_states (Some a) = named (arc_value a).entries
+
+abbrev pub listed : {X Y : Type 0} → Option (IndexMap (String X) Response Y) → List (Named Response)
+listed None = []
+listed (Some m) = named m.entries

@@ -1,0 +1,7 @@
+use Rattle.std.proofs.Common.{◌≡◌, take}
+use Rattle.asl_mock.specs.Tables.{named}
+use Rattle.asl_mock.specs.Merged.{merged}
+use Rattle.asl_mock.proofs.merging.with_all_missing.Given as goal
+
+abbrev pub invariant-loop-i : goal.invariant-loop-i
+invariant-loop-i l = named l.states.entries ≡ merged (named l.fn.states.entries) (take l.i (named l.others.entries))
