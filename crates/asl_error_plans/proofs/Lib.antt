@@ -1,0 +1,2 @@
+mod Putting_in
+mod Planned

@@ -1,0 +1,3 @@
+pub mod Injected
+pub mod Spans
+pub mod Printing

@@ -1,0 +1,16 @@
+//! Errors that are put in before the answers of a test case.
+//!
+//! Modules in reading order: `injected` is an error that is put in, `spans` moves the numbers of answers, `putting` puts an error into a response, and `under` gives the case with all errors
+//! of a plan put in; `printing` prints a case as a mock file.
+#![tactic(auto)]
+
+mod injected;
+mod printing;
+mod putting;
+mod spans;
+mod under;
+
+pub use injected::InjectedError;
+pub use printing::put_mock_file;
+pub use putting::with_error;
+pub use under::case_under;
