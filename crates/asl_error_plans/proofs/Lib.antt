@@ -1,2 +1,3 @@
 mod Putting_in
 mod Planned
+mod Known

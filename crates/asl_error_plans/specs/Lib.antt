@@ -1,3 +1,5 @@
 pub mod Injected
 pub mod Spans
 pub mod Printing
+pub mod Grouping
+pub mod Telling

@@ -2,15 +2,21 @@
 //!
 //! Modules in reading order: `injected` is an error that is put in, `spans` moves the numbers of answers, `putting` puts an error into a response, and `under` gives the case with all errors
 //! of a plan put in; `printing` prints a case as a mock file.
+//! `outcomes` is what comes of a plan, `grouping` finds the outcomes of many, each once, and `telling` prints what comes of them.
 #![tactic(auto)]
 
+mod grouping;
 mod injected;
+mod outcomes;
 mod printing;
 mod putting;
 mod spans;
+mod telling;
 mod under;
 
 pub use injected::InjectedError;
+pub use outcomes::PlanOutcomes;
 pub use printing::put_mock_file;
 pub use putting::with_error;
+pub use telling::{are_whole, put_plans};
 pub use under::case_under;

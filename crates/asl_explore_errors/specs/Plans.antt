@@ -4,7 +4,7 @@ use Rattle.std.specs.Cmp.Lexicographic.{pointwise}
 use Rattle.std.specs.Option.{option_eq}
 use Rattle.asl_json.specs.Same.{bool_eq, bytes_eq}
 use Rattle.asl_error_plans.specs.declared.injected.InjectedError.{InjectedError}
-use Rattle.asl_explore_errors.specs.declared.tried.Tried.{Tried}
+use Rattle.asl_error_plans.specs.declared.outcomes.PlanOutcomes.{PlanOutcomes}
 
 abbrev pub is_same_error : InjectedError → InjectedError → Bool
 is_same_error a b =
@@ -16,5 +16,5 @@ is_same_error a b =
 abbrev pub is_same_plan : List InjectedError → List InjectedError → Bool
 is_same_plan = pointwise is_same_error
 
-abbrev pub has_plan : List InjectedError → Tried → Bool
-has_plan plan t = is_same_plan t.plan.items plan
+abbrev pub has_plan : List InjectedError → PlanOutcomes → Bool
+has_plan plan p = is_same_plan p.plan.items plan

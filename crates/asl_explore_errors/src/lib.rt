@@ -1,9 +1,10 @@
 //! What comes of an execution where invocations fail: every order of its branches, under every plan of so many errors.
 //!
-//! Modules in reading order: `points` are the plans of a search, `same` compares plans, `tried` is what was found under one, `trying` searches under one, `extending` makes plans of one error more, and
-//! `searching` goes through all; `telling` prints what was found.
+//! Modules in reading order: `tried` is what a search is of, and what it finds; `points` are its plans, `same` compares them, `ended` prints outcomes, `trying` searches under one plan, `extending` makes
+//! plans of one error more, and `searching` goes through all.
 #![tactic(auto)]
 
+mod ended;
 mod extending;
 mod points;
 mod same;
@@ -12,4 +13,4 @@ mod tried;
 mod trying;
 
 pub use searching::explore_errors;
-pub use tried::{ErrorSearch, Tried};
+pub use tried::{ErrorSearch, ErrorsFound, Witnesses};

@@ -3,8 +3,7 @@ ghost use Rattle.std.specs.Prelude.{◌≡◌};
 ghost use Rattle.std.specs.List.{list_any};
 ghost use Rattle.asl_explore_errors.specs.Plans.{is_same_error, is_same_plan, has_plan};
 
-use crate::tried::Tried;
-use asl_error_plans::InjectedError;
+use asl_error_plans::{InjectedError, PlanOutcomes};
 
 fn is_same_error(one: &InjectedError, other: &InjectedError) -> bool
     ensures { result ≡ is_same_error one.now other.now }
@@ -30,10 +29,8 @@ fn is_same_plan(one: &[InjectedError], other: &[InjectedError]) -> bool
 }
 
 /// Whether a plan is among those that were tried.
-pub(crate) fn has_plan(tried: &[Tried], plan: &[InjectedError]) -> bool
-    ensures { result ≡ list_any (has_plan plan.now) tried.now }
+pub(crate) fn has_plan(plans: &[PlanOutcomes], plan: &[InjectedError]) -> bool
+    ensures { result ≡ list_any (has_plan plan.now) plans.now }
 {
-    tried
-        .iter()
-        .any(|one| is_same_plan(&one.plan, plan))
+    plans.iter().any(|one| is_same_plan(&one.plan, plan))
 }

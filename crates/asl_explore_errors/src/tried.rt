@@ -1,6 +1,6 @@
 // What was found under a plan.
 
-use asl_error_plans::InjectedError;
+use asl_error_plans::PlanOutcomes;
 use asl_explore::{Found, Orders};
 use asl_run_input::Setup;
 use asl_task_errors::TaskErrors;
@@ -17,16 +17,17 @@ pub struct ErrorSearch<'a> {
     pub limit: u32,
 }
 
-/// What was found under a plan.
+/// What was found under plans.
 #[derive(Drop)]
-pub struct Tried {
-    pub plan: Vec<InjectedError>,
-    /// The outcomes, each once, with steps that end in it.
-    pub found: Vec<Found>,
-    /// So many worlds were met.
-    pub worlds: usize,
-    /// Whether nothing was left out.
-    pub complete: bool,
-    /// Whether an order never ends.
-    pub endless: bool,
+pub struct ErrorsFound {
+    /// What comes of each plan.
+    pub plans: Vec<PlanOutcomes>,
+    /// Of each of these plans the outcomes in the same order, with steps that end in them.
+    pub found: Vec<Witnesses>,
+}
+
+/// The outcomes under a plan, each once, with steps that end in it.
+#[derive(Drop)]
+pub struct Witnesses {
+    pub list: Vec<Found>,
 }

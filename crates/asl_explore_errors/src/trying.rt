@@ -3,10 +3,11 @@ ghost use Rattle.std.specs.Prelude.{◌≡◌, IfOk};
 ghost use Rattle.asl_explore_errors.specs.Searches.{IsFoundUnder};
 
 use crate::points::Point;
-use crate::tried::{ErrorSearch, Tried};
+use crate::ended::texts_of;
+use crate::tried::ErrorSearch;
 use asl_def::Machine;
-use asl_error_plans::{InjectedError, case_under};
-use asl_explore::{Calls, Watch, explore};
+use asl_error_plans::{InjectedError, PlanOutcomes, case_under};
+use asl_explore::{Calls, Found, Watch, explore};
 use asl_json::Txt;
 use asl_mock::Case;
 use asl_run_input::Setup;
@@ -67,30 +68,38 @@ fn with_case(alloc: Global, setup: &Setup, case: Case) -> Result<Setup, AllocErr
     Ok(own)
 }
 
-/// What is found under a plan, and, if that is counted, how often each state is invoked. The error is that memory ran out.
+/// What is found under a plan, and, if that is counted, how often each state is invoked.
+pub(crate) struct Tried {
+    pub(crate) plan: PlanOutcomes,
+    pub(crate) found: Vec<Found>,
+    pub(crate) calls: Vec<Calls>,
+}
+
+/// Tries the orders of an execution under a plan. The error is that memory ran out.
 pub(crate) fn try_plan<W: Watch>(
     alloc: Global,
     search: &ErrorSearch<'_>,
     plan: Vec<InjectedError>,
     counted: bool,
     watch: &W,
-) -> Result<(Tried, Vec<Calls>), AllocError>
-    ensures { IfOk result (λ r. IsFoundUnder search.now.orders search.now.limit search.now.setup.now r.0) }
+) -> Result<Tried, AllocError>
+    ensures found { IfOk result (λ r. IsFoundUnder search.now.orders search.now.limit search.now.setup.now
+        r.plan r.found.items) }
+    ensures plan { IfOk result (λ r. r.plan.plan.items ≡ plan.items) }
 {
     let case = case_under(alloc, &search.setup.case, &plan)?;
     let setup = with_case(alloc, search.setup, case)?;
     let mut explored = explore(alloc, setup, search.orders, counted, search.limit, watch)?;
+    let outcomes = texts_of(alloc, &explored.found)?;
     let calls = mem::replace(&mut explored.calls, Vec::new(alloc));
-    let (worlds, complete, endless) = (explored.worlds, explored.complete, explored.endless.is_some());
     let found = mem::replace(&mut explored.found, Vec::new(alloc));
-    let tried = Tried {
+    let plan = PlanOutcomes {
         plan,
-        found,
-        worlds,
-        complete,
-        endless,
+        outcomes,
+        complete: explored.complete,
+        endless: explored.endless.is_some(),
     };
-    Ok((tried, calls))
+    Ok(Tried { plan, found, calls })
 }
 
 /// How often the state of a number is invoked at most in these orders.

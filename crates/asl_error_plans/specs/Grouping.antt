@@ -1,0 +1,23 @@
+-- The outcomes of plans, each once.
+use Rattle.std.specs.Prelude.{ℕ, List, [], ◌∷◌, ◌++◌, Bool, if◌then◌else◌, String, string_bytes}
+use Rattle.std.specs.List.{fold, list_any}
+use Rattle.asl_json.specs.Same.{bytes_eq}
+use Rattle.asl_error_plans.specs.declared.outcomes.PlanOutcomes.{PlanOutcomes}
+
+-- a text behind these, unless it is among them
+abbrev pub with_new : List (List ℕ) → List ℕ → List (List ℕ)
+with_new ts t = if list_any (λ (u : List ℕ). bytes_eq u t) ts then ts else ts ++ t ∷ []
+
+abbrev pub with_outcome : {X : Type 0} → List (List ℕ) → String X → List (List ℕ)
+with_outcome ts o = with_new ts (string_bytes o)
+
+abbrev pub with_outcomes : List (List ℕ) → PlanOutcomes → List (List ℕ)
+with_outcomes ts p = fold with_outcome ts p.outcomes.items
+
+-- in the order in which they come first
+abbrev pub all_outcomes : List PlanOutcomes → List (List ℕ)
+all_outcomes ps = fold with_outcomes [] ps
+
+-- an outcome is one of a plan
+abbrev pub gives : List ℕ → PlanOutcomes → Bool
+gives o p = list_any (λ u. bytes_eq (string_bytes u) o) p.outcomes.items
