@@ -1,0 +1,3 @@
+mod Truths
+mod Holding
+mod Covering
