@@ -1,5 +1,5 @@
 -- The outcomes of plans, each once.
-use Rattle.std.specs.Prelude.{ℕ, List, [], ◌∷◌, ◌++◌, Bool, if◌then◌else◌, String, string_bytes}
+use Rattle.std.specs.Prelude.{ℕ, zero, suc, Option, Some, None, option_and_then, slice_get, List, [], ◌∷◌, ◌++◌, Bool, if◌then◌else◌, String, string_bytes}
 use Rattle.std.specs.List.{fold, list_any}
 use Rattle.asl_json.specs.Same.{bytes_eq}
 use Rattle.asl_error_plans.specs.declared.outcomes.PlanOutcomes.{PlanOutcomes}
@@ -21,3 +21,17 @@ all_outcomes ps = fold with_outcomes [] ps
 -- an outcome is one of a plan
 abbrev pub gives : List ℕ → PlanOutcomes → Bool
 gives o p = list_any (λ u. bytes_eq (string_bytes u) o) p.outcomes.items
+
+-- the first plan that gives an outcome
+abbrev pub first_giving : List ℕ → List PlanOutcomes → Option PlanOutcomes
+first_giving o [] = None
+first_giving o (p ∷ ps) = if gives o p then Some p else first_giving o ps
+
+-- the text of a number, from 1
+abbrev pub outcome_of : ℕ → List (List ℕ) → Option (List ℕ)
+outcome_of zero ts = None
+outcome_of (suc n) ts = slice_get ts n
+
+-- the first one that gives the outcome of a number
+abbrev pub plan_of : ℕ → List PlanOutcomes → Option PlanOutcomes
+plan_of n ps = option_and_then (λ o. first_giving o ps) (outcome_of n (all_outcomes ps))

@@ -1,8 +1,8 @@
 // The outcomes of plans, each once.
-ghost use Rattle.std.specs.Prelude.{◌≡◌, map, IfOk};
+ghost use Rattle.std.specs.Prelude.{◌≡◌, map, option_map, IfOk};
 ghost use Rattle.std.specs.List.{fold, list_any};
 ghost use Rattle.asl_json.specs.Same.{bytes_eq};
-ghost use Rattle.asl_error_plans.specs.Grouping.{with_new, with_outcome, all_outcomes, gives};
+ghost use Rattle.asl_error_plans.specs.Grouping.{with_new, with_outcome, all_outcomes, gives, first_giving, outcome_of, plan_of};
 
 use crate::outcomes::PlanOutcomes;
 use std::alloc::{AllocError, Global};
@@ -58,4 +58,44 @@ pub(crate) fn gives(plan: &PlanOutcomes, outcome: &str) -> bool
     ensures { result ≡ gives outcome.now plan.now }
 {
     plan.outcomes.iter().any(|one| one.as_str() == outcome)
+}
+
+/// The first of these plans that gives an outcome.
+fn first_giving<'a>(plans: &'a [PlanOutcomes], outcome: &str) -> Option<&'a PlanOutcomes>
+    ensures { option_map (λ p. p.now) result ≡ first_giving outcome.now plans.now }
+{
+    for plan in plans {
+        if gives(plan, outcome) {
+            return Some(plan);
+        }
+    }
+    None
+}
+
+/// The text of a number, from 1.
+fn outcome_of<'a>(outcomes: &[&'a str], number: u32) -> Option<&'a str>
+    ensures { option_map (λ o. o.now) result ≡ outcome_of number (map (λ o. o.now) outcomes.now) }
+{
+    if number == 0 {
+        return None;
+    }
+    match outcomes.get(number as usize - 1) {
+        Some(outcome) => Some(*outcome),
+        None => None,
+    }
+}
+
+/// The first plan that gives the outcome of a number, from 1; none where there is no such outcome. The error is that memory ran out.
+pub fn plan_of(
+    alloc: Global,
+    plans: &[PlanOutcomes],
+    number: u32,
+) -> Result<Option<&PlanOutcomes>, AllocError>
+    ensures { IfOk result (λ o. option_map (λ p. p.now) o ≡ plan_of number plans.now) }
+{
+    let outcomes = all_outcomes(alloc, plans)?;
+    match outcome_of(&outcomes, number) {
+        Some(outcome) => Ok(first_giving(plans, outcome)),
+        None => Ok(None),
+    }
 }
