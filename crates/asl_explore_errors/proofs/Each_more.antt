@@ -1,5 +1,5 @@
 -- What is found under one plan more.
-use Rattle.std.proofs.Common.{◌≡◌, ◌<◌, ℕ, List, [], ◌∷◌, ◌++◌, Bool, true, false, length, get_or, refl, sym, ap, ◌∙◌, tt}
+use Rattle.std.proofs.Common.{◌≡◌, ◌<◌, ℕ, List, [], ◌∷◌, ◌++◌, Bool, true, false, length, get_or, refl, sym, ap, ◌∙◌, subst, zero, suc, arith}
 use Rattle.std.specs.Prelude.{◌||◌}
 use Rattle.std.specs.List.{list_any, AllPairs}
 use Rattle.std.proofs.lemmas.List.Quantifiers.{all_pairs_push}
@@ -21,19 +21,21 @@ found_more o limit s (q ∷ ps) [] p w h g = absurd h
 found_more o limit s (q ∷ ps) (v ∷ ws) p w h g = (h.0, found_more o limit s ps ws p w h.1 g)
 
 none_at : (plan : List InjectedError) (ps : List PlanOutcomes) (k : ℕ) (d : PlanOutcomes) → list_any (has_plan plan) ps ≡ false → k < length ps → is_same_plan (get_or ps k d).plan.items plan ≡ false
-none_at plan [] k d h lt = absurd (omega (Rattle.std.proofs.Common.arith, lt))
-none_at plan (p ∷ ps) k d h lt = by (has_plan plan p) refl k lt h
+none_at plan [] k d h lt = absurd (omega (arith, lt))
+none_at plan (p ∷ ps) k d h lt = by (has_plan plan p) refl k lt h (λ j g l. none_at plan ps j d g l)
   where
-    by : (b : Bool) → has_plan plan p ≡ b → (k : ℕ) → k < length (p ∷ ps) → (b || list_any (has_plan plan) ps) ≡ false → is_same_plan (get_or (p ∷ ps) k d).plan.items plan ≡ false
-    by true e k lt h = absurd (cc h)
-    by false e Rattle.std.proofs.Common.zero lt h = e
-    by false e (Rattle.std.proofs.Common.suc k) lt h = none_at plan ps k d h (omega (Rattle.std.proofs.Common.arith, lt))
+    by : (b : Bool) → has_plan plan p ≡ b → (k : ℕ) → k < length (p ∷ ps) → (b || list_any (has_plan plan) ps) ≡ false
+        → ((j : ℕ) → list_any (has_plan plan) ps ≡ false → j < length ps → is_same_plan (get_or ps j d).plan.items plan ≡ false)
+        → is_same_plan (get_or (p ∷ ps) k d).plan.items plan ≡ false
+    by true e k lt h rest = absurd (cc h)
+    by false e zero lt h rest = e
+    by false e (suc k) lt h rest = rest k h (omega (arith, lt))
 
 pub all_more : (o : Orders) (limit : ℕ) (s : Setup) (x y : ErrorsFound) (p : PlanOutcomes) (w : Witnesses)
     → list_any (has_plan p.plan.items) x.plans.items ≡ false → IsFoundUnder o limit s p w.list.items
     → y.plans.items ≡ x.plans.items ++ p ∷ [] → y.found.items ≡ x.found.items ++ w ∷ []
     → AreAllFound o limit s x → AreAllFound o limit s y
 all_more o limit s x y p w new found plans witnesses h = record {
-  each = Rattle.std.proofs.Common.subst (λ (ps : List PlanOutcomes). AreFoundUnder o limit s ps y.found.items) (sym plans) (Rattle.std.proofs.Common.subst (AreFoundUnder o limit s (x.plans.items ++ p ∷ [])) (sym witnesses) (found_more o limit s x.plans.items x.found.items p w h.each found));
-  once = Rattle.std.proofs.Common.subst (AllPairs (λ (a b : PlanOutcomes). is_same_plan a.plan.items b.plan.items ≡ false)) (sym plans) (all_pairs_push (λ (a b : PlanOutcomes). is_same_plan a.plan.items b.plan.items ≡ false) x.plans.items p h.once (λ k d lt. none_at p.plan.items x.plans.items k d new lt));
+  each = subst (λ (ps : List PlanOutcomes). AreFoundUnder o limit s ps y.found.items) (sym plans) (subst (AreFoundUnder o limit s (x.plans.items ++ p ∷ [])) (sym witnesses) (found_more o limit s x.plans.items x.found.items p w h.each found));
+  once = subst (AllPairs (λ (a b : PlanOutcomes). is_same_plan a.plan.items b.plan.items ≡ false)) (sym plans) (all_pairs_push (λ (a b : PlanOutcomes). is_same_plan a.plan.items b.plan.items ≡ false) x.plans.items p h.once (λ k d lt. none_at p.plan.items x.plans.items k d new lt));
 }

@@ -42,7 +42,7 @@ fn add_errors(
 }
 
 /// Adds the plan with one error more at each invocation that was counted.
-pub(crate) fn add_longer(
+fn add_longer(
     alloc: Global,
     out: &mut Vec<Vec<Point>>,
     search: &ErrorSearch<'_>,
@@ -55,4 +55,21 @@ pub(crate) fn add_longer(
         }
     }
     Ok(())
+}
+
+/// These plans, and this one with one error more at each invocation that was counted, unless it is of the last that are tried. The error is that memory
+/// ran out.
+pub(crate) fn with_longer(
+    alloc: Global,
+    plans: Vec<Vec<Point>>,
+    search: &ErrorSearch<'_>,
+    plan: &[Point],
+    calls: &[Calls],
+    is_last: bool,
+) -> Result<Vec<Vec<Point>>, AllocError> {
+    let mut plans = plans;
+    if !is_last {
+        add_longer(alloc, &mut plans, search, plan, calls)?;
+    }
+    Ok(plans)
 }

@@ -1,19 +1,58 @@
 // All plans of so many errors.
-ghost use Rattle.std.specs.Prelude.{IfOk};
+ghost use Rattle.std.specs.Prelude.{◌≡◌, ◌++◌, ◌∷◌, [], false, IfOk};
+ghost use Rattle.std.specs.List.{list_any};
+ghost use Rattle.asl_explore_errors.specs.Plans.{has_plan};
 ghost use Rattle.asl_explore_errors.specs.Searches.{AreAllFound};
 
-use crate::extending::add_longer;
+use crate::extending::with_longer;
 use crate::points::Point;
 use crate::same::has_plan;
 use crate::tried::{ErrorSearch, ErrorsFound, Witnesses};
 use crate::trying::{Tried, errors_of, try_plan};
-use asl_explore::Watch;
+use asl_error_plans::{InjectedError, PlanOutcomes};
+use asl_explore::{Calls, Watch};
 use std::alloc::{AllocError, Global};
 
 /// What was found, and the plans of one error more.
+#[derive(Drop)]
 struct Level {
     all: ErrorsFound,
     longer: Vec<Vec<Point>>,
+}
+
+/// What was found, and what is found under one plan more. The error is that memory ran out.
+fn push(
+    all: ErrorsFound,
+    plan: PlanOutcomes,
+    found: Witnesses,
+) -> Result<ErrorsFound, AllocError>
+    ensures plans { IfOk result (λ r. r.plans.items ≡ all.plans.items ++ plan ∷ []) }
+    ensures found { IfOk result (λ r. r.found.items ≡ all.found.items ++ found ∷ []) }
+{
+    let mut all = all;
+    all.plans.push(plan)?;
+    all.found.push(found)?;
+    Ok(all)
+}
+
+/// Tries a plan that wasn't tried yet, and says how often each state is invoked, if that is counted.
+fn try_new<W: Watch>(
+    alloc: Global,
+    search: &ErrorSearch<'_>,
+    all: ErrorsFound,
+    errors: Vec<InjectedError>,
+    counted: bool,
+    watch: &W,
+) -> Result<(ErrorsFound, Vec<Calls>), AllocError>
+    requires { list_any (has_plan errors.items) all.plans.items ≡ false }
+    ensures { IfOk result (λ r.
+        AreAllFound search.now.orders search.now.limit search.now.setup.now all
+        → AreAllFound search.now.orders search.now.limit search.now.setup.now r.0) }
+{
+    let tried = try_plan(alloc, search, errors, counted, watch)?;
+    let Tried { plan, found, calls } = tried;
+    let all = push(all, plan, Witnesses { list: found })?;
+    Ok((all, calls))
 }
 
 /// Tries a plan, unless it was; the plans of one error more are added, if these are wanted.
@@ -29,19 +68,14 @@ fn try_one<W: Watch>(
         AreAllFound search.now.orders search.now.limit search.now.setup.now level.all
         → AreAllFound search.now.orders search.now.limit search.now.setup.now r.all) }
 {
-    let mut level = level;
     let errors = errors_of(alloc, search.tasks, points)?;
     if has_plan(&level.all.plans, &errors) {
         return Ok(level);
     }
-    let tried = try_plan(alloc, search, errors, !is_last, watch)?;
-    let Tried { plan, found, calls } = tried;
-    level.all.plans.push(plan)?;
-    level.all.found.push(Witnesses { list: found })?;
-    if !is_last {
-        add_longer(alloc, &mut level.longer, search, points, &calls)?;
-    }
-    Ok(level)
+    let Level { all, longer } = level;
+    let (all, calls) = try_new(alloc, search, all, errors, !is_last, watch)?;
+    let longer = with_longer(alloc, longer, search, points, &calls, is_last)?;
+    Ok(Level { all, longer })
 }
 
 /// Tries each of these plans, unless it was.
@@ -85,10 +119,7 @@ pub fn explore_errors<W: Watch>(
     plans.push(Vec::new(alloc))?;
     for number in 0..=errors {
         let level = try_each(alloc, search, all, &plans, number == errors, watch)?;
-        let Level {
-            all: more,
-            longer,
-        } = level;
+        let Level { all: more, longer } = level;
         all = more;
         plans = longer;
     }

@@ -6,6 +6,7 @@ use asl_run_input::Setup;
 use asl_task_errors::TaskErrors;
 
 /// What a search under plans is of.
+#[derive(Clone, Copy)]
 pub struct ErrorSearch<'a> {
     /// The execution, of a case that has an answer to each invocation.
     pub setup: &'a Setup,

@@ -2,8 +2,8 @@
 ghost use Rattle.std.specs.Prelude.{◌≡◌, IfOk};
 ghost use Rattle.asl_explore_errors.specs.Searches.{IsFoundUnder};
 
-use crate::points::Point;
 use crate::ended::texts_of;
+use crate::points::Point;
 use crate::tried::ErrorSearch;
 use asl_def::Machine;
 use asl_error_plans::{InjectedError, PlanOutcomes, case_under};
@@ -69,6 +69,7 @@ fn with_case(alloc: Global, setup: &Setup, case: Case) -> Result<Setup, AllocErr
 }
 
 /// What is found under a plan, and, if that is counted, how often each state is invoked.
+#[derive(Drop)]
 pub(crate) struct Tried {
     pub(crate) plan: PlanOutcomes,
     pub(crate) found: Vec<Found>,

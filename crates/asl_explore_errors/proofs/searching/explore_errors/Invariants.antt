@@ -2,4 +2,4 @@ use Rattle.asl_explore_errors.specs.Searches.{AreAllFound}
 use Rattle.asl_explore_errors.proofs.searching.explore_errors.Given as goal
 
 abbrev pub invariant-loop-number : goal.invariant-loop-number
-invariant-loop-number l = AreAllFound l.search.orders l.search.limit l.search.setup.now l.all
+invariant-loop-number g l = AreAllFound l.search.orders l.search.limit l.search.setup.now l.all
