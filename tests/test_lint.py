@@ -110,6 +110,14 @@ MISTAKES = [
         "warning unsent-token: nobody gets the token that this Task waits for: no path in its Parameters reaches $$.Task.Token"),
     ('"States": {', '"TimeoutSeconds": 60,\n  "States": {\n    "Pause": { "Type": "Wait", "Seconds": 60, "Next": "Ship" },', "3:21",
         "warning limit-below-wait: TimeoutSeconds is not above the Seconds of a Wait, so an execution that comes to it is timed out there"),
+    ('"$.id"', '"States.Format(\'{} of {}\', $.id)"', "7:31",
+        'warning failing-call: States.Format has 2 "{}" for 1 argument, so this call fails on each input'),
+    ('"$.id"', '"States.Array(States.Hash($.id, \'SHA1\'))"', "7:31",
+        "warning failing-call: States.Hash takes MD5, SHA-1, SHA-256, SHA-384 or SHA-512 as argument 2, so this call fails on each input"),
+    ('"$.id"', '"States.JsonMerge($.id, $.all, true)"', "7:31",
+        "warning failing-call: States.JsonMerge takes false as argument 3, so this call fails on each input"),
+    ('"$.id"', '"States.ArrayRange(1, 2000, 1)"', "7:31",
+        "warning failing-call: States.ArrayRange would make more than 1,000 items, so this call fails on each input"),
     ('"Next": "Paid?"', '"Next": "Ship"', "11:5", 'warning unreachable-state: nothing leads to the state "Paid?" from StartAt'),
 ]
 
@@ -174,6 +182,8 @@ class LintTest(ProgramTest):
             waiting.replace('"$.id"', '"$$.Task.Token"'),
             waiting.replace('"Parameters"', '"InputPath": "$$.Task", "Parameters"'),
             limited.replace('"States": {', '"TimeoutSeconds": 61,\n  "States": {'),
+            GOOD.replace('"$.id"', '"States.Format(\'{} of {}\', $.id, $.all)"'),
+            GOOD.replace('"$.id"', '"States.JsonMerge($.id, $.all, false)"'),
         ]
         for text in close:
             with self.subTest(text):

@@ -353,3 +353,70 @@ fn context(rt: HostRuntime) -> Result<(), Fail> {
     );
     Ok(())
 }
+
+/// The warnings of a Pass with this call under `a.$`.
+fn told_of_call(alloc: Global, call: &str) -> Result<String, Fail> {
+    let mut text = String::new(alloc);
+    text.push_str(
+        r#"{"StartAt":"A","States":{"A":{"Type":"Pass","End":true,"Parameters":{"a.$":""#,
+    )?;
+    text.push_str(call)?;
+    text.push_str(r#""}}}}"#)?;
+    told(alloc, text.as_str())
+}
+
+#[test]
+fn failing_calls(rt: HostRuntime) -> Result<(), Fail> {
+    let failing = [
+        "States.Format('{} of {}', $.n)",
+        "States.Format('no place', $$.Execution.Id)",
+        "States.Format('{}{}', $.a, $.b, $.c)",
+        "States.Hash($.t, 'SHA1')",
+        "States.JsonMerge($.a, $.b, true)",
+        "States.MathAdd($.n, 1.5)",
+        "States.MathAdd( $.n , 'one' )",
+        "States.ArrayRange(1, $.n, 0)",
+        "States.ArrayRange(1, 2000, 1)",
+        "States.ArrayPartition($.l, 0)",
+        "States.ArrayGetItem($.l, -1)",
+        "States.ArrayGetItem(States.Array(1, 2), 2)",
+        "States.ArrayLength('text')",
+        "States.StringSplit($.t, 44)",
+        "States.StringToJson('{')",
+        "States.Base64Decode('?')",
+        "States.Format('{}', States.Hash($['a, b)'], 'SHA1'))",
+        "States.Array($.a, States.JsonMerge($['('], $.b, null))",
+    ];
+    for call in failing {
+        let out = told_of_call(rt.alloc(), call)?;
+        assert_eq!(rt; out.as_str(), "failing-call /States/A/Parameters/a.$\n");
+    }
+    Ok(())
+}
+
+/// Calls that come close to those.
+#[test]
+fn calls_that_may_have_a_value(rt: HostRuntime) -> Result<(), Fail> {
+    let fine = [
+        "States.Format('{} of {}', $.n, $.all)",
+        "States.Format('\\\\{}, {}', $.n)",
+        "States.Format($.template, $.n)",
+        "States.Hash($.t, 'SHA-384')",
+        "States.Hash($.t, $.algorithm)",
+        "States.JsonMerge($.a, $.b, false)",
+        "States.MathAdd($.n, 1.0)",
+        "States.ArrayRange(1, 1000, 1)",
+        "States.ArrayRange(9, $.n, -1)",
+        "States.ArrayPartition($.l, 1)",
+        "States.ArrayGetItem($.l, 0)",
+        "States.ArrayGetItem(States.Array(1, 2), 1)",
+        "States.StringSplit('a,b', ',')",
+        "States.StringToJson('{}')",
+        "States.Array()",
+    ];
+    for call in fine {
+        let out = told_of_call(rt.alloc(), call)?;
+        assert_eq!(rt; out.as_str(), "");
+    }
+    Ok(())
+}

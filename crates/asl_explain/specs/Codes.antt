@@ -131,6 +131,7 @@ warning_codes =
     ∷ plain (codes "forgotten-dollar")
     ∷ plain (codes "not-computed")
     ∷ plain (codes "unknown-context-member")
+    ∷ plain (codes "failing-call")
     ∷ plain (codes "unknown-state")
     ∷ plain (codes "not-a-task")
     ∷ plain (codes "unanswered-task")

@@ -326,6 +326,26 @@ Told by lint.
 "#,
     },
     Explanation {
+        code: "failing-call",
+        name: None,
+        sentence: "a call of an intrinsic function fails on each input",
+        text: r#"What the call is given as it stands decides that it fails, wherever its paths lead: a template with
+another number of {} than arguments behind it, a name that is no algorithm, a merge that isn't
+shallow, a number that isn't whole, a step of 0, or arguments that are all known beforehand. A call
+fails too where a call inside it does. The state then fails with States.IntrinsicFailure. (Amazon
+States Language, "Intrinsic Functions".) Correct the argument.
+
+Wrong:
+    {"StartAt": "A", "States": {"A": {"Type": "Pass", "End": true,
+      "Parameters": {"text.$": "States.Format('{} of {}', $.n)"}}}}
+Right:
+    {"StartAt": "A", "States": {"A": {"Type": "Pass", "End": true,
+      "Parameters": {"text.$": "States.Format('{} of {}', $.n, $.all)"}}}}
+
+Told by lint.
+"#,
+    },
+    Explanation {
         code: "unknown-state",
         name: None,
         sentence: "a test case has an answer for a name that no state has",

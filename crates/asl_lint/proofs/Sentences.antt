@@ -49,6 +49,7 @@ warning_says warning.MaxDelayBelowInterval = refl
 warning_says warning.ForgottenDollar = refl
 warning_says warning.NotComputed = refl
 warning_says warning.UnknownContextMember = refl
+warning_says warning.FailingCall = refl
 
 mock_says : (r : MockRule) → has_some (mock_sentence r) ≡ true
 unfolding mock_sentence

@@ -119,6 +119,8 @@ warning_sentence warning.ForgottenDollar =
 warning_sentence warning.NotComputed = codes "A value that stays as it is looks computed."
 warning_sentence warning.UnknownContextMember =
     codes "The Context Object never has what a path names."
+warning_sentence warning.FailingCall =
+    codes "A call of an intrinsic function fails on each input."
 
 unfoldable pub mock_sentence : MockRule → List ℕ
 mock_sentence mock.Json = codes "The mock file is no JSON text."

@@ -53,6 +53,7 @@ rules =
     ∷ rule.Warning warning.ForgottenDollar
     ∷ rule.Warning warning.NotComputed
     ∷ rule.Warning warning.UnknownContextMember
+    ∷ rule.Warning warning.FailingCall
     ∷ rule.Mock mock.Json
     ∷ rule.Mock mock.Shape
     ∷ rule.Mock mock.Key

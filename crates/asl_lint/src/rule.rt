@@ -236,6 +236,7 @@ fn warning_sentence(kind: WarningKind) -> &'static str
             "A text of a template looks like a path or a call and is none.",
         WarningKind::NotComputed => "A value that stays as it is looks computed.",
         WarningKind::UnknownContextMember => "The Context Object never has what a path names.",
+        WarningKind::FailingCall => "A call of an intrinsic function fails on each input.",
     }
 }
 

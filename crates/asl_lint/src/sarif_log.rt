@@ -49,6 +49,7 @@ const RULES: &[Rule] = &[
     Rule::Warning(WarningKind::ForgottenDollar),
     Rule::Warning(WarningKind::NotComputed),
     Rule::Warning(WarningKind::UnknownContextMember),
+    Rule::Warning(WarningKind::FailingCall),
     Rule::Mock(MockRule::Json),
     Rule::Mock(MockRule::Shape),
     Rule::Mock(MockRule::Key),

@@ -2,9 +2,10 @@
 //!
 //! Modules in reading order: `quoting` writes names into sentences, `near` looks for names that are alike; `standing` is what stands at the place
 //! of a fault, `object` what is looked up once in an object, `states` has the states of a definition by their names, and `nouns` what things are called; `words` says of each fault what is
-//! wrong, with `groups`, `types`, `ranges` and `texts` for some of them, and `suspicions` of each warning what is suspicious.
+//! wrong, with `groups`, `types`, `ranges` and `texts` for some of them, and `suspicions` of each warning what is suspicious, with `calls` for calls that fail.
 #![tactic(auto)]
 
+mod calls;
 mod groups;
 mod near;
 mod nouns;

@@ -1,4 +1,5 @@
 // What is suspicious, in one sentence on the value that is.
+use crate::calls::put_failing;
 use crate::near::Search;
 use crate::nouns::put_subject;
 use crate::quoting::put_name;
@@ -88,6 +89,7 @@ pub fn put_warning(
             PARTS,
             effort,
         ),
+        WarningKind::FailingCall => put_failing(alloc, out, standing.text()),
     }
 }
 

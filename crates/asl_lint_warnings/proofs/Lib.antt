@@ -1,3 +1,4 @@
+pub mod Failing
 pub mod Growing
 pub mod Joining
 pub mod Listing

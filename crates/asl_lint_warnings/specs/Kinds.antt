@@ -22,6 +22,7 @@ name_of kind.MaxDelayBelowInterval = codes "max-delay-below-interval"
 name_of kind.ForgottenDollar = codes "forgotten-dollar"
 name_of kind.NotComputed = codes "not-computed"
 name_of kind.UnknownContextMember = codes "unknown-context-member"
+name_of kind.FailingCall = codes "failing-call"
 
 -- a warning and the steps to its place, the innermost first
 abbrev pub Noted : Type 0

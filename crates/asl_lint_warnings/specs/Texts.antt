@@ -1,5 +1,5 @@
 -- What a text is warned of.
-use Rattle.std.specs.Prelude.{ℕ, List, [], ◌∷◌, Bool, true, false, ◌||◌, ◌&&◌, not, ◌==◌, Option, None, if◌then◌else◌, codes, nat_eq, nat_lt, length, take, drop}
+use Rattle.std.specs.Prelude.{ℕ, List, [], ◌∷◌, Bool, true, false, ◌||◌, ◌&&◌, not, ◌==◌, Option, Some, None, is_some, if◌then◌else◌, codes, nat_eq, nat_lt, length, take, drop}
 use Rattle.std.specs.Char.{eq_ignore_ascii_case, is_ascii_digit}
 use Rattle.std.specs.List.{starts_with}
 use Rattle.std.specs.Str.{str_eq_ignore_ascii_case}
@@ -7,6 +7,7 @@ use Rattle.asl_json.specs.Same.{bytes_eq}
 use Rattle.asl_def_schema.specs.declared.sort.Sort.{Sort}
 use Rattle.asl_def_schema.specs.declared.sort.Sort.TheVariants as sort
 use Rattle.asl_def_schema.specs.Members.{is_among}
+use Rattle.asl_lint_calls.specs.Failing.{failing}
 use Rattle.asl_lint_warnings.specs.declared.warning.WarningKind.{WarningKind}
 use Rattle.asl_lint_warnings.specs.declared.warning.WarningKind.TheVariants as kind
 use Rattle.asl_lint_warnings.specs.Kinds.{kind_if}
@@ -156,11 +157,19 @@ seems_computed t = begins_any t computed_fronts
 abbrev pub is_root : List ℕ → Bool
 is_root t = bytes_eq t (codes "$") || bytes_eq t (codes "$$")
 
+-- of a call
+abbrev pub call_kind : List ℕ → Option WarningKind
+call_kind t = kind_if (is_some (failing t)) kind.FailingCall
+
+-- of a path or a call
+abbrev pub computed_kind : List ℕ → Option WarningKind
+computed_kind t = if is_unknown_part t then Some kind.UnknownContextMember else call_kind t
+
 -- of a text of this sort
 abbrev pub text_kind : Sort → List ℕ → Option WarningKind
 text_kind sort.Template t = kind_if (is_root t || seems_computed t) kind.ForgottenDollar
 text_kind sort.Path t = kind_if (is_unknown_part t) kind.UnknownContextMember
 text_kind sort.PathOrNull t = kind_if (is_unknown_part t) kind.UnknownContextMember
-text_kind sort.PathOrCall t = kind_if (is_unknown_part t) kind.UnknownContextMember
-text_kind sort.Computed t = kind_if (is_unknown_part t) kind.UnknownContextMember
+text_kind sort.PathOrCall t = computed_kind t
+text_kind sort.Computed t = computed_kind t
 text_kind s t = None

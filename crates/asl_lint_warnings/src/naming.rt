@@ -1,11 +1,13 @@
-// Texts that name what isn't there.
-ghost use Rattle.std.specs.Prelude.{◌≡◌, map};
+// Texts that name what isn't there, and calls that fail.
+ghost use Rattle.std.specs.Prelude.{◌≡◌, IfOk, map};
 ghost use Rattle.std.specs.Str.{str_eq_ignore_ascii_case};
 ghost use Rattle.asl_def_schema.specs.Members.{is_among};
-ghost use Rattle.asl_lint_warnings.specs.Texts.{begins, begins_any, error_names, status_front, are_digits, is_status, is_status_error, is_near, is_near_any, is_unknown_error, context_parts, context_fronts, is_unknown_part, computed_fronts, seems_computed, is_root, text_kind};
+ghost use Rattle.asl_lint_warnings.specs.Texts.{begins, begins_any, error_names, status_front, are_digits, is_status, is_status_error, is_near, is_near_any, is_unknown_error, context_parts, context_fronts, is_unknown_part, computed_fronts, seems_computed, is_root, call_kind, computed_kind, text_kind};
 
 use crate::warning::{WarningKind, kind_if};
 use asl_def_schema::{Sort, is_among};
+use asl_lint_calls::failing;
+use std::alloc::{AllocError, Global};
 
 /// The errors of the language. (Amazon States Language, "Errors", appendix A; Developer Guide, "Handling errors".)
 pub const ERRORS: &[&str] = &[
@@ -231,20 +233,41 @@ fn is_root(text: &str) -> bool
     text == "$" || text == "$$"
 }
 
+/// What a call is warned of.
+fn call_kind(alloc: Global, text: &str) -> Result<Option<WarningKind>, AllocError>
+    ensures { IfOk result (λ kind. kind ≡ call_kind text.now) }
+{
+    let failure = failing(alloc, text)?;
+    Ok(kind_if(failure.is_some(), WarningKind::FailingCall))
+}
+
+/// What a path or a call is warned of.
+fn computed_kind(alloc: Global, text: &str) -> Result<Option<WarningKind>, AllocError>
+    ensures { IfOk result (λ kind. kind ≡ computed_kind text.now) }
+{
+    if is_unknown_part(text) {
+        return Ok(Some(WarningKind::UnknownContextMember));
+    }
+    call_kind(alloc, text)
+}
+
 /// What a text of this sort is warned of.
-pub(crate) fn text_kind(sort: Sort, text: &str) -> Option<WarningKind>
-    ensures { result ≡ text_kind sort text.now }
+pub(crate) fn text_kind(
+    alloc: Global,
+    sort: Sort,
+    text: &str,
+) -> Result<Option<WarningKind>, AllocError>
+    ensures { IfOk result (λ kind. kind ≡ text_kind sort text.now) }
 {
     match sort {
         Sort::Template => {
-            kind_if(
-                is_root(text) || seems_computed(text),
-                WarningKind::ForgottenDollar,
-            )
+            let forgotten = is_root(text) || seems_computed(text);
+            Ok(kind_if(forgotten, WarningKind::ForgottenDollar))
         }
-        Sort::Path | Sort::PathOrNull | Sort::PathOrCall | Sort::Computed => {
-            kind_if(is_unknown_part(text), WarningKind::UnknownContextMember)
+        Sort::Path | Sort::PathOrNull => {
+            Ok(kind_if(is_unknown_part(text), WarningKind::UnknownContextMember))
         }
-        _ => None,
+        Sort::PathOrCall | Sort::Computed => computed_kind(alloc, text),
+        _ => Ok(None),
     }
 }

@@ -38,13 +38,13 @@ fn object_kind(sort: Sort, members: &[Member]) -> Option<WarningKind>
 }
 
 /// What a value of this sort is warned of by itself.
-fn own_kind(sort: Sort, value: &Json) -> Option<WarningKind>
-    ensures { result ≡ own_kind sort (data_of value.now) }
+fn own_kind(alloc: Global, sort: Sort, value: &Json) -> Result<Option<WarningKind>, AllocError>
+    ensures { IfOk result (λ kind. kind ≡ own_kind sort (data_of value.now)) }
 {
     match value {
-        Json::Text(text) => text_kind(sort, text.as_str()),
-        Json::Dict(members) => object_kind(sort, members.members()),
-        _ => None,
+        Json::Text(text) => text_kind(alloc, sort, text.as_str()),
+        Json::Dict(members) => Ok(object_kind(sort, members.members())),
+        _ => Ok(None),
     }
 }
 
@@ -122,7 +122,8 @@ fn tell_value(
     ensures { OnOk result (told.new.items
         ≡ told.old.items ++ warnings (spot_of spot.entry) sort (data_of value.now)) }
 {
-    tell(alloc, told, spot.trail, own_kind(sort, value))?;
+    let kind = own_kind(alloc, sort, value)?;
+    tell(alloc, told, spot.trail, kind)?;
     match value {
         Json::List(items) => {
             if !is_list(sort) {

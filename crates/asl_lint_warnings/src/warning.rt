@@ -42,6 +42,8 @@ pub enum WarningKind {
     NotComputed,
     /// `unknown-context-member`: the Context Object never has what a path names.
     UnknownContextMember,
+    /// `failing-call`: a call of an intrinsic function fails on each input.
+    FailingCall,
 }
 
 impl WarningKind {
@@ -67,6 +69,7 @@ impl WarningKind {
             WarningKind::ForgottenDollar => "forgotten-dollar",
             WarningKind::NotComputed => "not-computed",
             WarningKind::UnknownContextMember => "unknown-context-member",
+            WarningKind::FailingCall => "failing-call",
         }
     }
 }

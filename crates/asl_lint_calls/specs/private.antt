@@ -1,0 +1,4 @@
+-- Words that only proofs need.
+pub mod View
+pub mod Views
+pub mod Looks
