@@ -21,11 +21,7 @@ struct Level {
 }
 
 /// What was found, and what is found under one plan more. The error is that memory ran out.
-fn push(
-    all: ErrorsFound,
-    plan: PlanOutcomes,
-    found: Witnesses,
-) -> Result<ErrorsFound, AllocError>
+fn push(all: ErrorsFound, plan: PlanOutcomes, found: Witnesses) -> Result<ErrorsFound, AllocError>
     ensures plans { IfOk result (λ r. r.plans.items ≡ all.plans.items ++ plan ∷ []) }
     ensures found { IfOk result (λ r. r.found.items ≡ all.found.items ++ found ∷ []) }
 {
