@@ -1,4 +1,4 @@
-use Rattle.std.proofs.Common.{◌≡◌, ◌∙◌, List, Bool, false, sym, ap, subst}
+use Rattle.std.proofs.Common.{◌∙◌, List, ap}
 use Rattle.std.specs.List.{list_any}
 use Rattle.asl_error_plans.specs.declared.injected.InjectedError.{InjectedError}
 use Rattle.asl_explore_errors.specs.Plans.{has_plan}

@@ -4,7 +4,6 @@ use Rattle.asl_mock.specs.Answers.{answer_to}
 use Rattle.asl_run_input.specs.declared.setup.Setup.{Setup}
 use Rattle.asl_error_plans.specs.Injected.{under_plan}
 use Rattle.asl_error_plans.specs.declared.injected.InjectedError.{InjectedError}
-use Rattle.asl_explore.specs.declared.found.Found.{Found}
 use Rattle.asl_explore.specs.Finding.{IsFound}
 use Rattle.asl_explore_errors.specs.Searches.{text_of}
 use Rattle.asl_explore_errors.proofs.trying.try_plan.Goals as goal
