@@ -1,16 +1,17 @@
 // An answer to each Task.
-ghost use Rattle.std.specs.Prelude.{IfOk, IfSome};
+ghost use Rattle.std.specs.Prelude.{◌≡◌, true, is_none, IfOk, IfSome};
 ghost use Rattle.asl_mock.specs.Told.{IsMockFile};
-ghost use Rattle.asl_explore_errors.specs.Filling.{IsFilled};
+ghost use Rattle.asl_explore_errors.specs.Filling.{IsFilled, IsNoMockFile};
 
 use asl_mock::{Case, MockFault, Mocks};
 use asl_mock_sample::sample;
 use asl_run_input::Setup;
 use std::alloc::{AllocError, Global};
 
-/// What a mock file to begin with has for each Task; the case that names no state where there is none. The error is that memory ran out.
+/// The mock file of a text; none where it isn't the text of one. The error is that memory ran out.
 fn read(alloc: Global, text: &str) -> Result<Option<Mocks>, AllocError>
-    ensures { IfOk result (λ o. IfSome o (IsMockFile text.now)) }
+    ensures read { IfOk result (λ o. IfSome o (IsMockFile text.now)) }
+    ensures none { IfOk result (λ o. is_none o ≡ true → IsNoMockFile text.now) }
 {
     match Mocks::read(alloc, text.as_bytes()) {
         Ok(mocks) => Ok(Some(mocks)),
@@ -27,11 +28,11 @@ pub fn filled_case(alloc: Global, setup: &Setup) -> Result<Case, AllocError>
     let definition = setup.machine.json(alloc)?;
     let machine = setup.name_of_machine.as_str();
     let text = sample(alloc, machine, &definition)?;
-    let Some(mocks) = read(alloc, text.as_str())? else {
-        return setup.case.try_clone();
-    };
-    match mocks.case(machine, "good") {
-        Ok(good) => setup.case.merged_with(alloc, good),
-        Err(_) => setup.case.try_clone(),
+    match read(alloc, text.as_str())? {
+        None => setup.case.try_clone(),
+        Some(mocks) => match mocks.case(machine, "good") {
+            Ok(good) => setup.case.merged_with(alloc, good),
+            Err(_) => setup.case.try_clone(),
+        },
     }
 }
