@@ -131,6 +131,11 @@ def is_chosen(name, plain, given):
     return name in ("run", "debug", "explore") and ("--project" in given or "--case" not in given and len(plain) < 3 and "#" in "".join(plain[:1]))
 
 
+def is_definition_alone(plain, given):
+    """Whether errors are put in and no mock file is named, so that a definition is enough."""
+    return "--errors" in given and len(plain) == 1 and given.keys().isdisjoint(("--mocks", "--case", "--test"))
+
+
 def is_machine(plain, given):
     """Whether the last of the words of lint names a machine: the third of three, if it can't be the name of a file and none is named besides."""
     return len(plain) == 3 and "--machine" not in given and plain[2] != "-" and not set(plain[2]) & set('./{["')
@@ -138,7 +143,8 @@ def is_machine(plain, given):
 
 def lacking(name, plain, given, told):
     """The first word that a command needs and that is neither there nor given by the option that stands for it, or None."""
-    needs_run = name in ("run", "debug", "explore") and not is_chosen(name, plain, given) or "--run" in given
+    is_enough = is_chosen(name, plain, given) or is_definition_alone(plain, given)
+    needs_run = name in ("run", "debug", "explore") and not is_enough or "--run" in given
     needs_suite = name == "test" and plain
     of_a_run = OF_A_RUN[:1] if "--test" in given else OF_A_RUN
     stands = {it.about.rpartition("Stands for the word ")[2]: it.name for it in told.options}

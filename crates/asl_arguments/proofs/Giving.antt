@@ -38,6 +38,7 @@ given_too v w g same h = record {
   least = h.least ∙ same (codes "min");
   limit = h.limit ∙ same (codes "limit");
   witness = h.witness ∙ same (codes "witness");
+  errors = h.errors ∙ same (codes "errors");
   most_steps = h.most_steps ∙ same (codes "max-steps");
   junit = h.junit ∙ same (codes "junit");
   json = h.json ∙ same (codes "json");

@@ -39,6 +39,7 @@ pub record IsGiven (value : List ℕ → Option (List ℕ)) (g : Given) : Type 0
   pub least : said g.least ≡ value (codes "min")
   pub limit : said g.limit ≡ value (codes "limit")
   pub witness : said g.witness ≡ value (codes "witness")
+  pub errors : said g.errors ≡ value (codes "errors")
   pub most_steps : said g.most_steps ≡ value (codes "max-steps")
   pub junit : said g.junit ≡ value (codes "junit")
   pub json : said g.json ≡ value (codes "json")

@@ -116,7 +116,8 @@ abbrev pub explore_arguments : List Argument
 explore_arguments = begin_arguments (preset (codes "limit") (number 1 1000000) (codes "100000")
     ∷ free (codes "prompt") flag ∷ free (codes "calls") flag
     ∷ free (codes "witness") (number 1 1000000)
-    ∷ free (codes "format") (choice (codes "steps" ∷ codes "tree" ∷ codes "data" ∷ codes "test" ∷ [])) ∷ project_argument)
+    ∷ free (codes "format") (choice (codes "steps" ∷ codes "tree" ∷ codes "data" ∷ codes "test" ∷ codes "mocks" ∷ []))
+    ∷ free (codes "errors") (number 0 2) ∷ project_argument)
 
 -- each command may be told to be quiet
 abbrev pub quiet : Argument

@@ -390,9 +390,15 @@ const EXPLORE: &[Argument] = &[
     },
     Argument {
         name: "format",
-        kind: Choice(&["steps", "tree", "data", "test"]),
+        kind: Choice(&["steps", "tree", "data", "test", "mocks"]),
         presence: Optional,
         help: Help::ExploreFormat,
+    },
+    Argument {
+        name: "errors",
+        kind: Number("K", 0, 2),
+        presence: Optional,
+        help: Help::ExploreErrors,
     },
     PROJECT_OF_CHOSEN,
     QUIET,

@@ -135,6 +135,7 @@ fn given_by<'a>(matches: &ArgMatches<'a>) -> Given<'a>
         least: matches.get_str("min"),
         limit: matches.get_str("limit"),
         witness: matches.get_str("witness"),
+        errors: matches.get_str("errors"),
         most_steps: matches.get_str("max-steps"),
         junit: matches.get_str("junit"),
         json: matches.get_str("json"),

@@ -46,6 +46,7 @@ pub enum Help {
     ExploreCalls,
     ExploreWitness,
     ExploreFormat,
+    ExploreErrors,
     ExplainCode,
     Definition,
     DefinitionOrNone,
@@ -125,7 +126,9 @@ impl Help {
             Help::ExploreWitness =>
                 "Prints the steps of the outcome of this number alone, as a steps file",
             Help::ExploreFormat =>
-                "How the steps of --witness are printed: as a steps file, which is the default, by what happened at each state, or as a file of one test",
+                "How the steps of --witness are printed: as a steps file, which is the default, by what happened at each state, or as a file of one test; with --errors also the mock file of its plan",
+            Help::ExploreErrors =>
+                "Tries every order where invocations of Tasks fail, too: under each plan of at most so many errors, from 0 to 2; Tasks that the case doesn't name are answered by the other cases of the machine, else as by asl mocks, so no mock file need be named",
             Help::ExplainCode =>
                 "A code that a command told, as F10, no-default or States.Timeout; without it, all codes are listed",
             Help::Definition =>
@@ -187,7 +190,7 @@ pub(crate) fn examples_of(verb: Verb) -> &'static str {
             "Examples:\n  asl test examples/order/definition.json examples/order/mocks.json examples/order/expectations.json\n  asl test --coverage --filter unpaid examples/order/definition.json examples/order/mocks.json examples/order/expectations.json"
         }
         Verb::Explore => {
-            "Examples:\n  asl explore examples/loan/definition.json examples/loan/mocks.json both examples/loan/input.json\n  asl explore --witness 2 examples/loan/definition.json examples/loan/mocks.json both examples/loan/input.json"
+            "Examples:\n  asl explore examples/loan/definition.json examples/loan/mocks.json both examples/loan/input.json\n  asl explore --errors 1 examples/loan/definition.json examples/loan/mocks.json both examples/loan/input.json"
         }
         Verb::Explain => "Examples:\n  asl explain F10\n  asl explain States.Timeout",
     }

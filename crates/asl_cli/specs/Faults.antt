@@ -15,11 +15,9 @@ use Rattle.asl_suite_file.specs.Told.{IsAnswer as IsExpectAnswer}
 use Rattle.asl_suite_file.specs.declared.fault.ExpectFault.{ExpectFault}
 use Rattle.asl_suite_file.specs.declared.fault.ExpectFault.TheVariants as expect
 use Rattle.asl_project.specs.Lines.{project_line}
-use Rattle.asl_run_input.specs.declared.fault.EmulateFault.{EmulateFault}
 use Rattle.asl_mock.specs.Chosen.{IsChosen}
 use Rattle.asl_run_input.specs.Emulations.{Texts, run_texts, IsRefused}
 use Rattle.asl_run_input.specs.Texts.{Unless, refusal_line}
-use Rattle.asl_session.specs.declared.script_file.ScriptFault.{ScriptFault}
 use Rattle.asl_session.specs.Scripts.{script_refusal}
 use Rattle.asl_text.specs.Shown.{shown}
 use Rattle.asl_cli.specs.Layouts.{laid_out}
@@ -160,6 +158,12 @@ IsDefinitionReason gives lacks w (File name why) = IsUnread lacks w.definition.n
 IsDefinitionReason gives lacks w (Definition f lines) = IsFaulty gives w f
 IsDefinitionReason gives lacks w OutOfMemory = ⊤
 IsDefinitionReason gives lacks w _ = ⊥
+
+-- why a text is no definition, or memory ran out
+abbrev pub IsDefinitionTextReason : List ℕ → CommandFault → Type 0
+IsDefinitionTextReason b (Definition f lines) = IsFaultOf b f × (f ≡ fault.OutOfMemory → ⊥)
+IsDefinitionTextReason b OutOfMemory = ⊤
+IsDefinitionTextReason b _ = ⊥
 
 -- ---- what is told
 

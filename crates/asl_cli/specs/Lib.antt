@@ -7,6 +7,7 @@ pub mod Faults
 pub mod Exploring
 pub mod Choosing
 pub mod Covers
+pub mod Injecting
 pub mod Inputs
 pub mod Suites
 pub mod Explaining

@@ -2,7 +2,7 @@
 use Rattle.std.specs.Prelude.{ℕ, List, Bool, map}
 use Rattle.asl_command_line.specs.declared.reading.Line.{Line}
 use Rattle.asl_words.specs.declared.words.Words.{Words}
-use Rattle.asl_words.specs.declared.words.Words.TheVariants.{Check, CheckAll, Lint, LintAll, Print, Upgrade, Graph, Mocks, Run, Debug, Test, TestAll, Explore, Explain}
+use Rattle.asl_words.specs.declared.words.Words.TheVariants.{Check, CheckAll, Lint, LintAll, Print, Upgrade, Graph, Mocks, Run, Debug, Test, TestAll, Explore, Errors, Explain}
 use Rattle.asl_cli.specs.Streams.{FileUse, found, InputUse, OutputUse, IsUnused, Io}
 use Rattle.asl_cli.specs.Answers.{IsRan, IsDebugged, IsChecked, IsFormPrinted, IsUpgraded}
 use Rattle.asl_cli.specs.Suites.{IsTested}
@@ -11,11 +11,12 @@ use Rattle.asl_cli.specs.Linting.{IsLinted}
 use Rattle.asl_cli.specs.Graphing.{IsDrawn}
 use Rattle.asl_cli.specs.Mocking.{IsSampled}
 use Rattle.asl_cli.specs.Exploring.{IsExplored}
+use Rattle.asl_cli.specs.Injecting.{AreErrorsExplored}
 use Rattle.asl_cli.specs.Explaining.{IsExplained}
 
 -- what the words ask for was done, and nothing else: a definition was judged, linted, printed,
 -- upgraded or drawn, a mock file was made for it, an execution was run or debugged, every order of its branches was
--- tried, the tests of a suite were run, one of these was done for a workflow of a project or for each, or
+-- tried, also where errors are put in, the tests of a suite were run, one of these was done for a workflow of a project or for each, or
 -- a code was explained; this says whether only faults were told beside that, and these are the files that are
 -- named one after another
 abbrev pub AreObeyed : {F I K O E : Type 0} → FileUse F → InputUse I → OutputUse K → Io O E → Bool → Words
@@ -33,6 +34,7 @@ AreObeyed files typed outputs io quiet (Debug w) ns = IsUnused outputs × IsDebu
 AreObeyed files typed outputs io quiet (Test w) ns = IsTested (found files) outputs io quiet w
 AreObeyed files typed outputs io quiet (TestAll w) ns = AreAllTested files outputs io quiet w
 AreObeyed files typed outputs io quiet (Explore w) ns = IsUnused outputs × IsExplored (found files) io quiet w
+AreObeyed files typed outputs io quiet (Errors w) ns = IsUnused outputs × AreErrorsExplored (found files) io quiet w
 AreObeyed files typed outputs io quiet (Explain w) ns = IsUnused outputs × IsExplained io quiet w
 
 abbrev pub IsObeyed : {F I K O E : Type 0} → FileUse F → InputUse I → OutputUse K → Io O E → Line → Type 0

@@ -1,9 +1,10 @@
 // The command `check`, and how a command gets the machine of a definition's file.
 ghost use Rattle.std.specs.Prelude.{IfOk, IfErr};
+ghost use Rattle.asl_check.specs.Judged.{IsMachineOf};
 ghost use Rattle.asl_host.specs.Outcomes.{sink_use};
 ghost use Rattle.asl_cli.specs.Streams.{file_system, io};
 ghost use Rattle.asl_cli.specs.Answers.{IsChecked};
-ghost use Rattle.asl_cli.specs.Faults.{IsAccepted, IsDefinitionReason};
+ghost use Rattle.asl_cli.specs.Faults.{IsAccepted, IsDefinitionReason, IsDefinitionTextReason};
 
 use crate::command::{REFUSED, print_good};
 use crate::fault::CommandFault;
@@ -49,10 +50,25 @@ pub(crate) fn machine_in<'a, F: Files>(
         (IsDefinitionReason (F.gives files.old) (F.lacks files.old) words.now) }
 {
     let text = read_file(alloc, files, words.definition)?;
-    match accept(alloc, text.as_slice()) {
+    match machine_of(alloc, words.definition, text.as_slice()) {
+        Ok(machine) => Ok(machine),
+        Err(refusal) => Err(refusal),
+    }
+}
+
+/// Accepts the text of a definition, which comes from a file of this name.
+pub(crate) fn machine_of<'a>(
+    alloc: Global,
+    file: &str,
+    text: &[u8],
+) -> Result<Machine, CommandFault<'a>>
+    ensures accepted { IfOk result (IsMachineOf text.now) }
+    ensures refused { IfErr result (IsDefinitionTextReason text.now) }
+{
+    match accept(alloc, text) {
         Ok(machine) => Ok(machine),
         Err(Fault::OutOfMemory) => Err(CommandFault::OutOfMemory),
-        Err(fault) => match of_definition(alloc, words.definition, &text) {
+        Err(fault) => match of_definition(alloc, file, text) {
             Ok(lines) => Err(CommandFault::Definition(fault, lines)),
             Err(AllocError) => Err(CommandFault::OutOfMemory),
         },

@@ -22,6 +22,7 @@ use crate::exploring::explore;
 use crate::fault::CommandFault;
 use crate::formatting::emulate_in;
 use crate::graphing::graph;
+use crate::injecting::inject;
 use crate::linting::lint;
 use crate::mending::of_run;
 use crate::mocking::mocks;
@@ -133,6 +134,7 @@ pub fn obey<
         Words::Test(words) => test(rt, gate, alloc, words, quiet, files, outputs, out, err),
         Words::TestAll(words) => test_all(rt, gate, alloc, words, quiet, files, outputs, out, err),
         Words::Explore(words) => explore(gate, alloc, words, quiet, files, out, err),
+        Words::Errors(words) => inject(gate, alloc, words, quiet, files, out, err),
         Words::Explain(words) => explain(alloc, words, quiet, out, err),
     }
 }

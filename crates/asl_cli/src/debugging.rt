@@ -230,7 +230,7 @@ pub(crate) fn setup_in<'a, F: Files>(
 }
 
 /// What an execution begins with, from its texts; no steps are taken yet.
-fn setup_of<'a>(alloc: Global, beginning: &Beginning) -> Result<Setup, CommandFault<'a>>
+pub(crate) fn setup_of<'a>(alloc: Global, beginning: &Beginning) -> Result<Setup, CommandFault<'a>>
     ensures found { IfOk result (λ s. Accepts (without_steps (texts_in beginning.now)) s None) }
     ensures refused { IfErr result (IsTextsReason (without_steps (texts_in beginning.now))) }
 {

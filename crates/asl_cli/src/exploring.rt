@@ -154,23 +154,24 @@ fn witness_of(
     let Some(found) = outcome_of(found, number) else {
         return Ok(None);
     };
-    let text = shown_of(alloc, words, chosen, setup, found)?;
+    let text = shown_of(alloc, words.format, words.coloured, chosen, setup, found)?;
     Ok(Some(text))
 }
 
 /// What is shown of an outcome of an execution that begins so.
-fn shown_of(
+pub(crate) fn shown_of(
     alloc: Global,
-    words: &ExploreWords<'_>,
+    format: WitnessFormat,
+    coloured: bool,
     chosen: &str,
     setup: Setup,
     found: &Found,
 ) -> Result<String, AllocError>
-    ensures { IfOk result (λ t. IsShownIn (has_colours words.now.format words.now.coloured)
-        (witness_text words.now.format chosen.now setup found.now) (string_bytes t)) }
+    ensures { IfOk result (λ t. IsShownIn (has_colours format coloured)
+        (witness_text format chosen.now setup found.now) (string_bytes t)) }
 {
-    let text = witness_text(alloc, words.format, chosen, setup, found)?;
-    shown_as(alloc, has_colours(words.format, words.coloured), text)
+    let text = witness_text(alloc, format, chosen, setup, found)?;
+    shown_as(alloc, has_colours(format, coloured), text)
 }
 
 /// The steps of an outcome in a format, or the outcome as a test.
@@ -265,7 +266,7 @@ fn report_of(alloc: Global, explored: &Explored) -> Result<String, AllocError>
 }
 
 /// Prints a text, and tells whether all is good.
-fn print_all<O: Sink>(text: &str, good: bool, out: &mut O) -> u8
+pub(crate) fn print_all<O: Sink>(text: &str, good: bool, out: &mut O) -> u8
     ensures { IsPrinted (sink_use O.taken O.failures out.old out.new) text.now (status_of good) result }
 {
     match write_piece(out, text) {
@@ -302,7 +303,7 @@ fn outcome_of(found: &[Found], number: u32) -> Option<&Found>
 }
 
 /// Tells that the command line names an outcome that isn't there.
-fn refuse_number<E: Sink>(alloc: Global, err: &mut E) -> u8
+pub(crate) fn refuse_number<E: Sink>(alloc: Global, err: &mut E) -> u8
     ensures status { result ≡ 2 }
     ensures told { (t : List ℕ) × IsTold (sink_use E.taken E.failures err.old err.new) t }
 {

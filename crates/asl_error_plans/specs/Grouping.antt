@@ -1,6 +1,6 @@
 -- The outcomes of plans, each once.
-use Rattle.std.specs.Prelude.{ℕ, zero, suc, Option, Some, None, option_and_then, slice_get, List, [], ◌∷◌, ◌++◌, Bool, if◌then◌else◌, String, string_bytes}
-use Rattle.std.specs.List.{fold, list_any}
+use Rattle.std.specs.Prelude.{ℕ, zero, suc, Option, None, option_and_then, option_map, slice_get, List, [], ◌∷◌, ◌++◌, Bool, if◌then◌else◌, String, string_bytes}
+use Rattle.std.specs.List.{fold, list_any, position}
 use Rattle.asl_json.specs.Same.{bytes_eq}
 use Rattle.asl_error_plans.specs.declared.outcomes.PlanOutcomes.{PlanOutcomes}
 
@@ -18,20 +18,23 @@ with_outcomes ts p = fold with_outcome ts p.outcomes.items
 abbrev pub all_outcomes : List PlanOutcomes → List (List ℕ)
 all_outcomes ps = fold with_outcomes [] ps
 
+abbrev pub is_text : {X : Type 0} → List ℕ → String X → Bool
+is_text o u = bytes_eq (string_bytes u) o
+
 -- an outcome is one of a plan
 abbrev pub gives : List ℕ → PlanOutcomes → Bool
-gives o p = list_any (λ u. bytes_eq (string_bytes u) o) p.outcomes.items
+gives o p = list_any (is_text o) p.outcomes.items
 
--- the first plan that gives an outcome
-abbrev pub first_giving : List ℕ → List PlanOutcomes → Option PlanOutcomes
-first_giving o [] = None
-first_giving o (p ∷ ps) = if gives o p then Some p else first_giving o ps
+-- the place of the first plan that gives an outcome, and that of the outcome there
+abbrev pub first_place : List ℕ → List PlanOutcomes → Option (ℕ × ℕ)
+first_place o ps = option_and_then (λ i. option_and_then (λ (p : PlanOutcomes).
+    option_map (λ j. (i, j)) (position (is_text o) p.outcomes.items)) (slice_get ps i)) (position (gives o) ps)
 
 -- the text of a number, from 1
 abbrev pub outcome_of : ℕ → List (List ℕ) → Option (List ℕ)
 outcome_of zero ts = None
 outcome_of (suc n) ts = slice_get ts n
 
--- the first one that gives the outcome of a number
-abbrev pub plan_of : ℕ → List PlanOutcomes → Option PlanOutcomes
-plan_of n ps = option_and_then (λ o. first_giving o ps) (outcome_of n (all_outcomes ps))
+-- where the outcome of a number is given first
+abbrev pub place_of : ℕ → List PlanOutcomes → Option (ℕ × ℕ)
+place_of n ps = option_and_then (λ o. first_place o ps) (outcome_of n (all_outcomes ps))

@@ -1,8 +1,8 @@
 // The outcomes of plans, each once.
 ghost use Rattle.std.specs.Prelude.{◌≡◌, map, option_map, IfOk};
-ghost use Rattle.std.specs.List.{fold, list_any};
+ghost use Rattle.std.specs.List.{fold, list_any, position};
 ghost use Rattle.asl_json.specs.Same.{bytes_eq};
-ghost use Rattle.asl_error_plans.specs.Grouping.{with_new, with_outcome, all_outcomes, gives, first_giving, outcome_of, plan_of};
+ghost use Rattle.asl_error_plans.specs.Grouping.{with_new, with_outcome, all_outcomes, gives, is_text, first_place, outcome_of, place_of};
 
 use crate::outcomes::PlanOutcomes;
 use std::alloc::{AllocError, Global};
@@ -60,16 +60,28 @@ pub(crate) fn gives(plan: &PlanOutcomes, outcome: &str) -> bool
     plan.outcomes.iter().any(|one| one.as_str() == outcome)
 }
 
-/// The first of these plans that gives an outcome.
-fn first_giving<'a>(plans: &'a [PlanOutcomes], outcome: &str) -> Option<&'a PlanOutcomes>
-    ensures { option_map (λ p. p.now) result ≡ first_giving outcome.now plans.now }
+/// The place of the first of these plans that gives an outcome.
+fn first_giving(plans: &[PlanOutcomes], outcome: &str) -> Option<usize>
+    ensures { result ≡ position (gives outcome.now) plans.now }
 {
-    for plan in plans {
-        if gives(plan, outcome) {
-            return Some(plan);
-        }
-    }
-    None
+    plans.iter().position(|plan| gives(plan, outcome))
+}
+
+/// The place of an outcome among those of a plan.
+fn place_in(plan: &PlanOutcomes, outcome: &str) -> Option<usize>
+    ensures { result ≡ position (is_text outcome.now) plan.now.outcomes.items }
+{
+    plan.outcomes.iter().position(|one| one.as_str() == outcome)
+}
+
+/// The place of the first of these plans that gives an outcome, and the place of the outcome there.
+fn first_place(plans: &[PlanOutcomes], outcome: &str) -> Option<(usize, usize)>
+    ensures { result ≡ first_place outcome.now plans.now }
+{
+    let number = first_giving(plans, outcome)?;
+    let plan = plans.get(number)?;
+    let place = place_in(plan, outcome)?;
+    Some((number, place))
 }
 
 /// The text of a number, from 1.
@@ -85,17 +97,18 @@ fn outcome_of<'a>(outcomes: &[&'a str], number: u32) -> Option<&'a str>
     }
 }
 
-/// The first plan that gives the outcome of a number, from 1; none where there is no such outcome. The error is that memory ran out.
-pub fn plan_of(
+/// Where the outcome of a number, from 1, is given first: the place of a plan, and the place of the outcome among those of the plan; none where there is no
+/// such outcome. The error is that memory ran out.
+pub fn place_of(
     alloc: Global,
     plans: &[PlanOutcomes],
     number: u32,
-) -> Result<Option<&PlanOutcomes>, AllocError>
-    ensures { IfOk result (λ o. option_map (λ p. p.now) o ≡ plan_of number plans.now) }
+) -> Result<Option<(usize, usize)>, AllocError>
+    ensures { IfOk result (λ o. o ≡ place_of number plans.now) }
 {
     let outcomes = all_outcomes(alloc, plans)?;
     match outcome_of(&outcomes, number) {
-        Some(outcome) => Ok(first_giving(plans, outcome)),
+        Some(outcome) => Ok(first_place(plans, outcome)),
         None => Ok(None),
     }
 }

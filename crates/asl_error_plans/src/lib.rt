@@ -14,7 +14,7 @@ mod spans;
 mod telling;
 mod under;
 
-pub use grouping::plan_of;
+pub use grouping::place_of;
 pub use injected::InjectedError;
 pub use outcomes::PlanOutcomes;
 pub use printing::put_mock_file;

@@ -1,3 +1,4 @@
 pub mod Plans
+pub mod Under
 pub mod Searches
 pub mod Filling

@@ -1,7 +1,7 @@
 //! What comes of an execution where invocations fail: every order of its branches, under every plan of so many errors.
 //!
-//! Modules in reading order: `tried` is what a search is of, and what it finds; `filling` gives each Task an answer; `points` are its plans, `same` compares them, `ended` prints outcomes, `trying` searches under one plan, `extending` makes
-//! plans of one error more, and `searching` goes through all.
+//! Modules in reading order: `tried` is what a search is of, and what it finds; `under` puts the errors of a plan into its case, and prints a case as a mock file; `filling` gives each Task an answer; `points` are its plans, `same` compares them, `ended` prints outcomes, `trying` searches under one plan, `extending` makes
+//! plans of one error more, `searching` goes through all, and `witness` finds how an outcome comes about.
 #![tactic(auto)]
 
 mod ended;
@@ -14,7 +14,11 @@ mod searching;
 mod tests;
 mod tried;
 mod trying;
+mod under;
+mod witness;
 
-pub use filling::filled_case;
-pub use searching::explore_errors;
+pub use filling::filled_setup;
+pub use searching::{explore_errors, explore_with_errors};
 pub use tried::{ErrorSearch, ErrorsFound, Witnesses};
+pub use under::{put_case, setup_under};
+pub use witness::witness_of;

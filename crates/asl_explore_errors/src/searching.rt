@@ -10,7 +10,9 @@ use crate::same::has_plan;
 use crate::tried::{ErrorSearch, ErrorsFound, Witnesses};
 use crate::trying::{Tried, errors_of, try_plan};
 use asl_error_plans::{InjectedError, PlanOutcomes};
-use asl_explore::{Calls, Watch};
+use asl_explore::{Calls, Orders, Watch};
+use asl_run_input::Setup;
+use asl_task_errors::errors_of_tasks;
 use std::alloc::{AllocError, Global};
 
 /// What was found, and the plans of one error more.
@@ -120,4 +122,26 @@ pub fn explore_errors<W: Watch>(
         plans = longer;
     }
     Ok(all)
+}
+
+/// The same of an execution, with each error that the retriers and catchers of its Tasks tell apart. The error is that memory ran out.
+pub fn explore_with_errors<W: Watch>(
+    alloc: Global,
+    setup: &Setup,
+    errors: u32,
+    orders: Orders,
+    limit: u32,
+    watch: &W,
+) -> Result<ErrorsFound, AllocError>
+    ensures { IfOk result (AreAllFound orders limit setup.now) }
+{
+    let definition = setup.machine.json(alloc)?;
+    let tasks = errors_of_tasks(alloc, &definition)?;
+    let search = ErrorSearch {
+        setup,
+        tasks: &tasks,
+        orders,
+        limit,
+    };
+    explore_errors(alloc, &search, errors, watch)
 }

@@ -1,11 +1,8 @@
 // What no clause says of searches where errors are put in: which plans are tried, and that each call succeeds with ample memory.
-use crate::{ErrorSearch, ErrorsFound, explore_errors};
-use asl_def::Machine;
-use asl_error_plans::{are_whole, case_under, plan_of, put_mock_file, put_plans};
+use crate::{ErrorsFound, explore_with_errors, filled_setup, put_case, setup_under, witness_of};
+use asl_error_plans::{are_whole, put_plans};
 use asl_explore::{Orders, SoFar, Watch};
-use asl_json::Txt;
 use asl_run_input::Setup;
-use asl_task_errors::{TaskErrors, errors_of_tasks};
 use std::alloc::Global;
 use std::test::Fail;
 
@@ -27,20 +24,9 @@ fn setup(alloc: Global) -> Result<Setup, Fail> {
     Ok(setup.map_err(|_| "refused")?)
 }
 
-fn tasks_of(alloc: Global, machine: &Machine) -> Result<Vec<TaskErrors>, Fail> {
-    let definition = machine.json(alloc)?;
-    Ok(errors_of_tasks(alloc, &definition)?)
-}
-
 fn found(alloc: Global, setup: &Setup, errors: u32) -> Result<ErrorsFound, Fail> {
-    let tasks = tasks_of(alloc, &setup.machine)?;
-    let search = ErrorSearch {
-        setup,
-        tasks: &tasks,
-        orders: Orders::Every,
-        limit: 1_000,
-    };
-    Ok(explore_errors(alloc, &search, errors, &Unwatched)?)
+    let orders = Orders::Every;
+    Ok(explore_with_errors(alloc, setup, errors, orders, 1_000, &Unwatched)?)
 }
 
 #[test]
@@ -92,15 +78,49 @@ fn the_mock_file_of_a_plan_has_its_errors(rt: HostRuntime) -> Result<(), Fail> {
     let alloc = rt.alloc();
     let setup = setup(alloc)?;
     let found = found(alloc, &setup, 1)?;
-    let plan = plan_of(alloc, &found.plans, 2)?.ok_or("no plan")?;
-    let case = case_under(alloc, &setup.case, &plan.plan)?;
-    let states = [Txt::new(String::from_str(alloc, "Charge")?)];
+    let (plan, outcome) = witness_of(alloc, &found, 2)?.ok_or("no plan")?;
+    assert_eq!(rt; outcome.steps.len(), 2);
+    let under = setup_under(alloc, &setup, &plan.plan)?;
     let mut text = String::new(alloc);
-    put_mock_file(&mut text, "M", "paid", &case, &states)?;
+    put_case(alloc, &mut text, &under)?;
     let expected =
         r#"{"StateMachines":{"M":{"TestCases":{"paid":{"Charge":"Charge"}}}},"MockedResponses":{"Charge":{"0-999999999":{"Throw":{"Error":"Busy","Cause":"put in"}}}}}
 "#;
     assert_eq!(rt; text.as_str(), expected);
-    assert!(rt; plan_of(alloc, &found.plans, 6)?.is_none());
+    assert!(rt; witness_of(alloc, &found, 6)?.is_none());
+    assert!(rt; witness_of(alloc, &found, 0)?.is_none());
+    Ok(())
+}
+
+/// The mock file of the case `none`, in which each Task has an answer.
+fn filled(alloc: Global, mocks: &str) -> Result<String, Fail> {
+    let read = Setup::read(alloc, CHARGE.as_bytes(), mocks.as_bytes(), "M#none", b"{}");
+    let setup = read.map_err(|_| "refused")?;
+    let filled = filled_setup(alloc, &setup, mocks.as_bytes())?;
+    let mut text = String::new(alloc);
+    put_case(alloc, &mut text, &filled)?;
+    Ok(text)
+}
+
+#[test]
+fn a_task_without_an_answer_gets_that_of_the_first_other_case(rt: HostRuntime) -> Result<(), Fail> {
+    let alloc = rt.alloc();
+    let mocks =
+        r#"{"StateMachines":{"M":{"TestCases":{"none":{},"one":{"Charge":"R"},"two":{"Charge":"Q"}}}},"MockedResponses":{"R":{"0":{"Return":1}},"Q":{"0":{"Return":2}}}}"#;
+    let expected =
+        r#"{"StateMachines":{"M":{"TestCases":{"none":{"Charge":"Charge"}}}},"MockedResponses":{"Charge":{"0":{"Return":1}}}}
+"#;
+    assert_eq!(rt; filled(alloc, mocks)?.as_str(), expected);
+    Ok(())
+}
+
+#[test]
+fn else_it_is_answered_as_in_a_mock_file_to_begin_with(rt: HostRuntime) -> Result<(), Fail> {
+    let alloc = rt.alloc();
+    let mocks = r#"{"StateMachines":{"M":{"TestCases":{"none":{}}}},"MockedResponses":{}}"#;
+    let expected =
+        r#"{"StateMachines":{"M":{"TestCases":{"none":{"Charge":"Charge"}}}},"MockedResponses":{"Charge":{"0-999999999":{"Return":{}}}}}
+"#;
+    assert_eq!(rt; filled(alloc, mocks)?.as_str(), expected);
     Ok(())
 }

@@ -5,12 +5,11 @@ ghost use Rattle.asl_explore_errors.specs.Searches.{IsFoundUnder};
 use crate::ended::texts_of;
 use crate::points::Point;
 use crate::tried::ErrorSearch;
+use crate::under::setup_under;
 use asl_def::Machine;
-use asl_error_plans::{InjectedError, PlanOutcomes, case_under};
+use asl_error_plans::{InjectedError, PlanOutcomes};
 use asl_explore::{Calls, Found, Watch, explore};
 use asl_json::Txt;
-use asl_mock::Case;
-use asl_run_input::Setup;
 use asl_task_errors::TaskErrors;
 use std::alloc::{AllocError, Global};
 use std::mem;
@@ -59,15 +58,6 @@ pub(crate) fn errors_of(
     Ok(errors)
 }
 
-/// The execution with another case. The error is that memory ran out.
-fn with_case(alloc: Global, setup: &Setup, case: Case) -> Result<Setup, AllocError>
-    ensures { IfOk result (λ s. s ≡ record setup.now { case = case }) }
-{
-    let mut own = setup.try_clone(alloc)?;
-    own.case = case;
-    Ok(own)
-}
-
 /// What is found under a plan, and, if that is counted, how often each state is invoked.
 #[derive(Drop)]
 pub(crate) struct Tried {
@@ -88,8 +78,7 @@ pub(crate) fn try_plan<W: Watch>(
         r.plan r.found.items) }
     ensures plan { IfOk result (λ r. r.plan.plan.items ≡ plan.items) }
 {
-    let case = case_under(alloc, &search.setup.case, &plan)?;
-    let setup = with_case(alloc, search.setup, case)?;
+    let setup = setup_under(alloc, search.setup, &plan)?;
     let mut explored = explore(alloc, setup, search.orders, counted, search.limit, watch)?;
     let outcomes = texts_of(alloc, &explored.found)?;
     let calls = mem::replace(&mut explored.calls, Vec::new(alloc));

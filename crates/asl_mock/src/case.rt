@@ -197,6 +197,12 @@ impl Cases {
     {
         find(&self.cases, name)
     }
+
+    pub(crate) fn by_name(&self) -> &IndexMap<String, Case>
+        ensures { named result.now.entries ≡ self.now }
+    {
+        &self.cases
+    }
 }
 
 /// Its text; of any other value an empty one.

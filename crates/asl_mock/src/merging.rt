@@ -1,9 +1,11 @@
 // Cases that are made of others.
-ghost use Rattle.std.specs.Prelude.{◌≡◌, ◌∷◌, [], IfOk};
+ghost use Rattle.std.specs.Prelude.{◌≡◌, ◌∷◌, [], IfOk, unwrap_or, option_map};
 ghost use Rattle.asl_mock.specs.Tables.{named};
-ghost use Rattle.asl_mock.specs.Merged.{with_missing, merged};
+ghost use Rattle.asl_mock.specs.Tables.{value_for};
+ghost use Rattle.asl_mock.specs.Merged.{with_missing, merged, merged_with_each};
 
-use crate::case::Case;
+use crate::case::{Case, Cases};
+use crate::mocks::Mocks;
 use crate::responses::Response;
 use crate::table::{find, push};
 use indexmap::IndexMap;
@@ -58,6 +60,57 @@ fn with_case(
     match case.own_table() {
         Some(others) => with_all_missing(alloc, states, others),
         None => Ok(states),
+    }
+}
+
+/// These with those of each case whose states have none here. The error is that memory ran out.
+fn with_each_case(
+    alloc: Global,
+    states: IndexMap<String, Response>,
+    others: &IndexMap<String, Case>,
+) -> Result<IndexMap<String, Response>, AllocError>
+    ensures { IfOk result (λ v. named v.entries
+        ≡ merged_with_each (named states.entries) (named others.now.entries)) }
+{
+    let mut states = states;
+    for i in 0..others.len() {
+        let Some((_, case)) = others.get_index(i) else {
+            break;
+        };
+        states = with_case(alloc, states, case)?;
+    }
+    Ok(states)
+}
+
+/// The same of the cases of a machine, if there is one.
+fn with_cases_of(
+    alloc: Global,
+    states: IndexMap<String, Response>,
+    machine: Option<&Cases>,
+) -> Result<IndexMap<String, Response>, AllocError>
+    ensures { IfOk result (λ v. named v.entries
+        ≡ merged_with_each (named states.entries) (unwrap_or (option_map (λ m. m.now) machine.entry) [])) }
+{
+    match machine {
+        Some(cases) => with_each_case(alloc, states, cases.by_name()),
+        None => Ok(states),
+    }
+}
+
+impl Mocks {
+    /// A case with its own responses; what it lacks is that of the first case of the machine of this name that has it. The error is that
+    /// memory ran out.
+    pub fn completed_case(
+        &self,
+        alloc: Global,
+        machine: &str,
+        case: &Case,
+    ) -> Result<Case, AllocError>
+        ensures { IfOk result (λ c. c
+            ≡ merged_with_each (merged [] case.now) (unwrap_or (value_for machine.now self.now) [])) }
+    {
+        let own = with_case(alloc, IndexMap::new(alloc), case)?;
+        Case::of_states(alloc, with_cases_of(alloc, own, self.cases_of(machine))?)
     }
 }
 

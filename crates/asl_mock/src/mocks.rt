@@ -1,5 +1,6 @@
 // Mock files.
-ghost use Rattle.std.specs.Prelude.{◌≡◌, ◌∷◌, [], Ok, Err, IfOk, IfErr};
+ghost use Rattle.std.specs.Prelude.{◌≡◌, ◌∷◌, [], Ok, Err, IfOk, IfErr, option_map};
+ghost use Rattle.asl_mock.specs.Tables.{value_for};
 ghost use Rattle.asl_json_data.specs.Data.{Data};
 ghost use Rattle.asl_json.specs.View.{data_of};
 ghost use Rattle.asl_json_data.specs.Reads.{ReadsAs};
@@ -111,12 +112,19 @@ impl Mocks {
         }
     }
 
+    /// The cases of the machine of this name.
+    pub(crate) fn cases_of(&self, machine: &str) -> Option<&Cases>
+        ensures { option_map (λ m. m.now) result ≡ value_for machine.now self.now }
+    {
+        find(&self.machines, machine)
+    }
+
     /// The case of these names.
     pub fn case<'a>(&'a self, machine: &str, case: &str) -> Result<&'a Case, CaseFault>
         ensures found { IfOk result (λ c. case_at self.now machine.now case.now ≡ Ok c.now) }
         ensures fault { IfErr result (λ e. case_at self.now machine.now case.now ≡ Err e) }
     {
-        let Some(cases) = find(&self.machines, machine) else {
+        let Some(cases) = self.cases_of(machine) else {
             return Err(CaseFault::NoMachine);
         };
         match cases.case(case) {

@@ -22,6 +22,10 @@ use Rattle.asl_words.specs.declared.words.PrintWords.{PrintWords}
 use Rattle.asl_words.specs.declared.words.SetupWords.{SetupWords}
 use Rattle.asl_words.specs.declared.words.Begin.{Begin}
 use Rattle.asl_words.specs.declared.words.Begin.TheVariants as begin
+use Rattle.asl_words.specs.declared.words.ErrorsBegin.{ErrorsBegin}
+use Rattle.asl_words.specs.declared.words.ErrorsBegin.TheVariants as errors
+use Rattle.asl_words.specs.declared.words.ErrorsFormat.{ErrorsFormat}
+use Rattle.asl_words.specs.declared.words.ErrorsFormat.TheVariants as shown
 use Rattle.asl_words.specs.declared.words.ChosenWords.{ChosenWords}
 use Rattle.asl_words.specs.declared.words.TestedWords.{TestedWords}
 use Rattle.asl_words.specs.declared.words.OrderWords.{OrderWords}
@@ -417,8 +421,8 @@ witness_format number None = Some witness.Steps
 witness_format None (Some w) = None
 witness_format (Some n) (Some w) = named witness_formats w.now
 
-abbrev pub explore_asked : Given → Screen → Option Words
-explore_asked g s = option_and_then (λ begin. option_and_then (λ limit. option_and_then (λ number.
+abbrev pub all_orders_asked : Given → Screen → Option Words
+all_orders_asked g s = option_and_then (λ begin. option_and_then (λ limit. option_and_then (λ number.
     option_map (λ format. words.Explore (record {
       begin = begin;
       limit = limit;
@@ -429,6 +433,45 @@ explore_asked g s = option_and_then (λ begin. option_and_then (λ limit. option
       coloured = s.coloured;
     })) (witness_format g.witness g.format)) (number_if_asked 1 1000000 g.witness))
     (number_asked 1 1000000 g.limit)) (begin_asked g)
+
+-- nothing but a definition is named, and perhaps its input
+abbrev pub names_definition_alone : Given → Bool
+names_definition_alone g =
+    not (names_chosen g) && (not (is_some g.test) && (not (is_some g.mocks) && (not (is_some g.mocks_option)
+    && (not (is_some g.chosen) && (not (is_some g.case_option) && not (is_some g.input))))))
+
+-- where errors are put in, no mock file need be named
+abbrev pub errors_begin : Given → Option ErrorsBegin
+errors_begin g =
+    if names_definition_alone g
+    then option_map (λ d. errors.Sample (record { definition = d; input = g.input_option })) g.definition
+    else option_map errors.Case (begin_asked g)
+
+abbrev pub is_mocks : Word → Bool
+is_mocks None = false
+is_mocks (Some w) = bytes_eq w.now (codes "mocks")
+
+-- what is printed of one outcome there: the mock file of a plan, or its steps
+abbrev pub errors_format : Word → Word → Option ErrorsFormat
+errors_format number w =
+    if is_some number && is_mocks w then Some shown.Mocks else option_map shown.Steps (witness_format number w)
+
+-- there it isn't told how often Tasks are invoked
+abbrev pub errors_asked : Given → Screen → Option Words
+errors_asked g s = if g.calls then None else option_and_then (λ begin. option_and_then (λ most. option_and_then (λ limit.
+    option_and_then (λ number. option_map (λ format. words.Errors (record {
+      begin = begin;
+      errors = most;
+      limit = limit;
+      prompt = g.prompt;
+      witness = number;
+      format = format;
+      coloured = s.coloured;
+    })) (errors_format g.witness g.format)) (number_if_asked 1 1000000 g.witness))
+    (number_asked 1 1000000 g.limit)) (number_asked 0 2 g.errors)) (errors_begin g)
+
+abbrev pub explore_asked : Given → Screen → Option Words
+explore_asked g s = if is_some g.errors then errors_asked g s else all_orders_asked g s
 
 -- what a command is to do, where answers are read on this screen; nothing where what is given doesn't
 -- fit together

@@ -28,6 +28,7 @@ pub struct Given<'a> {
     pub least: Option<&'a str>,
     pub limit: Option<&'a str>,
     pub witness: Option<&'a str>,
+    pub errors: Option<&'a str>,
     pub most_steps: Option<&'a str>,
     pub junit: Option<&'a str>,
     pub json: Option<&'a str>,

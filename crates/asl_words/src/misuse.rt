@@ -1,8 +1,8 @@
 // What is wrong with words that clap takes.
 use crate::given::Given;
 use crate::meaning::{
-    covers, debugs_by_script, lists_reports, names_beside_test, names_chosen, names_files,
-    names_more, names_run, test_number,
+    covers, debugs_by_script, is_mocks, lists_reports, names_beside_test, names_chosen,
+    names_files, names_more, names_run, test_number,
 };
 use crate::verbs::Verb;
 use std::alloc::AllocError;
@@ -28,6 +28,8 @@ pub enum Misuse {
     TreeOfScript,
     /// The steps of one outcome are to be told in a format, and none is named.
     Witnessless,
+    /// The mock file of a plan is to be printed, and no errors are put in.
+    Planless,
     /// A region is named, and the run isn't printed in the service's format.
     Regional,
     /// What tests cover is to be told in a format, and it isn't told.
@@ -51,6 +53,10 @@ pub fn misuse_of(verb: Verb, given: &Given<'_>) -> Misuse {
         Verb::Test if given.definition.is_some() => misuse_of_suite(given),
         Verb::Test => misuse_of_rest(given),
         Verb::Explore if given.witness.is_none() && given.format.is_some() => Misuse::Witnessless,
+        Verb::Explore if given.errors.is_some() && given.calls => {
+            Misuse::Twice("--calls", "--errors <K>")
+        }
+        Verb::Explore if given.errors.is_none() && is_mocks(given.format) => Misuse::Planless,
         Verb::Run if are_both(given.steps, given.most_steps) => {
             Misuse::Twice("--steps <FILE>", "--max-steps <N>")
         }
@@ -241,6 +247,7 @@ pub fn put_misuse(out: &mut String, misuse: Misuse) -> Result<(), AllocError> {
             "the following required arguments were not provided:\n  --coverage",
         ),
         Misuse::Orderless(option) => write!(out, "the argument '{option}' is for --orders"),
+        Misuse::Planless => out.push_str("the value 'mocks' of '--format' is for --errors"),
         Misuse::Regional => out.push_str("the argument '--region <NAME>' is for --format aws"),
         Misuse::Shard => {
             out.push_str("a shard is I/N: two numbers from 1, the first at most the second")

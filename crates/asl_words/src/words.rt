@@ -37,6 +37,8 @@ pub enum Words<'a> {
     TestAll(TestAllWords<'a>),
     /// Every order of an execution is to be tried.
     Explore(ExploreWords<'a>),
+    /// The same is to be done where errors are put in.
+    Errors(ErrorsWords<'a>),
     /// A code is to be explained, or all are to be listed.
     Explain(ExplainWords<'a>),
 }
@@ -340,6 +342,50 @@ pub struct ExploreWords<'a> {
     pub witness: Option<u32>,
     /// How these are printed.
     pub format: WitnessFormat,
+    /// Whether what happened at each state is told in colours.
+    pub coloured: bool,
+}
+
+/// A definition of which each Task is answered as in a mock file to begin with.
+#[derive(Clone, Copy)]
+pub struct SampleWords<'a> {
+    pub definition: &'a str,
+    /// The name of the file of the input; none where that is an empty object.
+    pub input: Option<&'a str>,
+}
+
+/// What an execution begins with where errors are put in.
+#[derive(Clone, Copy)]
+pub enum ErrorsBegin<'a> {
+    /// A case of a mock file answers.
+    Case(Begin<'a>),
+    /// No mock file is named.
+    Sample(SampleWords<'a>),
+}
+
+/// What is printed of one outcome where errors are put in.
+#[derive(Clone, Copy)]
+pub enum ErrorsFormat {
+    /// The mock file of a plan that gives it.
+    Mocks,
+    /// The steps that end in it under this plan.
+    Steps(WitnessFormat),
+}
+
+/// The words of `explore` where errors are put in.
+#[derive(Clone, Copy)]
+pub struct ErrorsWords<'a> {
+    pub begin: ErrorsBegin<'a>,
+    /// So many errors, at most 2, are put in at once at most.
+    pub errors: u32,
+    /// So many worlds, from 1 to 1,000,000, are tried at most under each plan.
+    pub limit: u32,
+    /// Whether only orders are tried in which no branch is late.
+    pub prompt: bool,
+    /// The number, from 1, of the outcome of which a plan is to be shown; none where all outcomes are.
+    pub witness: Option<u32>,
+    /// How this is shown.
+    pub format: ErrorsFormat,
     /// Whether what happened at each state is told in colours.
     pub coloured: bool,
 }

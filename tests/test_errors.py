@@ -1,0 +1,316 @@
+"""Errors put in: what is told of each plan is what a search of the mock file with its errors finds, no plan is missing, and each witness reproduces its outcome."""
+from __future__ import annotations
+
+import glob
+import itertools
+import json
+import os
+import re
+import tempfile
+
+from program import ProgramTest, run_program
+from test_explore import example_cases, explored
+
+# How often a Task is asked at most here, with the errors that are put in.
+ASKED = 60
+POINT = re.compile(r' ("(?:[^"\\]|\\.)*") (\d+) ("(?:[^"\\]|\\.)*") (once|always)')
+FUNCTION = "arn:aws:lambda:us-east-1:123456789012:function:f"
+
+
+def told(text):
+    """What is told of plans: how many there are, and of each outcome, or of `endless` and `search cut`, the plans."""
+    head, *parts = text.removesuffix("\n").split("\n\n")
+    found = {}
+    for part in parts:
+        title, *lines = part.split("\n")
+        found[title] = [plan(line) for line in lines]
+    assert head.startswith("plans "), head
+    return int(head.removeprefix("plans ")), found
+
+
+def plan(line):
+    """The errors of a plan: the state, the number of the invocation, the error, and whether later invocations fail, too."""
+    if line == "plan no errors":
+        return ()
+    points = POINT.findall(line)
+    assert line == "plan" + "".join(" " + " ".join(it) for it in points), line
+    return tuple((json.loads(state), int(number), json.loads(error), span == "always") for state, number, error, span in points)
+
+
+def by_plan(found):
+    """The outcomes of each plan."""
+    outcomes = {}
+    for number, (title, plans) in enumerate(found.items(), 1):
+        assert title.startswith(f"outcome {number} "), title
+        for it in plans:
+            outcomes.setdefault(it, []).append(title.split(" ", 2)[2])
+    return outcomes
+
+
+# ---- a mock file with errors, by definition
+
+
+def numbered(response):
+    """The answers of a response by their numbers."""
+    answers = {}
+    for key, answer in response.items():
+        low, _, high = key.partition("-")
+        for number in range(int(low), min(int(high or low), ASKED) + 1):
+            answers[number] = answer
+    return answers
+
+
+def answers_of(definition, mocks, machine, case):
+    """The answers of each Task by their numbers: those of the case, of the first other case that names the Task, or of `asl mocks`."""
+    found = {}
+    cases = mocks["StateMachines"][machine]["TestCases"]
+    for one in [cases.get(case, {}), *cases.values()]:
+        for state, response in one.items():
+            found.setdefault(state, numbered(mocks["MockedResponses"][response]))
+    sample = json.loads(run_program("mocks", definition, machine).stdout)
+    for state, response in sample["StateMachines"][machine]["TestCases"]["good"].items():
+        found.setdefault(state, numbered(sample["MockedResponses"][response]))
+    return found
+
+
+def with_error(answers, number, error, for_good):
+    """These answers with an error before the one of this number."""
+    thrown = {"Throw": {"Error": error, **({} if error == "States.Timeout" else {"Cause": "put in"})}}
+    after = {k: answers[k] for k in answers if k < number}
+    after[number] = thrown
+    for k in range(number + 1, ASKED + 1):
+        if for_good:
+            after[k] = thrown
+        elif k - 1 in answers:
+            after[k] = answers[k - 1]
+    return after
+
+
+def mock_file(answers, plan_, machine, case):
+    """The mock file of a case with the errors of a plan."""
+    answers = dict(answers)
+    for state, number, error, for_good in plan_:
+        answers[state] = with_error(answers.get(state, {}), number, error, for_good)
+    responses = {state: {str(number): one[number] for number in sorted(one)} for state, one in answers.items()}
+    return {"StateMachines": {machine: {"TestCases": {case: {state: state for state in answers}}}}, "MockedResponses": responses}
+
+
+# ---- the errors of Tasks, by definition
+
+
+def tasks(machine, around=()):
+    """Each Task with the states around it, the innermost first."""
+    for name, state in machine["States"].items():
+        if state["Type"] == "Task":
+            yield name, (state, *around)
+        for inner in [*state.get("Branches", []), *[state[it] for it in ("Iterator", "ItemProcessor") if it in state]]:
+            yield from tasks(inner, (state, *around))
+
+
+def is_for(name, error):
+    return name in (error, "States.ALL") or (name == "States.TaskFailed" and error != "States.Timeout")
+
+
+def handled(levels, error):
+    """Which retrier and which catcher of each level is for an error."""
+
+    def number(rows):
+        return next((i for i, row in enumerate(rows) if any(is_for(name, error) for name in row["ErrorEquals"])), None)
+
+    return [number(state.get(member, [])) for state in levels for member in ("Retry", "Catch")]
+
+
+def errors(levels):
+    """The errors that a Task is worth failing with."""
+    names = [name for state in levels for member in ("Retry", "Catch") for row in state.get(member, []) for name in row["ErrorEquals"]]
+    names = ["Unnamed" if name in ("States.ALL", "States.TaskFailed") else name for name in names if name != "States.Timeout"]
+    found = []
+    for name in [*names, "Unnamed"]:
+        if all(handled(levels, name) != handled(levels, it) for it in found):
+            found.append(name)
+    return [*found, "States.Timeout"]
+
+
+class Errors(ProgramTest):
+    def in_room(self, texts, *words):
+        """What the program does, where each word that begins with @ names a file of one of these texts."""
+        with tempfile.TemporaryDirectory(prefix="asl-test-") as room:
+            for name, text in texts.items():
+                with open(os.path.join(room, name), "w", encoding="utf-8") as out:
+                    out.write(text if isinstance(text, str) else json.dumps(text))
+            return run_program(*[os.path.join(room, it[1:]) if it.startswith("@") else it for it in words], seconds=300)
+
+    def calls(self, definition, mocks, machine, case, given):
+        """How often each state is invoked at most, in any order."""
+        ran = self.in_room({"mocks": mocks}, "explore", definition, "@mocks", f"{machine}#{case}", given, "--calls")
+        most = {}
+        for one in explored(ran.stdout).found:
+            for name, count in one.calls:
+                most[name] = max(most.get(name, 0), int(count.split("-")[-1]))
+        return most
+
+    def plans(self, definition, answers, machine, case, given, most_errors):
+        """All plans of at most so many errors, as sets: an error more at each invocation that some order makes."""
+        with open(definition, encoding="utf-8") as file:
+            every = {name: errors(levels) for name, levels in tasks(json.load(file))}
+        level, found = {()}, {()}
+        for _ in range(most_errors):
+            longer = set()
+            for one in level:
+                calls = self.calls(definition, mock_file(answers, one, machine, case), machine, case, given)
+                for name, count in calls.items():
+                    for number, error, for_good in itertools.product(range(count), every.get(name, []), (False, True)):
+                        if all((name, number) != it[:2] for it in one):
+                            longer.add(tuple(sorted([*one, (name, number, error, for_good)])))
+            level = longer
+            found |= longer
+        return found
+
+    # ---- the examples
+
+    def test_each_plan_of_the_examples_has_the_outcomes_of_its_mock_file(self):
+        for folder, chosen, given, _ in example_cases():
+            machine, case = chosen.split("#")
+            definition = f"{folder}/definition.json"
+            with open(f"{folder}/mocks.json", encoding="utf-8") as file:
+                mocks = json.load(file)
+            answers = answers_of(definition, mocks, machine, case)
+            ran = run_program("explore", definition, f"{folder}/mocks.json", chosen, given, "--errors", "1", seconds=300)
+            count, found = told(ran.stdout)
+            self.assertEqual((ran.stderr, [it for it in found if not it.startswith("outcome ")]), ("", []), chosen)
+            self.assertEqual(ran.returncode, 0)
+            outcomes = by_plan(found)
+            self.assertEqual((len(outcomes), {tuple(sorted(it)) for it in outcomes}), (count, self.plans(definition, answers, machine, case, given, 1)), chosen)
+            for one, its in outcomes.items():
+                under = self.in_room({"mocks": mock_file(answers, one, machine, case)}, "explore", definition, "@mocks", chosen, given)
+                self.assertEqual(set(its), set(explored(under.stdout).outcomes), (chosen, one))
+
+    def test_each_witness_of_the_examples_reproduces_its_outcome(self):
+        for folder, chosen, given, _ in example_cases():
+            words = [f"{folder}/definition.json", f"{folder}/mocks.json", chosen, given]
+            found = told(run_program("explore", *words, "--errors", "1", seconds=300).stdout)[1]
+            for number, title in enumerate(found, 1):
+                search = ["explore", *words, "--errors", "1", "--witness", str(number)]
+                mocks = run_program(*search, "--format", "mocks", seconds=300)
+                steps = run_program(*search, seconds=300)
+                self.assertEqual((mocks.returncode, mocks.stderr, steps.returncode, steps.stderr), (0, "", 0, ""))
+                ran = self.in_room({"mocks": mocks.stdout, "steps": steps.stdout}, "run", words[0], "@mocks", chosen, given, "--steps", "@steps")
+                self.assertEqual(ran.stdout.splitlines()[-1], "status " + title.split(" ", 2)[2])
+            beyond = run_program("explore", *words, "--errors", "1", "--witness", str(len(found) + 1), seconds=300)
+            self.assertEqual((beyond.returncode, beyond.stdout), (2, ""))
+
+    # ---- two errors
+
+    def test_no_plan_of_two_errors_is_missing(self):
+        definition = {
+            "StartAt": "P",
+            "States": {
+                "P": {
+                    "Type": "Parallel",
+                    "Branches": [
+                        {
+                            "StartAt": "A",
+                            "States": {
+                                "A": {
+                                    "Type": "Task",
+                                    "Resource": FUNCTION,
+                                    "Retry": [{"ErrorEquals": ["Busy", "States.Timeout"], "MaxAttempts": 1}],
+                                    "Catch": [{"ErrorEquals": ["States.ALL"], "Next": "U"}],
+                                    "End": True,
+                                },
+                                "U": {"Type": "Task", "Resource": FUNCTION, "End": True},
+                            },
+                        },
+                        {"StartAt": "B", "States": {"B": {"Type": "Task", "Resource": FUNCTION, "End": True}}},
+                    ],
+                    "Catch": [{"ErrorEquals": ["Lost"], "Next": "L"}],
+                    "End": True,
+                },
+                "L": {"Type": "Succeed"},
+            },
+        }
+        mocks = {"StateMachines": {"M": {"TestCases": {"c": {"A": "R", "B": "R"}}}}, "MockedResponses": {"R": {"0-20": {"Return": 1}}}}
+        with tempfile.TemporaryDirectory(prefix="asl-test-") as room:
+            path, given = os.path.join(room, "definition"), os.path.join(room, "input")
+            for name, text in [(path, json.dumps(definition)), (given, "{}")]:
+                with open(name, "w", encoding="utf-8") as out:
+                    out.write(text)
+            answers = answers_of(path, mocks, "M", "c")
+            for most in (0, 1, 2):
+                ran = self.in_room({"mocks": mocks}, "explore", path, "@mocks", "M#c", given, "--errors", str(most))
+                count, found = told(ran.stdout)
+                outcomes = by_plan(found)
+                wanted = self.plans(path, answers, "M", "c", given, most)
+                self.assertEqual((count, {tuple(sorted(it)) for it in outcomes}), (len(outcomes), wanted))
+                for one, its in list(outcomes.items())[::7]:
+                    under = self.in_room({"mocks": mock_file(answers, one, "M", "c")}, "explore", path, "@mocks", "M#c", given)
+                    self.assertEqual(set(its), set(explored(under.stdout).outcomes), one)
+
+    # ---- the answers of Tasks that the case doesn't name
+
+    ONE = {"StartAt": "T", "States": {"T": {"Type": "Task", "Resource": FUNCTION, "ResultPath": "$.t", "OutputPath": "$.t.id", "End": True}}}
+
+    def outcomes_of(self, mocks, *words, given="{}"):
+        texts = {"definition": self.ONE, "mocks": mocks, "input": given}
+        ran = self.in_room(texts, "explore", "@definition", *words, "--errors", "0")
+        self.assertEqual((ran.returncode, ran.stderr), (0, ""))
+        return list(told(ran.stdout)[1])
+
+    def test_they_are_those_of_the_first_other_case_of_the_machine(self):
+        responses = {"R": {"0": {"Return": {"id": 1}}}, "Q": {"0": {"Return": {"id": 2}}}}
+        cases = {"none": {}, "one": {"T": "R"}, "two": {"T": "Q"}}
+        other = {"N": {"TestCases": {"three": {"T": "Q"}}}}
+        mocks = {"StateMachines": {**other, "M": {"TestCases": cases}}, "MockedResponses": responses}
+        self.assertEqual(self.outcomes_of(mocks, "@mocks", "M#none", "@input"), ["outcome 1 SUCCEEDED 1"])
+        self.assertEqual(self.outcomes_of(mocks, "@mocks", "M#two", "@input"), ["outcome 1 SUCCEEDED 2"])
+
+    def test_else_they_are_those_of_a_mock_file_to_begin_with(self):
+        mocks = {"StateMachines": {"M": {"TestCases": {"none": {}}}}, "MockedResponses": {}}
+        self.assertEqual(self.outcomes_of(mocks, "@mocks", "M#none", "@input"), ['outcome 1 SUCCEEDED "..."'])
+
+    def test_no_mock_file_need_be_named(self):
+        self.assertEqual(self.outcomes_of("{}"), ['outcome 1 SUCCEEDED "..."'])
+        self.assertEqual(self.outcomes_of("{}", "--input", "@input", given='{"a":1}'), ['outcome 1 SUCCEEDED "..."'])
+        for definition in sorted(glob.glob(f"{os.path.dirname(__file__)}/../examples/*/definition.json")):
+            ran = run_program("explore", definition, "--errors", "1", seconds=300)
+            self.assertIn(ran.returncode, (0, 1), definition)
+            self.assertRegex(ran.stdout, r"\Aplans \d+\n\noutcome 1 ")
+
+    def test_the_mock_file_of_a_plan_names_the_machine_of_the_sample(self):
+        ran = self.in_room({"definition": self.ONE}, "explore", "@definition", "--errors", "1", "--witness", "2", "--format", "mocks")
+        made = json.loads(ran.stdout)
+        self.assertEqual(made["StateMachines"], {"Machine": {"TestCases": {"good": {"T": "T"}}}})
+        self.assertEqual(made["MockedResponses"]["T"]["0"], {"Throw": {"Error": "Unnamed", "Cause": "put in"}})
+
+    # ---- statuses and wrong words
+
+    def test_a_search_that_is_cut_or_never_ends_isn_t_whole(self):
+        cut = self.in_room({"definition": self.ONE}, "explore", "@definition", "--errors", "1", "--limit", "1")
+        self.assertEqual((cut.returncode, "search cut" in told(cut.stdout)[1]), (1, True))
+        task = {"Type": "Task", "Resource": FUNCTION, "Catch": [{"ErrorEquals": ["States.ALL"], "Next": "R"}], "End": True}
+        rounds = {"StartAt": "T", "States": {"T": task, "R": {"Type": "Pass", "Next": "R"}}}
+        ran = self.in_room({"definition": rounds}, "explore", "@definition", "--errors", "1")
+        self.assertEqual(ran.returncode, 1)
+        self.assertEqual([sorted(it) for it in told(ran.stdout)[1]["endless"]], [[("T", 0, error, span)] for error in ("Unnamed", "States.Timeout") for span in (False, True)])
+
+    def test_words_that_exclude_one_another_are_told(self):
+        texts = {"definition": self.ONE}
+        for words, line in [
+            (["--errors", "1", "--calls"], "'--calls'"),
+            (["--errors", "3"], "'3'"),
+            (["--errors", "1", "--format", "tree"], "--witness <I>"),
+            (["--errors", "1", "--case", "M#c"], "<MOCKS>"),
+        ]:
+            ran = self.in_room(texts, "explore", "@definition", *words)
+            self.assertEqual((ran.returncode, ran.stdout), (2, ""), words)
+            self.assertIn(line, ran.stderr, words)
+        ran = self.in_room({**texts, "mocks": "{}", "input": "{}"}, "explore", "@definition", "@mocks", "M", "@input", "--witness", "1", "--format", "mocks")
+        self.assertEqual((ran.returncode, ran.stdout), (2, ""))
+        self.assertIn("the value 'mocks' of '--format' is for --errors", ran.stderr)
+
+    def test_a_definition_with_a_fault_is_refused(self):
+        ran = self.in_room({"definition": '{"StartAt":"A","States":{}}'}, "explore", "@definition", "--errors", "1")
+        self.assertEqual((ran.returncode, ran.stdout), (2, ""))
+        self.assertRegex(ran.stderr, r"\Afault: definition: F\d+ ")
+        ran = run_program("explore", "/nowhere", "--errors", "1")
+        self.assertEqual((ran.returncode, ran.stderr.splitlines()[0]), (2, "fault: file /nowhere: it isn't there"))
