@@ -17,7 +17,6 @@ use Rattle.asl_words.specs.declared.words.LintFormat.{LintFormat}
 use Rattle.asl_words.specs.declared.words.LintFormat.TheVariants.{Text, Json, Sarif}
 use Rattle.asl_words.specs.declared.words.LintWords.{LintWords}
 use Rattle.asl_host.specs.Outcomes.{status_of}
-use Rattle.asl_cli.specs.declared.fault.CommandFault.{CommandFault}
 use Rattle.asl_cli.specs.declared.fault.CommandFault.TheVariants.{OutOfMemory}
 use Rattle.asl_cli.specs.declared.linting.Linted.{Linted}
 use Rattle.asl_cli.specs.declared.linting.Manner.{Manner}

@@ -1,5 +1,5 @@
 -- What is done for each workflow of a project.
-use Rattle.std.specs.Prelude.{ℕ, ◌==◌, max, nat_lt, List, [], ◌∷◌, ◌++◌, ◌≡◌, ◌⊎◌, ⊤, Bool, true, false, if◌then◌else◌, Option, Some, None, option_map, map, fold, length, count_by, codes, string_bytes}
+use Rattle.std.specs.Prelude.{ℕ, ◌==◌, max, nat_lt, List, [], ◌∷◌, ◌++◌, ◌≡◌, ◌⊎◌, ⊤, Bool, true, if◌then◌else◌, Option, Some, None, option_map, map, fold, length, count_by, codes, string_bytes}
 use Rattle.std.specs.List.{flat_map}
 use Rattle.std.specs.Fmt.{decimal}
 use Rattle.asl_project.specs.declared.workflow.Workflow.{Workflow}
