@@ -1,0 +1,11 @@
+mod Listed
+pub mod Parts
+mod Each
+mod Asking
+mod Standing
+mod Repeating
+mod Passing
+mod Differing
+mod Excluding
+mod Contradicting
+mod Deep

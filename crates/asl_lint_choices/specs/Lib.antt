@@ -1,0 +1,7 @@
+pub mod Conditions
+pub mod Repeats
+pub mod Comparisons
+pub mod Contradictions
+pub mod Ands
+pub mod Laws
+pub mod View

@@ -1,0 +1,79 @@
+// Rules that ask what an earlier rule asks.
+ghost use Rattle.std.specs.Prelude.{◌≡◌, ◌++◌, IfOk, OnOk};
+ghost use Rattle.asl_json.specs.View.{items_of};
+ghost use Rattle.asl_lint_choices.specs.Conditions.{all_conditions};
+ghost use Rattle.asl_lint_choices.specs.Repeats.{first_same, repeated_by, repeated_rules};
+ghost use Rattle.asl_lint_choices.specs.View.{all_asked, asked};
+
+use crate::condition::{Condition, condition_of};
+use asl_json::Json;
+use std::alloc::{AllocError, Global};
+
+/// A rule that asks what an earlier rule of the same Choice asks. Rules are counted from 0.
+#[derive(Clone, Copy, Debug, PartialEq, Eq)]
+pub struct Repeated {
+    /// It never decides: where the earlier one holds that one decides, and where not, this one doesn't hold either.
+    pub rule: usize,
+    /// The first rule that asks the same.
+    pub earlier: usize,
+}
+
+/// What each of these rules asks.
+pub(crate) fn conditions<'a>(
+    alloc: Global,
+    rules: &'a [Json],
+) -> Result<Vec<Condition<'a>>, AllocError>
+    ensures { IfOk result (λ v. all_asked v.items ≡ all_conditions (items_of rules.now)) }
+{
+    let mut conditions = Vec::new(alloc);
+    for rule in rules {
+        conditions.push(condition_of(alloc, rule)?)?;
+    }
+    Ok(conditions)
+}
+
+/// The number of the first of these conditions that is this one.
+fn first_same(conditions: &[Condition<'_>], condition: &Condition<'_>) -> Option<usize>
+    ensures { result ≡ first_same (asked condition.now) 0 (all_asked conditions.now) }
+{
+    for (number, other) in conditions.iter().enumerate() {
+        if other.is_same(condition) {
+            return Some(number);
+        }
+    }
+    None
+}
+
+/// Tells the rule of this number, where the first with its condition is an earlier one.
+fn add_repeated(
+    found: &mut Vec<Repeated>,
+    rule: usize,
+    first: Option<usize>,
+) -> Result<(), AllocError>
+    ensures { OnOk result (found.new.items ≡ found.old.items ++ repeated_by rule first) }
+{
+    match first {
+        Some(earlier) => {
+            if earlier < rule {
+                found.push(Repeated { rule, earlier })?;
+            }
+            Ok(())
+        }
+        None => Ok(()),
+    }
+}
+
+/// The rules of a Choice that ask what an earlier one asks, from the first to the last, by its canonical `Choices`. Both have the same members
+/// with the same values, spelling included, apart from `Next` and `Comment`. The error is that memory ran out. The cost is at most the square
+/// of the number of rules times the size of one.
+#[tactic(auto, unfolding(crate::specs::Repeats::repeated_rules))]
+pub fn repeated_rules(alloc: Global, rules: &[Json]) -> Result<Vec<Repeated>, AllocError>
+    ensures { IfOk result (λ v. v.items ≡ repeated_rules (items_of rules.now)) }
+{
+    let conditions = conditions(alloc, rules)?;
+    let mut found = Vec::new(alloc);
+    for (rule, condition) in conditions.iter().enumerate() {
+        add_repeated(&mut found, rule, first_same(&conditions, condition))?;
+    }
+    Ok(found)
+}
