@@ -127,7 +127,12 @@ EXAMPLES = {
     "payment": [],
     "polling": [],
     "thumbnails": [],
-    "trip": ['catcher 0 of "Book flight" -> "Not booked"', 'retrier 0 of "Cancel flight"'],
+    "trip": [
+        'catcher 0 of "Book flight" -> "Not booked"',
+        'retrier 0 of "Cancel flight"',
+        'catcher 0 of "Cancel flight" -> "Is a booking left?"',
+        'retrier 0 of "Tell support"',
+    ],
 }
 
 # Command lines that are wrong, behind the three files.

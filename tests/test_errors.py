@@ -9,7 +9,7 @@ import re
 import tempfile
 
 from program import ProgramTest, run_program
-from test_explore import example_cases, explored
+from test_explore import ONE_TASK, example_cases, explored, parallel
 
 # How often a Task is asked at most here, with the errors that are put in.
 ASKED = 60
@@ -47,6 +47,21 @@ def by_plan(found):
     return outcomes
 
 
+# ---- JSON in which numbers keep their spelling
+
+MARK = "\ue000"
+
+
+def read(text):
+    """The value of a JSON text; a number that isn't whole is a text with marks around it."""
+    return json.loads(text, parse_float=lambda number: MARK + number + MARK)
+
+
+def write(value):
+    """The JSON text of such a value."""
+    return re.sub(rf'"{MARK}([^{MARK}]*){MARK}"', r"\1", json.dumps(value, ensure_ascii=False))
+
+
 # ---- a mock file with errors, by definition
 
 
@@ -67,7 +82,7 @@ def answers_of(definition, mocks, machine, case):
     for one in [cases.get(case, {}), *cases.values()]:
         for state, response in one.items():
             found.setdefault(state, numbered(mocks["MockedResponses"][response]))
-    sample = json.loads(run_program("mocks", definition, machine).stdout)
+    sample = read(run_program("mocks", definition, machine).stdout)
     for state, response in sample["StateMachines"][machine]["TestCases"]["good"].items():
         found.setdefault(state, numbered(sample["MockedResponses"][response]))
     return found
@@ -137,7 +152,7 @@ class Errors(ProgramTest):
         with tempfile.TemporaryDirectory(prefix="asl-test-") as room:
             for name, text in texts.items():
                 with open(os.path.join(room, name), "w", encoding="utf-8") as out:
-                    out.write(text if isinstance(text, str) else json.dumps(text))
+                    out.write(text if isinstance(text, str) else write(text))
             return run_program(*[os.path.join(room, it[1:]) if it.startswith("@") else it for it in words], seconds=300)
 
     def calls(self, definition, mocks, machine, case, given):
@@ -173,7 +188,7 @@ class Errors(ProgramTest):
             machine, case = chosen.split("#")
             definition = f"{folder}/definition.json"
             with open(f"{folder}/mocks.json", encoding="utf-8") as file:
-                mocks = json.load(file)
+                mocks = read(file.read())
             answers = answers_of(definition, mocks, machine, case)
             ran = run_program("explore", definition, f"{folder}/mocks.json", chosen, given, "--errors", "1", seconds=300)
             count, found = told(ran.stdout)
@@ -285,7 +300,7 @@ class Errors(ProgramTest):
     # ---- statuses and wrong words
 
     def test_a_search_that_is_cut_or_never_ends_isn_t_whole(self):
-        cut = self.in_room({"definition": self.ONE}, "explore", "@definition", "--errors", "1", "--limit", "1")
+        cut = self.in_room({"definition": parallel([ONE_TASK.replace('"T"', f'"{name}"') for name in ("A", "B")])}, "explore", "@definition", "--errors", "1", "--limit", "1")
         self.assertEqual((cut.returncode, "search cut" in told(cut.stdout)[1]), (1, True))
         task = {"Type": "Task", "Resource": FUNCTION, "Catch": [{"ErrorEquals": ["States.ALL"], "Next": "R"}], "End": True}
         rounds = {"StartAt": "T", "States": {"T": task, "R": {"Type": "Pass", "Next": "R"}}}
@@ -313,4 +328,4 @@ class Errors(ProgramTest):
         self.assertEqual((ran.returncode, ran.stdout), (2, ""))
         self.assertRegex(ran.stderr, r"\Afault: definition: F\d+ ")
         ran = run_program("explore", "/nowhere", "--errors", "1")
-        self.assertEqual((ran.returncode, ran.stderr.splitlines()[0]), (2, "fault: file /nowhere: it isn't there"))
+        self.assertEqual((ran.returncode, ran.stderr.splitlines()[0]), (2, "fault: file /nowhere"))
