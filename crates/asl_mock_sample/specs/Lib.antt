@@ -1,6 +1,7 @@
 pub mod Texts
 pub mod Merging
 pub mod Paths
+pub mod Beside
 pub mod Templates
 pub mod Rules
 pub mod Wants

@@ -11,6 +11,7 @@ use Rattle.asl_path.specs.Walk.{item_at}
 use Rattle.asl_def_walk.specs.States.{all_states}
 use Rattle.asl_mock_sample.specs.Merging.{anything, or_anything, both}
 use Rattle.asl_mock_sample.specs.Paths.{found, path_wants, nth_item}
+use Rattle.asl_mock_sample.specs.Beside.{beside}
 use Rattle.asl_mock_sample.specs.Templates.{one, value_wants, through}
 use Rattle.asl_mock_sample.specs.Rules.{moment, rules_wants}
 
@@ -55,6 +56,7 @@ placed_part (Some d) w = anything
 -- in the input, of which nothing is left where there is no ResultPath
 abbrev pub around : Option Data → Data → Data
 around None w = anything
+around (Some (text t)) w = beside t w
 around (Some d) w = w
 
 -- ---- where a state leads
@@ -64,9 +66,9 @@ choices_lead inputs done no_items = done
 choices_lead inputs done (item d ds) =
     choices_lead inputs (both done (named_by inputs (value_in (codes "Next") d))) ds
 
-abbrev pub choices_in : Option Data → Chain
-choices_in None = no_items
-choices_in (Some d) = items_in d
+abbrev pub listed : Option Data → Chain
+listed None = no_items
+listed (Some d) = items_in d
 
 -- what the states that a state leads to want of their inputs
 abbrev pub led : Members → Data → Data
@@ -74,7 +76,14 @@ led inputs s =
     choices_lead inputs
     (both (named_by inputs (value_in (codes "Next") s))
     (named_by inputs (value_in (codes "Default") s)))
-    (choices_in (value_in (codes "Choices") s))
+    (listed (value_in (codes "Choices") s))
+
+-- what the states that catchers lead to want of the state's input, in which each places its error
+abbrev pub caught : Members → Data → Chain → Data
+caught inputs done no_items = done
+caught inputs done (item d ds) =
+    caught inputs
+    (both done (around (value_in (codes "ResultPath") d) (named_by inputs (value_in (codes "Next") d)))) ds
 
 abbrev pub leads : Option Data → Option Data → Data → Data → Data
 leads None None next out = out
@@ -163,7 +172,9 @@ result_wants known name s =
 
 abbrev pub input_wants : Known → List ℕ → Data → Data
 input_wants known name s =
-    both (around (value_in (codes "ResultPath") s) (after known name s))
+    both
+    (caught known.inputs (around (value_in (codes "ResultPath") s) (after known name s))
+    (listed (value_in (codes "Catch") s)))
     (selected_from (value_in (codes "InputPath") s)
     (effective_wants known.inputs s (result_wants known name s)))
 

@@ -165,7 +165,7 @@ fn is_behind(bytes: &[u8]) -> bool
 }
 
 /// What stands behind a word that a text begins with.
-fn stripped<'a>(word: &str, text: &'a str) -> Option<&'a str>
+pub(crate) fn stripped<'a>(word: &str, text: &'a str) -> Option<&'a str>
     ensures { option_map (λ t. t.now) result ≡ stripped word.now text.now }
 {
     text.strip_prefix(word)

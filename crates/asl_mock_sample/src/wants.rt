@@ -7,9 +7,10 @@ ghost use Rattle.asl_path.specs.Walk.{item_at};
 ghost use Rattle.asl_def_walk.specs.States.{all_states};
 ghost use Rattle.asl_json.specs.Meaning.{value_in};
 ghost use Rattle.asl_mock_sample.specs.Merging.{anything, or_anything, both};
-ghost use Rattle.asl_mock_sample.specs.Wants.{last_behind, last_of, named_by, selected_from, filled_from, placed_part, around, choices_lead, choices_in, led, output_wants, read_part, own_reads, plain_wants, branches_want, first_of, selector_of, selector_wants, map_wants, machine_of, effective_wants, after, result_wants, input_wants, all_end, branches_end, inner_end, with_state, with_states, twice, wanted_results};
+ghost use Rattle.asl_mock_sample.specs.Wants.{last_behind, last_of, named_by, selected_from, filled_from, placed_part, around, choices_lead, listed, caught, led, output_wants, read_part, own_reads, plain_wants, branches_want, first_of, selector_of, selector_wants, map_wants, machine_of, effective_wants, after, result_wants, input_wants, all_end, branches_end, inner_end, with_state, with_states, twice, wanted_results};
 ghost use Rattle.asl_mock_sample.specs.View.{known_of};
 
+use crate::beside::beside;
 use crate::merging::{anything, both, item_at, or_anything};
 use crate::paths::{found, nth_item, path_wants};
 use crate::rules::{moment, rules_wants};
@@ -116,6 +117,7 @@ fn around(alloc: Global, path: Option<&Json>, wanted: Json) -> Result<Json, Allo
 {
     match path {
         None => anything(alloc),
+        Some(Json::Text(path)) => beside(alloc, path.as_str(), wanted),
         Some(_) => Ok(wanted),
     }
 }
@@ -138,15 +140,33 @@ fn choices_lead(
     Ok(wants)
 }
 
-/// The choices of a Choice.
-fn choices_in(choices: Option<&Json>) -> &[Json]
-    ensures { chain (items_of result.now)
-        ≡ choices_in (option_map (λ w. data_of w.now) choices.entry) }
+/// The items of a list, where there is one.
+fn listed(list: Option<&Json>) -> &[Json]
+    ensures { chain (items_of result.now) ≡ listed (option_map (λ w. data_of w.now) list.entry) }
 {
-    match choices {
-        Some(choices) => choices.items(),
+    match list {
+        Some(list) => list.items(),
         None => &[],
     }
+}
+
+/// Adds what the states want of a state's input that its catchers lead to.
+fn caught(
+    alloc: Global,
+    inputs: &[Member],
+    so_far: Json,
+    catchers: &[Json],
+) -> Result<Json, AllocError>
+    ensures { IfOk result (λ v. data_of v
+        ≡ caught (members_of inputs.now) (data_of so_far) (chain (items_of catchers.now))) }
+{
+    let mut wants = so_far;
+    for catcher in catchers {
+        let led = named_by(alloc, inputs, catcher.get("Next"))?;
+        let more = around(alloc, catcher.get("ResultPath"), led)?;
+        wants = both(alloc, wants, &more)?;
+    }
+    Ok(wants)
 }
 
 /// What the states that a state leads to want of their inputs.
@@ -156,7 +176,7 @@ fn led(alloc: Global, inputs: &[Member], state: &Json) -> Result<Json, AllocErro
     let next = named_by(alloc, inputs, state.get("Next"))?;
     let default = named_by(alloc, inputs, state.get("Default"))?;
     let wants = both(alloc, next, &default)?;
-    choices_lead(alloc, inputs, wants, choices_in(state.get("Choices")))
+    choices_lead(alloc, inputs, wants, listed(state.get("Choices")))
 }
 
 /// What is wanted of the output of a state.
@@ -413,13 +433,15 @@ fn input_part(
     after: Json,
 ) -> Result<Json, AllocError>
     ensures { IfOk result (λ v. data_of v
-        ≡ both (around (value_in (codes "ResultPath") (data_of state.now)) (data_of after))
+        ≡ both (caught (members_of inputs.now) (around (value_in (codes "ResultPath") (data_of state.now)) (data_of after))
+        (listed (value_in (codes "Catch") (data_of state.now))))
         (selected_from (value_in (codes "InputPath") (data_of state.now))
         (effective_wants (members_of inputs.now) (data_of state.now) (data_of wanted.now)))) }
 {
     let effective = effective_wants(alloc, inputs, state, wanted)?;
     let more = selected_from(alloc, state.get("InputPath"), effective)?;
-    let kept = around(alloc, state.get("ResultPath"), after)?;
+    let placed = around(alloc, state.get("ResultPath"), after)?;
+    let kept = caught(alloc, inputs, placed, listed(state.get("Catch")))?;
     both(alloc, kept, &more)
 }
 
