@@ -194,6 +194,15 @@ def filled(state, key, want):
     return through("$", state[key], want) if key in state else want
 
 
+def around(member_of, want):
+    """What is wanted of the input in which a state places its result, or a catcher its error: what this is wanted of, without what is placed."""
+    if "ResultPath" not in member_of or member_of["ResultPath"] == "$":
+        return ANY
+    if member_of["ResultPath"] is None or not isinstance(want, dict):
+        return want
+    return {key: value for key, value in want.items() if member_of["ResultPath"] != f"$.{key}"}
+
+
 def states_of(machine):
     """The states at any depth, in document order."""
     for name, state in machine["States"].items():
@@ -263,7 +272,10 @@ class Wants:
         into = selected(state, "InputPath", self.effective(state, result))
         for number_of, machine in enumerate(machines_in(state)):
             self.outputs.update({inner: at_index(result, number_of) for inner in machine["States"]})
-        self.inputs[name] = both(after if "ResultPath" in state else ANY, into)
+        kept = around(state, after)
+        for catcher in state.get("Catch", []):
+            kept = both(kept, around(catcher, self.inputs.get(catcher["Next"], ANY)))
+        self.inputs[name] = both(kept, into)
         self.results[name] = result
 
 

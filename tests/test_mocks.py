@@ -132,7 +132,7 @@ FIRST_RUNS = {
             S=succeed(OutputPath="$.done[0].size"),
         ),
         {
-            "List": {"done": [{"size": "..."}], "Name": "...", "Contents": [{"Key": "..."}]},
+            "List": {"Name": "...", "Contents": [{"Key": "..."}]},
             "One": {"ExecutedVersion": "$LATEST", "Payload": {"ok": {"size": "..."}}, "StatusCode": 200},
         },
     ),
@@ -198,6 +198,27 @@ FIRST_RUNS = {
     "an object before a text": (
         machine("A", A=task(Next="B"), B=task(Parameters={"all.$": "$.x"}, ResultPath=None, Next="S"), S=succeed(OutputPath="$.x.y")),
         {"A": {"x": {"y": "..."}}, "B": {}},
+    ),
+    "what is undone behind a catcher": (
+        machine(
+            "Book",
+            Book=task(ResultPath="$.booked", Next="Charge"),
+            Charge=task(INVOKE, ResultPath="$.charged", Catch=[{"ErrorEquals": ["States.ALL"], "ResultPath": "$.failed", "Next": "Undo"}], Next="S"),
+            Undo=task(InputPath="$.booked.id", ResultPath=None, Next="F"),
+            F={"Type": "Fail", "ErrorPath": "$.failed.Error", "CausePath": "$.failed.Cause"},
+            S=succeed(),
+        ),
+        {"Book": {"id": "..."}, "Charge": {"ExecutedVersion": "$LATEST", "Payload": {}, "StatusCode": 200}, "Undo": {}},
+    ),
+    "a result that is all that is left behind a catcher": (
+        machine(
+            "A",
+            A=task(Next="B"),
+            B=task(Catch=[{"ErrorEquals": ["States.ALL"], "Next": "C"}], Next="S"),
+            C={"Type": "Pass", "InputPath": "$.Error", "End": True},
+            S=succeed(OutputPath="$.x"),
+        ),
+        {"A": {}, "B": {"x": "..."}},
     ),
     "a document in no order": (
         machine(
