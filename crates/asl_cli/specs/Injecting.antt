@@ -6,7 +6,7 @@ use Rattle.asl_mock_sample.specs.Files.{sample_text}
 use Rattle.asl_run_input.specs.declared.setup.Setup.{Setup}
 use Rattle.asl_run_input.specs.Emulations.{Texts, Accepts}
 use Rattle.asl_explore.specs.declared.found.Found.{Found}
-use Rattle.asl_error_plans.specs.Telling.{plans_text, are_whole}
+use Rattle.asl_error_plans.specs.Telling.{plans_text, are_good}
 use Rattle.asl_error_plans.specs.declared.outcomes.PlanOutcomes.{PlanOutcomes}
 use Rattle.asl_explore_errors.specs.Filling.{IsFilled}
 use Rattle.asl_explore_errors.specs.Searches.{AreAllFound, witness_of}
@@ -82,7 +82,7 @@ IsPlanShown w chosen s v t = ⊥
 
 -- this is shown of what was found, and whether all is good
 abbrev pub IsShownOf : ErrorsWords → List ℕ → Setup → ErrorsFound → Option ℕ → Option (List ℕ) → Bool → Type 0
-IsShownOf w chosen s x None t good = (t ≡ Some (plans_text x.plans.items)) × (good ≡ are_whole x.plans.items)
+IsShownOf w chosen s x None t good = (t ≡ Some (plans_text x.plans.items)) × (good ≡ are_good x.plans.items)
 IsShownOf w chosen s x (Some n) t good = IsPlanShown w chosen s (witness_of n x) t × (good ≡ true)
 
 -- what a search may find of an execution of which this is the mock file, with an answer to each Task, is shown so

@@ -8,7 +8,7 @@ ghost use Rattle.asl_host.specs.Outcomes.{sink_use};
 ghost use Rattle.asl_host.specs.declared.files.Unreadable.{Unreadable};
 ghost use Rattle.asl_explore_errors.specs.Searches.{witness_of};
 ghost use Rattle.asl_explore_errors.specs.Under.{case_file, IsUnder};
-ghost use Rattle.asl_error_plans.specs.Telling.{are_whole, plans_text};
+ghost use Rattle.asl_error_plans.specs.Telling.{are_good, plans_text};
 ghost use Rattle.asl_cli.specs.Beginnings.{texts_in, without_steps};
 ghost use Rattle.asl_cli.specs.Faults.{named, AreUnread, IsDefinitionTextReason, IsTextsReason};
 ghost use Rattle.asl_cli.specs.Injecting.{AreErrorsExplored, AreErrorsTexts, AreNoErrorsTexts, IsErrorsReason, IsErrorsShown, IsInputOrEmpty, IsNoSampleBeginning, IsPlanIn, IsPlanShown, IsSampleBeginning, IsShownOf, IsTried, IsTriedFor};
@@ -22,7 +22,7 @@ use crate::exploring::{orders_for, print_all, refuse_number, shown_of};
 use crate::fault::CommandFault;
 use crate::reading::{SetupTexts, read_file, read_named};
 use asl_def::Machine;
-use asl_error_plans::{PlanOutcomes, are_whole, put_plans};
+use asl_error_plans::{PlanOutcomes, are_good, put_plans};
 use asl_explore::{Found, Watch};
 use asl_explore_errors::{
     ErrorsFound, explore_with_errors, filled_setup, put_case, setup_under, witness_of,
@@ -282,16 +282,16 @@ fn shown_of_all(
     }
 }
 
-/// The outcomes with the plans that give them, and whether nothing was left out. The error is that memory ran out.
+/// The outcomes with the plans that give them, and whether nothing was left out, and the execution goes well where nothing is put in. The error is that memory ran out.
 fn report_of(alloc: Global, found: &ErrorsFound) -> Result<Tried, AllocError>
     ensures text { IfOk result (λ r. option_map string_bytes r.text ≡ Some (plans_text found.now.plans.items)) }
-    ensures good { IfOk result (λ r. r.good ≡ are_whole found.now.plans.items) }
+    ensures good { IfOk result (λ r. r.good ≡ are_good found.now.plans.items) }
 {
     let mut text = String::new(alloc);
     put_plans(alloc, &mut text, &found.plans)?;
     Ok(Tried {
         text: Some(text),
-        good: are_whole(&found.plans),
+        good: are_good(&found.plans),
     })
 }
 

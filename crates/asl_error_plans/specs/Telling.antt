@@ -1,7 +1,7 @@
 -- What is told of plans.
-use Rattle.std.specs.Prelude.{ℕ, ◌+◌, List, [], ◌∷◌, ◌++◌, Bool, true, false, not, ◌&&◌, if◌then◌else◌, length, codes}
+use Rattle.std.specs.Prelude.{ℕ, ◌+◌, List, [], ◌∷◌, ◌++◌, Bool, true, false, not, ◌&&◌, if◌then◌else◌, length, codes, nat_eq, string_bytes}
 use Rattle.std.specs.Fmt.{decimal}
-use Rattle.std.specs.List.{flat_map, list_any}
+use Rattle.std.specs.List.{flat_map, list_any, starts_with}
 use Rattle.asl_json_data.specs.Compact.{quoted}
 use Rattle.asl_error_plans.specs.declared.injected.InjectedError.{InjectedError}
 use Rattle.asl_error_plans.specs.declared.outcomes.PlanOutcomes.{PlanOutcomes}
@@ -73,3 +73,22 @@ plans_text ps =
 -- nothing was left out, and no order is endless
 abbrev pub are_whole : List PlanOutcomes → Bool
 are_whole ps = not (list_any is_endless ps) && not (list_any is_cut ps)
+
+-- an outcome is a status with the output or the error
+abbrev pub is_success : List ℕ → Bool
+is_success o = starts_with nat_eq o (codes "SUCCEEDED ")
+
+abbrev pub has_failure : PlanOutcomes → Bool
+has_failure p = list_any (λ u. not (is_success (string_bytes u))) p.outcomes.items
+
+abbrev pub is_without_errors : List InjectedError → Bool
+is_without_errors [] = true
+is_without_errors (e ∷ es) = false
+
+-- the execution may fail although nothing is put in
+abbrev pub fails_alone : PlanOutcomes → Bool
+fails_alone p = is_without_errors p.plan.items && has_failure p
+
+-- and it never does
+abbrev pub are_good : List PlanOutcomes → Bool
+are_good ps = are_whole ps && not (list_any fails_alone ps)

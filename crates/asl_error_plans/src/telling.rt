@@ -2,7 +2,7 @@
 ghost use Rattle.std.specs.Prelude.{◌≡◌, ◌++◌, map, OnOk, string_bytes};
 ghost use Rattle.std.specs.List.{flat_map, list_any};
 ghost use Rattle.asl_error_plans.specs.Grouping.{gives};
-ghost use Rattle.asl_error_plans.specs.Telling.{name_word, span_word, error_words, words_of, plan_line, line_if, is_endless, is_cut, title_line, endless_section, cut_section, outcome_head, outcome_section, outcomes_text, head_line, plans_text, are_whole};
+ghost use Rattle.asl_error_plans.specs.Telling.{name_word, span_word, error_words, words_of, plan_line, line_if, is_endless, is_cut, title_line, endless_section, cut_section, outcome_head, outcome_section, outcomes_text, head_line, plans_text, are_whole, is_success, has_failure, is_without_errors, fails_alone, are_good};
 
 use crate::grouping::{all_outcomes, gives};
 use crate::injected::InjectedError;
@@ -221,4 +221,48 @@ pub fn are_whole(plans: &[PlanOutcomes]) -> bool
     ensures { result ≡ are_whole plans.now }
 {
     !are_endless(plans) && !are_cut(plans)
+}
+
+/// Whether an outcome, as it is told, is a success.
+fn is_success(outcome: &str) -> bool
+    ensures { result ≡ is_success outcome.now }
+{
+    outcome.as_bytes().starts_with("SUCCEEDED ".as_bytes())
+}
+
+/// Whether some outcome of a plan is no success.
+fn has_failure(plan: &PlanOutcomes) -> bool
+    ensures { result ≡ has_failure plan.now }
+{
+    plan.outcomes.iter().any(|one| !is_success(one.as_str()))
+}
+
+/// Whether a plan puts nothing in.
+fn is_without_errors(plan: &[InjectedError]) -> bool
+    ensures { result ≡ is_without_errors plan.now }
+{
+    match plan {
+        [] => true,
+        [_, ..] => false,
+    }
+}
+
+/// Whether the execution may fail although nothing is put in.
+fn fails_alone(plan: &PlanOutcomes) -> bool
+    ensures { result ≡ fails_alone plan.now }
+{
+    is_without_errors(&plan.plan) && has_failure(plan)
+}
+
+fn may_fail_alone(plans: &[PlanOutcomes]) -> bool
+    ensures { result ≡ list_any fails_alone plans.now }
+{
+    plans.iter().any(|plan| fails_alone(plan))
+}
+
+/// Whether nothing was left out, no order is endless, and each outcome is a success where nothing is put in.
+pub fn are_good(plans: &[PlanOutcomes]) -> bool
+    ensures { result ≡ are_good plans.now }
+{
+    are_whole(plans) && !may_fail_alone(plans)
 }
