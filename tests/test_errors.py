@@ -193,8 +193,8 @@ class Errors(ProgramTest):
             ran = run_program("explore", definition, f"{folder}/mocks.json", chosen, given, "--errors", "1", seconds=300)
             count, found = told(ran.stdout)
             self.assertEqual((ran.stderr, [it for it in found if not it.startswith("outcome ")]), ("", []), chosen)
-            self.assertEqual(ran.returncode, 0)
             outcomes = by_plan(found)
+            self.assertEqual(ran.returncode, 0 if all(it.startswith("SUCCEEDED ") for it in outcomes[()]) else 1, chosen)
             self.assertEqual((len(outcomes), {tuple(sorted(it)) for it in outcomes}), (count, self.plans(definition, answers, machine, case, given, 1)), chosen)
             for one, its in outcomes.items():
                 under = self.in_room({"mocks": mock_file(answers, one, machine, case)}, "explore", definition, "@mocks", chosen, given)
@@ -307,6 +307,13 @@ class Errors(ProgramTest):
         ran = self.in_room({"definition": rounds}, "explore", "@definition", "--errors", "1")
         self.assertEqual(ran.returncode, 1)
         self.assertEqual([sorted(it) for it in told(ran.stdout)[1]["endless"]], [[("T", 0, error, span)] for error in ("Unnamed", "States.Timeout") for span in (False, True)])
+
+    def test_a_failure_without_an_error_is_told_by_the_status(self):
+        fails = {"StartAt": "T", "States": {"T": {"Type": "Task", "Resource": FUNCTION, "Next": "F"}, "F": {"Type": "Fail", "Error": "E"}}}
+        ran = self.in_room({"definition": fails}, "explore", "@definition", "--errors", "1")
+        self.assertEqual((ran.returncode, list(told(ran.stdout)[1])[0]), (1, 'outcome 1 FAILED {"Error":"E"}'))
+        well = self.in_room({"definition": self.ONE}, "explore", "@definition", "--errors", "1")
+        self.assertEqual(well.returncode, 0)
 
     def test_words_that_exclude_one_another_are_told(self):
         texts = {"definition": self.ONE}
