@@ -173,10 +173,7 @@ fn begin_sample<'a, F: Files>(
     ensures begins { IfOk result (λ b. IsSampleBeginning (F.gives files.old) words.now (texts_in b)) }
     ensures refused { IfErr result (IsNoSampleBeginning (F.gives files.old) (F.lacks files.old) words.now) }
 {
-    let definition = match read_file(alloc, files, words.definition) {
-        Ok(definition) => definition,
-        Err(refusal) => return Err(refusal),
-    };
+    let definition = read_file(alloc, files, words.definition)?;
     match input_of(alloc, files, words.input) {
         Ok(input) => begin_with(alloc, words, definition, input),
         Err(refusal) => Err(refusal),

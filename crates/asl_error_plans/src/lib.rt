@@ -19,5 +19,5 @@ pub use injected::InjectedError;
 pub use outcomes::PlanOutcomes;
 pub use printing::put_mock_file;
 pub use putting::with_error;
-pub use telling::{are_good, are_whole, put_plans};
+pub use telling::{are_good, put_plans};
 pub use under::case_under;

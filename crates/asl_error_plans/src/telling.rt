@@ -217,7 +217,7 @@ pub fn put_plans(alloc: Global, out: &mut String, plans: &[PlanOutcomes]) -> Res
 }
 
 /// Whether nothing was left out, and no order is endless.
-pub fn are_whole(plans: &[PlanOutcomes]) -> bool
+fn are_whole(plans: &[PlanOutcomes]) -> bool
     ensures { result ≡ are_whole plans.now }
 {
     !are_endless(plans) && !are_cut(plans)

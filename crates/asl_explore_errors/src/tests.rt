@@ -1,6 +1,6 @@
 // What no clause says of searches where errors are put in: which plans are tried, and that each call succeeds with ample memory.
 use crate::{ErrorsFound, explore_with_errors, filled_setup, put_case, setup_under, witness_of};
-use asl_error_plans::{are_whole, put_plans};
+use asl_error_plans::{are_good, put_plans};
 use asl_explore::{Orders, SoFar, Watch};
 use asl_run_input::Setup;
 use std::alloc::Global;
@@ -58,7 +58,7 @@ plan "Charge" 0 "States.Timeout" once
 plan "Charge" 0 "States.Timeout" always
 "#;
     assert_eq!(rt; text.as_str(), expected);
-    assert!(rt; are_whole(&found.plans));
+    assert!(rt; are_good(&found.plans));
     assert_eq!(rt; found.found.len(), 9);
     Ok(())
 }
