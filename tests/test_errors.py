@@ -18,12 +18,15 @@ FUNCTION = "arn:aws:lambda:us-east-1:123456789012:function:f"
 
 
 def told(text):
-    """What is told of plans: how many there are, and of each outcome, or of `endless` and `search cut`, the plans."""
+    """What is told of plans: how many there are, and of each outcome, or of `endless` and `search cut`, the plans. Of each outcome it is told how many plans
+    give it, and whether it is new: whether it comes only where an error is put in."""
     head, *parts = text.removesuffix("\n").split("\n\n")
     found = {}
     for part in parts:
         title, *lines = part.split("\n")
+        count = lines.pop(0) if title.startswith("outcome ") else None
         found[title] = [plan(line) for line in lines]
+        assert count in (None, f"plans {len(lines)}" + (" new" if () not in found[title] else "")), (title, count)
     assert head.startswith("plans "), head
     return int(head.removeprefix("plans ")), found
 
@@ -261,6 +264,21 @@ class Errors(ProgramTest):
                     under = self.in_room({"mocks": mock_file(answers, one, "M", "c")}, "explore", path, "@mocks", "M#c", given)
                     self.assertEqual(set(its), set(explored(under.stdout).outcomes), one)
 
+    # ---- errors that are named
+
+    def test_errors_that_are_named_are_put_in_alone(self):
+        task = {"Type": "Task", "Resource": FUNCTION, "Retry": [{"ErrorEquals": ["Busy"], "MaxAttempts": 1}], "End": True}
+        texts = {"definition": {"StartAt": "T", "States": {"T": task}}}
+        spans = ("once", "always")
+        for names in (["Lost"], ["Lost", "Busy"], ["Busy", "Lost", "Busy"], ["States.Timeout"]):
+            words = [word for name in names for word in ("--error", name)]
+            count, found = told(self.in_room(texts, "explore", "@definition", "--errors", "1", *words).stdout)
+            wanted = {(), *((("T", 0, name, span == "always"),) for name in names for span in spans)}
+            self.assertEqual((count, set(by_plan(found))), (len(wanted), wanted), names)
+        count, found = told(self.in_room(texts, "explore", "@definition", "--errors", "2", "--error=Busy").stdout)
+        # behind `Busy`, once or for good, it is put in at the retry, too
+        self.assertEqual((count, max(map(len, by_plan(found)))), (1 + 2 + 2 * 2, 2))
+
     # ---- the answers of Tasks that the case doesn't name
 
     ONE = {"StartAt": "T", "States": {"T": {"Type": "Task", "Resource": FUNCTION, "ResultPath": "$.t", "OutputPath": "$.t.id", "End": True}}}
@@ -322,6 +340,8 @@ class Errors(ProgramTest):
             (["--errors", "3"], "'3'"),
             (["--errors", "1", "--format", "tree"], "--witness <I>"),
             (["--errors", "1", "--case", "M#c"], "<MOCKS>"),
+            (["--error", "Busy"], "the argument '--error <NAME>' is for --errors"),
+            (["--errors", "1", "--error"], "--error <NAME>"),
         ]:
             ran = self.in_room(texts, "explore", "@definition", *words)
             self.assertEqual((ran.returncode, ran.stdout), (2, ""), words)
@@ -329,6 +349,13 @@ class Errors(ProgramTest):
         ran = self.in_room({**texts, "mocks": "{}", "input": "{}"}, "explore", "@definition", "@mocks", "M", "@input", "--witness", "1", "--format", "mocks")
         self.assertEqual((ran.returncode, ran.stdout), (2, ""))
         self.assertIn("the value 'mocks' of '--format' is for --errors", ran.stderr)
+
+    def test_a_definition_alone_is_needed(self):
+        ran = run_program("explore", "--errors", "1")
+        self.assertEqual((ran.returncode, ran.stdout), (2, ""))
+        self.assertIn("<DEF>", ran.stderr)
+        for word in ("MOCKS", "CHOSEN", "INPUT"):
+            self.assertNotIn(f"<{word}>", ran.stderr)
 
     def test_a_definition_with_a_fault_is_refused(self):
         ran = self.in_room({"definition": '{"StartAt":"A","States":{}}'}, "explore", "@definition", "--errors", "1")

@@ -86,6 +86,45 @@ class ProjectTest(unittest.TestCase):
                 status, printed, told = self.one_after_another(*(["test", "task.json", "mocks.json", file, *options] for file in files))
                 self.assertEqual(self.ran("test", *options), (status, printed + self.counts(options, files), told))
 
+    def test_each_case_is_explored(self):
+        """explore does what it does for each test case of each workflow with a mock file, behind the name of the case."""
+        cases = '{"StateMachines":{"M":{"TestCases":{"A":{"T":"one"},"B":{}}},"N":{"TestCases":{"C":{"T":"one"}}}},"MockedResponses":{"one":{"0":{"Return":1}}}}'
+        self.write("cases.json", cases)
+        of_m = '[[workflow]]\ndefinition = "task.json"\nmocks = "cases.json"\nmachine = "M"\ninput = "passes.json"\n'
+        of_all = '[[workflow]]\ndefinition = "task.json"\nmocks = "cases.json"\n'
+        without_mocks = '[[workflow]]\ndefinition = "choice.json"\n'
+        for project, wanted in (
+            (without_mocks + of_m, [("M#A", "passes.json"), ("M#B", "passes.json")]),
+            (of_all, [("M#A", "{}"), ("M#B", "{}"), ("N#C", "{}")]),
+            (TWO + of_m.replace('"M"', '"N"'), [("M#A", "{}"), ("N#C", "passes.json")]),
+            (without_mocks, []),
+        ):
+            self.write("asl.toml", project)
+            for options in ([], ["--prompt", "--calls"], ["--limit", "1"], ["--quiet"]):
+                with self.subTest(project=project, options=options):
+                    status, printed, told = 0, "", ""
+                    for chosen, given in wanted:
+                        mocks = "mocks.json" if project.startswith(TWO) and chosen == "M#A" else "cases.json"
+                        one = self.ran("explore", "task.json", mocks, chosen, given, *options)
+                        status, printed, told = max(status, one[0]), f'{printed}case "{chosen}"\n{one[1]}\n', told + one[2]
+                    self.assertEqual(self.ran("explore", *options), (status, printed, told))
+                    self.assertEqual(self.ran("explore", *options, "--project", "asl.toml"), (status, printed, told))
+
+    def test_what_can_t_be_explored_is_told(self):
+        workflow = '[[workflow]]\ndefinition = "task.json"\nmocks = "mine.json"\nmachine = "M"\n'
+        self.write("asl.toml", workflow + workflow.replace("mine", "mocks").replace('"M"', '"N"'))
+        self.assertEqual(self.ran("explore", "--quiet"), (2, "", "fault: file mine.json\nfault: case: M7 NoMachine\n"))
+        self.write("asl.toml", workflow)
+        for mocks in ("{", "[]", '{"StateMachines":{}}', MOCKS.replace('"0"', '"x"'), '{"StateMachines":{"M":{"TestCases":{}}},"MockedResponses":{}}'):
+            with self.subTest(mocks=mocks):
+                self.write("mine.json", mocks)
+                alone = self.ran("explore", "task.json", "mine.json", "M#A" if '"x"' in mocks else "M", "{}")
+                self.assertNotEqual(alone[0], 0)
+                name = 'case "M"\n' if alone[1] else ""
+                self.assertEqual(self.ran("explore"), (alone[0], name + alone[1] + ("\n" if name else ""), alone[2]))
+        self.write("asl.toml", '[[workflow]]\ndefinition = "faulty.json"\nmocks = "mocks.json"\n')
+        self.assertEqual(self.ran("explore"), self.ran("explore", "faulty.json", "mocks.json", "M#A", "{}"))
+
     def counts(self, options, files):
         """How many of these files passed and failed, which stands behind reports for people."""
         if "--list" in options or "json" in options:
@@ -189,12 +228,12 @@ class ProjectTest(unittest.TestCase):
         self.assertEqual((status, printed), (2, ""))
         self.assertTrue(told.startswith("fault: definition: F10 NoTarget /States/A/Next\nbelow/deep/../../faulty.json:1:"), told)
         self.assertEqual(self.ran("check", "--project", "my.toml"), (2, "", "fault: file my.toml\n"))
-        for command in ("check", "lint", "test"):
+        for command in ("check", "lint", "test", "explore"):
             self.assertEqual(self.ran(command), (2, "", "fault: file asl.toml\n"))
 
     def test_refused(self):
         for text, fault in REFUSED:
-            for command in ("check", "lint", "test"):
+            for command in ("check", "lint", "test", "explore"):
                 with self.subTest(text=text, command=command):
                     self.write("asl.toml", text)
                     status, printed, told = self.ran(command)
@@ -214,7 +253,9 @@ class ProjectTest(unittest.TestCase):
             ["run", "M#A", "--project", "asl.toml", "--mocks", "mocks.json"],
             ["run", "M#A", "--project", "asl.toml", "--case", "M#A"],
             ["debug", "M#A", "{}", "--input", "{}"],
-            ["explore", "--project", "asl.toml"],
+            ["explore", "--project", "asl.toml", "--witness", "1"],
+            ["explore", "--input", "{}"],
+            ["run", "--project", "asl.toml"],
             ["run", "task.json", "mocks.json"],
             ["run"],
         ):

@@ -131,6 +131,15 @@ def is_chosen(name, plain, given):
     return name in ("run", "debug", "explore") and ("--project" in given or "--case" not in given and len(plain) < 3 and "#" in "".join(plain[:1]))
 
 
+def is_of_project(name, plain, given):
+    """Whether a command is done for each workflow of a project."""
+    if name == "lint":
+        return not plain and given.keys().isdisjoint(ROLES)
+    if name == "explore":
+        return not plain and given.keys().isdisjoint(("--mocks", "--case", "--input", "--test", "--errors", "--error", "--witness", "--format"))
+    return name in ("check", "test") and not plain
+
+
 def is_definition_alone(plain, given):
     """Whether errors are put in and no mock file is named, so that a definition is enough."""
     return "--errors" in given and len(plain) == 1 and given.keys().isdisjoint(("--mocks", "--case", "--test"))
@@ -143,7 +152,7 @@ def is_machine(plain, given):
 
 def lacking(name, plain, given, told):
     """The first word that a command needs and that is neither there nor given by the option that stands for it, or None."""
-    is_enough = is_chosen(name, plain, given) or is_definition_alone(plain, given)
+    is_enough = is_of_project(name, plain, given) or is_chosen(name, plain, given) or is_definition_alone(plain, given)
     needs_run = name in ("run", "debug", "explore") and not is_enough or "--run" in given
     needs_suite = name == "test" and plain
     of_a_run = OF_A_RUN[:1] if "--test" in given else OF_A_RUN
@@ -171,7 +180,7 @@ def complaint(words):
         wrong = f"{plain[len(told.arguments)]!r} is one word too many"
     if wrong:
         return f"asl: {wrong}\nUsage: {told.usage}"
-    if is_chosen(name, plain, given) or name in ("check", "test") and not plain or name == "lint" and not plain and given.keys().isdisjoint(ROLES):
+    if is_chosen(name, plain, given) or is_of_project(name, plain, given):
         files = [given.get("--project", "asl.toml"), *plain[1:2]]
     elif name == "lint":
         files = plain[:2] if is_machine(plain, given) else plain

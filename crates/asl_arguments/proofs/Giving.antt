@@ -1,13 +1,13 @@
 -- What is read off clap's matches is what its grammar gives.
 use Rattle.std.proofs.Common.{◌≡◌, ◌≢◌, ◌∙◌, inl, inr, ℕ, List, [], true, ap, subst, codes}
 use Rattle.std.specs.Prelude.{Option, Result, Err, IfOk, option_map}
-use Rattle.clap.specs.Words.{App, HasKind, HasMatchesOf, IsAmong, Kinds, built, all_of, first_of, first_value, found_of, is_simple, is_simple_and_free, kind_of, matched_of, raw_values}
+use Rattle.clap.specs.Words.{App, HasKind, HasMatchesOf, IsAmong, Kinds, all_of, built, first_of, first_value, found_of, is_simple, is_simple_and_free, kind_of, matched_of, matches_of, raw_values}
 use Rattle.clap.specs.Faults.{fault_of, is_free_app}
 use Rattle.clap.specs.declared.ArgMatches.{ArgMatches}
 use Rattle.clap.specs.declared.Error.{Error}
 use Rattle.clap.specs.declared.error.ErrorKind.TheVariants.{OutOfMemory}
 use Rattle.clap.proofs.WalkLemmas.{both, first_value-rows, raw_values-rows}
-use Rattle.asl_arguments.specs.Given.{IsGiven, IsTaken, files_in, is_set, said_all, values_of}
+use Rattle.asl_arguments.specs.Given.{IsGiven, IsTaken, IsTakenBy, all_found, is_set, values_in, values_of}
 use Rattle.asl_arguments.specs.declared.found.Taken.{Taken}
 use Rattle.asl_words.specs.declared.given.Given.{Given}
 use Rattle.asl_arguments.specs.declared.found.Ungiven.{Ungiven}
@@ -39,6 +39,7 @@ given_too v w g same h = record {
   limit = h.limit ∙ same (codes "limit");
   witness = h.witness ∙ same (codes "witness");
   errors = h.errors ∙ same (codes "errors");
+  error = h.error ∙ same (codes "error");
   most_steps = h.most_steps ∙ same (codes "max-steps");
   junit = h.junit ∙ same (codes "junit");
   json = h.json ∙ same (codes "json");
@@ -64,14 +65,16 @@ found_given app words m g plain has =
     let simple = (both (is_simple app) (is_free_app (built app)) plain).0 in
     given_too _ _ g (λ n. first_value-rows (found_of m) n ∙ ap (first_of n) (has simple).0)
 
--- and so are the files
+-- and so is all that is taken
 pub found_taken : (app : App) (words : List (List ℕ)) (m : ArgMatches) (t : Taken) → is_simple_and_free app ≡ true → HasMatchesOf app words m
-    → IsGiven (first_value (found_of m)) t.given × (said_all t.files.items ≡ files_in (option_map raw_values (matched_of (found_of m) (codes "FILE")))) → IsTaken app words t
+    → IsTakenBy (found_of m) t → IsTaken app words t
 found_taken app words m t plain has h =
     let simple = (both (is_simple app) (is_free_app (built app)) plain).0 in
+    let all : (n : List ℕ) → all_found (found_of m) n ≡ values_in (all_of n (matches_of app words)) = λ n. ap values_in (raw_values-rows (found_of m) n ∙ ap (all_of n) (has simple).0) in
     record {
-      given = found_given app words m t.given plain has h.0;
-      files = h.1 ∙ ap files_in (raw_values-rows (found_of m) (codes "FILE") ∙ ap (all_of (codes "FILE")) (has simple).0);
+      given = found_given app words m t.given plain has h.given;
+      files = h.files ∙ all (codes "FILE");
+      errors = h.errors ∙ all (codes "error");
     }
 
 -- an error that isn't want of memory is a reason

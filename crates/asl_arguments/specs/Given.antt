@@ -2,7 +2,8 @@
 use Rattle.std.specs.Prelude.{Bool, false, List, [], ℕ, Option, Some, None, ◌≡◌, map, option_map, codes}
 use Rattle.std.specs.Borrow.{Bor}
 use Rattle.std.specs.Str.{bytes_eq}
-use Rattle.clap.specs.Words.{App, all_of, first_of, matches_of}
+use Rattle.clap.specs.Words.{App, all_of, first_of, first_value, matched_of, matches_of, raw_values}
+use Rattle.clap.specs.declared.parser.matches.Found.{Found}
 use Rattle.asl_arguments.specs.declared.found.Taken.{Taken}
 use Rattle.asl_words.specs.declared.given.Given.{Given}
 
@@ -40,6 +41,7 @@ pub record IsGiven (value : List ℕ → Option (List ℕ)) (g : Given) : Type 0
   pub limit : said g.limit ≡ value (codes "limit")
   pub witness : said g.witness ≡ value (codes "witness")
   pub errors : said g.errors ≡ value (codes "errors")
+  pub error : said g.error ≡ value (codes "error")
   pub most_steps : said g.most_steps ≡ value (codes "max-steps")
   pub junit : said g.junit ≡ value (codes "junit")
   pub json : said g.json ≡ value (codes "json")
@@ -63,14 +65,24 @@ abbrev pub values_of : App → List (List ℕ) → List ℕ → Option (List ℕ
 values_of app words n = first_of n (matches_of app words)
 
 -- all that they give one name; none where there are none
-abbrev pub files_in : Option (List (List ℕ)) → List (List ℕ)
-files_in None = []
-files_in (Some fs) = fs
+abbrev pub values_in : Option (List (List ℕ)) → List (List ℕ)
+values_in None = []
+values_in (Some vs) = vs
 
 abbrev pub said_all : List (Bor (List ℕ)) → List (List ℕ)
 said_all = map (λ s. s.now)
 
--- what words give, and the files that they name one after another
+-- what clap found, and the files and the errors that were named one after another
+abbrev pub all_found : Found → List ℕ → List (List ℕ)
+all_found f n = values_in (option_map raw_values (matched_of f n))
+
+pub record IsTakenBy (f : Found) (t : Taken) : Type 0 where
+  pub given : IsGiven (first_value f) t.given
+  pub files : said_all t.files.items ≡ all_found f (codes "FILE")
+  pub errors : said_all t.errors.items ≡ all_found f (codes "error")
+
+-- what words give
 pub record IsTaken (a : App) (words : List (List ℕ)) (t : Taken) : Type 0 where
   pub given : IsGiven (values_of a words) t.given
-  pub files : said_all t.files.items ≡ files_in (all_of (codes "FILE") (matches_of a words))
+  pub files : said_all t.files.items ≡ values_in (all_of (codes "FILE") (matches_of a words))
+  pub errors : said_all t.errors.items ≡ values_in (all_of (codes "error") (matches_of a words))

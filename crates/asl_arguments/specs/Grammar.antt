@@ -15,12 +15,13 @@ use Rattle.asl_words.specs.declared.verbs.Verb.TheVariants.{Check, Lint, Print, 
 -- ---- what there is
 
 -- an argument is a word, known by its place, or all words from there on, or an option of two hyphens and a name: without a value, with a
--- text, with one of some words, or with a number from a least to a greatest
+-- text, with one as often as it is there, with one of some words, or with a number from a least to a greatest
 pub data Kind : Type 0 where
   word : Kind
   words : Kind
   flag : Kind
   text : Kind
+  texts : Kind
   choice : List Text → Kind
   number : ℕ → ℕ → Kind
 
@@ -117,7 +118,7 @@ explore_arguments = begin_arguments (preset (codes "limit") (number 1 1000000) (
     ∷ free (codes "prompt") flag ∷ free (codes "calls") flag
     ∷ free (codes "witness") (number 1 1000000)
     ∷ free (codes "format") (choice (codes "steps" ∷ codes "tree" ∷ codes "data" ∷ codes "test" ∷ codes "mocks" ∷ []))
-    ∷ free (codes "errors") (number 0 2) ∷ project_argument)
+    ∷ free (codes "errors") (number 0 2) ∷ free (codes "error") texts ∷ project_argument)
 
 -- each command may be told to be quiet
 abbrev pub quiet : Argument
@@ -148,6 +149,7 @@ kind_seen kind.Word = word
 kind_seen kind.Words = words
 kind_seen kind.Flag = flag
 kind_seen (kind.Text value) = text
+kind_seen (kind.Texts value) = texts
 kind_seen (kind.Choice names) = choice (map (λ n. n.now) names.now)
 kind_seen (kind.Number value least greatest) = number least greatest
 
@@ -184,6 +186,12 @@ kind_rule name kind.Words = record (new_rule name) { action = Some Append }
 kind_rule name kind.Flag = record (new_rule name) { long = Some name; action = Some SetTrue }
 kind_rule name (kind.Text value) =
     record (new_rule name) { long = Some name; value_names = 1; parser = Some parser.String }
+kind_rule name (kind.Texts value) = record (new_rule name) {
+  long = Some name;
+  value_names = 1;
+  parser = Some parser.String;
+  action = Some Append;
+}
 kind_rule name (kind.Choice names) =
     record (new_rule name) { long = Some name; value_names = 1; parser = Some (parser.Names names) }
 kind_rule name (kind.Number value least greatest) = record (new_rule name) {

@@ -4,7 +4,7 @@ ghost use Rattle.std.specs.List.{list_all};
 ghost use Rattle.clap.specs.Faults.{is_simple_and_free};
 ghost use Rattle.asl_arguments.specs.Grammar.{asl_commands, app_for, command_seen, default_of, is_required};
 
-use crate::arguments::Kind::{Choice, Flag, Number, Text, Word, Words};
+use crate::arguments::Kind::{Choice, Flag, Number, Text, Texts, Word, Words};
 use crate::arguments::Presence::{Default, Optional, Required};
 use crate::helps::Help;
 use asl_words::Verb;
@@ -40,6 +40,8 @@ pub enum Kind {
     Flag,
     /// An option with a text, and what help calls that.
     Text(&'static str),
+    /// The same, which may be there more than once.
+    Texts(&'static str),
     /// An option with one of these words.
     Choice(&'static [&'static str]),
     /// An option with a number, what help calls that, and the least and the greatest.
@@ -356,7 +358,7 @@ const TEST: &[Argument] = &[
 ];
 
 const EXPLORE: &[Argument] = &[
-    DEFINITION_OR_CHOSEN,
+    DEFINITION_OR_CASES,
     MOCKS_WORD,
     CHOSEN_WORD,
     INPUT_WORD,
@@ -400,6 +402,12 @@ const EXPLORE: &[Argument] = &[
         presence: Optional,
         help: Help::ExploreErrors,
     },
+    Argument {
+        name: "error",
+        kind: Texts("NAME"),
+        presence: Optional,
+        help: Help::ExploreError,
+    },
     PROJECT_OF_CHOSEN,
     QUIET,
 ];
@@ -436,6 +444,14 @@ const DEFINITION_OR_CHOSEN: Argument = Argument {
     kind: Word,
     presence: Optional,
     help: Help::DefinitionOrChosen,
+};
+
+/// The same, where nothing need be named.
+const DEFINITION_OR_CASES: Argument = Argument {
+    name: "DEF",
+    kind: Word,
+    presence: Optional,
+    help: Help::DefinitionOrCases,
 };
 
 /// The name of the file of the project of which something is chosen.

@@ -1,8 +1,8 @@
 // What is given for each argument of a command, as clap finds it.
-ghost use Rattle.std.specs.Prelude.{◌≡◌, ◌≢◌, [], true, codes, Err, IfOk, map, option_map};
-ghost use Rattle.clap.specs.Words.{app_of, kind_of, fault_of, first_value, found_of, is_simple_and_free, matched_of, raw_values};
+ghost use Rattle.std.specs.Prelude.{◌≡◌, ◌≢◌, [], true, Err, IfOk, map};
+ghost use Rattle.clap.specs.Words.{app_of, kind_of, fault_of, first_value, found_of, is_simple_and_free};
 ghost use Rattle.asl_arguments.specs.Grammar.{app_for};
-ghost use Rattle.asl_arguments.specs.Given.{IsGiven, IsTaken, files_in, is_set, said_all};
+ghost use Rattle.asl_arguments.specs.Given.{IsGiven, IsTaken, IsTakenBy, all_found, is_set, said_all};
 
 use crate::arguments::CommandRow;
 use crate::lines::command_of;
@@ -12,11 +12,12 @@ use clap::{ArgMatches, Command, Error};
 use std::alloc::{AllocError, Global};
 use std::convert::AsStr;
 
-/// What is given, and the files that are named one after another.
+/// What is given, and the files and the errors that are named one after another.
 #[derive(Drop)]
 pub struct Taken<'a> {
     pub given: Given<'a>,
     pub files: Vec<&'a str>,
+    pub errors: Vec<&'a str>,
 }
 
 /// Why nothing is given.
@@ -64,27 +65,32 @@ fn given_to<'a, S: AsStr>(
 
 /// What is given by these matches.
 fn taken_by<'a>(alloc: Global, matches: &ArgMatches<'a>) -> Result<Taken<'a>, Ungiven>
-    ensures ok { IfOk result (λ t. IsGiven (first_value (found_of matches.now)) t.given
-        × (said_all t.files.items ≡ files_in (option_map raw_values
-        (matched_of (found_of matches.now) (codes "FILE"))))) }
+    ensures ok { IfOk result (IsTakenBy (found_of matches.now)) }
     ensures err { result ≢ Err Ungiven.Refused }
 {
-    match files_by(alloc, matches) {
-        Ok(files) => Ok(Taken {
+    match (
+        named_by(alloc, matches, "FILE"),
+        named_by(alloc, matches, "error"),
+    ) {
+        (Ok(files), Ok(errors)) => Ok(Taken {
             given: given_by(matches),
             files,
+            errors,
         }),
-        Err(AllocError) => Err(Ungiven::OutOfMemory),
+        _ => Err(Ungiven::OutOfMemory),
     }
 }
 
-/// The files that are named one after another.
-fn files_by<'a>(alloc: Global, matches: &ArgMatches<'a>) -> Result<Vec<&'a str>, AllocError>
-    ensures { IfOk result (λ fs. said_all fs.items ≡ files_in (option_map raw_values
-        (matched_of (found_of matches.now) (codes "FILE")))) }
+/// All values of an argument. The error is that memory ran out.
+fn named_by<'a>(
+    alloc: Global,
+    matches: &ArgMatches<'a>,
+    name: &str,
+) -> Result<Vec<&'a str>, AllocError>
+    ensures { IfOk result (λ vs. said_all vs.items ≡ all_found (found_of matches.now) name.now) }
 {
-    match matches.get_strs("FILE") {
-        Some(files) => copied(alloc, files),
+    match matches.get_strs(name) {
+        Some(values) => copied(alloc, values),
         None => Ok(Vec::new(alloc)),
     }
 }
@@ -136,6 +142,7 @@ fn given_by<'a>(matches: &ArgMatches<'a>) -> Given<'a>
         limit: matches.get_str("limit"),
         witness: matches.get_str("witness"),
         errors: matches.get_str("errors"),
+        error: matches.get_str("error"),
         most_steps: matches.get_str("max-steps"),
         junit: matches.get_str("junit"),
         json: matches.get_str("json"),

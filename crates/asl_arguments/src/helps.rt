@@ -47,10 +47,12 @@ pub enum Help {
     ExploreWitness,
     ExploreFormat,
     ExploreErrors,
+    ExploreError,
     ExplainCode,
     Definition,
     DefinitionOrNone,
     DefinitionOrChosen,
+    DefinitionOrCases,
     Project,
     ProjectOfChosen,
     ProjectOfFiles,
@@ -129,6 +131,8 @@ impl Help {
                 "How the steps of --witness are printed: as a steps file, which is the default, by what happened at each state, or as a file of one test; with --errors also the mock file of its plan",
             Help::ExploreErrors =>
                 "Tries every order where invocations of Tasks fail, too: under each plan of at most so many errors, from 0 to 2; Tasks that the case doesn't name are answered by the other cases of the machine, else as by asl mocks, so no mock file need be named",
+            Help::ExploreError =>
+                "With --errors: the error that is put in, in place of those that retriers and catchers tell apart; it may be named more than once",
             Help::ExplainCode =>
                 "A code that a command told, as F10, no-default or States.Timeout; without it, all codes are listed",
             Help::Definition =>
@@ -137,6 +141,8 @@ impl Help {
                 "The file of the state machine's definition; without it, each workflow of the project is taken; - is standard input, as for each file",
             Help::Project =>
                 "The project file, where no definition is named; asl.toml if it isn't given",
+            Help::DefinitionOrCases =>
+                "The file of the state machine's definition; or, in place of the first four words, Machine#Case of a project, behind which INPUT may stand; without any of them, each test case of the project's workflows is taken; - is standard input, as for each file",
             Help::DefinitionOrChosen =>
                 "The file of the state machine's definition; or, in place of the first four words, Machine#Case of a project, behind which INPUT may stand; - is standard input, as for each file",
             Help::ProjectOfChosen =>

@@ -96,6 +96,10 @@ fn of_kind<'a>(alloc: Global, row: &Argument) -> Arg<'a>
             .long(row.name)
             .action(ArgAction::SetTrue),
         Kind::Text(value) => option(alloc, row.name, value, ValueParser::String),
+        Kind::Texts(value) => {
+            let option = option(alloc, row.name, value, ValueParser::String);
+            option.action(ArgAction::Append)
+        }
         Kind::Choice(names) => option(alloc, row.name, "FORMAT", ValueParser::Names(names)),
         Kind::Number(value, least, greatest) => {
             option(

@@ -84,10 +84,14 @@ pub record IsFoundFor (gives : List ℕ → List ℕ → Type 0) (w : ExploreWor
 abbrev pub IsWanting : {O E : Type 0} → Io O E → Type 0
 IsWanting io = IsUntouched io.out × (io.status ≡ 2) × IsTold io.err (fault_line (codes "OutOfMemory"))
 
--- all outcomes were printed, and these notes were told where they are wanted
+-- a text was printed, and these notes were told where they are wanted; the status says whether all is good
+abbrev pub AreTextsShown : {O E : Type 0} → Io O E → Bool → List ℕ → Bool → List ℕ → Type 0
+AreTextsShown io quiet text good notes =
+    (IsNoted io.err (unless_quiet quiet notes) × Prints io text (status_of good)) ⊎ IsWanting io
+
+-- all outcomes were printed
 abbrev pub AreAllShown : {O E : Type 0} → Io O E → Bool → Explored → List ℕ → Type 0
-AreAllShown io quiet x notes =
-    (IsNoted io.err (unless_quiet quiet notes) × Prints io (explored_text x) (status_of (is_good x))) ⊎ IsWanting io
+AreAllShown io quiet x notes = AreTextsShown io quiet (explored_text x) (is_good x) notes
 
 -- the outcome that is wanted was printed; or there is none, which was told
 abbrev pub IsOneShown : {O E : Type 0} → Io O E → Option (List ℕ) → Type 0

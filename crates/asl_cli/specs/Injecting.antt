@@ -9,7 +9,7 @@ use Rattle.asl_explore.specs.declared.found.Found.{Found}
 use Rattle.asl_error_plans.specs.Telling.{plans_text, are_good}
 use Rattle.asl_error_plans.specs.declared.outcomes.PlanOutcomes.{PlanOutcomes}
 use Rattle.asl_explore_errors.specs.Filling.{IsFilled}
-use Rattle.asl_explore_errors.specs.Searches.{AreAllFound, witness_of}
+use Rattle.asl_explore_errors.specs.Searches.{AreAllFound, tasks_failing, witness_of}
 use Rattle.asl_explore_errors.specs.Under.{case_file, IsUnder}
 use Rattle.asl_explore_errors.specs.declared.tried.ErrorsFound.{ErrorsFound}
 use Rattle.asl_words.specs.declared.words.ErrorsBegin.{ErrorsBegin}
@@ -85,23 +85,24 @@ abbrev pub IsShownOf : ErrorsWords → List ℕ → Setup → ErrorsFound → Op
 IsShownOf w chosen s x None t good = (t ≡ Some (plans_text x.plans.items)) × (good ≡ are_good x.plans.items)
 IsShownOf w chosen s x (Some n) t good = IsPlanShown w chosen s (witness_of n x) t × (good ≡ true)
 
--- what a search may find of an execution of which this is the mock file, with an answer to each Task, is shown so
-pub record IsTried (w : ErrorsWords) (mocks chosen : List ℕ) (own : Setup) (t : Option (List ℕ)) (good : Bool) : Type 0
-  where
-    pub setup : Setup
-    pub filled : IsFilled mocks own setup
-    pub found : ErrorsFound
-    pub are_found : AreAllFound (orders_for w.prompt) w.limit setup found
-    pub shown : IsShownOf w chosen setup found w.witness t good
+-- what a search may find of an execution of which this is the mock file, with an answer to each Task, where these errors are put in, if
+-- any are named, is shown so
+pub record IsTried (w : ErrorsWords) (names : List (List ℕ)) (mocks chosen : List ℕ) (own : Setup) (t : Option (List ℕ))
+    (good : Bool) : Type 0 where
+  pub setup : Setup
+  pub filled : IsFilled mocks own setup
+  pub found : ErrorsFound
+  pub are_found : AreAllFound w.errors (tasks_failing names setup.machine) (orders_for w.prompt) w.limit setup found
+  pub shown : IsShownOf w chosen setup found w.witness t good
 
 -- the same of the execution that the files may give
-pub record IsTriedFor (gives : List ℕ → List ℕ → Type 0) (w : ErrorsWords) (t : Option (List ℕ)) (good : Bool) : Type 0
-  where
-    pub texts : Texts
-    pub begins : AreErrorsTexts gives w.begin texts
-    pub own : Setup
-    pub accepted : Accepts (without_steps texts) own None
-    pub tried : IsTried w texts.mocks texts.chosen own t good
+pub record IsTriedFor (gives : List ℕ → List ℕ → Type 0) (w : ErrorsWords) (names : List (List ℕ)) (t : Option (List ℕ))
+    (good : Bool) : Type 0 where
+  pub texts : Texts
+  pub begins : AreErrorsTexts gives w.begin texts
+  pub own : Setup
+  pub accepted : Accepts (without_steps texts) own None
+  pub tried : IsTried w names texts.mocks texts.chosen own t good
 
 -- ---- what is printed
 
@@ -110,8 +111,8 @@ abbrev pub IsErrorsShown : {O E : Type 0} → Io O E → Option (List ℕ) → B
 IsErrorsShown io (Some t) good = IsUntouched io.err × Prints io t (status_of good)
 IsErrorsShown io None good = (t : List ℕ) × IsUntouched io.out × (io.status ≡ 2) × IsTold io.err t
 
--- the exploration for these words: what was found was printed; or nothing was tried, which was told
-abbrev pub AreErrorsExplored : {O E : Type 0} → FileSystem → Io O E → Bool → ErrorsWords → Type 0
-AreErrorsExplored files io quiet w =
-    ((t : Option (List ℕ)) × (good : Bool) × IsTriedFor files.gives w t good × IsErrorsShown io t good)
+-- the exploration for these words and errors: what was found was printed; or nothing was tried, which was told
+abbrev pub AreErrorsExplored : {O E : Type 0} → FileSystem → Io O E → Bool → ErrorsWords → List (List ℕ) → Type 0
+AreErrorsExplored files io quiet w names =
+    ((t : Option (List ℕ)) × (good : Bool) × IsTriedFor files.gives w names t good × IsErrorsShown io t good)
     ⊎ IsRefusedFor io quiet (IsErrorsReason files.gives files.lacks w.begin)

@@ -5,6 +5,8 @@ pub mod Answers
 pub mod Noting
 pub mod Faults
 pub mod Exploring
+pub mod Cases
+pub mod ExploringAll
 pub mod Choosing
 pub mod Covers
 pub mod Injecting

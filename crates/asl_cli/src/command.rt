@@ -19,6 +19,7 @@ use crate::checking::check;
 use crate::debugging::debug;
 use crate::explaining::explain;
 use crate::exploring::explore;
+use crate::exploring_all::explore_all;
 use crate::fault::CommandFault;
 use crate::formatting::emulate_in;
 use crate::graphing::graph;
@@ -134,7 +135,8 @@ pub fn obey<
         Words::Test(words) => test(rt, gate, alloc, words, quiet, files, outputs, out, err),
         Words::TestAll(words) => test_all(rt, gate, alloc, words, quiet, files, outputs, out, err),
         Words::Explore(words) => explore(gate, alloc, words, quiet, files, out, err),
-        Words::Errors(words) => inject(gate, alloc, words, quiet, files, out, err),
+        Words::ExploreAll(words) => explore_all(gate, alloc, words, quiet, files, out, err),
+        Words::Errors(words) => inject(gate, alloc, words, &line.errors, quiet, files, out, err),
         Words::Explain(words) => explain(alloc, words, quiet, out, err),
     }
 }

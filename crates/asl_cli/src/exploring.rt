@@ -71,7 +71,7 @@ pub(crate) fn orders_for(prompt: bool) -> Orders
 }
 
 /// Reads the files, in the order of the words, and tries the orders.
-fn explore_files<'a, W: Watch, F: Files>(
+pub(crate) fn explore_files<'a, W: Watch, F: Files>(
     watch: &W,
     alloc: Global,
     words: &ExploreWords<'a>,

@@ -6,7 +6,7 @@ ghost use Rattle.asl_mock_sample.specs.Files.{sample_text};
 ghost use Rattle.asl_run_input.specs.Emulations.{Accepts};
 ghost use Rattle.asl_host.specs.Outcomes.{sink_use};
 ghost use Rattle.asl_host.specs.declared.files.Unreadable.{Unreadable};
-ghost use Rattle.asl_explore_errors.specs.Searches.{witness_of};
+ghost use Rattle.asl_explore_errors.specs.Searches.{names_in, witness_of};
 ghost use Rattle.asl_explore_errors.specs.Under.{case_file, IsUnder};
 ghost use Rattle.asl_error_plans.specs.Telling.{are_good, plans_text};
 ghost use Rattle.asl_cli.specs.Beginnings.{texts_in, without_steps};
@@ -39,12 +39,13 @@ const MACHINE: &str = "Machine";
 /// Its case in which all goes well.
 const GOOD_CASE: &str = "Machine#good";
 
-/// The command `explore` where errors are put in: tries every order of an execution's branches under every plan of errors, and prints each outcome with the
-/// plans that give it, or a plan of one alone.
+/// The command `explore` where errors are put in, those of these names where any are named: tries every order of an execution's branches under every plan of
+/// errors, and prints each outcome with the plans that give it, or a plan of one alone.
 pub fn inject<W: Watch, F: Files, O: Sink, E: Sink>(
     watch: &W,
     alloc: Global,
     words: &ErrorsWords<'_>,
+    names: &[&str],
     quiet: bool,
     files: &mut F,
     out: &mut O,
@@ -52,9 +53,9 @@ pub fn inject<W: Watch, F: Files, O: Sink, E: Sink>(
 ) -> u8
     ensures { AreErrorsExplored (file_system (F.gives files.old) (F.lacks files.old))
         (io (sink_use O.taken O.failures out.old out.new)
-        (sink_use E.taken E.failures err.old err.new) result) quiet words.now }
+        (sink_use E.taken E.failures err.old err.new) result) quiet words.now (names_in names.now) }
 {
-    match try_files(watch, alloc, words, files) {
+    match try_files(watch, alloc, words, names, files) {
         Ok(tried) => show(alloc, &tried, out, err),
         Err(refusal) => {
             refusal.write(alloc, quiet, err);
@@ -202,14 +203,15 @@ fn try_files<'a, W: Watch, F: Files>(
     watch: &W,
     alloc: Global,
     words: &ErrorsWords<'_>,
+    names: &[&str],
     files: &mut F,
 ) -> Result<Tried, CommandFault<'a>>
-    ensures tried { IfOk result (λ r. IsTriedFor (F.gives files.old) words.now
+    ensures tried { IfOk result (λ r. IsTriedFor (F.gives files.old) words.now (names_in names.now)
         (option_map string_bytes r.text) r.good) }
     ensures refused { IfErr result (IsErrorsReason (F.gives files.old) (F.lacks files.old) words.now.begin) }
 {
     match begin_errors(alloc, files, &words.begin) {
-        Ok(beginning) => try_from(watch, alloc, words, &beginning),
+        Ok(beginning) => try_from(watch, alloc, words, names, &beginning),
         Err(refusal) => Err(refusal),
     }
 }
@@ -219,10 +221,11 @@ fn try_from<'a, W: Watch>(
     watch: &W,
     alloc: Global,
     words: &ErrorsWords<'_>,
+    names: &[&str],
     beginning: &Beginning,
 ) -> Result<Tried, CommandFault<'a>>
     ensures tried { IfOk result (λ r. (s : Setup) × Accepts (without_steps (texts_in beginning.now)) s None
-        × IsTried words.now (texts_in beginning.now).mocks (texts_in beginning.now).chosen s
+        × IsTried words.now (names_in names.now) (texts_in beginning.now).mocks (texts_in beginning.now).chosen s
         (option_map string_bytes r.text) r.good) }
     ensures refused { IfErr result (IsTextsReason (without_steps (texts_in beginning.now))) }
 {
@@ -230,7 +233,7 @@ fn try_from<'a, W: Watch>(
         Ok(setup) => {
             let texts = &beginning.texts;
             let (mocks, chosen) = (texts.mocks.as_slice(), texts.chosen.as_str());
-            match try_setup(watch, alloc, words, mocks, chosen, &setup) {
+            match try_setup(watch, alloc, words, names, mocks, chosen, &setup) {
                 Ok(tried) => Ok(tried),
                 Err(AllocError) => Err(CommandFault::OutOfMemory),
             }
@@ -245,17 +248,18 @@ fn try_setup<W: Watch>(
     watch: &W,
     alloc: Global,
     words: &ErrorsWords<'_>,
+    names: &[&str],
     mocks: &[u8],
     chosen: &str,
     setup: &Setup,
 ) -> Result<Tried, AllocError>
-    ensures { IfOk result (λ r. IsTried words.now mocks.now chosen.now setup.now
+    ensures { IfOk result (λ r. IsTried words.now (names_in names.now) mocks.now chosen.now setup.now
         (option_map string_bytes r.text) r.good) }
 {
     let filled = filled_setup(alloc, setup, mocks)?;
     let orders = orders_for(words.prompt);
     let (errors, limit) = (words.errors, words.limit);
-    let found = explore_with_errors(alloc, &filled, errors, orders, limit, watch)?;
+    let found = explore_with_errors(alloc, &filled, errors, names, orders, limit, watch)?;
     shown_of_all(alloc, words, chosen, &filled, &found)
 }
 

@@ -11,11 +11,12 @@ use asl_words::{Asked, Misuse, Screen, asked, misuse_of};
 use std::alloc::Global;
 use std::convert::AsStr;
 
-/// What is read from a command line: what it asks for, and the files that it names one after another.
+/// What is read from a command line: what it asks for, and the files and the errors that it names one after another.
 #[derive(Drop)]
 pub struct Line<'a> {
     pub asked: Asked<'a>,
     pub files: Vec<&'a str>,
+    pub errors: Vec<&'a str>,
 }
 
 /// Reads the words, of which the first is the program's name, where answers are read on this screen. The answer tells of a wrong command
@@ -92,12 +93,20 @@ fn line_by<'a>(
     screen: Screen,
 ) -> Result<Line<'a>, Answer>
     ensures ok { IfOk result (λ l. (asked row.now.verb taken.entry.given screen ≡ Some l.asked)
-        × (l.files ≡ taken.entry.files)) }
+        × (l.files ≡ taken.entry.files) × (l.errors ≡ taken.entry.errors)) }
     ensures err { IfErr result (λ _. asked row.now.verb taken.entry.given screen ≡ None) }
 {
-    let Taken { given, files } = taken;
+    let Taken {
+        given,
+        files,
+        errors,
+    } = taken;
     match asked(row.verb, &given, screen) {
-        Some(asked) => Ok(Line { asked, files }),
+        Some(asked) => Ok(Line {
+            asked,
+            files,
+            errors,
+        }),
         None => Err(refusal_of(alloc, Some(row), misuse_of(row.verb, &given))),
     }
 }

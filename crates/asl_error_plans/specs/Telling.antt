@@ -1,7 +1,7 @@
 -- What is told of plans.
 use Rattle.std.specs.Prelude.{ℕ, ◌+◌, List, [], ◌∷◌, ◌++◌, Bool, true, false, not, ◌&&◌, if◌then◌else◌, length, codes, nat_eq, string_bytes}
 use Rattle.std.specs.Fmt.{decimal}
-use Rattle.std.specs.List.{flat_map, list_any, starts_with}
+use Rattle.std.specs.List.{count_by, flat_map, list_any, starts_with}
 use Rattle.asl_json_data.specs.Compact.{quoted}
 use Rattle.asl_error_plans.specs.declared.injected.InjectedError.{InjectedError}
 use Rattle.asl_error_plans.specs.declared.outcomes.PlanOutcomes.{PlanOutcomes}
@@ -54,9 +54,29 @@ cut_section ps =
 unfoldable pub outcome_head : ℕ → List ℕ → List ℕ
 outcome_head n o = codes "\noutcome " ++ (decimal n ++ (32 ∷ (o ++ 10 ∷ [])))
 
+abbrev pub is_without_errors : List InjectedError → Bool
+is_without_errors [] = true
+is_without_errors (e ∷ es) = false
+
+-- an outcome comes where nothing is put in
+abbrev pub comes_alone : List ℕ → PlanOutcomes → Bool
+comes_alone o p = is_without_errors p.plan.items && gives o p
+
+abbrev pub new_word : Bool → List ℕ
+new_word true = codes " new"
+new_word false = []
+
+unfoldable pub count_line : ℕ → Bool → List ℕ
+count_line n new = codes "plans " ++ (decimal n ++ (new_word new ++ 10 ∷ []))
+
+-- how many plans give an outcome, and whether it comes only where something is put in
+abbrev pub plan_count : List PlanOutcomes → List ℕ → List ℕ
+plan_count ps o = count_line (count_by (gives o) ps) (not (list_any (comes_alone o) ps))
+
 -- an outcome, and the plans that give it
 abbrev pub outcome_section : List PlanOutcomes → ℕ → List ℕ → List ℕ
-outcome_section ps n o = outcome_head n o ++ flat_map (λ (p : PlanOutcomes). line_if (gives o p) p) ps
+outcome_section ps n o =
+    outcome_head n o ++ (plan_count ps o ++ flat_map (λ (p : PlanOutcomes). line_if (gives o p) p) ps)
 
 -- outcomes, numbered from n
 abbrev pub outcomes_text : List PlanOutcomes → ℕ → List (List ℕ) → List ℕ
@@ -80,10 +100,6 @@ is_success o = starts_with nat_eq o (codes "SUCCEEDED ")
 
 abbrev pub has_failure : PlanOutcomes → Bool
 has_failure p = list_any (λ u. not (is_success (string_bytes u))) p.outcomes.items
-
-abbrev pub is_without_errors : List InjectedError → Bool
-is_without_errors [] = true
-is_without_errors (e ∷ es) = false
 
 -- the execution may fail although nothing is put in
 abbrev pub fails_alone : PlanOutcomes → Bool

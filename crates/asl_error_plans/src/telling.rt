@@ -1,8 +1,8 @@
 // What is told of plans.
 ghost use Rattle.std.specs.Prelude.{◌≡◌, ◌++◌, map, OnOk, string_bytes};
-ghost use Rattle.std.specs.List.{flat_map, list_any};
+ghost use Rattle.std.specs.List.{count_by, flat_map, list_any};
 ghost use Rattle.asl_error_plans.specs.Grouping.{gives};
-ghost use Rattle.asl_error_plans.specs.Telling.{name_word, span_word, error_words, words_of, plan_line, line_if, is_endless, is_cut, title_line, endless_section, cut_section, outcome_head, outcome_section, outcomes_text, head_line, plans_text, are_whole, is_success, has_failure, is_without_errors, fails_alone, are_good};
+ghost use Rattle.asl_error_plans.specs.Telling.{name_word, span_word, error_words, words_of, plan_line, line_if, is_endless, is_cut, title_line, endless_section, cut_section, outcome_head, comes_alone, new_word, count_line, plan_count, outcome_section, outcomes_text, head_line, plans_text, are_whole, is_success, has_failure, is_without_errors, fails_alone, are_good};
 
 use crate::grouping::{all_outcomes, gives};
 use crate::injected::InjectedError;
@@ -167,6 +167,63 @@ fn put_outcome_head(out: &mut String, number: u64, outcome: &str) -> Result<(), 
     out.push('\n')
 }
 
+/// Whether a plan puts nothing in.
+fn is_without_errors(plan: &[InjectedError]) -> bool
+    ensures { result ≡ is_without_errors plan.now }
+{
+    match plan {
+        [] => true,
+        [_, ..] => false,
+    }
+}
+
+/// Whether an outcome comes where nothing is put in.
+fn comes_alone(plan: &PlanOutcomes, outcome: &str) -> bool
+    ensures { result ≡ comes_alone outcome.now plan.now }
+{
+    is_without_errors(&plan.plan) && gives(plan, outcome)
+}
+
+fn is_known(plans: &[PlanOutcomes], outcome: &str) -> bool
+    ensures { result ≡ list_any (comes_alone outcome.now) plans.now }
+{
+    plans.iter().any(|plan| comes_alone(plan, outcome))
+}
+
+/// How many of these plans give an outcome.
+fn count_of(plans: &[PlanOutcomes], outcome: &str) -> usize
+    ensures { result ≡ count_by (gives outcome.now) plans.now }
+{
+    plans.iter().filter(|plan| gives(*plan, outcome)).count()
+}
+
+/// Appends that an outcome is new, if it is.
+fn put_new(out: &mut String, new: bool) -> Result<(), AllocError>
+    ensures { OnOk result (string_bytes out.new ≡ string_bytes out.old ++ new_word new) }
+{
+    if new {
+        return out.push_str(" new");
+    }
+    Ok(())
+}
+
+#[tactic(auto, unfolding(crate::specs::Telling::count_line))]
+fn put_count(out: &mut String, count: usize, new: bool) -> Result<(), AllocError>
+    ensures { OnOk result (string_bytes out.new ≡ string_bytes out.old ++ count_line count new) }
+{
+    out.push_str("plans ")?;
+    put_decimal(out, count as u64)?;
+    put_new(out, new)?;
+    out.push('\n')
+}
+
+/// Appends how many plans give an outcome, and whether it comes only where something is put in.
+fn put_plan_count(out: &mut String, plans: &[PlanOutcomes], outcome: &str) -> Result<(), AllocError>
+    ensures { OnOk result (string_bytes out.new ≡ string_bytes out.old ++ plan_count plans.now outcome.now) }
+{
+    put_count(out, count_of(plans, outcome), !is_known(plans, outcome))
+}
+
 /// Appends an outcome of this number, and the plans that give it.
 fn put_outcome(
     out: &mut String,
@@ -178,6 +235,7 @@ fn put_outcome(
         ≡ string_bytes out.old ++ outcome_section plans.now number outcome.now) }
 {
     put_outcome_head(out, number, outcome)?;
+    put_plan_count(out, plans, outcome)?;
     put_plans_with(out, plans, outcome)
 }
 
@@ -235,16 +293,6 @@ fn has_failure(plan: &PlanOutcomes) -> bool
     ensures { result ≡ has_failure plan.now }
 {
     plan.outcomes.iter().any(|one| !is_success(one.as_str()))
-}
-
-/// Whether a plan puts nothing in.
-fn is_without_errors(plan: &[InjectedError]) -> bool
-    ensures { result ≡ is_without_errors plan.now }
-{
-    match plan {
-        [] => true,
-        [_, ..] => false,
-    }
 }
 
 /// Whether the execution may fail although nothing is put in.

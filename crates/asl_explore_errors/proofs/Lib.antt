@@ -1,1 +1,2 @@
-mod Each_more
+mod Lengths
+mod Levels

@@ -1,4 +1,6 @@
 pub mod Plans
+pub mod Points
 pub mod Under
 pub mod Searches
 pub mod Filling
+pub mod private

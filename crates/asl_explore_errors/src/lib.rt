@@ -1,12 +1,14 @@
 //! What comes of an execution where invocations fail: every order of its branches, under every plan of so many errors.
 //!
 //! Modules in reading order: `tried` is what a search is of, and what it finds; `under` puts the errors of a plan into its case, and prints a case as a
-//! mock file; `filling` gives each Task an answer; `points` are the plans of a search, `same` compares plans, `ended` prints outcomes, `trying` searches
-//! under one plan, `extending` makes plans of one error more, `searching` goes through all, and `witness` finds how an outcome comes about.
+//! mock file; `filling` gives each Task an answer, and `failing` says which errors it is failed with; `points` are plans by the Tasks of the definition,
+//! `extending` says which errors may be put in beside those of a plan, `same` compares plans, `ended` prints outcomes, `trying` searches under one plan,
+//! `searching` goes through all, and `witness` finds how an outcome comes about.
 #![tactic(auto)]
 
 mod ended;
 mod extending;
+mod failing;
 mod filling;
 mod points;
 mod same;

@@ -1,18 +1,22 @@
 // All plans of so many errors.
-ghost use Rattle.std.specs.Prelude.{◌≡◌, ◌++◌, ◌∷◌, [], false, IfOk};
+ghost use Rattle.std.specs.Prelude.{◌≡◌, ◌≤◌, ◌+◌, ◌++◌, ◌∷◌, [], ℕ, List, false, IfOk, if◌then◌else◌, map};
 ghost use Rattle.std.specs.List.{list_any};
+ghost use Rattle.asl_task_errors.specs.View.{all_told};
+ghost use Rattle.asl_explore_errors.specs.declared.points.Point.{Point};
 ghost use Rattle.asl_explore_errors.specs.Plans.{has_plan};
-ghost use Rattle.asl_explore_errors.specs.Searches.{AreAllFound};
+ghost use Rattle.asl_explore_errors.specs.Points.{longer, plans_in};
+ghost use Rattle.asl_explore_errors.specs.Searches.{AreAllFound, has_room, names_in, tasks_failing};
+ghost use Rattle.asl_explore_errors.specs.private.Levels.{IsAdded, IsLevel};
 
-use crate::extending::with_longer;
-use crate::points::Point;
+use crate::extending::points_of;
+use crate::failing::tasks_failing;
+use crate::points::{Point, errors_of, with_longer};
 use crate::same::has_plan;
 use crate::tried::{ErrorSearch, ErrorsFound, Witnesses};
-use crate::trying::{Tried, errors_of, try_plan};
+use crate::trying::{Tried, try_plan};
 use asl_error_plans::{InjectedError, PlanOutcomes};
 use asl_explore::{Calls, Orders, Watch};
 use asl_run_input::Setup;
-use asl_task_errors::errors_of_tasks;
 use std::alloc::{AllocError, Global};
 
 /// What was found, and the plans of one error more.
@@ -33,7 +37,7 @@ fn push(all: ErrorsFound, plan: PlanOutcomes, found: Witnesses) -> Result<Errors
     Ok(all)
 }
 
-/// Tries a plan that wasn't tried yet, and says how often each state is invoked, if that is counted.
+/// Tries one plan more, and says how often each state is invoked under it, if that is counted. The error is that memory ran out.
 fn try_new<W: Watch>(
     alloc: Global,
     search: &ErrorSearch<'_>,
@@ -42,10 +46,8 @@ fn try_new<W: Watch>(
     counted: bool,
     watch: &W,
 ) -> Result<(ErrorsFound, Vec<Calls>), AllocError>
-    requires { list_any (has_plan errors.items) all.plans.items ≡ false }
-    ensures { IfOk result (λ r.
-        AreAllFound search.now.orders search.now.limit search.now.setup.now all
-        → AreAllFound search.now.orders search.now.limit search.now.setup.now r.0) }
+    ensures { IfOk result (λ r. IsAdded search.now.orders search.now.limit search.now.setup.now counted
+        errors.items all r.0 r.1.items) }
 {
     let tried = try_plan(alloc, search, errors, counted, watch)?;
     let Tried { plan, found, calls } = tried;
@@ -53,50 +55,98 @@ fn try_new<W: Watch>(
     Ok((all, calls))
 }
 
-/// Tries a plan, unless it was; the plans of one error more are added, if these are wanted.
+/// Whether one error more may be put in beside those of a plan.
+fn has_room(most: u32, plan: &[Point]) -> bool
+    ensures { result ≡ has_room most plan.now }
+{
+    plan.len() < most as usize
+}
+
+/// These plans, and those of one error more than a plan, if there is room for it, at each invocation that was counted. The error is that memory ran out.
+fn and_longer(
+    alloc: Global,
+    search: &ErrorSearch<'_>,
+    plans: Vec<Vec<Point>>,
+    plan: &[Point],
+    room: bool,
+    calls: &[Calls],
+) -> Result<Vec<Vec<Point>>, AllocError>
+    ensures { IfOk result (λ v. plans_in v.items ≡ plans_in plans.items ++ (if room
+        then longer (all_told search.now.tasks.now) search.now.setup.now.machine calls.now plan.now else [])) }
+{
+    if !room {
+        return Ok(plans);
+    }
+    let points = points_of(alloc, &search.setup.machine, search.tasks, calls)?;
+    with_longer(alloc, plans, plan, &points)
+}
+
+/// Tries a plan, unless it was; those of one error more are added. The error is that memory ran out.
 fn try_one<W: Watch>(
     alloc: Global,
     search: &ErrorSearch<'_>,
+    most: u32,
     level: Level,
-    points: &[Point],
-    is_last: bool,
+    plan: &[Point],
     watch: &W,
 ) -> Result<Level, AllocError>
-    ensures { IfOk result (λ r.
-        AreAllFound search.now.orders search.now.limit search.now.setup.now level.all
-        → AreAllFound search.now.orders search.now.limit search.now.setup.now r.all) }
+    ensures { IfOk result (λ r. (number : ℕ) (left : List (List Point)) → number ≤ most
+        → IsLevel most (all_told search.now.tasks.now) search.now.orders search.now.limit search.now.setup.now number
+        (plan.now ∷ left) (plans_in level.longer.items) level.all
+        → IsLevel most (all_told search.now.tasks.now) search.now.orders search.now.limit search.now.setup.now number
+        left (plans_in r.longer.items) r.all) }
 {
-    let errors = errors_of(alloc, search.tasks, points)?;
+    let errors = errors_of(alloc, plan)?;
     if has_plan(&level.all.plans, &errors) {
         return Ok(level);
     }
+    let room = has_room(most, plan);
     let Level { all, longer } = level;
-    let (all, calls) = try_new(alloc, search, all, errors, !is_last, watch)?;
-    let longer = with_longer(alloc, longer, search, points, &calls, is_last)?;
+    let (all, calls) = try_new(alloc, search, all, errors, room, watch)?;
+    let longer = and_longer(alloc, search, longer, plan, room, &calls)?;
     Ok(Level { all, longer })
 }
 
-/// Tries each of these plans, unless it was.
+/// Tries each of these plans, unless it was; those of one error more are left. The error is that memory ran out.
 fn try_each<W: Watch>(
     alloc: Global,
     search: &ErrorSearch<'_>,
+    most: u32,
     all: ErrorsFound,
     plans: &[Vec<Point>],
-    is_last: bool,
     watch: &W,
 ) -> Result<Level, AllocError>
-    ensures { IfOk result (λ r.
-        AreAllFound search.now.orders search.now.limit search.now.setup.now all
-        → AreAllFound search.now.orders search.now.limit search.now.setup.now r.all) }
+    ensures { IfOk result (λ r. (number : ℕ) → number ≤ most
+        → IsLevel most (all_told search.now.tasks.now) search.now.orders search.now.limit search.now.setup.now number
+        (plans_in plans.now) [] all
+        → IsLevel most (all_told search.now.tasks.now) search.now.orders search.now.limit search.now.setup.now (number + 1)
+        (plans_in r.longer.items) [] r.all) }
 {
     let mut level = Level {
         all,
         longer: Vec::new(alloc),
     };
-    for points in plans {
-        level = try_one(alloc, search, level, points, is_last, watch)?;
+    for plan in plans {
+        level = try_one(alloc, search, most, level, plan, watch)?;
     }
     Ok(level)
+}
+
+/// The plan without errors, before any is tried. The error is that memory ran out.
+fn begin(alloc: Global) -> Result<Level, AllocError>
+    ensures none { IfOk result (λ r. r.all.plans.items ≡ []) }
+    ensures found { IfOk result (λ r. r.all.found.items ≡ []) }
+    ensures plan { IfOk result (λ r. plans_in r.longer.items ≡ [] ∷ []) }
+{
+    let mut longer = Vec::new(alloc);
+    longer.push(Vec::new(alloc))?;
+    Ok(Level {
+        all: ErrorsFound {
+            plans: Vec::new(alloc),
+            found: Vec::new(alloc),
+        },
+        longer,
+    })
 }
 
 /// What is found under each plan of at most so many errors: the plan without errors, and each plan that is tried with one error more, at an invocation
@@ -107,36 +157,34 @@ pub fn explore_errors<W: Watch>(
     errors: u32,
     watch: &W,
 ) -> Result<ErrorsFound, AllocError>
-    ensures { IfOk result (AreAllFound search.now.orders search.now.limit search.now.setup.now) }
+    ensures { IfOk result (AreAllFound errors (all_told search.now.tasks.now) search.now.orders search.now.limit
+        search.now.setup.now) }
 {
-    let mut all = ErrorsFound {
-        plans: Vec::new(alloc),
-        found: Vec::new(alloc),
-    };
-    let mut plans = Vec::new(alloc);
-    plans.push(Vec::new(alloc))?;
-    for number in 0..=errors {
-        let level = try_each(alloc, search, all, &plans, number == errors, watch)?;
-        let Level { all: more, longer } = level;
-        all = more;
-        plans = longer;
+    let mut level = begin(alloc)?;
+    for _ in 0..errors {
+        let Level { all, longer } = level;
+        level = try_each(alloc, search, errors, all, &longer, watch)?;
     }
+    let Level { all, longer } = level;
+    let Level { all, longer: _ } = try_each(alloc, search, errors, all, &longer, watch)?;
     Ok(all)
 }
 
-/// The same of an execution, with each error that the retriers and catchers of its Tasks tell apart. The error is that memory ran out.
+/// The same of an execution, with each error that the retriers and catchers of its Tasks tell apart, or with those of these names. The error is that memory
+/// ran out.
 pub fn explore_with_errors<W: Watch>(
     alloc: Global,
     setup: &Setup,
     errors: u32,
+    names: &[&str],
     orders: Orders,
     limit: u32,
     watch: &W,
 ) -> Result<ErrorsFound, AllocError>
-    ensures { IfOk result (AreAllFound orders limit setup.now) }
+    ensures { IfOk result (AreAllFound errors (tasks_failing (names_in names.now) setup.now.machine) orders limit
+        setup.now) }
 {
-    let definition = setup.machine.json(alloc)?;
-    let tasks = errors_of_tasks(alloc, &definition)?;
+    let tasks = tasks_failing(alloc, &setup.machine, names)?;
     let search = ErrorSearch {
         setup,
         tasks: &tasks,

@@ -1,4 +1,4 @@
-// What no clause says of searches where errors are put in: which plans are tried, and that each call succeeds with ample memory.
+// What no clause says of searches where errors are put in: their text as a whole, and that each call succeeds with ample memory.
 use crate::{ErrorsFound, explore_with_errors, filled_setup, put_case, setup_under, witness_of};
 use asl_error_plans::{are_good, put_plans};
 use asl_explore::{Orders, SoFar, Watch};
@@ -24,9 +24,18 @@ fn setup(alloc: Global) -> Result<Setup, Fail> {
     Ok(setup.map_err(|_| "refused")?)
 }
 
-fn found(alloc: Global, setup: &Setup, errors: u32) -> Result<ErrorsFound, Fail> {
+fn found_with(
+    alloc: Global,
+    setup: &Setup,
+    errors: u32,
+    names: &[&str],
+) -> Result<ErrorsFound, Fail> {
     let orders = Orders::Every;
-    Ok(explore_with_errors(alloc, setup, errors, orders, 1_000, &Unwatched)?)
+    Ok(explore_with_errors(alloc, setup, errors, names, orders, 1_000, &Unwatched)?)
+}
+
+fn found(alloc: Global, setup: &Setup, errors: u32) -> Result<ErrorsFound, Fail> {
+    found_with(alloc, setup, errors, &[])
 }
 
 #[test]
@@ -39,21 +48,26 @@ fn each_error_of_a_task_is_put_in_once_and_for_good(rt: HostRuntime) -> Result<(
     let expected = r#"plans 9
 
 outcome 1 SUCCEEDED {"paid":true}
+plans 2
 plan no errors
 plan "Charge" 0 "Busy" once
 
 outcome 2 FAILED {"Error":"Busy","Cause":"put in"}
+plans 1 new
 plan "Charge" 0 "Busy" always
 
 outcome 3 FAILED {"Error":"Unpaid"}
+plans 2 new
 plan "Charge" 0 "Declined" once
 plan "Charge" 0 "Declined" always
 
 outcome 4 FAILED {"Error":"Unnamed","Cause":"put in"}
+plans 2 new
 plan "Charge" 0 "Unnamed" once
 plan "Charge" 0 "Unnamed" always
 
 outcome 5 FAILED {"Error":"States.Timeout"}
+plans 2 new
 plan "Charge" 0 "States.Timeout" once
 plan "Charge" 0 "States.Timeout" always
 "#;
@@ -70,6 +84,33 @@ fn a_retry_is_failed_too_where_two_errors_are_put_in(rt: HostRuntime) -> Result<
     assert_eq!(rt; found(alloc, &setup, 0)?.plans.len(), 1);
     // behind `Busy`, once or for good, each error at the retry, once and for good
     assert_eq!(rt; found(alloc, &setup, 2)?.plans.len(), 9 + 2 * 8);
+    Ok(())
+}
+
+#[test]
+fn errors_that_are_named_are_put_in_alone(rt: HostRuntime) -> Result<(), Fail> {
+    let alloc = rt.alloc();
+    let setup = setup(alloc)?;
+    let found = found_with(alloc, &setup, 1, &["Lost", "Busy"])?;
+    let mut text = String::new(alloc);
+    put_plans(alloc, &mut text, &found.plans)?;
+    let expected = r#"plans 5
+
+outcome 1 SUCCEEDED {"paid":true}
+plans 2
+plan no errors
+plan "Charge" 0 "Busy" once
+
+outcome 2 FAILED {"Error":"Lost","Cause":"put in"}
+plans 2 new
+plan "Charge" 0 "Lost" once
+plan "Charge" 0 "Lost" always
+
+outcome 3 FAILED {"Error":"Busy","Cause":"put in"}
+plans 1 new
+plan "Charge" 0 "Busy" always
+"#;
+    assert_eq!(rt; text.as_str(), expected);
     Ok(())
 }
 

@@ -470,8 +470,29 @@ errors_asked g s = if g.calls then None else option_and_then (λ begin. option_a
     })) (errors_format g.witness g.format)) (number_if_asked 1 1000000 g.witness))
     (number_asked 1 1000000 g.limit)) (number_asked 0 2 g.errors)) (errors_begin g)
 
+-- nothing that an execution begins with is named, and no outcome; a project may be
+abbrev pub names_project_alone : Given → Bool
+names_project_alone g =
+    not (is_some g.definition) && (not (is_some g.test) && (not (names_run g)
+    && (not (is_some g.witness) && not (is_some g.format))))
+
+abbrev pub all_cases_asked : Given → Option Words
+all_cases_asked g = option_map (λ limit. words.ExploreAll (record {
+  project = record { project = g.project };
+  limit = limit;
+  prompt = g.prompt;
+  calls = g.calls;
+})) (number_asked 1 1000000 g.limit)
+
+abbrev pub without_errors_asked : Given → Screen → Option Words
+without_errors_asked g s = if names_project_alone g then all_cases_asked g else all_orders_asked g s
+
+-- which errors are put in is named only where some are
 abbrev pub explore_asked : Given → Screen → Option Words
-explore_asked g s = if is_some g.errors then errors_asked g s else all_orders_asked g s
+explore_asked g s =
+    if is_some g.errors then errors_asked g s
+    else if is_some g.error then None
+    else without_errors_asked g s
 
 -- what a command is to do, where answers are read on this screen; nothing where what is given doesn't
 -- fit together

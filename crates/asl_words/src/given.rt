@@ -29,6 +29,8 @@ pub struct Given<'a> {
     pub limit: Option<&'a str>,
     pub witness: Option<&'a str>,
     pub errors: Option<&'a str>,
+    /// The first of the errors that are named one after another.
+    pub error: Option<&'a str>,
     pub most_steps: Option<&'a str>,
     pub junit: Option<&'a str>,
     pub json: Option<&'a str>,

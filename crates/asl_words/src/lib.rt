@@ -18,8 +18,8 @@ pub use screen::Screen;
 pub use verbs::Verb;
 pub use words::{
     Asked, Begin, ChosenWords, CoverageFormat, DebugFormat, DebugWords, DefinitionWords,
-    ErrorsBegin, ErrorsFormat, ErrorsWords, ExplainWords, ExploreWords, GraphFormat, GraphWords,
-    LintAllWords, LintFormat, LintWords, MocksWords, OrderWords, PrintWords, ProjectWords,
-    ReportFormat, RunFormat, RunWords, SampleWords, SetupWords, Shard, Subject, TestAllWords,
-    TestWords, TestedWords, WitnessFormat, Words,
+    ErrorsBegin, ErrorsFormat, ErrorsWords, ExplainWords, ExploreAllWords, ExploreWords,
+    GraphFormat, GraphWords, LintAllWords, LintFormat, LintWords, MocksWords, OrderWords,
+    PrintWords, ProjectWords, ReportFormat, RunFormat, RunWords, SampleWords, SetupWords, Shard,
+    Subject, TestAllWords, TestWords, TestedWords, WitnessFormat, Words,
 };

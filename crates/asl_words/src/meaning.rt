@@ -4,7 +4,7 @@ ghost use Rattle.std.specs.List.{list_any};
 ghost use Rattle.std.specs.Str.{all_ascii_digits};
 ghost use Rattle.asl_words.specs.Asked.{subject_asked, check_asked, lint_all_asked, lint_files_asked, names_files, test_all_asked, test_one_asked};
 ghost use Rattle.asl_words.specs.Asked.{asked, words_asked, definition_asked, print_asked, mocks_file, setup_asked, lint_asked, graph_asked, mocks_asked};
-ghost use Rattle.asl_words.specs.Asked.{run_asked, debug_asked, test_asked, explore_asked, all_orders_asked, errors_asked, errors_begin, errors_format, is_mocks, names_definition_alone, names_run, marked_run, most_asked, lists_reports};
+ghost use Rattle.asl_words.specs.Asked.{run_asked, debug_asked, test_asked, explore_asked, all_orders_asked, errors_asked, errors_begin, errors_format, all_cases_asked, is_mocks, names_definition_alone, names_project_alone, names_run, marked_run, most_asked, lists_reports};
 ghost use Rattle.asl_words.specs.Asked.{format_asked, lint_formats, graph_formats, run_formats, report_formats, witness_formats, witness_format};
 ghost use Rattle.asl_words.specs.Asked.{tells_of_states, either_asked, debug_format, debugs_by_script, coverage_asked, covers, coverage_format_asked, limit_asked, orders_asked, run_format_asked, is_of_service};
 ghost use Rattle.asl_words.specs.Asked.{has_case, is_case_mark, names_chosen, names_more, names_beside_test, chosen_asked, number_from_one, test_number, tested_asked, begin_asked};
@@ -15,10 +15,10 @@ use crate::screen::Screen;
 use crate::verbs::Verb;
 use crate::words::{
     Asked, Begin, ChosenWords, CoverageFormat, DebugFormat, DebugWords, DefinitionWords,
-    ErrorsBegin, ErrorsFormat, ErrorsWords, ExplainWords, ExploreWords, GraphFormat, GraphWords,
-    LintAllWords, LintFormat, LintWords, MocksWords, OrderWords, PrintWords, ProjectWords,
-    ReportFormat, RunFormat, RunWords, SampleWords, SetupWords, Shard, Subject, TestAllWords,
-    TestWords, TestedWords, WitnessFormat, Words,
+    ErrorsBegin, ErrorsFormat, ErrorsWords, ExplainWords, ExploreAllWords, ExploreWords,
+    GraphFormat, GraphWords, LintAllWords, LintFormat, LintWords, MocksWords, OrderWords,
+    PrintWords, ProjectWords, ReportFormat, RunFormat, RunWords, SampleWords, SetupWords, Shard,
+    Subject, TestAllWords, TestWords, TestedWords, WitnessFormat, Words,
 };
 
 /// What a command asks for, where answers are read on this screen; none where what is given doesn't fit together.
@@ -648,13 +648,41 @@ fn are_digits(bytes: &[u8]) -> bool
     }
 }
 
+/// Which errors are put in is named only where some are.
 fn explore_of<'a>(given: &Given<'a>, screen: Screen) -> Option<Words<'a>>
     ensures { result ≡ explore_asked given.now screen }
 {
-    match given.errors {
-        Some(_) => errors_of(given, screen),
-        None => all_orders_of(given, screen),
+    match (given.errors, given.error) {
+        (Some(_), _) => errors_of(given, screen),
+        (None, Some(_)) => None,
+        (None, None) if names_project_alone(given) => all_cases_of(given),
+        (None, None) => all_orders_of(given, screen),
     }
+}
+
+/// Whether nothing that an execution begins with is named, and no outcome; a project may be.
+fn names_project_alone(given: &Given<'_>) -> bool
+    ensures { result ≡ names_project_alone given.now }
+{
+    given.definition.is_none()
+        && given.test.is_none()
+        && !names_run(given)
+        && given.witness.is_none()
+        && given.format.is_none()
+}
+
+fn all_cases_of<'a>(given: &Given<'a>) -> Option<Words<'a>>
+    ensures { result ≡ all_cases_asked given.now }
+{
+    let limit = number_of(given.limit, 1, 1_000_000)?;
+    Some(Words::ExploreAll(ExploreAllWords {
+        project: ProjectWords {
+            project: given.project,
+        },
+        limit,
+        prompt: given.prompt,
+        calls: given.calls,
+    }))
 }
 
 fn all_orders_of<'a>(given: &Given<'a>, screen: Screen) -> Option<Words<'a>>
@@ -672,7 +700,7 @@ fn all_orders_of<'a>(given: &Given<'a>, screen: Screen) -> Option<Words<'a>>
 }
 
 /// Whether nothing but a definition is named, and perhaps its input.
-fn names_definition_alone(given: &Given<'_>) -> bool
+pub(crate) fn names_definition_alone(given: &Given<'_>) -> bool
     ensures { result ≡ names_definition_alone given.now }
 {
     !names_chosen(given)

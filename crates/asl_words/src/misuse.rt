@@ -2,7 +2,7 @@
 use crate::given::Given;
 use crate::meaning::{
     covers, debugs_by_script, is_mocks, lists_reports, names_beside_test, names_chosen,
-    names_files, names_more, names_run, test_number,
+    names_definition_alone, names_files, names_more, names_run, test_number,
 };
 use crate::verbs::Verb;
 use std::alloc::AllocError;
@@ -28,8 +28,8 @@ pub enum Misuse {
     TreeOfScript,
     /// The steps of one outcome are to be told in a format, and none is named.
     Witnessless,
-    /// The mock file of a plan is to be printed, and no errors are put in.
-    Planless,
+    /// This says something of plans of errors, and none are put in.
+    Planless(&'static str),
     /// A region is named, and the run isn't printed in the service's format.
     Regional,
     /// What tests cover is to be told in a format, and it isn't told.
@@ -56,7 +56,15 @@ pub fn misuse_of(verb: Verb, given: &Given<'_>) -> Misuse {
         Verb::Explore if given.errors.is_some() && given.calls => {
             Misuse::Twice("--calls", "--errors <K>")
         }
-        Verb::Explore if given.errors.is_none() && is_mocks(given.format) => Misuse::Planless,
+        Verb::Explore if given.errors.is_none() && given.error.is_some() => {
+            Misuse::Planless("argument '--error <NAME>'")
+        }
+        Verb::Explore if given.errors.is_none() && is_mocks(given.format) => {
+            Misuse::Planless("value 'mocks' of '--format'")
+        }
+        Verb::Explore if given.errors.is_some() && names_definition_alone(given) => {
+            Misuse::Lacking(true, false, false, false)
+        }
         Verb::Run if are_both(given.steps, given.most_steps) => {
             Misuse::Twice("--steps <FILE>", "--max-steps <N>")
         }
@@ -247,7 +255,7 @@ pub fn put_misuse(out: &mut String, misuse: Misuse) -> Result<(), AllocError> {
             "the following required arguments were not provided:\n  --coverage",
         ),
         Misuse::Orderless(option) => write!(out, "the argument '{option}' is for --orders"),
-        Misuse::Planless => out.push_str("the value 'mocks' of '--format' is for --errors"),
+        Misuse::Planless(what) => write!(out, "the {what} is for --errors"),
         Misuse::Regional => out.push_str("the argument '--region <NAME>' is for --format aws"),
         Misuse::Shard => {
             out.push_str("a shard is I/N: two numbers from 1, the first at most the second")

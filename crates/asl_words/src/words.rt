@@ -37,7 +37,9 @@ pub enum Words<'a> {
     TestAll(TestAllWords<'a>),
     /// Every order of an execution is to be tried.
     Explore(ExploreWords<'a>),
-    /// The same is to be done where errors are put in.
+    /// The same is to be done of each test case of a project's workflows.
+    ExploreAll(ExploreAllWords<'a>),
+    /// Every order is to be tried where errors are put in.
     Errors(ErrorsWords<'a>),
     /// A code is to be explained, or all are to be listed.
     Explain(ExplainWords<'a>),
@@ -370,6 +372,18 @@ pub enum ErrorsFormat {
     Mocks,
     /// The steps that end in it under this plan.
     Steps(WitnessFormat),
+}
+
+/// The words of `explore` on a project.
+#[derive(Clone, Copy)]
+pub struct ExploreAllWords<'a> {
+    pub project: ProjectWords<'a>,
+    /// So many worlds, from 1 to 1,000,000, are tried at most of each test case.
+    pub limit: u32,
+    /// Whether only those orders are tried in which no branch is late.
+    pub prompt: bool,
+    /// Whether it is told how often Tasks are invoked.
+    pub calls: bool,
 }
 
 /// The words of `explore` where errors are put in.

@@ -6,3 +6,6 @@ returns-in-Run g c = rw c.in-Run.is (refl, c.run.ensures)
 
 pub returns-in-Lint : goal.returns-in-Lint
 returns-in-Lint g c = rw c.in-Lint.is (refl, rw c.deref.ensures.value at c.lint.ensures)
+
+pub returns-in-Errors : goal.returns-in-Errors
+returns-in-Errors g c = rw c.in-Errors.is (refl, rw c.deref-2.ensures.value at c.inject.ensures)

@@ -9,6 +9,7 @@ returns-in-Ok-clause-ok g c = IfOk-weaker c.line_by.result _ _ (λ l h. record {
   gives = c.in-Ok.ensures.ok.1;
   asks = h.0;
   files = h.1;
+  errors = h.2;
 }) c.line_by.ensures.ok
 
 pub returns-in-Ok-clause-err : goal.returns-in-Ok-clause-err

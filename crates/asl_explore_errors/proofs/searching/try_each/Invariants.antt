@@ -1,5 +1,11 @@
-use Rattle.asl_explore_errors.specs.Searches.{AreAllFound}
+use Rattle.std.proofs.Common.{ℕ, ◌≤◌, [], drop}
+use Rattle.asl_task_errors.specs.View.{all_told}
+use Rattle.asl_explore_errors.specs.Points.{plans_in}
+use Rattle.asl_explore_errors.specs.private.Levels.{IsLevel}
 use Rattle.asl_explore_errors.proofs.searching.try_each.Given as goal
 
-abbrev pub invariant-loop-points : goal.invariant-loop-points
-invariant-loop-points g l = AreAllFound l.search.orders l.search.limit l.search.setup.now l.fn.all → AreAllFound l.search.orders l.search.limit l.search.setup.now l.level.all
+-- these plans are left
+abbrev pub invariant-loop-plan : goal.invariant-loop-plan
+invariant-loop-plan g l = (number : ℕ) → number ≤ l.most
+    → IsLevel l.most (all_told l.search.tasks.now) l.search.orders l.search.limit l.search.setup.now number (plans_in l.plans) [] l.fn.all
+    → IsLevel l.most (all_told l.search.tasks.now) l.search.orders l.search.limit l.search.setup.now number (plans_in (drop l.plan-index l.plans)) (plans_in l.level.longer.items) l.level.all

@@ -12,7 +12,7 @@ returns-clause-found g c =
     record {
       under = c.in_ok-setup.setup;
       is_under = subst (λ (p : List InjectedError). IsUnder s.setup.now p c.in_ok-setup.setup) c.deref.ensures.value c.in_ok-setup.ensures;
-      counted = c.args.counted;
+      calls = ap (λ v. v.items) c.replace-calls.ensures.value;
       explored = c.in_ok-explored.explored;
       found = c.in_ok-explored.ensures;
       all = all;

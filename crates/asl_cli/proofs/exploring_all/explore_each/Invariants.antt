@@ -1,0 +1,9 @@
+use Rattle.std.proofs.Common.{drop}
+use Rattle.asl_cli.specs.ExploringAll.{IsWorkflowExplored}
+use Rattle.asl_cli.proofs.Doing.{GoesOn}
+use Rattle.asl_cli.proofs.exploring_all.explore_each.Given as goal
+
+abbrev pub invariant-loop-workflow : goal.invariant-loop-workflow
+invariant-loop-workflow g l =
+    GoesOn (IsWorkflowExplored l.quiet l.words) g.F.Files.gives g.F.Files.lacks g.O.Sink.taken g.O.Sink.failures g.E.Sink.taken g.E.Sink.failures
+    l.fn.files l.files l.fn.out l.out l.fn.err l.err l.status l.workflows (drop l.workflow-index l.workflows)
