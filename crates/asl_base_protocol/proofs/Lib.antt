@@ -1,3 +1,5 @@
 pub mod Ends
 pub mod Growing
 pub mod Reading
+pub mod Cutting
+pub mod Unique

@@ -11,9 +11,11 @@ mod content;
 mod field;
 mod header;
 mod item;
+mod laws;
 mod part;
 mod reader;
 mod said;
 
+pub use laws::{an_input_has_one_reading, chunks_make_no_difference};
 pub use item::{Bytes, Item};
 pub use reader::Reader;
