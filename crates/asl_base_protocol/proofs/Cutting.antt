@@ -1,8 +1,9 @@
 -- Where a header part ends: an input has one.
-use Rattle.std.proofs.Common.{◌≡◌, ℕ, ◌+◌, ◌≤◌, ◌==◌, ◌||◌, ◌&&◌, cond, Bool, true, false, List, [], ◌∷◌, ◌++◌, length, refl, sym, ap, subst, ◌∙◌, append_assoc, arith}
-use Rattle.std.specs.Prelude.{Option, Some, None, option_map}
+use Rattle.std.proofs.Common.{◌≡◌, ℕ, ◌==◌, ◌&&◌, cond, Bool, true, false, List, [], ◌∷◌, ◌++◌, refl, sym, ap, ◌∙◌, append_assoc}
+use Rattle.std.specs.Prelude.{Option, Some, None}
 use Rattle.std.proofs.lemmas.List.{append_cancel_right}
 use Rattle.asl_base_protocol.specs.Grammar.{crlf, has_crlf, IsLine, AreLines, lines_text, header_text}
+use Rattle.asl_base_protocol.proofs.Ends.{first_false, second_false}
 
 -- what stands before the LF behind the first CR, and what stands behind it
 abbrev with_front : ℕ → Option (List ℕ × List ℕ) → Option (List ℕ × List ℕ)
@@ -12,14 +13,6 @@ with_front c (Some p) = Some (c ∷ p.0, p.1)
 abbrev cut : Bool → List ℕ → Option (List ℕ × List ℕ)
 cut b [] = None
 cut b (c ∷ cs) = cond (b && (c == 10)) (Some ([], cs)) (with_front c (cut (c == 13) cs))
-
-first_false : (a b : Bool) → (a || b) ≡ false → a ≡ false
-first_false true b e = e
-first_false false b e = refl
-
-second_false : (a b : Bool) → (a || b) ≡ false → b ≡ false
-second_false true b e = absurd (cc)
-second_false false b e = e
 
 cut_at : (b : Bool) (l x : List ℕ) → has_crlf b l ≡ false → cut b (l ++ (13 ∷ 10 ∷ x)) ≡ Some (l ++ 13 ∷ [], x)
 cut_at true [] x h = refl

@@ -1,5 +1,5 @@
 -- How a line goes on and how it ends.
-use Rattle.std.proofs.Common.{◌≡◌, ℕ, suc, ◌-◌, ◌≤◌, ◌==◌, ◌||◌, ◌&&◌, nat_eq, Bool, true, false, List, [], ◌∷◌, ◌++◌, length, get_or, take, refl, sym, ap, ◌∙◌, subst, arith}
+use Rattle.std.proofs.Common.{◌≡◌, ℕ, suc, ◌-◌, ◌≤◌, ◌==◌, ◌||◌, ◌&&◌, nat_eq, Bool, true, false, List, [], ◌∷◌, ◌++◌, length, get_or, take, refl, sym, ap, ◌∙◌, arith}
 use Rattle.asl_base_protocol.specs.Grammar.{has_crlf}
 use Rattle.asl_base_protocol.specs.private.Ends.{cr_behind}
 
@@ -27,9 +27,13 @@ crlf_more b (x ∷ xs) c =
 both_false : (a b : Bool) → a ≡ false → b ≡ false → (a || b) ≡ false
 both_false a b e f = rw (e, f) refl
 
-first_false : (a b : Bool) → (a || b) ≡ false → a ≡ false
+pub first_false : (a b : Bool) → (a || b) ≡ false → a ≡ false
 first_false true b e = e
 first_false false b e = refl
+
+pub second_false : (a b : Bool) → (a || b) ≡ false → b ≡ false
+second_false true b e = absurd (cc)
+second_false false b e = e
 
 -- a line goes on with a byte that doesn't end it
 pub line_on : (l : List ℕ) (c : ℕ) → has_crlf false l ≡ false → (cr_behind false l && (c == 10)) ≡ false → has_crlf false (l ++ c ∷ []) ≡ false

@@ -1,9 +1,9 @@
 -- A header part goes on.
-use Rattle.std.proofs.Common.{◌≡◌, ℕ, ◌+◌, ◌≤◌, ◌<◌, ◌==◌, ◌&&◌, false, true, List, [], ◌∷◌, ◌++◌, length, refl, sym, ap, subst, ◌∙◌, append_assoc, length-append, arith}
+use Rattle.std.proofs.Common.{◌≡◌, ℕ, ◌+◌, ◌≤◌, ◌<◌, ◌==◌, ◌&&◌, false, List, [], ◌∷◌, ◌++◌, length, refl, sym, ap, subst, ◌∙◌, append_assoc, length-append, arith}
 use Rattle.std.proofs.lemmas.List.{append-nil}
 use Rattle.asl_base_protocol.specs.declared.said.Said.{Said}
 use Rattle.asl_base_protocol.specs.declared.part.Header.{Header}
-use Rattle.asl_base_protocol.specs.Fields.{said, said_from, said_by}
+use Rattle.asl_base_protocol.specs.Fields.{said_from, said_by}
 use Rattle.asl_base_protocol.specs.Grammar.{longest_header, crlf, has_crlf, IsLine, AreLines, lines_text, header_text}
 use Rattle.asl_base_protocol.specs.Standing.{Grows, IsHeader}
 use Rattle.asl_base_protocol.specs.private.Ends.{cr_behind}

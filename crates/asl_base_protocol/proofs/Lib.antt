@@ -3,3 +3,4 @@ pub mod Growing
 pub mod Reading
 pub mod Cutting
 pub mod Unique
+pub mod Back

@@ -1,5 +1,5 @@
 -- Inputs go on.
-use Rattle.std.proofs.Common.{◌≡◌, ℕ, ◌+◌, ◌≤◌, ◌<◌, List, [], ◌∷◌, ◌++◌, length, take, drop, refl, sym, ap, subst, ◌∙◌, append_assoc, inl, inr, arith}
+use Rattle.std.proofs.Common.{◌≡◌, ℕ, ◌+◌, List, [], ◌∷◌, ◌++◌, length, refl, sym, ap, subst, ◌∙◌, append_assoc, inl, inr, arith}
 use Rattle.std.proofs.lemmas.List.{append-nil}
 use Rattle.asl_base_protocol.specs.declared.item.Item.{Item}
 use Rattle.asl_base_protocol.specs.declared.part.Part.{Part}
@@ -92,9 +92,9 @@ going_on begun p q bytes rest front behind old now new u g cut turned put = reco
   used = g.used ++ front;
   parts = g.parts ∙ ap (λ (x : List ℕ). g.used ++ x) cut ∙ sym (append_assoc g.used front behind);
   goes = λ t s.
-    let f = g.goes t s in
-    let h = turned f.left f.stands in
-    goes_turn t g.used front old now new p q u f h (put (f.left ++ front) h);
+      let f = g.goes t s in
+      let h = turned f.left f.stands in
+      goes_turn t g.used front old now new p q u f h (put (f.left ++ front) h);
 }
 
 pub going_all : (begun p : Part) (bytes rest : List ℕ) (old new : List Item) → Going begun p bytes rest old new → rest ≡ [] → (t : List ℕ) → Stands t begun → Goes t bytes old new p

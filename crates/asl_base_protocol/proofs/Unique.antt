@@ -1,12 +1,12 @@
 -- An input has one reading.
-use Rattle.std.proofs.Common.{◌≡◌, ℕ, ◌+◌, ◌≤◌, ◌<◌, List, [], ◌∷◌, ◌++◌, length, take, drop, refl, sym, ap, subst, ◌∙◌, ◌⊎◌, inl, inr, append_assoc, length-append, arith}
+use Rattle.std.proofs.Common.{◌≡◌, ℕ, ◌≤◌, ◌<◌, List, [], ◌∷◌, ◌++◌, length, refl, sym, ap, subst, ◌∙◌, ◌⊎◌, inl, inr, append_assoc, length-append, arith}
 use Rattle.std.proofs.lemmas.List.{append-nil, append_cancel_left}
 use Rattle.asl_base_protocol.specs.declared.item.Item.{Item}
 use Rattle.asl_base_protocol.specs.declared.item.Item.TheVariants.{Content, BadHeader, TooLong}
 use Rattle.asl_base_protocol.specs.declared.said.Said.{Said}
 use Rattle.asl_base_protocol.specs.declared.said.Said.TheVariants.{Nothing, Length, Fault}
 use Rattle.asl_base_protocol.specs.Fields.{said, IsNoLength}
-use Rattle.asl_base_protocol.specs.Grammar.{longest_header, longest_content, header_text, lines_text, IsHeading, IsHeaded, IsBody, IsPartOfBody, IsOverlong, IsText, IsUnfinished, Reads}
+use Rattle.asl_base_protocol.specs.Grammar.{longest_header, header_text, IsHeading, IsHeaded, IsBody, IsPartOfBody, IsOverlong, IsText, IsUnfinished, Reads}
 use Rattle.asl_base_protocol.proofs.Cutting.{same_header, not_heading}
 
 -- fronts of one list: of the same length, or one a front of the other
@@ -101,7 +101,7 @@ same_overlong i j t u x y (h, p) (g, q) e =
 same_item : (i j : Item) (t u x y : List ℕ) → IsText i t → IsText j u → t ++ x ≡ u ++ y → SameItem i j x y
 same_item i j t u x y h g e =
     elim (text_ways i t h) [
-      inl a ↦ elim (text_ways j u g) [ inl b ↦ same_headed i j t u x y a b e | inr b ↦ absurd (ended_or_not (IsBody i) t u x y a b.0 e) ]
+      | inl a ↦ elim (text_ways j u g) [ inl b ↦ same_headed i j t u x y a b e | inr b ↦ absurd (ended_or_not (IsBody i) t u x y a b.0 e) ]
       | inr a ↦ elim (text_ways j u g) [ inl b ↦ absurd (ended_or_not (IsBody j) u t y x b a.0 (sym e)) | inr b ↦ same_overlong i j t u x y a b e ]
     ]
 
@@ -137,7 +137,7 @@ overlong_or_heading t x r h n e = omega (arith, h.1, n, ap length e, length-appe
 not_unfinished : (i : Item) (t x r : List ℕ) → IsText i t → IsUnfinished r → t ++ x ≡ r → ⊥
 not_unfinished i t x r h g e =
     elim (text_ways i t h) [
-      inl a ↦ elim g [ inl b ↦ headed_or_heading i t x r a b.0 e | inr b ↦ headed_or_part i t x r a b e ]
+      | inl a ↦ elim g [ inl b ↦ headed_or_heading i t x r a b.0 e | inr b ↦ headed_or_part i t x r a b e ]
       | inr a ↦ elim g [ inl b ↦ overlong_or_heading t x r a.0 b.1 e | inr b ↦ overlong_or_part t x r a.0 b e ]
     ]
 

@@ -1,6 +1,6 @@
 -- What header fields say (Language Server Protocol 3.17, "Header Part"): each has a name and behind a colon a value. The structure is that of HTTP, where
 -- the case of a name's letters doesn't count and blanks may stand before a value (RFC 9110, sections 5.1 and 5.5).
-use Rattle.std.specs.Prelude.{ℕ, suc, ◌+◌, ◌-◌, ◌*◌, ◌==◌, ◌||◌, ◌&&◌, Bool, cond, nat_le, List, [], ◌∷◌, length, take, drop, codes, Option, Some, None}
+use Rattle.std.specs.Prelude.{ℕ, ◌+◌, ◌-◌, ◌*◌, ◌==◌, ◌||◌, Bool, cond, nat_le, List, [], ◌∷◌, length, take, drop, codes, Option, Some, None}
 use Rattle.std.specs.List.{position}
 use Rattle.std.specs.Char.{is_ascii_digit}
 use Rattle.std.specs.Str.{str_eq_ignore_ascii_case}

@@ -2,3 +2,4 @@ pub mod Fields
 pub mod Grammar
 pub mod Standing
 pub mod private
+pub mod Message

@@ -1,5 +1,5 @@
 -- What a reader has made of the bytes that it was given.
-use Rattle.std.specs.Prelude.{◌≡◌, ℕ, ◌+◌, ◌<◌, ◌≤◌, ◌&&◌, ◌==◌, Bool, false, List, [], ◌∷◌, ◌++◌, length}
+use Rattle.std.specs.Prelude.{◌≡◌, ℕ, ◌+◌, ◌<◌, ◌≤◌, false, List, [], ◌∷◌, ◌++◌, length}
 use Rattle.asl_base_protocol.specs.declared.item.Item.{Item}
 use Rattle.asl_base_protocol.specs.declared.said.Said.{Said}
 use Rattle.asl_base_protocol.specs.declared.said.Said.TheVariants.{Length}

@@ -1,6 +1,5 @@
-use Rattle.std.proofs.Common.{◌≡◌, ◌+◌, ◌≤◌, ◌∷◌, ◌++◌, ℕ, List, [], length, length-append, refl, sym, subst, ap, ◌∙◌, arith}
+use Rattle.std.proofs.Common.{◌≡◌, ◌+◌, ◌≤◌, ◌∷◌, ◌++◌, ℕ, List, [], length, length-append, sym, subst, ap, ◌∙◌, arith}
 use Rattle.std.specs.Prelude.{vec_len}
-use Rattle.asl_base_protocol.specs.declared.said.Said.{Said}
 use Rattle.asl_base_protocol.specs.Grammar.{longest_header, header_text}
 use Rattle.asl_base_protocol.specs.Fields.{said_by}
 use Rattle.asl_base_protocol.specs.Standing.{TurnIs}
