@@ -4,3 +4,4 @@ pub mod Reading
 pub mod Cutting
 pub mod Unique
 pub mod Back
+pub mod Total

@@ -4,6 +4,11 @@ ghost use Rattle.asl_base_protocol.specs.declared.item.Item.{Item};
 ghost use Rattle.asl_base_protocol.specs.Grammar.{longest_content, Reads};
 ghost use Rattle.asl_base_protocol.specs.Message.{message};
 
+/// Every input has a reading.
+pub fn every_input_has_a_reading()
+    ensures { (input : List ℕ) → (is : List Item) × (r : List ℕ) × Reads is r input }
+{}
+
 /// An input is read as one list of items, and one rest is left. So nothing but the input decides what a reader gives.
 pub fn an_input_has_one_reading()
     ensures { (input : List ℕ) (is js : List Item) (r s : List ℕ) → Reads is r input

@@ -19,6 +19,9 @@ mod reader;
 mod said;
 
 pub use item::{Bytes, Item};
-pub use laws::{a_message_is_read_back, an_input_has_one_reading, chunks_make_no_difference};
+pub use laws::{
+    a_message_is_read_back, an_input_has_one_reading, chunks_make_no_difference,
+    every_input_has_a_reading,
+};
 pub use message::put_message;
 pub use reader::Reader;
