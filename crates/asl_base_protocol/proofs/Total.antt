@@ -6,9 +6,9 @@ use Rattle.asl_base_protocol.specs.declared.item.Item.TheVariants.{Content, BadH
 use Rattle.asl_base_protocol.specs.declared.said.Said.{Said}
 use Rattle.asl_base_protocol.specs.declared.said.Said.TheVariants.{Nothing, Length, Fault}
 use Rattle.asl_base_protocol.specs.Fields.{said, IsNoLength}
-use Rattle.asl_base_protocol.specs.Grammar.{longest_header, longest_content, crlf, has_crlf, AreLines, lines_text, header_text, IsHeading, IsHeaded, IsBody, IsPartOfBody, IsText, IsUnfinished, Reads}
+use Rattle.asl_base_protocol.specs.Grammar.{longest_header, longest_content, has_crlf, AreLines, lines_text, header_text, IsHeading, IsHeaded, IsPartOfBody, IsText, IsUnfinished, Reads}
 use Rattle.asl_base_protocol.specs.private.Ends.{cr_behind}
-use Rattle.asl_base_protocol.proofs.Ends.{line_on, line_front, cr_popped, none_left}
+use Rattle.asl_base_protocol.proofs.Ends.{line_on, line_front, cr_popped}
 use Rattle.asl_base_protocol.proofs.Growing.{lines_more, are_more, ended, some_line, header_short}
 use Rattle.asl_base_protocol.proofs.Reading.{nothing_unfinished}
 

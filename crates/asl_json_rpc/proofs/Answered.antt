@@ -1,5 +1,5 @@
 -- A request has its id.
-use Rattle.std.proofs.Common.{◌≡◌, ℕ, Bool, true, false, cond, List, refl, sym, ap, subst, ◌∙◌}
+use Rattle.std.proofs.Common.{◌≡◌, ℕ, Bool, true, false, cond, List, sym, ap, ◌∙◌}
 use Rattle.std.specs.Prelude.{Option, Some, None, Result, Ok, Err, codes}
 use Rattle.asl_json_data.specs.Data.{Data, null, boolean, number, text, list, dict}
 use Rattle.asl_json_data.specs.Reads.{ReadsAs}
@@ -15,7 +15,7 @@ use Rattle.asl_json_rpc.specs.declared.incoming.Incoming.{Incoming}
 use Rattle.asl_json_rpc.specs.declared.incoming.Incoming.TheVariants.{Request, Notification, Response}
 use Rattle.asl_json_rpc.specs.declared.incoming.CallFault.{CallFault}
 use Rattle.asl_json_rpc.specs.declared.incoming.CallFault.TheVariants.{ParseError, InvalidRequest, OutOfMemory}
-use Rattle.asl_json_rpc.specs.Calls.{is_whole, id_in, given_id, known, is_version, is_answer, params_of, params_in, refused, called, call_by, call_of, Gives, IsCallOf}
+use Rattle.asl_json_rpc.specs.Calls.{is_whole, given_id, known, is_version, is_answer, params_of, params_in, refused, called, call_by, call_of, Gives, IsCallOf}
 use Rattle.asl_json_rpc.specs.Printing.{id_data}
 
 -- a message of this id
