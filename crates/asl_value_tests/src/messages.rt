@@ -11,11 +11,8 @@ use std::test::Fail;
 fn items_of(alloc: Global, stream: &[u8], len: usize) -> Result<Vec<Item>, AllocError> {
     let mut reader = Reader::new(alloc);
     let mut items = Vec::new(alloc);
-    let mut rest = stream;
-    while !rest.is_empty() {
-        let (chunk, behind) = rest.split_at(len.max(1).min(rest.len()));
+    for chunk in stream.chunks(len.max(1)) {
         reader.feed(alloc, chunk, &mut items)?;
-        rest = behind;
     }
     Ok(items)
 }
@@ -44,7 +41,8 @@ fn told(alloc: Global, stream: &[u8], len: usize) -> Result<String, AllocError> 
 
 /// The field's name in two spellings, a field of another name, values without a blank and with two, header parts that don't say a length, one that says
 /// it twice, a line without a colon, a content part of no bytes, and one that hasn't come.
-const STREAM: &str = "Content-Length: 2\r\n\r\n{}content-LENGTH:3\r\nContent-Type: application/vscode-jsonrpc; charset=utf-8\r\n\r\n[1]\
+const STREAM: &str =
+    "Content-Length: 2\r\n\r\n{}content-LENGTH:3\r\nContent-Type: application/vscode-jsonrpc; charset=utf-8\r\n\r\n[1]\
     Content-Type: x\r\n\r\n\r\nContent-Length: 1\r\nContent-Length: 1\r\n\r\nContent-Length 1\r\n\r\nContent-Length: -1\r\n\r\n\
     Content-Length: 0\r\n\r\nContent-Length: \t4\r\n\r\n\"\u{e9}\"Content-Length: 5\r\n\r\nnull";
 
@@ -55,7 +53,11 @@ const TOLD: &str =
 fn streams_are_read_in_chunks_of_any_length(rt: HostRuntime) -> Result<(), Fail> {
     let alloc = rt.alloc();
     for len in [1, 2, 3, 7, 64, 1_000] {
-        assert_eq!(rt; told(alloc, STREAM.as_bytes(), len)?.as_str(), TOLD, "in chunks of {len}");
+        assert_eq!(rt;
+            told(alloc, STREAM.as_bytes(), len)?.as_str(),
+            TOLD,
+            "in chunks of {len}"
+        );
     }
     Ok(())
 }
@@ -66,8 +68,14 @@ fn written_messages_are_read(rt: HostRuntime) -> Result<(), Fail> {
     let mut stream = String::new(alloc);
     put_message(&mut stream, "{}")?;
     put_message(&mut stream, "\"\u{20ac}\"")?;
-    assert_eq!(rt; stream.as_str(), "Content-Length: 2\r\n\r\n{}Content-Length: 5\r\n\r\n\"\u{20ac}\"");
-    assert_eq!(rt; told(alloc, stream.as_bytes(), 4)?.as_str(), "{}\n\"\u{20ac}\"\n");
+    assert_eq!(rt;
+        stream.as_str(),
+        "Content-Length: 2\r\n\r\n{}Content-Length: 5\r\n\r\n\"\u{20ac}\""
+    );
+    assert_eq!(rt;
+        told(alloc, stream.as_bytes(), 4)?.as_str(),
+        "{}\n\"\u{20ac}\"\n"
+    );
     Ok(())
 }
 
@@ -88,7 +96,10 @@ fn header_parts_have_4096_bytes(rt: HostRuntime) -> Result<(), Fail> {
     let alloc = rt.alloc();
     assert_eq!(rt; told_behind(alloc, 4_096)?.as_str(), "bad header\n{}\n");
     // The last byte of the longer one ends no line of the next header part, of which it is the first: so its length isn't said as a field.
-    assert_eq!(rt; told_behind(alloc, 4_097)?.as_str(), "bad header\nbad header\n");
+    assert_eq!(rt;
+        told_behind(alloc, 4_097)?.as_str(),
+        "bad header\nbad header\n"
+    );
     Ok(())
 }
 
@@ -127,7 +138,12 @@ fn answer(alloc: Global, out: &mut String, text: &str) -> Result<(), AllocError>
             None => out.push_str(method.as_str()),
         },
         Ok(Incoming::Response) => out.push_str("response"),
-        Err(CallFault::ParseError) => put_error(out, &Id::Null, ErrorCode::ParseError, "Parse error"),
+        Err(CallFault::ParseError) => put_error(
+            out,
+            &Id::Null,
+            ErrorCode::ParseError,
+            "Parse error",
+        ),
         Err(CallFault::InvalidRequest(id)) => {
             put_error(out, &id, ErrorCode::InvalidRequest, "Invalid Request")
         }
