@@ -3,7 +3,7 @@
 //!
 //! `json`, `cases`, `second_reader` and `deep` try values, `outlines` where they stand in a text; `calls` and `functions` the calls of
 //! intrinsic functions, `templates` what stands on them; `paths`, `time` and `history` the crate of that subject; `formats` what is written
-//! for other programs, `projects` project files. They stand here since the tests of a crate have it proved once more: here only they are. What the program prints is
+//! for other programs, `projects` project files, `messages` what is sent between an editor and a server. They stand here since the tests of a crate have it proved once more: here only they are. What the program prints is
 //! tested on the built program, beside the crates.
 #![tactic(auto)]
 
@@ -21,6 +21,8 @@ mod functions;
 mod history;
 #[cfg(test)]
 mod json;
+#[cfg(test)]
+mod messages;
 #[cfg(test)]
 mod outlines;
 #[cfg(test)]

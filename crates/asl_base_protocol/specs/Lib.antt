@@ -1,0 +1,5 @@
+pub mod Fields
+pub mod Grammar
+pub mod Standing
+pub mod private
+pub mod Message

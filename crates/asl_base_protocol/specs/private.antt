@@ -1,0 +1,2 @@
+-- Words that only proofs need.
+pub mod Ends

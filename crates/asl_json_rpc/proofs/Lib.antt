@@ -1,0 +1,3 @@
+pub mod Sent
+pub mod Answered
+pub mod Adding
