@@ -113,7 +113,9 @@ class ProjectTest(unittest.TestCase):
     def test_what_can_t_be_explored_is_told(self):
         workflow = '[[workflow]]\ndefinition = "task.json"\nmocks = "mine.json"\nmachine = "M"\n'
         self.write("asl.toml", workflow + workflow.replace("mine", "mocks").replace('"M"', '"N"'))
-        self.assertEqual(self.ran("explore", "--quiet"), (2, "", "fault: file mine.json\nfault: case: M7 NoMachine\n"))
+        # A machine that has no test case is explored without one, behind a file that can't be read.
+        alone = self.ran("explore", "task.json", "mocks.json", "N", "{}", "--quiet")
+        self.assertEqual((alone[0], self.ran("explore", "--quiet")), (1, (2, f'case "N"\n{alone[1]}\n', "fault: file mine.json\n" + alone[2])))
         self.write("asl.toml", workflow)
         for mocks in ("{", "[]", '{"StateMachines":{}}', MOCKS.replace('"0"', '"x"'), '{"StateMachines":{"M":{"TestCases":{}}},"MockedResponses":{}}'):
             with self.subTest(mocks=mocks):
