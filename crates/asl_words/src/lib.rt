@@ -1,9 +1,10 @@
 //! What the words of a command line ask for.
 //!
 //! Modules in reading order: `verbs` has the commands, `given` what is given for their arguments, `screen` where answers are read; `words` is what may be
-//! asked for, and `meaning` what is asked for by what is given; `misuse` says why nothing is. How words are read is no matter of this crate.
+//! asked for, and `meaning` what is asked for by what is given, `exploring` by `explore`; `misuse` says why nothing is. How words are read is no matter of this crate.
 #![tactic(auto)]
 
+mod exploring;
 mod given;
 mod meaning;
 mod misuse;

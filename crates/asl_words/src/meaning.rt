@@ -4,21 +4,21 @@ ghost use Rattle.std.specs.List.{list_any};
 ghost use Rattle.std.specs.Str.{all_ascii_digits};
 ghost use Rattle.asl_words.specs.Asked.{subject_asked, check_asked, lint_all_asked, lint_files_asked, names_files, test_all_asked, test_one_asked};
 ghost use Rattle.asl_words.specs.Asked.{asked, words_asked, definition_asked, print_asked, mocks_file, setup_asked, lint_asked, graph_asked, mocks_asked};
-ghost use Rattle.asl_words.specs.Asked.{run_asked, debug_asked, test_asked, explore_asked, all_orders_asked, errors_asked, errors_begin, errors_format, all_cases_asked, is_mocks, names_definition_alone, names_project_alone, names_run, marked_run, most_asked, lists_reports};
-ghost use Rattle.asl_words.specs.Asked.{format_asked, lint_formats, graph_formats, run_formats, report_formats, witness_formats, witness_format};
+ghost use Rattle.asl_words.specs.Asked.{run_asked, debug_asked, test_asked, names_run, marked_run, most_asked, lists_reports};
+ghost use Rattle.asl_words.specs.Asked.{format_asked, lint_formats, graph_formats, run_formats, report_formats};
 ghost use Rattle.asl_words.specs.Asked.{tells_of_states, either_asked, debug_format, debugs_by_script, coverage_asked, covers, coverage_format_asked, limit_asked, orders_asked, run_format_asked, is_of_service};
 ghost use Rattle.asl_words.specs.Asked.{has_case, is_case_mark, names_chosen, names_more, names_beside_test, chosen_asked, number_from_one, test_number, tested_asked, begin_asked};
 ghost use Rattle.asl_words.specs.Asked.{number_in, number_asked, number_if_asked, digits_in, shard_between, shard_by, shard_in, shard_asked};
 
+use crate::exploring::explore_of;
 use crate::given::Given;
 use crate::screen::Screen;
 use crate::verbs::Verb;
 use crate::words::{
     Asked, Begin, ChosenWords, CoverageFormat, DebugFormat, DebugWords, DefinitionWords,
-    ErrorsBegin, ErrorsFormat, ErrorsWords, ExplainWords, ExploreAllWords, ExploreWords,
-    GraphFormat, GraphWords, LintAllWords, LintFormat, LintWords, MocksWords, OrderWords,
-    PrintWords, ProjectWords, ReportFormat, RunFormat, RunWords, SampleWords, SetupWords, Shard,
-    Subject, TestAllWords, TestWords, TestedWords, WitnessFormat, Words,
+    ExplainWords, GraphFormat, GraphWords, LintAllWords, LintFormat, LintWords, MocksWords,
+    OrderWords, PrintWords, ProjectWords, ReportFormat, RunFormat, RunWords, SetupWords, Shard,
+    Subject, TestAllWords, TestWords, TestedWords, Words,
 };
 
 /// What a command asks for, where answers are read on this screen; none where what is given doesn't fit together.
@@ -107,7 +107,7 @@ fn setup_of<'a>(given: &Given<'a>) -> Option<SetupWords<'a>>
 }
 
 /// What a run begins with, where a project may name the files, and a test its case and its input.
-fn begin_of<'a>(given: &Given<'a>) -> Option<Begin<'a>>
+pub(crate) fn begin_of<'a>(given: &Given<'a>) -> Option<Begin<'a>>
     ensures { result ≡ begin_asked given.now }
 {
     if let Some(test) = given.test {
@@ -648,142 +648,8 @@ fn are_digits(bytes: &[u8]) -> bool
     }
 }
 
-/// Which errors are put in is named only where some are.
-fn explore_of<'a>(given: &Given<'a>, screen: Screen) -> Option<Words<'a>>
-    ensures { result ≡ explore_asked given.now screen }
-{
-    match (given.errors, given.error) {
-        (Some(_), _) => errors_of(given, screen),
-        (None, Some(_)) => None,
-        (None, None) if names_project_alone(given) => all_cases_of(given),
-        (None, None) => all_orders_of(given, screen),
-    }
-}
-
-/// Whether nothing that an execution begins with is named, and no outcome; a project may be.
-fn names_project_alone(given: &Given<'_>) -> bool
-    ensures { result ≡ names_project_alone given.now }
-{
-    given.definition.is_none()
-        && given.test.is_none()
-        && !names_run(given)
-        && given.witness.is_none()
-        && given.format.is_none()
-}
-
-fn all_cases_of<'a>(given: &Given<'a>) -> Option<Words<'a>>
-    ensures { result ≡ all_cases_asked given.now }
-{
-    let limit = number_of(given.limit, 1, 1_000_000)?;
-    Some(Words::ExploreAll(ExploreAllWords {
-        project: ProjectWords {
-            project: given.project,
-        },
-        limit,
-        prompt: given.prompt,
-        calls: given.calls,
-    }))
-}
-
-fn all_orders_of<'a>(given: &Given<'a>, screen: Screen) -> Option<Words<'a>>
-    ensures { result ≡ all_orders_asked given.now screen }
-{
-    Some(Words::Explore(ExploreWords {
-        begin: begin_of(given)?,
-        limit: number_of(given.limit, 1, 1_000_000)?,
-        prompt: given.prompt,
-        calls: given.calls,
-        witness: number_if(given.witness, 1, 1_000_000)?,
-        format: witness_format_of(given.witness, given.format)?,
-        coloured: screen.coloured,
-    }))
-}
-
-/// Whether nothing but a definition is named, and perhaps its input.
-pub(crate) fn names_definition_alone(given: &Given<'_>) -> bool
-    ensures { result ≡ names_definition_alone given.now }
-{
-    !names_chosen(given)
-        && given.test.is_none()
-        && given.mocks.is_none()
-        && given.mocks_option.is_none()
-        && given.chosen.is_none()
-        && given.case_option.is_none()
-        && given.input.is_none()
-}
-
-fn errors_begin_of<'a>(given: &Given<'a>) -> Option<ErrorsBegin<'a>>
-    ensures { result ≡ errors_begin given.now }
-{
-    if names_definition_alone(given) {
-        return Some(ErrorsBegin::Sample(SampleWords {
-            definition: given.definition?,
-            input: given.input_option,
-        }));
-    }
-    Some(ErrorsBegin::Case(begin_of(given)?))
-}
-
-/// What is printed of one outcome where errors are put in.
-fn errors_format_of(witness: Option<&str>, word: Option<&str>) -> Option<ErrorsFormat>
-    ensures { result ≡ errors_format witness.entry word.entry }
-{
-    if witness.is_some() && is_mocks(word) {
-        return Some(ErrorsFormat::Mocks);
-    }
-    Some(ErrorsFormat::Steps(witness_format_of(witness, word)?))
-}
-
-/// Whether a word names the format of mock files.
-pub(crate) fn is_mocks(word: Option<&str>) -> bool
-    ensures { result ≡ is_mocks word.entry }
-{
-    match word {
-        Some(word) => word == "mocks",
-        None => false,
-    }
-}
-
-/// Where errors are put in, it isn't told how often Tasks are invoked.
-fn errors_of<'a>(given: &Given<'a>, screen: Screen) -> Option<Words<'a>>
-    ensures { result ≡ errors_asked given.now screen }
-{
-    if given.calls {
-        return None;
-    }
-    let limit = number_of(given.limit, 1, 1_000_000)?;
-    let witness = number_if(given.witness, 1, 1_000_000)?;
-    let format = errors_format_of(given.witness, given.format)?;
-    Some(Words::Errors(ErrorsWords {
-        begin: errors_begin_of(given)?,
-        errors: number_of(given.errors, 0, 2)?,
-        limit,
-        prompt: given.prompt,
-        witness,
-        format,
-        coloured: screen.coloured,
-    }))
-}
-
-/// The format that a word names for the steps of one outcome; there is no such word where all outcomes are printed.
-fn witness_format_of(witness: Option<&str>, word: Option<&str>) -> Option<WitnessFormat>
-    ensures { result ≡ witness_format witness.entry word.entry }
-{
-    let Some(word) = word else {
-        return Some(WitnessFormat::Steps);
-    };
-    witness?;
-    match word {
-        "steps" => Some(WitnessFormat::Steps),
-        "tree" => Some(WitnessFormat::Tree),
-        "data" => Some(WitnessFormat::Data),
-        "test" => Some(WitnessFormat::Test),
-        _ => None,
-    }
-}
-
 /// The number of a word, from a least to a greatest.
-fn number_of(word: Option<&str>, least: u32, greatest: u32) -> Option<u32>
+pub(crate) fn number_of(word: Option<&str>, least: u32, greatest: u32) -> Option<u32>
     ensures { result ≡ number_asked least greatest word.entry }
 {
     number_in(word?, least, greatest)
@@ -804,7 +670,7 @@ fn number_in(text: &str, least: u32, greatest: u32) -> Option<u32>
 }
 
 /// The same where there is a word.
-fn number_if(word: Option<&str>, least: u32, greatest: u32) -> Option<Option<u32>>
+pub(crate) fn number_if(word: Option<&str>, least: u32, greatest: u32) -> Option<Option<u32>>
     ensures { result ≡ number_if_asked least greatest word.entry }
 {
     match word {

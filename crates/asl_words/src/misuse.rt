@@ -1,8 +1,9 @@
 // What is wrong with words that clap takes.
+use crate::exploring::{is_mocks, names_definition_alone};
 use crate::given::Given;
 use crate::meaning::{
-    covers, debugs_by_script, is_mocks, lists_reports, names_beside_test, names_chosen,
-    names_definition_alone, names_files, names_more, names_run, test_number,
+    covers, debugs_by_script, lists_reports, names_beside_test, names_chosen, names_files,
+    names_more, names_run, test_number,
 };
 use crate::verbs::Verb;
 use std::alloc::AllocError;
