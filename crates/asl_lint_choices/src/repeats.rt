@@ -63,8 +63,8 @@ fn add_repeated(
     }
 }
 
-/// The rules of a Choice that ask what an earlier one asks, from the first to the last, by its canonical `Choices`. Both have the same members
-/// with the same values, spelling included, apart from `Next` and `Comment`. The error is that memory ran out. The cost is at most the square
+/// The rules of a Choice that ask what an earlier one asks, from the first to the last. Both have the same members with the same values in the
+/// same order, spelling included, apart from `Next` and `Comment`. The error is that memory ran out. The cost is at most the square
 /// of the number of rules times the size of one.
 #[tactic(auto, unfolding(crate::specs::Repeats::repeated_rules))]
 pub fn repeated_rules(alloc: Global, rules: &[Json]) -> Result<Vec<Repeated>, AllocError>
