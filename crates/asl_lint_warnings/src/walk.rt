@@ -240,7 +240,8 @@ fn tell_members(
 }
 
 /// The warnings of a definition, in document order; those of the rules of a Choice beside each other, and of Ands in them, stand before the
-/// others of its rules. A value with faults has warnings too; what isn't of the right shape has none. The error is that memory ran out.
+/// others of its rules. A value with faults has warnings too; what isn't of the right shape has none, except that rules of a Choice that are no
+/// objects ask nothing, and so repeat one another. The error is that memory ran out.
 pub fn every_warning(alloc: Global, definition: &Json) -> Result<Vec<Warning>, AllocError>
     ensures { IfOk result (λ told. told.items ≡ warnings_of (data_of definition.now)) }
 {
