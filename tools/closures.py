@@ -164,8 +164,8 @@ class Specs:
 
     @staticmethod
     def members(lines):
-        """The constructors or fields of a definition."""
-        return [found[2] for found in (re.match(r"  (pub )?([^\s()\[\]{};,]+) :", it) for it in lines) if found]
+        """The constructors or fields of a definition, which stand deeper where its head takes more than a line."""
+        return [found[2] for found in (re.match(r"  (?:  )?(pub )?([^\s()\[\]{};,]+) :", it) for it in lines) if found]
 
     def target(self, head, member=None):
         """What a name stands for here: a definition's key, or nothing."""
@@ -199,7 +199,7 @@ class Specs:
         head, _, body = whole.partition("where")
         term = Term(self.bound, self.is_constructor).read(tokens_of(re.sub(r".*?(record|data) \S+", "", head, count=1)))
         members = set(self.members(body.splitlines()))
-        for part in re.split(r"\n(?=  (?:pub )?[^\s()\[\]{};,]+ :)", body):
+        for part in re.split(r"\n(?=  (?:  )?(?:pub )?[^\s()\[\]{};,]+ :)", body):
             tokens = tokens_of(part)
             first = next((number for number, it in enumerate(tokens) if it in members), None)
             if first is not None:

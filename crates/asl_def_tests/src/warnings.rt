@@ -144,6 +144,112 @@ fn repeated_rules(rt: HostRuntime) -> Result<(), Fail> {
     Ok(())
 }
 
+/// Rules without a test, and what is no object, ask nothing.
+#[test]
+fn rules_that_ask_nothing(rt: HostRuntime) -> Result<(), Fail> {
+    let out = told(
+        rt.alloc(),
+        r#"{"StartAt":"A","States":{"A":{"Type":"Choice","Choices":[{"Or":[1,1],"Next":"A"},2,{"Next":"A"},"B"],"Default":"B"},"B":{"Type":"Fail"}}}"#,
+    )?;
+    assert_eq!(rt;
+        out.as_str(),
+        "repeated-rule /States/A/Choices/2\nrepeated-rule /States/A/Choices/3\n"
+    );
+    Ok(())
+}
+
+/// The warnings of a Choice with this one rule, which leads to a Fail.
+fn told_of_rule(alloc: Global, rule: &str) -> Result<String, Fail> {
+    let mut text = String::new(alloc);
+    text.push_str(r#"{"StartAt":"A","States":{"A":{"Type":"Choice","Choices":[{"Comment":"c","#)?;
+    text.push_str(rule)?;
+    text.push_str(r#","Next":"B"}],"Default":"B"},"B":{"Type":"Fail"}}}"#)?;
+    told(alloc, text.as_str())
+}
+
+#[test]
+fn impossible_ands(rt: HostRuntime) -> Result<(), Fail> {
+    let impossible = [
+        r#""And":[{"Variable":"$.a","StringEquals":"x"},{"Variable":"$.a","StringEquals":"y"}]"#,
+        r#""And":[{"StringEquals":"x","Variable":"$.a"},{"Variable":"$.a","StringEquals":"y"}]"#,
+        r#""And":[{"Variable":"$.a","NumericEquals":1},{"Variable":"$.b","NumericEquals":1},{"Variable":"$.a","NumericEquals":2}]"#,
+        r#""And":[{"Variable":"$.a","BooleanEquals":true},{"Variable":"$.a","BooleanEquals":false}]"#,
+        r#""And":[{"Variable":"$.a","TimestampEquals":"2024-01-01T00:00:00Z"},{"Variable":"$.a","TimestampEquals":"2024-01-02T00:00:00Z"}]"#,
+        r#""And":[{"Variable":"$.a","StringMatches":"x*"},{"Variable":"$.a","NumericLessThan":5}]"#,
+        r#""And":[{"Variable":"$.a","StringEqualsPath":"$.b"},{"Variable":"$.a","BooleanEqualsPath":"$.b"}]"#,
+        r#""And":[{"Variable":"$.a","IsNull":true},{"Not":{"Variable":"$.a","IsNull":true}}]"#,
+        r#""And":[{"Not":{"Variable":"$.a","IsNull":true,"Comment":"d"}},{"Comment":"e","Variable":"$.a","IsNull":true}]"#,
+    ];
+    for rule in impossible {
+        let out = told_of_rule(rt.alloc(), rule)?;
+        assert_eq!(rt; out.as_str(), "impossible-and /States/A/Choices/0/And\n");
+    }
+    Ok(())
+}
+
+/// Ands that come close to those.
+#[test]
+fn ands_that_may_hold(rt: HostRuntime) -> Result<(), Fail> {
+    let fine = [
+        r#""And":[{"Variable":"$.a","StringEquals":"x"},{"Variable":"$.b","StringEquals":"y"}]"#,
+        r#""Or":[{"Variable":"$.a","StringEquals":"x"},{"Variable":"$.a","StringEquals":"y"}]"#,
+        r#""And":[{"Variable":"$.a","NumericEquals":1},{"Variable":"$.a","NumericEquals":1.0}]"#,
+        r#""And":[{"Variable":"$.a","NumericLessThan":1},{"Variable":"$.a","NumericLessThan":2}]"#,
+        r#""And":[{"Variable":"$.a","TimestampEquals":"2024-01-01T00:00:00Z"},{"Variable":"$.a","TimestampEquals":"2024-01-01T00:00:00.000Z"}]"#,
+        r#""And":[{"Variable":"$.a","StringEquals":"x"},{"Variable":"$.a","TimestampLessThan":"2024-01-01T00:00:00Z"}]"#,
+        r#""And":[{"Variable":"$.a","IsNull":true},{"Not":{"Variable":"$.a","IsNull":false}}]"#,
+        r#""And":[{"Variable":"$.a","IsPresent":true},{"Variable":"$.a","StringEquals":"x"}]"#,
+    ];
+    for rule in fine {
+        let out = told_of_rule(rt.alloc(), rule)?;
+        assert_eq!(rt; out.as_str(), "");
+    }
+    Ok(())
+}
+
+/// An And inside of an Or, of a Not and of another And, each beside one that may hold; the one around is told before.
+#[test]
+fn impossible_ands_inside_of_rules(rt: HostRuntime) -> Result<(), Fail> {
+    let never =
+        r#"{"And":[{"Variable":"$.a","NumericEquals":1},{"Variable":"$.a","NumericEquals":2}]}"#;
+    let may =
+        r#"{"And":[{"Variable":"$.a","NumericEquals":1},{"Variable":"$.b","NumericEquals":2}]}"#;
+    let nested = [
+        (r#""Or":["#, "]", "Or/1/And"),
+        (r#""Or":[{"Not":{"Or":["#, "]}}]", "Or/0/Not/Or/1/And"),
+        (r#""Not":{"Comment":"d","And":["#, "]}", "Not/And/1/And"),
+    ];
+    for (before, behind, place) in nested {
+        let mut rule = String::new(rt.alloc());
+        let mut line = String::new(rt.alloc());
+        rule.push_str(before)?;
+        rule.push_str(may)?;
+        rule.push(',')?;
+        rule.push_str(never)?;
+        rule.push_str(behind)?;
+        line.push_str("impossible-and /States/A/Choices/0/")?;
+        line.push_str(place)?;
+        line.push('\n')?;
+        let out = told_of_rule(rt.alloc(), rule.as_str())?;
+        assert_eq!(rt; out.as_str(), line.as_str());
+    }
+    Ok(())
+}
+
+/// In the order of the rules, that around before that inside, and both before what stands inside of the rules.
+#[test]
+fn impossible_ands_in_order(rt: HostRuntime) -> Result<(), Fail> {
+    let out = told(
+        rt.alloc(),
+        r#"{"StartAt":"A","States":{"A":{"Type":"Choice","Choices":[{"And":[{"And":[{"Variable":"$$.Nothing","NumericEquals":1},{"Variable":"$$.Nothing","NumericEquals":2}]},{"Not":{"And":[{"Variable":"$$.Nothing","NumericEquals":1},{"Variable":"$$.Nothing","NumericEquals":2}]}}],"Next":"B"},{"And":[{"Variable":"$.a","IsNull":true},{"Variable":"$.a","IsNull":true}],"Next":"B"},{"And":[{"Variable":"$.a","IsNull":true},{"Variable":"$.a","IsNull":true}],"Next":"A"}],"Default":"B"},"B":{"Type":"Fail"}}}"#,
+    )?;
+    assert_eq!(rt;
+        out.as_str(),
+        "repeated-rule /States/A/Choices/2\nimpossible-and /States/A/Choices/0/And\nimpossible-and /States/A/Choices/0/And/0/And\nimpossible-and /States/A/Choices/0/And/1/Not/And\nunknown-context-member /States/A/Choices/0/And/0/And/0/Variable\nunknown-context-member /States/A/Choices/0/And/0/And/1/Variable\nunknown-context-member /States/A/Choices/0/And/1/Not/And/0/Variable\nunknown-context-member /States/A/Choices/0/And/1/Not/And/1/Variable\n"
+    );
+    Ok(())
+}
+
 #[test]
 fn waits(rt: HostRuntime) -> Result<(), Fail> {
     let out = told(

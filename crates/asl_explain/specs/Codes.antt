@@ -119,6 +119,7 @@ warning_codes =
     ∷ plain (codes "no-default")
     ∷ plain (codes "own-default")
     ∷ plain (codes "repeated-rule")
+    ∷ plain (codes "impossible-and")
     ∷ plain (codes "endless-wait")
     ∷ plain (codes "unsent-token")
     ∷ plain (codes "heartbeat-not-shorter")

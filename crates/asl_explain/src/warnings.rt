@@ -101,6 +101,29 @@ Told by lint.
 "#,
     },
     Explanation {
+        code: "impossible-and",
+        name: None,
+        sentence: "two rules of an And never hold both",
+        text: r#"An And holds where each of its rules does. (Amazon States Language, "Choice State".) Two of these
+never do, whatever the input is: one is the Not of the other, they want values of different types of
+one variable, or they want it to be equal to different constants. So the And never holds. Correct one
+of the two; an Or holds where one of them does.
+
+Wrong:
+    {"StartAt": "A", "States": {"A": {"Type": "Choice", "Default": "C", "Choices":
+      [{"And": [{"Variable": "$.kind", "StringEquals": "book"},
+                {"Variable": "$.kind", "StringEquals": "film"}], "Next": "B"}]},
+      "B": {"Type": "Succeed"}, "C": {"Type": "Fail"}}}
+Right:
+    {"StartAt": "A", "States": {"A": {"Type": "Choice", "Default": "C", "Choices":
+      [{"Or": [{"Variable": "$.kind", "StringEquals": "book"},
+               {"Variable": "$.kind", "StringEquals": "film"}], "Next": "B"}]},
+      "B": {"Type": "Succeed"}, "C": {"Type": "Fail"}}}
+
+Told by lint.
+"#,
+    },
+    Explanation {
         code: "endless-wait",
         name: None,
         sentence: "a Task that waits for a token has no time limit",

@@ -37,6 +37,7 @@ warning_says warning.NoEnd = refl
 warning_says warning.NoDefault = refl
 warning_says warning.OwnDefault = refl
 warning_says warning.RepeatedRule = refl
+warning_says warning.ImpossibleAnd = refl
 warning_says warning.EndlessWait = refl
 warning_says warning.UnsentToken = refl
 warning_says warning.HeartbeatNotShorter = refl

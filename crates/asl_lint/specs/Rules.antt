@@ -99,6 +99,7 @@ warning_sentence warning.NoEnd = codes "From a state no end can be reached."
 warning_sentence warning.NoDefault = codes "A Choice has no Default."
 warning_sentence warning.OwnDefault = codes "The Default of a Choice leads back to it."
 warning_sentence warning.RepeatedRule = codes "An earlier rule of the Choice has the same test."
+warning_sentence warning.ImpossibleAnd = codes "Two rules of an And never hold both."
 warning_sentence warning.EndlessWait = codes "A Task that waits for a token has no time limit."
 warning_sentence warning.UnsentToken =
     codes "A Task that waits for a token gives it to nobody."

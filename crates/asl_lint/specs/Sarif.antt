@@ -41,6 +41,7 @@ rules =
     ∷ rule.Warning warning.NoDefault
     ∷ rule.Warning warning.OwnDefault
     ∷ rule.Warning warning.RepeatedRule
+    ∷ rule.Warning warning.ImpossibleAnd
     ∷ rule.Warning warning.EndlessWait
     ∷ rule.Warning warning.UnsentToken
     ∷ rule.Warning warning.HeartbeatNotShorter

@@ -221,6 +221,7 @@ fn warning_sentence(kind: WarningKind) -> &'static str
         WarningKind::NoDefault => "A Choice has no Default.",
         WarningKind::OwnDefault => "The Default of a Choice leads back to it.",
         WarningKind::RepeatedRule => "An earlier rule of the Choice has the same test.",
+        WarningKind::ImpossibleAnd => "Two rules of an And never hold both.",
         WarningKind::EndlessWait => "A Task that waits for a token has no time limit.",
         WarningKind::UnsentToken => "A Task that waits for a token gives it to nobody.",
         WarningKind::HeartbeatNotShorter => "A heartbeat isn't shorter than the time limit.",

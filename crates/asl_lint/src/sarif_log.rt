@@ -37,6 +37,7 @@ const RULES: &[Rule] = &[
     Rule::Warning(WarningKind::NoDefault),
     Rule::Warning(WarningKind::OwnDefault),
     Rule::Warning(WarningKind::RepeatedRule),
+    Rule::Warning(WarningKind::ImpossibleAnd),
     Rule::Warning(WarningKind::EndlessWait),
     Rule::Warning(WarningKind::UnsentToken),
     Rule::Warning(WarningKind::HeartbeatNotShorter),

@@ -4,6 +4,7 @@ mod Each
 mod Asking
 mod Standing
 mod Repeating
+mod Looking
 mod Passing
 mod Differing
 mod Excluding

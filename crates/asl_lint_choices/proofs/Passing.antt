@@ -8,6 +8,7 @@ use Rattle.asl_json_data.specs.Results.{◌>>=◌}
 use Rattle.asl_json_data.specs.Data.{Data, null, boolean, number, text, list, dict, no_members, member, pairs}
 use Rattle.asl_json_data.specs.Distinct.{Members}
 use Rattle.asl_json.specs.Same.{bytes_eq}
+use Rattle.asl_json.proofs.Knowing.{bytes_eq-flip}
 use Rattle.asl_choice.specs.declared.operator.Order.{Order}
 use Rattle.asl_choice.specs.declared.operator.Order.TheVariants as order
 use Rattle.asl_choice.specs.declared.operator.Property.{Property}
@@ -15,7 +16,7 @@ use Rattle.asl_choice.specs.declared.operator.Property.TheVariants as property
 use Rattle.asl_choice.specs.declared.operator.Operator.{Operator}
 use Rattle.asl_choice.specs.declared.operator.Operator.TheVariants as operator
 use Rattle.asl_choice.specs.Rules.{kind_name, operator_name}
-use Rattle.asl_choice.specs.Truth.{Fault, Verdict, text_of, amount_of, truth_of, moment_of, is_so, compared as ordered, texts, numbers, moments, are_equal, truths, matched, found, operand_value, judged, looked_up, test, kind_in, kinds, kind_of, by_orders, chosen, each, any, negated, holds}
+use Rattle.asl_choice.specs.Truth.{Fault, Verdict, text_of, amount_of, truth_of, moment_of, is_so, compared as ordered, texts, numbers, moments, are_equal, truths, matched, found, operand_value, judged, looked_up, test, kind_in, kinds, kind_of, by_orders, chosen, each, any, negated, variable, decided, holds}
 use Rattle.asl_lint_choices.specs.declared.comparison.Kind.{Kind}
 use Rattle.asl_lint_choices.specs.declared.comparison.Kind.TheVariants.{Text, Number, Truth}
 use Rattle.asl_lint_choices.specs.Comparisons.{Compared, compared, comparison, comparison_in, wanted}
@@ -49,10 +50,44 @@ said_by k (number n) m t x c e = absurd (none_either (bytes_eq k (codes "Variabl
 said_by k (list ds) m t x c e = absurd (none_either (bytes_eq k (codes "Variable")) t e)
 said_by k (dict ms) m t x c e = absurd (none_either (bytes_eq k (codes "Variable")) t e)
 
+-- the variable comes behind
+said_behind : (m : List ℕ × Data) (k : List ℕ) (d : Data) (t : Compared) (x c : Data) → bytes_eq m.0 (codes "Variable") ≡ false
+    → comparison_in (k, d) m ≡ Some t → holds (dict (member m.0 m.1 (member k d no_members))) x c ≡ Said t x c
+said_behind m k (text p) t x c other e = which (bytes_eq k (codes "Variable")) refl e
+  where
+    here : holds (dict (member m.0 m.1 (member (codes "Variable") (text p) no_members))) x c ≡ Said (compared p m.0 m.1) x c
+    here =
+        ap (λ (b : Bool). decided (variable (if b then Some m.1 else Some (text p)))
+        (member m.0 m.1 (member (codes "Variable") (text p) no_members)) x c)
+        (bytes_eq-flip (codes "Variable") m.0 ∙ other)
+
+    which : (b : Bool) → bytes_eq k (codes "Variable") ≡ b → (if b then Some (compared p m.0 m.1) else None) ≡ Some t
+        → holds (dict (member m.0 m.1 (member k (text p) no_members))) x c ≡ Said t x c
+    which true is e =
+        let same : compared p m.0 m.1 ≡ t = cc e in
+        ap (λ (n : List ℕ). holds (dict (member m.0 m.1 (member n (text p) no_members))) x c) ((bytes_decides k (codes "Variable")).0 is)
+        ∙ here
+        ∙ ap (λ (s : Compared). Said s x c) same
+    which false is e = absurd (cc e)
+said_behind m k null t x c other e = absurd (none_either (bytes_eq k (codes "Variable")) t e)
+said_behind m k (boolean b) t x c other e = absurd (none_either (bytes_eq k (codes "Variable")) t e)
+said_behind m k (number n) t x c other e = absurd (none_either (bytes_eq k (codes "Variable")) t e)
+said_behind m k (list ds) t x c other e = absurd (none_either (bytes_eq k (codes "Variable")) t e)
+said_behind m k (dict ms) t x c other e = absurd (none_either (bytes_eq k (codes "Variable")) t e)
+
+said_of_two : (m n : List ℕ × Data) (t : Compared) (x c : Data) → comparison (m ∷ n ∷ []) ≡ Some t
+    → holds (dict (pairs (m ∷ n ∷ []))) x c ≡ Said t x c
+said_of_two m n t x c e = which (bytes_eq m.0 (codes "Variable")) refl e
+  where
+    which : (b : Bool) → bytes_eq m.0 (codes "Variable") ≡ b → (if b then comparison_in m n else comparison_in n m) ≡ Some t
+        → holds (dict (pairs (m ∷ n ∷ []))) x c ≡ Said t x c
+    which true is e = said_by m.0 m.1 n t x c e
+    which false is e = said_behind m n.0 n.1 t x c is e
+
 pub said : (ms : Members) (t : Compared) (x c : Data) → comparison ms ≡ Some t → holds (dict (pairs ms)) x c ≡ Said t x c
 said [] t x c e = absurd (cc e)
 said (v ∷ []) t x c e = absurd (cc e)
-said (v ∷ m ∷ []) t x c e = said_by v.0 v.1 m t x c e
+said (v ∷ m ∷ []) t x c e = said_of_two v m t x c e
 said (v ∷ m ∷ n ∷ ms) t x c e = absurd (cc e)
 
 -- ---- what is looked up

@@ -27,9 +27,10 @@ compared_at v o d = None
 abbrev pub comparison_in : List ℕ × Data → List ℕ × Data → Option Compared
 comparison_in v m = if bytes_eq v.0 (codes "Variable") then compared_at v.1 m.0 m.1 else None
 
--- the comparison that a condition is: it has a variable and one more member
+-- the comparison that a condition is: it has a variable and one more member, before it or behind
 abbrev pub comparison : Members → Option Compared
-comparison (v ∷ m ∷ []) = comparison_in v m
+comparison (m ∷ n ∷ []) =
+    if bytes_eq m.0 (codes "Variable") then comparison_in m n else comparison_in n m
 comparison ms = None
 
 -- ---- by their types

@@ -5,3 +5,4 @@ pub mod Contradictions
 pub mod Ands
 pub mod Laws
 pub mod View
+pub mod private

@@ -167,8 +167,8 @@ fn add_in_rules(
     Ok(())
 }
 
-/// The Ands of a rule that never hold, at any depth, an And before those inside it, by the rule's canonical form: those of which two rules
-/// never hold both, as `first_contradiction` tells. The error is that memory ran out.
+/// The Ands of a rule that never hold, at any depth, an And before those inside it: those of which two rules never hold both, as
+/// `first_contradiction` tells. The error is that memory ran out.
 pub fn impossible_ands(alloc: Global, rule: &Json) -> Result<Vec<ImpossibleAnd>, AllocError>
     ensures { IfOk result (λ v. all_told v.items ≡ impossible_ands (data_of rule.now)) }
 {

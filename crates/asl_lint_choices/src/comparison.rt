@@ -42,12 +42,18 @@ fn comparison_in<'a>(variable: &'a Member, test: &'a Member) -> Option<Compariso
     }
 }
 
-/// The comparison that a condition is.
+/// The comparison that a condition is, whether its variable or its operator comes first.
 fn comparison_of<'a>(members: &[&'a Member]) -> Option<Comparison<'a>>
     ensures { option_map seen result ≡ comparison (lent members.now) }
 {
     match members {
-        [variable, test] => comparison_in(variable, test),
+        [one, other] => {
+            if one.key.as_str() == "Variable" {
+                comparison_in(one, other)
+            } else {
+                comparison_in(other, one)
+            }
+        }
         _ => None,
     }
 }

@@ -65,7 +65,7 @@ fn first_against(
     Ok(None)
 }
 
-/// The first two rules of an And that never hold both, by the And's canonical list: a rule and its `Not`, or two comparisons of one
+/// The first two rules of an And that never hold both: a rule and its `Not`, or two comparisons of one
 /// variable that no value passes both. These want values of different types, as `StringEquals` beside `NumericLessThan`, or are both
 /// `StringEquals`, `NumericEquals`, `BooleanEquals` or `TimestampEquals` with constants that differ: texts by their bytes, numbers by their
 /// amounts, timestamps by their moments. A rule and what a `Not` denies are the same where they have the same members with the same values,

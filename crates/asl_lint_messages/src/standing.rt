@@ -62,6 +62,14 @@ impl<'a> Standing<'a> {
         }
     }
 
+    /// The items of the value, where it is a list.
+    pub(crate) fn items(&self) -> &'a [Json] {
+        match self.value {
+            Some(value) => value.items(),
+            None => &[],
+        }
+    }
+
     /// The text that the value is; empty where it is none.
     pub(crate) fn text(&self) -> &'a str {
         match self.value {

@@ -5,7 +5,9 @@ use crate::nouns::put_subject;
 use crate::quoting::put_name;
 use crate::standing::Standing;
 use asl_def_schema::Sort;
+use asl_lint_choices::first_contradiction;
 use asl_lint_warnings::{ERRORS, PARTS, WarningKind};
+use asl_text::put_decimal;
 use std::alloc::{AllocError, Global};
 
 /// Appends what is suspicious at a place. The error is that memory ran out.
@@ -43,6 +45,7 @@ pub fn put_warning(
         WarningKind::RepeatedRule => out.push_str(
             "this rule never decides: one before it has the same test",
         ),
+        WarningKind::ImpossibleAnd => put_impossible(alloc, out, standing),
         WarningKind::EndlessWait => put_state(
             out,
             "the Task ",
@@ -97,6 +100,28 @@ fn put_state(out: &mut String, before: &str, name: &str, behind: &str) -> Result
     out.push_str(before)?;
     put_name(out, name)?;
     out.push_str(behind)
+}
+
+fn put_rule(out: &mut String, number: usize) -> Result<(), AllocError> {
+    out.push_str("rule ")?;
+    put_decimal(out, number as u64)
+}
+
+/// Appends which two rules of an And never hold both.
+fn put_impossible(
+    alloc: Global,
+    out: &mut String,
+    standing: &Standing<'_>,
+) -> Result<(), AllocError> {
+    let Some(rules) = first_contradiction(alloc, standing.items())? else {
+        return out.push_str("this And never holds");
+    };
+    put_rule(out, rules.first)?;
+    out.push_str(" and ")?;
+    put_rule(out, rules.second)?;
+    out.push_str(
+        " of this And never hold both, so it never holds; an Or holds where one of them does",
+    )
 }
 
 fn unasked(sort: Sort) -> &'static str {

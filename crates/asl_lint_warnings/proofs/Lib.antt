@@ -5,6 +5,7 @@ pub mod Listing
 pub mod Marking
 pub mod Passing
 pub mod Placing
+pub mod Ruling
 pub mod Searching
 pub mod Telling
 pub mod Turning

@@ -1,5 +1,5 @@
 -- What the items of a list are warned of: errors that there aren't or that are named twice, retriers
--- and catchers that no error reaches, rules that never decide.
+-- and catchers that no error reaches.
 use Rattle.std.specs.Prelude.{ℕ, List, Bool, true, false, ◌||◌, ◌&&◌, not, Option, Some, None, codes, if◌then◌else◌}
 use Rattle.asl_json_data.specs.Data.{Data, text, list, Chain, no_items, item}
 use Rattle.asl_json.specs.Same.{bytes_eq}
@@ -12,7 +12,6 @@ use Rattle.asl_lint_warnings.specs.declared.warning.WarningKind.{WarningKind}
 use Rattle.asl_lint_warnings.specs.declared.warning.WarningKind.TheVariants as kind
 use Rattle.asl_lint_warnings.specs.Kinds.{kind_if}
 use Rattle.asl_lint_warnings.specs.Texts.{is_unknown_error}
-use Rattle.asl_lint_warnings.specs.Questions.{asks, is_asked_before}
 
 abbrev pub items_in : Option Data → Chain
 items_in (Some (list ds)) = ds
@@ -30,10 +29,9 @@ abbrev pub has_text : List ℕ → Chain → Bool
 has_text n no_items = false
 has_text n (item d ds) = is_text n d || has_text n ds
 
--- an item of a list of this sort brings in a name, or what it asks
+-- an item of a list of this sort brings in a name
 abbrev pub brings : Sort → Data → List ℕ → Bool
 brings sort.ErrorNames d n = is_text n d
-brings sort.Rules d n = asks n d
 brings s d n = has_text n (names_in d)
 
 -- each error that a name stands for, some of the listed names stand for
@@ -79,5 +77,4 @@ abbrev pub item_kind : Sort → (List ℕ → Bool) → Data → Option WarningK
 item_kind sort.ErrorNames listed d = name_kind listed d
 item_kind sort.Retriers listed d = kind_if (is_unasked listed d) kind.UnaskedHandler
 item_kind sort.Catchers listed d = kind_if (is_unasked listed d) kind.UnaskedHandler
-item_kind sort.Rules listed d = kind_if (is_asked_before listed d) kind.RepeatedRule
 item_kind s listed d = None

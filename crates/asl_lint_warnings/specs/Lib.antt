@@ -1,6 +1,6 @@
 pub mod Kinds
 pub mod Texts
-pub mod Questions
+pub mod Choices
 pub mod Handlers
 pub mod Graphs
 pub mod Ways

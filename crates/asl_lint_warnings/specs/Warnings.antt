@@ -1,7 +1,9 @@
--- The warnings of a definition, in document order.
+-- The warnings of a definition, in document order; those of the rules of a Choice beside each other, and
+-- of Ands in them, stand before the others of its rules.
 use Rattle.std.specs.Prelude.{ℕ, suc, List, [], ◌∷◌, ◌++◌, Bool, false, not, ◌||◌, Option, None, if◌then◌else◌}
 use Rattle.std.specs.Fmt.{decimal}
 use Rattle.asl_json_data.specs.Data.{Data, null, boolean, number, text, list, dict, Chain, no_items, item, Pairs, no_members, member}
+use Rattle.asl_json.specs.View.{unchained}
 use Rattle.asl_def_schema.specs.declared.fault.Step.{Step}
 use Rattle.asl_def_schema.specs.declared.sort.Sort.{Sort}
 use Rattle.asl_def_schema.specs.declared.sort.Sort.TheVariants as sort
@@ -12,6 +14,7 @@ use Rattle.asl_lint_warnings.specs.declared.warning.WarningKind.TheVariants as k
 use Rattle.asl_lint_warnings.specs.Kinds.{Noted, noted, kind_if}
 use Rattle.asl_lint_warnings.specs.Texts.{text_kind}
 use Rattle.asl_lint_warnings.specs.Handlers.{brings, item_kind}
+use Rattle.asl_lint_warnings.specs.Choices.{rule_warnings}
 use Rattle.asl_lint_warnings.specs.States.{state_kind, member_kind, default_kind, limit_kind, retrier_kind}
 use Rattle.asl_lint_warnings.specs.Constants.{result_warnings}
 use Rattle.asl_lint_warnings.specs.Graphs.{is_reached, is_ending}
@@ -66,13 +69,19 @@ beside p sort.State all i k d = in_state p all k d
 beside p sort.Retrier all i k d = noted p.place (retrier_kind all k d)
 beside p s all i k d = []
 
+-- of the items of a list of this sort beside each other
+abbrev pub together : Spot → Sort → Chain → List Noted
+together p sort.Rules ds = rule_warnings p.place (unchained ds)
+together p s ds = []
+
 abbrev mutual
   pub warnings : Spot → Sort → Data → List Noted
   warnings p s null = []
   warnings p s (boolean b) = []
   warnings p s (number n) = []
   warnings p s (text t) = noted p.place (text_kind s t)
-  warnings p s (list ds) = if is_list s then item_warnings p s (λ n. false) 0 ds else []
+  warnings p s (list ds) =
+      if is_list s then together p s ds ++ item_warnings p s (λ n. false) 0 ds else []
   warnings p s (dict ms) =
       noted p.place (object_kind s ms)
       ++ (if is_object s

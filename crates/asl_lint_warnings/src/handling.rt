@@ -1,5 +1,5 @@
-// Retriers and catchers that no error reaches, errors that there aren't or that are named twice, and rules that never decide.
-ghost use Rattle.std.specs.Prelude.{◌≡◌, ◌||◌, ℕ, List, IfOk, OnOk};
+// Retriers and catchers that no error reaches, and errors that there aren't or that are named twice.
+ghost use Rattle.std.specs.Prelude.{◌≡◌, ◌||◌, ℕ, List, OnOk};
 ghost use Rattle.std.specs.HashSet.{contains_text};
 ghost use Rattle.asl_json_data.specs.Data.{chain};
 ghost use Rattle.asl_json.specs.View.{data_of, items_of};
@@ -7,7 +7,6 @@ ghost use Rattle.asl_def_schema.specs.Claims.{is_nonempty};
 ghost use Rattle.asl_handle.specs.Names.{is_beyond};
 ghost use Rattle.asl_lint_warnings.specs.Handlers.{names_in, is_text, has_text, brings, is_taken, is_taken_name, are_taken, are_all_taken, is_unasked, is_unknown_name, is_listed, name_kind, item_kind};
 
-use crate::asking::{is_asked_before, list_question};
 use crate::naming::is_unknown_error;
 use crate::warning::{WarningKind, kind_if};
 use asl_def_schema::Sort;
@@ -112,26 +111,16 @@ fn name_kind(listed: &HashSet<String>, name: &Json) -> Option<WarningKind>
     kind_if(is_listed(listed, name), WarningKind::RepeatedError)
 }
 
-/// What an item of a list of this sort is warned of, behind those that bring in these names, or ask this.
-pub(crate) fn item_kind(
-    alloc: Global,
-    sort: Sort,
-    listed: &HashSet<String>,
-    item: &Json,
-) -> Result<Option<WarningKind>, AllocError>
-    ensures { IfOk result (λ kind. kind
-        ≡ item_kind sort (contains_text listed.now) (data_of item.now)) }
+/// What an item of a list of this sort is warned of, behind those that bring in these names.
+pub(crate) fn item_kind(sort: Sort, listed: &HashSet<String>, item: &Json) -> Option<WarningKind>
+    ensures { result ≡ item_kind sort (contains_text listed.now) (data_of item.now) }
 {
     match sort {
-        Sort::ErrorNames => Ok(name_kind(listed, item)),
+        Sort::ErrorNames => name_kind(listed, item),
         Sort::Retriers | Sort::Catchers => {
-            Ok(kind_if(is_unasked(listed, item), WarningKind::UnaskedHandler))
+            kind_if(is_unasked(listed, item), WarningKind::UnaskedHandler)
         }
-        Sort::Rules => {
-            let repeated = is_asked_before(alloc, listed, item)?;
-            Ok(kind_if(repeated, WarningKind::RepeatedRule))
-        }
-        _ => Ok(None),
+        _ => None,
     }
 }
 
@@ -159,7 +148,7 @@ fn list_names(alloc: Global, listed: &mut HashSet<String>, handler: &Json) -> Re
     Ok(())
 }
 
-/// Adds the names that an item of a list of this sort brings in, or what it asks.
+/// Adds the names that an item of a list of this sort brings in.
 pub(crate) fn list_brought(
     alloc: Global,
     listed: &mut HashSet<String>,
@@ -171,7 +160,6 @@ pub(crate) fn list_brought(
 {
     match sort {
         Sort::ErrorNames => list_name(alloc, listed, item),
-        Sort::Rules => list_question(alloc, listed, item),
         _ => list_names(alloc, listed, item),
     }
 }

@@ -4,8 +4,9 @@ ghost use Rattle.asl_json_data.specs.Data.{pairs, chain};
 ghost use Rattle.asl_json.specs.View.{data_of, members_of};
 ghost use Rattle.asl_def_schema.specs.Members.{shape_in};
 ghost use Rattle.asl_lint_warnings.specs.private.Spots.{spot_of};
-ghost use Rattle.asl_lint_warnings.specs.Warnings.{object_kind, own_kind, standing, in_state, beside, inside, warnings, item_warnings, member_warnings, object_warnings, warnings_of};
+ghost use Rattle.asl_lint_warnings.specs.Warnings.{object_kind, own_kind, standing, in_state, beside, inside, together, warnings, item_warnings, member_warnings, object_warnings, warnings_of};
 
+use crate::choosing::tell_rules;
 use crate::constant::tell_result;
 use crate::handling::{item_kind, list_brought};
 use crate::limit::limit_kind;
@@ -110,6 +111,24 @@ fn tell_beside(
     }
 }
 
+/// Tells what the items of a list of this sort are warned of beside each other.
+#[tactic(auto, using(crate::proofs::Ruling::listed_again))]
+fn tell_together(
+    alloc: Global,
+    told: &mut Vec<Warning>,
+    spot: Spot,
+    sort: Sort,
+    items: &Items,
+) -> Result<(), AllocError>
+    ensures { OnOk result (told.new.items
+        ≡ told.old.items ++ together (spot_of spot.entry) sort (chain items.now)) }
+{
+    match sort {
+        Sort::Rules => tell_rules(alloc, told, spot.trail, items.values()),
+        _ => Ok(()),
+    }
+}
+
 /// Adds the warnings of a value that stands at this spot and is to be of this sort.
 #[cycle(walk)]
 fn tell_value(
@@ -129,6 +148,7 @@ fn tell_value(
             if !is_list(sort) {
                 return Ok(());
             }
+            tell_together(alloc, told, spot, sort, items)?;
             tell_items(alloc, told, spot, sort, items)
         }
         Json::Dict(members) => {
@@ -160,8 +180,7 @@ fn tell_items(
             trail: &trail,
             standing: spot.standing,
         };
-        let kind = item_kind(alloc, sort, &listed, item)?;
-        tell(alloc, told, inner.trail, kind)?;
+        tell(alloc, told, inner.trail, item_kind(sort, &listed, item))?;
         tell_value(alloc, told, inner, item_sort(sort), item)?;
         list_brought(alloc, &mut listed, sort, item)?;
     }
@@ -220,8 +239,9 @@ fn tell_members(
     Ok(())
 }
 
-/// The warnings of a definition, in document order. A value with faults has warnings too; what isn't of the right shape has none. The
-/// error is that memory ran out.
+/// The warnings of a definition, in document order; those of the rules of a Choice beside each other, and of Ands in them, stand before the
+/// others of its rules. A value with faults has warnings too; what isn't of the right shape has none, except that rules of a Choice that are no
+/// objects ask nothing, and so repeat one another. The error is that memory ran out.
 pub fn every_warning(alloc: Global, definition: &Json) -> Result<Vec<Warning>, AllocError>
     ensures { IfOk result (λ told. told.items ≡ warnings_of (data_of definition.now)) }
 {

@@ -18,6 +18,8 @@ pub enum WarningKind {
     OwnDefault,
     /// `repeated-rule`: an earlier rule of a Choice has the same test.
     RepeatedRule,
+    /// `impossible-and`: two rules of an And never hold both.
+    ImpossibleAnd,
     /// `endless-wait`: a Task that waits for a token has no time limit.
     EndlessWait,
     /// `unsent-token`: a Task that waits for a token gives it to nobody.
@@ -57,6 +59,7 @@ impl WarningKind {
             WarningKind::NoDefault => "no-default",
             WarningKind::OwnDefault => "own-default",
             WarningKind::RepeatedRule => "repeated-rule",
+            WarningKind::ImpossibleAnd => "impossible-and",
             WarningKind::EndlessWait => "endless-wait",
             WarningKind::UnsentToken => "unsent-token",
             WarningKind::HeartbeatNotShorter => "heartbeat-not-shorter",

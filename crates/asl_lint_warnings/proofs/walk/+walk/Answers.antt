@@ -20,7 +20,7 @@ tell_items-tell_value-requires t c = (omega (arith, item_depth c.values-values.r
 pub tell_items-loop-i-preserved : goal.tell_items-loop-i-preserved
 tell_items-loop-i-preserved t c =
     items_step (spot_of c.args.spot) c.args.sort (contains_text c.loop-i.listed) (contains_text c.list_brought.new.listed) c.loop-i.told.items c.tell.new.told.items c.tell_value.new.told.items _ c.values-values.result.now c.loop-i.i c.index-values-i.result c.loop-i-test.true c.index-values-i.is c.loop-i.invariant
-    (c.in_ok-tell.ensures ∙ ap (λ k. c.loop-i.told.items ++ noted (step c.loop-i.i (decimal c.loop-i.i) ∷ (spot_of c.args.spot).place) k) c.in_ok-kind.ensures)
+    (c.in_ok-tell.ensures ∙ ap (λ k. c.loop-i.told.items ++ noted (step c.loop-i.i (decimal c.loop-i.i) ∷ (spot_of c.args.spot).place) k) c.item_kind.ensures)
     (c.in_ok-tell_value.ensures ∙ ap (λ (s : Sort). c.tell.new.told.items ++ warnings (further (spot_of c.args.spot) (step c.loop-i.i (decimal c.loop-i.i))) s (data_of c.index-values-i.result)) c.item_sort.ensures)
     c.in_ok-list_brought.ensures
 
