@@ -106,8 +106,8 @@ Told by lint.
         sentence: "two rules of an And never hold both",
         text: r#"An And holds where each of its rules does. (Amazon States Language, "Choice State".) Two of these
 never do, whatever the input is: one is the Not of the other, they want values of different types of
-one variable, or they want it to be equal to different constants. So the And never holds. Correct one
-of the two; an Or holds where one of them does.
+one variable, or they want it to be equal to different constants. So the And never holds. Correct
+one of the two; an Or holds where one of them does.
 
 Wrong:
     {"StartAt": "A", "States": {"A": {"Type": "Choice", "Default": "C", "Choices":
