@@ -1,7 +1,7 @@
 -- What is read off clap's matches is what its grammar gives.
 use Rattle.std.proofs.Common.{◌≡◌, ◌≢◌, ◌∙◌, inl, inr, ℕ, List, [], true, ap, subst, codes}
-use Rattle.std.specs.Prelude.{Option, Result, Err, IfOk, option_map}
-use Rattle.clap.specs.Words.{App, HasKind, HasMatchesOf, IsAmong, Kinds, all_of, built, first_of, first_value, found_of, is_simple, is_simple_and_free, kind_of, matched_of, matches_of, raw_values}
+use Rattle.std.specs.Prelude.{Option, Result, Err, IfOk}
+use Rattle.clap.specs.Words.{App, HasKind, HasMatchesOf, IsAmong, Kinds, all_of, built, first_of, first_value, found_of, is_simple, is_simple_and_free, kind_of, matches_of}
 use Rattle.clap.specs.Faults.{fault_of, is_free_app}
 use Rattle.clap.specs.declared.ArgMatches.{ArgMatches}
 use Rattle.clap.specs.declared.Error.{Error}

@@ -1,5 +1,5 @@
 -- What the command `explore` does on a project.
-use Rattle.std.specs.Prelude.{ℕ, List, [], ◌∷◌, ◌++◌, ◌≡◌, ◌⊎◌, Bool, Option, Some, None, option_map, unwrap_or, codes}
+use Rattle.std.specs.Prelude.{ℕ, List, [], ◌∷◌, ◌++◌, ◌≡◌, ◌⊎◌, Bool, Option, Some, None, unwrap_or, codes}
 use Rattle.asl_json_data.specs.Compact.{quoted}
 use Rattle.asl_project.specs.declared.workflow.Workflow.{Workflow}
 use Rattle.asl_explore.specs.declared.found.Explored.{Explored}

@@ -1,5 +1,5 @@
 -- What is found under plans of errors.
-use Rattle.std.specs.Prelude.{ℕ, ◌≡◌, ◌≤◌, ◌⊎◌, Bool, true, false, List, [], ◌∷◌, ◌++◌, ⊤, length, nat_lt, Option, option_map, option_and_then, is_some, map, slice_get, string_bytes, if◌then◌else◌}
+use Rattle.std.specs.Prelude.{ℕ, ◌≡◌, ◌≤◌, ◌⊎◌, Bool, true, false, List, [], ◌∷◌, ◌++◌, ⊤, length, nat_lt, Option, option_map, option_and_then, is_some, map, slice_get, string_bytes}
 use Rattle.std.specs.Borrow.{Bor}
 use Rattle.std.specs.List.{All, AllPairs, Any, Contains, list_any}
 use Rattle.asl_json_data.specs.Data.{Data}

@@ -1,5 +1,5 @@
 // Which errors may be put in beside those of a plan.
-ghost use Rattle.std.specs.Prelude.{◌≡◌, ◌++◌, IfOk, OnOk, max, slice_get, unwrap_or, option_map};
+ghost use Rattle.std.specs.Prelude.{◌≡◌, ◌++◌, IfOk, OnOk};
 ghost use Rattle.asl_task_errors.specs.View.{all_told, told};
 ghost use Rattle.asl_explore_errors.specs.Points.{at_invocation, at_invocations, both, cause_of, injected, most_calls, most_in, most_of, points_from};
 

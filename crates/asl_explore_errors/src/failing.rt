@@ -1,5 +1,5 @@
 // The Tasks of a definition with the errors that are put into each.
-ghost use Rattle.std.specs.Prelude.{◌≡◌, ◌++◌, ◌∷◌, [], IfOk, OnOk, map};
+ghost use Rattle.std.specs.Prelude.{◌≡◌, [], IfOk, map};
 ghost use Rattle.asl_task_errors.specs.View.{all_told, told};
 ghost use Rattle.asl_explore_errors.specs.Searches.{names_in, tasks_failing, with_errors};
 

@@ -1,6 +1,5 @@
 // All plans of so many errors.
-ghost use Rattle.std.specs.Prelude.{◌≡◌, ◌≤◌, ◌+◌, ◌++◌, ◌∷◌, [], ℕ, List, false, IfOk, if◌then◌else◌, map};
-ghost use Rattle.std.specs.List.{list_any};
+ghost use Rattle.std.specs.Prelude.{◌≡◌, ◌≤◌, ◌+◌, ◌++◌, ◌∷◌, [], ℕ, List, IfOk, if◌then◌else◌};
 ghost use Rattle.asl_task_errors.specs.View.{all_told};
 ghost use Rattle.asl_explore_errors.specs.declared.points.Point.{Point};
 ghost use Rattle.asl_explore_errors.specs.Plans.{has_plan};

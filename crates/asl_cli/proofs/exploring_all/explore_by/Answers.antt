@@ -1,4 +1,4 @@
-use Rattle.std.proofs.Common.{inl, inr, refl}
+use Rattle.std.proofs.Common.{inl}
 use Rattle.asl_cli.proofs.exploring_all.explore_by.Goals as goal
 
 pub returns-in-Ok : goal.returns-in-Ok

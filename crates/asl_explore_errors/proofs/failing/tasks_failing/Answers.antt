@@ -4,7 +4,6 @@ use Rattle.std.proofs.lemmas.Result.{IfOk-weaker}
 use Rattle.asl_json_data.specs.Data.{Data}
 use Rattle.asl_task_errors.specs.Tasks.{Told, task_errors}
 use Rattle.asl_task_errors.specs.View.{all_told}
-use Rattle.asl_task_errors.specs.declared.walking.TaskErrors.{TaskErrors}
 use Rattle.asl_explore_errors.specs.Searches.{names_in, tasks_failing, with_errors}
 use Rattle.asl_explore_errors.proofs.failing.tasks_failing.Goals as goal
 

@@ -1,4 +1,4 @@
-use Rattle.std.proofs.Common.{◌≡◌, ◌≤◌, ◌∙◌, ℕ, [], List, ap, arith, subst, sym}
+use Rattle.std.proofs.Common.{◌≡◌, ◌≤◌, ℕ, [], List, ap, arith, subst, sym}
 use Rattle.asl_task_errors.specs.View.{all_told}
 use Rattle.asl_explore_errors.specs.declared.points.Point.{Point}
 use Rattle.asl_explore_errors.specs.Points.{plans_in}

@@ -1,4 +1,4 @@
-use Rattle.std.proofs.Common.{◌≡◌, [], List, ap, subst}
+use Rattle.std.proofs.Common.{List, ap, subst}
 use Rattle.std.proofs.lemmas.List.{drop_all}
 use Rattle.asl_task_errors.specs.View.{all_told}
 use Rattle.asl_explore_errors.specs.declared.points.Point.{Point}

@@ -1,4 +1,4 @@
-use Rattle.std.proofs.Common.{◌≡◌, ◌∙◌, ◌++◌, [], Bool, true, false, List, ap, subst, sym}
+use Rattle.std.proofs.Common.{◌∙◌, ◌++◌, [], List, ap, subst, sym}
 use Rattle.std.specs.Prelude.{if◌then◌else◌}
 use Rattle.std.specs.List.{list_any}
 use Rattle.asl_error_plans.specs.declared.injected.InjectedError.{InjectedError}
@@ -7,7 +7,6 @@ use Rattle.asl_explore.specs.declared.calls.Calls.{Calls}
 use Rattle.asl_task_errors.specs.View.{all_told}
 use Rattle.asl_explore_errors.specs.Plans.{has_plan}
 use Rattle.asl_explore_errors.specs.Points.{errors_of, longer, plans_in}
-use Rattle.asl_explore_errors.specs.Searches.{has_room, is_told}
 use Rattle.asl_explore_errors.specs.private.Levels.{IsAdded}
 use Rattle.asl_explore_errors.proofs.Levels.{level_added, level_told}
 use Rattle.asl_explore_errors.proofs.searching.try_one.Goals as goal
