@@ -12,7 +12,7 @@ use crate::command::{GOOD, REFUSED};
 use crate::exploring::{Searched, explore_files, print_all};
 use crate::fault::CommandFault;
 use crate::noting::tell_notes;
-use crate::projects::{highest, project_in};
+use crate::projects::{highest, project_in, text_of};
 use crate::reading::read_file;
 use asl_explore::{Explored, Watch, is_good, put_explored};
 use asl_history::Sink;
@@ -102,16 +102,6 @@ fn explore_workflow<W: Watch, F: Files, O: Sink, E: Sink>(
     }
 }
 
-/// The machine of a workflow, where it is named.
-fn machine_of(workflow: &Workflow) -> Option<&str>
-    ensures { option_map (λ n. n.now) result ≡ workflow.now.machine }
-{
-    match &workflow.machine {
-        Some(name) => Some(name.as_str()),
-        None => None,
-    }
-}
-
 /// What is chosen of a workflow with this mock file, one after another. The error is that memory ran out.
 fn chosen_of<F: Files>(
     alloc: Global,
@@ -122,8 +112,8 @@ fn chosen_of<F: Files>(
     ensures { IfOk result (λ v. AreChosenOf (file_system (F.gives files.old) (F.lacks files.old)) workflow.now mocks.now v.items) }
 {
     match read_file(alloc, files, mocks) {
-        Ok(text) => choices_in(alloc, machine_of(workflow), text.as_slice()),
-        Err(CommandFault::File(_, _)) => alone(alloc, machine_of(workflow)),
+        Ok(text) => choices_in(alloc, text_of(&workflow.machine), text.as_slice()),
+        Err(CommandFault::File(_, _)) => alone(alloc, text_of(&workflow.machine)),
         Err(_) => Err(AllocError),
     }
 }

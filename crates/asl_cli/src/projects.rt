@@ -219,7 +219,7 @@ fn wanted_as<'a>(name: &'a str, role: Role) -> Wanted<'a>
     }
 }
 
-fn text_of(name: &Option<Txt>) -> Option<&str>
+pub(crate) fn text_of(name: &Option<Txt>) -> Option<&str>
     ensures { option_map (λ n. n.now) result ≡ name.now }
 {
     match name {

@@ -68,7 +68,7 @@ AreTried most o limit s ts ps ws = ⊥
 abbrev pub is_told : List PlanOutcomes → List Point → Bool
 is_told ps plan = list_any (has_plan (errors_of plan)) ps
 
--- each plan with one error more, at an invocation of a Task that some order under the shorter one makes, is told
+-- each plan with one error more, at an invocation of a Task that was counted in the orders under the shorter one that end, is told
 abbrev pub AreLongerTold : ℕ → List Told → Data → List PlanOutcomes → Try → Type 0
 AreLongerTold most tasks m ps t =
     has_room most t.plan ≡ true → All (λ plan. is_told ps plan ≡ true) (longer tasks m t.calls t.plan)
@@ -84,8 +84,8 @@ AreMade most tasks m before [] = ⊤
 AreMade most tasks m before (t ∷ ts) =
     ((t.plan ≡ []) ⊎ IsLonger most tasks m before t.plan) × AreMade most tasks m (before ++ t ∷ []) ts
 
--- What is found under all plans of at most so many errors of these Tasks, at invocations that some order makes under the plan's other
--- errors, and under no other plan.
+-- What is found under all plans of at most so many errors of these Tasks, at invocations that were counted under the plan's other errors,
+-- and under no other plan.
 pub record AreAllFound (most : ℕ) (tasks : List Told) (o : Orders) (limit : ℕ) (s : Setup) (x : ErrorsFound) : Type 0
   where
     pub tries : List Try

@@ -4,7 +4,7 @@ ghost use Rattle.std.specs.List.{flat_map, list_any, position};
 ghost use Rattle.asl_explore_errors.specs.Points.{errors_of, is_before, is_there, longer_by, place_in, plans_in, with_point};
 
 use asl_error_plans::InjectedError;
-use asl_json::Txt;
+use asl_json::clone_text;
 use std::alloc::{AllocError, Global};
 
 /// An error of a plan, and the number of its Task among those of the definition.
@@ -12,16 +12,6 @@ use std::alloc::{AllocError, Global};
 pub(crate) struct Point {
     pub(crate) task: usize,
     pub(crate) error: InjectedError,
-}
-
-/// A copy of an optional text. The error is that memory ran out.
-fn cause_copied(alloc: Global, cause: &Option<Txt>) -> Result<Option<Txt>, AllocError>
-    ensures { IfOk result (λ c. c ≡ cause.now) }
-{
-    match cause {
-        None => Ok(None),
-        Some(text) => Ok(Some(text.try_clone(alloc)?)),
-    }
 }
 
 /// A copy of an error. The error of this call is that memory ran out.
@@ -32,7 +22,7 @@ fn error_copied(alloc: Global, error: &InjectedError) -> Result<InjectedError, A
         state: error.state.try_clone(alloc)?,
         number: error.number,
         error: error.error.try_clone(alloc)?,
-        cause: cause_copied(alloc, &error.cause)?,
+        cause: clone_text(alloc, &error.cause)?,
         for_good: error.for_good,
     })
 }

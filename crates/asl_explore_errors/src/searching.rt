@@ -149,7 +149,7 @@ fn begin(alloc: Global) -> Result<Level, AllocError>
 }
 
 /// What is found under each plan of at most so many errors: the plan without errors, and each plan that is tried with one error more, at an invocation
-/// of a Task that some order under it makes, once or for good. No plan is told twice. The error is that memory ran out.
+/// of a Task that some order under it makes which ends, once or for good. No plan is told twice. The error is that memory ran out.
 pub fn explore_errors<W: Watch>(
     alloc: Global,
     search: &ErrorSearch<'_>,
