@@ -22,6 +22,7 @@ answer_help() { # the words; fails where no help is stored for them
     '2 test --help' | '2 test -h' | '2 help test') cat "$help/test.txt" ;;
     '2 explore --help' | '2 explore -h' | '2 help explore') cat "$help/explore.txt" ;;
     '2 explain --help' | '2 explain -h' | '2 help explain') cat "$help/explain.txt" ;;
+    '2 lsp --help' | '2 lsp -h' | '2 help lsp') cat "$help/lsp.txt" ;;
     '1 --version' | '1 -V') echo "asl $("$top/tools/version")" ;;
     *) return 1 ;;
   esac
@@ -94,6 +95,10 @@ python3 -B "$top/tools/helps.py" "$@" || wrong=$?
 if [ $wrong = 2 ]; then exit 2; fi
 if [ "$1 $#" = 'debug 5' ] && [ -t 0 ]; then
   echo "asl: $why: a session needs the built program; tools/build proves and builds it" >&2
+  exit 2
+fi
+if [ "$1" = lsp ]; then
+  echo "asl: $why: an editor needs the built program; tools/build proves and builds it" >&2
   exit 2
 fi
 if ! command -v rt > /dev/null; then

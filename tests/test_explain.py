@@ -2,6 +2,7 @@
 import json
 import os
 import re
+import shlex
 import subprocess
 import tempfile
 import unittest
@@ -9,7 +10,7 @@ import unittest
 from program import PROGRAM, TOP, run_program
 
 FORMATS = f"{TOP}/docs/FORMATS.md"
-FAULT = re.compile(r"^\| ([FMJXKESH]\d+) ([A-Z]\w+)", re.M)
+FAULT = re.compile(r"^\| ([FMJXKQESH]\d+) ([A-Z]\w+)", re.M)
 EXAMPLES = re.compile(r"\nWrong(?:, beside (.*))?:\n((?:    .*\n)+)Right:\n((?:    .*\n)+)")
 # What files an example is tried with, where it is one of them.
 DEFINITION = """{"StartAt": "Charge", "States": {"Charge": {"Type": "Task", "Resource": "r", "Next": "Paid"},
@@ -63,7 +64,7 @@ class ExplainTest(unittest.TestCase):
         codes = {**dict(FAULT.findall(text)), **dict(re.findall(r"`(H\d) (\w+)", text)), "F16": "OutOfMemory", "F1": "Json"}
         codes.update(re.findall(r"\b(M[78]|E[12]) (\w+)", text))
         self.assertEqual(sorted(codes, key=lambda it: (it[0], int(it[1:]))),
-                         [f"{letter}{number}" for letter, most in zip("EFHJKMSX", (2, 16, 6, 7, 6, 8, 9, 4)) for number in range(1, most + 1)])
+                         [f"{letter}{number}" for letter, most in zip("EFHJKMQSX", (2, 16, 6, 7, 6, 8, 2, 9, 4)) for number in range(1, most + 1)])
         for code, name in codes.items():
             with self.subTest(code=code):
                 self.assertTrue(self.lines[code].startswith(f"{code} {name}: "), self.lines[code])
@@ -111,8 +112,10 @@ class ExplainTest(unittest.TestCase):
             name = re.match(r"\S+ (\w+): ", line)
             if name:
                 first = next(it for it in self.lines.values() if it.split(":")[0].endswith(f" {name[1]}"))
+                first = self.lines.get(name[1], first)
                 for word in [name[1]] if name[1].lower() in self.lines else (name[1], name[1].lower()):
                     self.assertEqual(explained(word).split("\n")[0], first)
+        self.assertTrue(explained("NoSuchState").startswith("NoSuchState: "))
 
     def test_texts_are_of_a_form(self):
         for code, line in self.lines.items():
@@ -166,6 +169,11 @@ class ExplainTest(unittest.TestCase):
             return re.findall(r"^fault: expectations: (\w+)", self.ran("test", "d", "m", "e", d=DEFINITION, m=ANSWERED, e=text).stderr)
         if re.fullmatch(r"K\d", code):
             return re.findall(r"^fault: project: (\w+)", self.ran("check", "--project", "p", p=text).stderr)
+        if re.fullmatch(r"Q\d", code):
+            words = shlex.split(text)
+            tasks = {name: {"Type": "Task", "Resource": "r", "Next": behind} for name, behind in (("Charge", "Ship"), ("Ship", "Refund"), ("Refund", "Done"))}
+            definition = {"StartAt": "Charge", "States": {**tasks, "Done": {"Type": "Succeed"}}}
+            return re.findall(r"^fault: rule: (\w+)", self.ran("explore", "d", "--errors", "0", *words, d=json.dumps(definition)).stderr)
         if code == "E1":
             ran = self.ran("run", "d", "m", "M", "i", "--steps", "s", d=BREAKING, m="{}", i="{}", s=text)
             return re.findall(r"^fault: steps: (\w+)", ran.stderr)

@@ -1,4 +1,4 @@
-"""The examples that the helps of commands end with: two of each, which run on files of the repository."""
+"""The examples that the helps of commands end with: two of each but the language server, which run on files of the repository."""
 import subprocess
 import sys
 import unittest
@@ -13,6 +13,9 @@ class HelpsTest(unittest.TestCase):
     def test_examples(self):
         """Each says something and is refused nothing, with the program under the name by which they call it."""
         for name, told in commands().items():
+            if name == "lsp":  # a server says something where it is spoken to
+                self.assertEqual(told.examples, ["asl lsp"])
+                continue
             self.assertEqual(len(told.examples), 2, name)
             for line in told.examples:
                 with self.subTest(line):

@@ -136,7 +136,7 @@ def is_of_project(name, plain, given):
     if name == "lint":
         return not plain and given.keys().isdisjoint(ROLES)
     if name == "explore":
-        return not plain and given.keys().isdisjoint(("--mocks", "--case", "--input", "--test", "--errors", "--error", "--witness", "--format"))
+        return not plain and given.keys().isdisjoint(("--mocks", "--case", "--input", "--test", "--errors", "--error", "--always", "--undo", "--witness", "--format"))
     return name in ("check", "test") and not plain
 
 

@@ -40,6 +40,8 @@ given_too v w g same h = record {
   witness = h.witness ∙ same (codes "witness");
   errors = h.errors ∙ same (codes "errors");
   error = h.error ∙ same (codes "error");
+  always = h.always ∙ same (codes "always");
+  undo = h.undo ∙ same (codes "undo");
   most_steps = h.most_steps ∙ same (codes "max-steps");
   junit = h.junit ∙ same (codes "junit");
   json = h.json ∙ same (codes "json");
@@ -73,8 +75,12 @@ found_taken app words m t plain has h =
     let all : (n : List ℕ) → all_found (found_of m) n ≡ values_in (all_of n (matches_of app words)) = λ n. ap values_in (raw_values-rows (found_of m) n ∙ ap (all_of n) (has simple).0) in
     record {
       given = found_given app words m t.given plain has h.given;
-      files = h.files ∙ all (codes "FILE");
-      errors = h.errors ∙ all (codes "error");
+      lists = record {
+        files = h.lists.files ∙ all (codes "FILE");
+        errors = h.lists.errors ∙ all (codes "error");
+        always = h.lists.always ∙ all (codes "always");
+        undo = h.lists.undo ∙ all (codes "undo");
+      };
     }
 
 -- an error that isn't want of memory is a reason

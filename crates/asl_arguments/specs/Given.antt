@@ -4,6 +4,7 @@ use Rattle.std.specs.Borrow.{Bor}
 use Rattle.std.specs.Str.{bytes_eq}
 use Rattle.clap.specs.Words.{App, all_of, first_of, first_value, matched_of, matches_of, raw_values}
 use Rattle.clap.specs.declared.parser.matches.Found.{Found}
+use Rattle.asl_arguments.specs.declared.found.Lists.{Lists}
 use Rattle.asl_arguments.specs.declared.found.Taken.{Taken}
 use Rattle.asl_words.specs.declared.given.Given.{Given}
 
@@ -42,6 +43,8 @@ pub record IsGiven (value : List ℕ → Option (List ℕ)) (g : Given) : Type 0
   pub witness : said g.witness ≡ value (codes "witness")
   pub errors : said g.errors ≡ value (codes "errors")
   pub error : said g.error ≡ value (codes "error")
+  pub always : said g.always ≡ value (codes "always")
+  pub undo : said g.undo ≡ value (codes "undo")
   pub most_steps : said g.most_steps ≡ value (codes "max-steps")
   pub junit : said g.junit ≡ value (codes "junit")
   pub json : said g.json ≡ value (codes "json")
@@ -72,17 +75,26 @@ values_in (Some vs) = vs
 abbrev pub said_all : List (Bor (List ℕ)) → List (List ℕ)
 said_all = map (λ s. s.now)
 
--- what clap found, and the files and the errors that were named one after another
+-- what is named one after another, by the names of arguments
+pub record AreListed (values : List ℕ → List (List ℕ)) (l : Lists) : Type 0 where
+  pub files : said_all l.files.items ≡ values (codes "FILE")
+  pub errors : said_all l.errors.items ≡ values (codes "error")
+  pub always : said_all l.always.items ≡ values (codes "always")
+  pub undo : said_all l.undo.items ≡ values (codes "undo")
+
+-- what clap found
 abbrev pub all_found : Found → List ℕ → List (List ℕ)
 all_found f n = values_in (option_map raw_values (matched_of f n))
 
 pub record IsTakenBy (f : Found) (t : Taken) : Type 0 where
   pub given : IsGiven (first_value f) t.given
-  pub files : said_all t.files.items ≡ all_found f (codes "FILE")
-  pub errors : said_all t.errors.items ≡ all_found f (codes "error")
+  pub lists : AreListed (all_found f) t.lists
+
+-- all values that clap's grammar gives words, by the arguments' names
+abbrev pub all_values_of : App → List (List ℕ) → List ℕ → List (List ℕ)
+all_values_of app words n = values_in (all_of n (matches_of app words))
 
 -- what words give
 pub record IsTaken (a : App) (words : List (List ℕ)) (t : Taken) : Type 0 where
   pub given : IsGiven (values_of a words) t.given
-  pub files : said_all t.files.items ≡ values_in (all_of (codes "FILE") (matches_of a words))
-  pub errors : said_all t.errors.items ≡ values_in (all_of (codes "error") (matches_of a words))
+  pub lists : AreListed (all_values_of a words) t.lists

@@ -10,7 +10,7 @@ use Rattle.asl_arguments.specs.declared.arguments.Kind.TheVariants as kind
 use Rattle.asl_arguments.specs.declared.arguments.Presence.{Presence}
 use Rattle.asl_arguments.specs.declared.arguments.Presence.TheVariants as presence
 use Rattle.asl_words.specs.declared.verbs.Verb.{Verb}
-use Rattle.asl_words.specs.declared.verbs.Verb.TheVariants.{Check, Lint, Print, Upgrade, Graph, Mocks, Run, Debug, Test, Explore, Explain}
+use Rattle.asl_words.specs.declared.verbs.Verb.TheVariants.{Check, Lint, Print, Upgrade, Graph, Mocks, Run, Debug, Test, Explore, Explain, Lsp}
 
 -- ---- what there is
 
@@ -118,7 +118,8 @@ explore_arguments = begin_arguments (preset (codes "limit") (number 1 1000000) (
     ∷ free (codes "prompt") flag ∷ free (codes "calls") flag
     ∷ free (codes "witness") (number 1 1000000)
     ∷ free (codes "format") (choice (codes "steps" ∷ codes "tree" ∷ codes "data" ∷ codes "test" ∷ codes "mocks" ∷ []))
-    ∷ free (codes "errors") (number 0 2) ∷ free (codes "error") texts ∷ project_argument)
+    ∷ free (codes "errors") (number 0 2) ∷ free (codes "error") texts
+    ∷ free (codes "always") texts ∷ free (codes "undo") texts ∷ project_argument)
 
 -- each command may be told to be quiet
 abbrev pub quiet : Argument
@@ -140,6 +141,7 @@ asl_commands =
     ∷ command Test (codes "test") test_arguments
     ∷ command Explore (codes "explore") explore_arguments
     ∷ command Explain (codes "explain") (free (codes "CODE") word ∷ [])
+    ∷ command Lsp (codes "lsp") []
     ∷ []
 
 -- ---- a row of the code's table as what it says

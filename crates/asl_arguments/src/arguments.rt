@@ -408,6 +408,18 @@ const EXPLORE: &[Argument] = &[
         presence: Optional,
         help: Help::ExploreError,
     },
+    Argument {
+        name: "always",
+        kind: Texts("RULE"),
+        presence: Optional,
+        help: Help::ExploreAlways,
+    },
+    Argument {
+        name: "undo",
+        kind: Texts("PAIR"),
+        presence: Optional,
+        help: Help::ExploreUndo,
+    },
     PROJECT_OF_CHOSEN,
     QUIET,
 ];
@@ -421,6 +433,8 @@ const EXPLAIN: &[Argument] = &[
     },
     QUIET,
 ];
+
+const LSP: &[Argument] = &[QUIET];
 
 /// The name of a definition's file.
 const DEFINITION: Argument = Argument {
@@ -602,5 +616,10 @@ const COMMANDS: &[CommandRow] = &[
         verb: Verb::Explain,
         name: "explain",
         arguments: EXPLAIN,
+    },
+    CommandRow {
+        verb: Verb::Lsp,
+        name: "lsp",
+        arguments: LSP,
     },
 ];

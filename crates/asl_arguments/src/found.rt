@@ -2,7 +2,7 @@
 ghost use Rattle.std.specs.Prelude.{◌≡◌, ◌≢◌, [], true, Err, IfOk, map};
 ghost use Rattle.clap.specs.Words.{app_of, kind_of, fault_of, first_value, found_of, is_simple_and_free};
 ghost use Rattle.asl_arguments.specs.Grammar.{app_for};
-ghost use Rattle.asl_arguments.specs.Given.{IsGiven, IsTaken, IsTakenBy, all_found, is_set, said_all};
+ghost use Rattle.asl_arguments.specs.Given.{AreListed, IsGiven, IsTaken, IsTakenBy, all_found, is_set, said_all};
 
 use crate::arguments::CommandRow;
 use crate::lines::command_of;
@@ -12,12 +12,22 @@ use clap::{ArgMatches, Command, Error};
 use std::alloc::{AllocError, Global};
 use std::convert::AsStr;
 
-/// What is given, and the files and the errors that are named one after another.
+/// What is named one after another.
+#[derive(Drop)]
+pub struct Lists<'a> {
+    pub files: Vec<&'a str>,
+    pub errors: Vec<&'a str>,
+    /// The rules that are to hold.
+    pub always: Vec<&'a str>,
+    /// Pairs of Tasks, of which the second undoes the first.
+    pub undo: Vec<&'a str>,
+}
+
+/// What is given for each argument, and all that is for those that may be given more than once.
 #[derive(Drop)]
 pub struct Taken<'a> {
     pub given: Given<'a>,
-    pub files: Vec<&'a str>,
-    pub errors: Vec<&'a str>,
+    pub lists: Lists<'a>,
 }
 
 /// Why nothing is given.
@@ -68,17 +78,25 @@ fn taken_by<'a>(alloc: Global, matches: &ArgMatches<'a>) -> Result<Taken<'a>, Un
     ensures ok { IfOk result (IsTakenBy (found_of matches.now)) }
     ensures err { result ≢ Err Ungiven.Refused }
 {
-    match (
-        named_by(alloc, matches, "FILE"),
-        named_by(alloc, matches, "error"),
-    ) {
-        (Ok(files), Ok(errors)) => Ok(Taken {
+    match lists_by(alloc, matches) {
+        Ok(lists) => Ok(Taken {
             given: given_by(matches),
-            files,
-            errors,
+            lists,
         }),
-        _ => Err(Ungiven::OutOfMemory),
+        Err(_) => Err(Ungiven::OutOfMemory),
     }
+}
+
+/// What is named one after another. The error is that memory ran out.
+fn lists_by<'a>(alloc: Global, matches: &ArgMatches<'a>) -> Result<Lists<'a>, AllocError>
+    ensures { IfOk result (AreListed (all_found (found_of matches.now))) }
+{
+    Ok(Lists {
+        files: named_by(alloc, matches, "FILE")?,
+        errors: named_by(alloc, matches, "error")?,
+        always: named_by(alloc, matches, "always")?,
+        undo: named_by(alloc, matches, "undo")?,
+    })
 }
 
 /// All values of an argument. The error is that memory ran out.
@@ -143,6 +161,8 @@ fn given_by<'a>(matches: &ArgMatches<'a>) -> Given<'a>
         witness: matches.get_str("witness"),
         errors: matches.get_str("errors"),
         error: matches.get_str("error"),
+        always: matches.get_str("always"),
+        undo: matches.get_str("undo"),
         most_steps: matches.get_str("max-steps"),
         junit: matches.get_str("junit"),
         json: matches.get_str("json"),

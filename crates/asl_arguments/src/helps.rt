@@ -48,6 +48,8 @@ pub enum Help {
     ExploreFormat,
     ExploreErrors,
     ExploreError,
+    ExploreAlways,
+    ExploreUndo,
     ExplainCode,
     Definition,
     DefinitionOrNone,
@@ -133,6 +135,10 @@ impl Help {
                 "Tries every order where invocations of Tasks fail, too: under each plan of at most so many errors, from 0 to 2; Tasks that the case doesn't name are answered by the other cases of the machine, else as by asl mocks, so no mock file need be named",
             Help::ExploreError =>
                 "With --errors: the error that is put in, in place of those that retriers and catchers tell apart; it may be named more than once",
+            Help::ExploreAlways =>
+                "With --errors: a rule that is to hold wherever the execution ends, as 'done(\"Charge\") and status(FAILED) => done(\"Refund\")'; it may be given more than once",
+            Help::ExploreUndo =>
+                "With --errors: two Tasks, as '\"Charge\"=\"Refund\"': wherever the execution doesn't succeed, the second is to return as often as the first; it may be given more than once",
             Help::ExplainCode =>
                 "A code that a command told, as F10, no-default or States.Timeout; without it, all codes are listed",
             Help::Definition =>
@@ -199,5 +205,6 @@ pub(crate) fn examples_of(verb: Verb) -> &'static str {
             "Examples:\n  asl explore examples/loan/definition.json examples/loan/mocks.json both examples/loan/input.json\n  asl explore --errors 1 examples/loan/definition.json examples/loan/mocks.json both examples/loan/input.json"
         }
         Verb::Explain => "Examples:\n  asl explain F10\n  asl explain States.Timeout",
+        Verb::Lsp => "Examples:\n  asl lsp",
     }
 }

@@ -10,5 +10,5 @@ mod helps;
 mod lines;
 
 pub use arguments::{CommandRow, commands};
-pub use found::{Taken, Ungiven, given_in};
+pub use found::{Lists, Taken, Ungiven, given_in};
 pub use lines::line_of;

@@ -15,7 +15,7 @@ use Rattle.asl_suite_file.specs.declared.expectation.Expectation.{Expectation}
 use Rattle.asl_suite_file.specs.declared.expectation.InputSource.{InputSource}
 use Rattle.asl_suite_file.specs.declared.expectation.InputSource.TheVariants.{Here, File as Named}
 use Rattle.asl_cli.specs.declared.fault.CommandFault.{CommandFault}
-use Rattle.asl_cli.specs.declared.fault.CommandFault.TheVariants.{File, Definition, Emulation, Script, Expectations, Test, Project, Code, Output, OutOfMemory}
+use Rattle.asl_cli.specs.declared.fault.CommandFault.TheVariants.{File, Definition, Emulation, Script, Expectations, Test, Project, Rule, Code, Output, OutOfMemory}
 use Rattle.asl_cli.specs.declared.inputs.Known.{Known}
 use Rattle.asl_cli.specs.Faults.{IsUnread, IsFirstUnread, AreUnread, IsGiven, named, names_in, AreGiven}
 use Rattle.asl_cli.specs.Beginnings.{suite_name, IsInputText, IsInputUnread, IsOfTest, IsTestReason, IsUnchosenIn, IsReasonFrom}
@@ -33,6 +33,7 @@ unless-map P Q (Emulation e lines) f h = f (Emulation e lines) h
 unless-map P Q (Script e lines) f h = f (Script e lines) h
 unless-map P Q (Expectations e lines) f h = f (Expectations e lines) h
 unless-map P Q (Project e lines) f h = f (Project e lines) h
+unless-map P Q (Rule fault lines) f h = f (Rule fault lines) h
 unless-map P Q (Code word lines) f h = f (Code word lines) h
 unless-map P Q (Test number lines) f h = f (Test number lines) h
 unless-map P Q (Output name why) f h = f (Output name why) h
@@ -55,6 +56,7 @@ module _ (gives less : Gives) (lacks few : Lacks) (more : (n b : List ℕ) → l
   unheld-before name (Script e lines) h = h
   unheld-before name (Expectations e lines) h = h
   unheld-before name (Project e lines) h = h
+  unheld-before name (Rule fault lines) h = h
   unheld-before name (Code word lines) h = h
   unheld-before name (Test number lines) h = h
   unheld-before name (Output n why) h = h
@@ -68,6 +70,7 @@ module _ (gives less : Gives) (lacks few : Lacks) (more : (n b : List ℕ) → l
   unread-before name (Expectations e lines) h = h
   unread-before name (Test number lines) h = h
   unread-before name (Project e lines) h = h
+  unread-before name (Rule fault lines) h = h
   unread-before name (Code word lines) h = h
   unread-before name (Output n why) h = h
   unread-before name OutOfMemory h = h
@@ -85,6 +88,7 @@ module _ (gives less : Gives) (lacks few : Lacks) (more : (n b : List ℕ) → l
   all-unread-before names (Expectations e lines) h = h
   all-unread-before names (Test number lines) h = h
   all-unread-before names (Project e lines) h = h
+  all-unread-before names (Rule fault lines) h = h
   all-unread-before names (Code word lines) h = h
   all-unread-before names (Output n why) h = h
   all-unread-before names OutOfMemory h = h

@@ -3,4 +3,5 @@ mod Having
 mod Held
 mod Parts
 mod Talks
+mod Serves
 pub mod Lints

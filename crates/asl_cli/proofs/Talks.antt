@@ -28,7 +28,7 @@ given-more ls l start mid end one two =
     let more : given_lines (ls ++ l ∷ []) ≡ given_lines ls ++ (l ++ 10 ∷ []) = flat_map-append (λ line. line ++ 10 ∷ []) ls (l ∷ []) ∙ ap (λ (x : List ℕ). given_lines ls ++ x) (append-nil (l ++ 10 ∷ [])) in
     two ∙ ap (λ (x : List ℕ). x ++ (l ++ 10 ∷ [])) one ∙ append_assoc start (given_lines ls) (l ++ 10 ∷ []) ∙ ap (λ (x : List ℕ). start ++ x) (sym more)
 
-written-more : {O : Type 0} (taken : O → List ℕ) (failures : O → ℕ) (old mid new : O) (a b : List ℕ) → IsWhole (sink_use taken failures old mid) a → IsWhole (sink_use taken failures mid new) b → IsWhole (sink_use taken failures old new) (a ++ b)
+pub written-more : {O : Type 0} (taken : O → List ℕ) (failures : O → ℕ) (old mid new : O) (a b : List ℕ) → IsWhole (sink_use taken failures old mid) a → IsWhole (sink_use taken failures mid new) b → IsWhole (sink_use taken failures old new) (a ++ b)
 written-more taken failures old mid new a b one two = (
   two.0 ∙ ap (λ (x : List ℕ). x ++ b) one.0 ∙ append_assoc (taken old) a b,
   two.1 ∙ one.1,
@@ -37,9 +37,9 @@ written-more taken failures old mid new a b one two = (
 one-more : (ls : List (List ℕ)) (l : List ℕ) (number : ℕ) → number ≡ length ls → number + 1 ≡ length (ls ++ l ∷ [])
 one-more ls l number e = let both = length-append ls (l ∷ []) in omega (arith, e, both)
 
-pub answered-more : {I O : Type 0} (given : I → List ℕ) (taken : O → List ℕ) (failures : O → ℕ) (strict : Bool) (look : Look) (c d e : Console) (number : ℕ) (i j k : I) (o p q : O) (l t : List ℕ)
-    → AreAnswered (input_use given i j) (sink_use taken failures o p) strict look c d number → given k ≡ given j ++ (l ++ 10 ∷ []) → IsReplied strict look d l t e → IsWhole (sink_use taken failures p q) t → AreAnswered (input_use given i k) (sink_use taken failures o q) strict look c e (number + 1)
-answered-more given taken failures strict look c d e number i j k o p q l t h g r w = record {
+pub answered-more : {I O : Type 0} (given : I → List ℕ) (ended : I → Bool) (taken : O → List ℕ) (failures : O → ℕ) (strict : Bool) (look : Look) (c d e : Console) (number : ℕ) (i j k : I) (o p q : O) (l t : List ℕ)
+    → AreAnswered (input_use given ended i j) (sink_use taken failures o p) strict look c d number → given k ≡ given j ++ (l ++ 10 ∷ []) → IsReplied strict look d l t e → IsWhole (sink_use taken failures p q) t → AreAnswered (input_use given ended i k) (sink_use taken failures o q) strict look c e (number + 1)
+answered-more given ended taken failures strict look c d e number i j k o p q l t h g r w = record {
   lines = h.lines ++ l ∷ [];
   text = h.text ++ t;
   given_is = given-more h.lines l (given i) (given j) (given k) h.given_is g;
@@ -54,10 +54,10 @@ last-stop : (look : Look) (c d e : Console) (ls : List (List ℕ)) (l text t : L
 last-stop look c d e ls l text t h a r = record { before = ls; told = text; here = d; line = l; answer = t; replied = h; answers = a; refused = r; lines_are = refl; text_is = refl }
 
 -- the line ended a strict talk
-pub halted : {I O : Type 0} (given : I → List ℕ) (taken : O → List ℕ) (failures : O → ℕ) (strict : Bool) (look : Look) (c d e : Console) (number : ℕ) (i j k : I) (o p q : O) (l t : List ℕ)
-    → AreAnswered (input_use given i j) (sink_use taken failures o p) strict look c d number → given k ≡ given j ++ (l ++ 10 ∷ []) → IsStop strict look d l t e → IsWhole (sink_use taken failures p q) t
-    → (strict ≡ true) × IsHalted (input_use given i k) (sink_use taken failures o q) look c e (number + 1)
-halted given taken failures strict look c d e number i j k o p q l t h g (on, a, r) w = (
+pub halted : {I O : Type 0} (given : I → List ℕ) (ended : I → Bool) (taken : O → List ℕ) (failures : O → ℕ) (strict : Bool) (look : Look) (c d e : Console) (number : ℕ) (i j k : I) (o p q : O) (l t : List ℕ)
+    → AreAnswered (input_use given ended i j) (sink_use taken failures o p) strict look c d number → given k ≡ given j ++ (l ++ 10 ∷ []) → IsStop strict look d l t e → IsWhole (sink_use taken failures p q) t
+    → (strict ≡ true) × IsHalted (input_use given ended i k) (sink_use taken failures o q) look c e (number + 1)
+halted given ended taken failures strict look c d e number i j k o p q l t h g (on, a, r) w = (
   on,
   record {
     lines = h.lines ++ l ∷ [];
@@ -73,9 +73,9 @@ quit-is : (strict : Bool) (look : Look) (c d e : Console) (ls : List (List ℕ))
 quit-is strict look c d e ls l text t h a = inr (record { before = ls; told = text; here = d; line = l; answer = t; replied = h; quits = a; lines_are = refl; text_is = refl })
 
 -- the line was the last one
-pub talked-last : {I O : Type 0} (given : I → List ℕ) (taken : O → List ℕ) (failures : O → ℕ) (strict : Bool) (look : Look) (c d e : Console) (number : ℕ) (i j k : I) (o p q : O) (l t : List ℕ)
-    → AreAnswered (input_use given i j) (sink_use taken failures o p) strict look c d number → given k ≡ given j ++ (l ++ 10 ∷ []) → Answers look d l t true e → IsWhole (sink_use taken failures p q) t → IsTalked (input_use given i k) (sink_use taken failures o q) strict look c e
-talked-last given taken failures strict look c d e number i j k o p q l t h g a w = record {
+pub talked-last : {I O : Type 0} (given : I → List ℕ) (ended : I → Bool) (taken : O → List ℕ) (failures : O → ℕ) (strict : Bool) (look : Look) (c d e : Console) (number : ℕ) (i j k : I) (o p q : O) (l t : List ℕ)
+    → AreAnswered (input_use given ended i j) (sink_use taken failures o p) strict look c d number → given k ≡ given j ++ (l ++ 10 ∷ []) → Answers look d l t true e → IsWhole (sink_use taken failures p q) t → IsTalked (input_use given ended i k) (sink_use taken failures o q) strict look c e
+talked-last given ended taken failures strict look c d e number i j k o p q l t h g a w = record {
   lines = h.lines ++ l ∷ [];
   text = h.text ++ t;
   given_is = given-more h.lines l (given i) (given j) (given k) h.given_is g;
@@ -90,9 +90,9 @@ last-talk strict look c d e ls l text t h (inr (inl a)) = inl (quit-is strict lo
 last-talk strict look c d e ls l text t h (inr (inr (on, a, r))) = inr (on, last-stop look c d e ls l text t (subst (λ (b : Bool). AreReplied b look c ls text d) on h) a r)
 
 -- the answer was written in part
-pub talked-in-part : {I O : Type 0} (given : I → List ℕ) (taken : O → List ℕ) (failures : O → ℕ) (strict : Bool) (look : Look) (c d e : Console) (number : ℕ) (i j k : I) (o p q : O) (l t : List ℕ)
-    → AreAnswered (input_use given i j) (sink_use taken failures o p) strict look c d number → given k ≡ given j ++ (l ++ 10 ∷ []) → IsHeard strict look d l t e → IsBroken (sink_use taken failures p q) t → IsTalkedInPart (input_use given i k) (sink_use taken failures o q) strict look c e
-talked-in-part given taken failures strict look c d e number i j k o p q l t h g a b = record {
+pub talked-in-part : {I O : Type 0} (given : I → List ℕ) (ended : I → Bool) (taken : O → List ℕ) (failures : O → ℕ) (strict : Bool) (look : Look) (c d e : Console) (number : ℕ) (i j k : I) (o p q : O) (l t : List ℕ)
+    → AreAnswered (input_use given ended i j) (sink_use taken failures o p) strict look c d number → given k ≡ given j ++ (l ++ 10 ∷ []) → IsHeard strict look d l t e → IsBroken (sink_use taken failures p q) t → IsTalkedInPart (input_use given ended i k) (sink_use taken failures o q) strict look c e
+talked-in-part given ended taken failures strict look c d e number i j k o p q l t h g a b = record {
   lines = h.lines ++ l ∷ [];
   text = h.text ++ t;
   given_is = given-more h.lines l (given i) (given j) (given k) h.given_is g;
@@ -128,34 +128,34 @@ stops false look c d l t false refused e f a r = (cc)
 
 -- ---- a whole conversation
 
-pub conversed : {I O E : Type 0} (given : I → List ℕ) (taken : O → List ℕ) (failures : O → ℕ) (err_taken : E → List ℕ) (err_failures : E → ℕ) (strict : Bool) (look : Look) (c d : Console) (i j : I) (o p q : O) (x y : E) (status : ℕ)
-    → IsTalked (input_use given i j) (sink_use taken failures o p) strict look c d → IsEnd (io (sink_use taken failures p q) (sink_use err_taken err_failures x y) status) look d → IsConversed (input_use given i j) (io (sink_use taken failures o q) (sink_use err_taken err_failures x y) status) strict look c
-conversed given taken failures err_taken err_failures strict look c d i j o p q x y status h (inl (end, is, same, printed)) = inl (inl (h.lines, h.text, end, d, h.given_is, h.talk, is, same, printed-behind taken failures o p q h.text end 0 status h.written printed))
-conversed given taken failures err_taken err_failures strict look c d i j o p q x y status h (inr e) = inl (inr (h.lines, h.text, d, codes "OutOfMemory", h.given_is, h.talk, rw e.0 h.written, inr refl, e.1, e.2))
+pub conversed : {I O E : Type 0} (given : I → List ℕ) (ended : I → Bool) (taken : O → List ℕ) (failures : O → ℕ) (err_taken : E → List ℕ) (err_failures : E → ℕ) (strict : Bool) (look : Look) (c d : Console) (i j : I) (o p q : O) (x y : E) (status : ℕ)
+    → IsTalked (input_use given ended i j) (sink_use taken failures o p) strict look c d → IsEnd (io (sink_use taken failures p q) (sink_use err_taken err_failures x y) status) look d → IsConversed (input_use given ended i j) (io (sink_use taken failures o q) (sink_use err_taken err_failures x y) status) strict look c
+conversed given ended taken failures err_taken err_failures strict look c d i j o p q x y status h (inl (end, is, same, printed)) = inl (inl (h.lines, h.text, end, d, h.given_is, h.talk, is, same, printed-behind taken failures o p q h.text end 0 status h.written printed))
+conversed given ended taken failures err_taken err_failures strict look c d i j o p q x y status h (inr e) = inl (inr (h.lines, h.text, d, codes "OutOfMemory", h.given_is, h.talk, rw e.0 h.written, inr refl, e.1, e.2))
 
 -- a line ended a strict talk
-told-stop : {I O E : Type 0} (given : I → List ℕ) (taken : O → List ℕ) (failures : O → ℕ) (err_taken : E → List ℕ) (err_failures : E → ℕ) (look : Look) (c d : Console) (number : ℕ) (i j : I) (o p q : O) (x y : E) (status : ℕ) (end : List ℕ)
-    → (h : IsHalted (input_use given i j) (sink_use taken failures o p) look c d number) → IsEndText look (world_in d.session) end → IsStopTold (io (sink_use taken failures p q) (sink_use err_taken err_failures x y) status) number end
+told-stop : {I O E : Type 0} (given : I → List ℕ) (ended : I → Bool) (taken : O → List ℕ) (failures : O → ℕ) (err_taken : E → List ℕ) (err_failures : E → ℕ) (look : Look) (c d : Console) (number : ℕ) (i j : I) (o p q : O) (x y : E) (status : ℕ) (end : List ℕ)
+    → (h : IsHalted (input_use given ended i j) (sink_use taken failures o p) look c d number) → IsEndText look (world_in d.session) end → IsStopTold (io (sink_use taken failures p q) (sink_use err_taken err_failures x y) status) number end
     → IsStopOf (io (sink_use taken failures o q) (sink_use err_taken err_failures x y) status) look h.text d (length h.lines)
-told-stop given taken failures err_taken err_failures look c d number i j o p q x y status end h is (inl (told, printed)) =
+told-stop given ended taken failures err_taken err_failures look c d number i j o p q x y status end h is (inl (told, printed)) =
     inl (end, is, subst (λ n. IsTold (sink_use err_taken err_failures x y) (stop_line n)) h.number_is told, printed-behind taken failures o p q h.text end 1 status h.written printed)
-told-stop given taken failures err_taken err_failures look c d number i j o p q x y status end h is (inr (same, two, told)) =
+told-stop given ended taken failures err_taken err_failures look c d number i j o p q x y status end h is (inr (same, two, told)) =
     inr (inl (rw same h.written, two, told))
 
-stop-end : {I O E : Type 0} (given : I → List ℕ) (taken : O → List ℕ) (failures : O → ℕ) (err_taken : E → List ℕ) (err_failures : E → ℕ) (look : Look) (c d : Console) (number : ℕ) (i j : I) (o p q : O) (x y : E) (status : ℕ)
-    → (h : IsHalted (input_use given i j) (sink_use taken failures o p) look c d number) → IsStopEnd (io (sink_use taken failures p q) (sink_use err_taken err_failures x y) status) look d number
+stop-end : {I O E : Type 0} (given : I → List ℕ) (ended : I → Bool) (taken : O → List ℕ) (failures : O → ℕ) (err_taken : E → List ℕ) (err_failures : E → ℕ) (look : Look) (c d : Console) (number : ℕ) (i j : I) (o p q : O) (x y : E) (status : ℕ)
+    → (h : IsHalted (input_use given ended i j) (sink_use taken failures o p) look c d number) → IsStopEnd (io (sink_use taken failures p q) (sink_use err_taken err_failures x y) status) look d number
     → IsStopOf (io (sink_use taken failures o q) (sink_use err_taken err_failures x y) status) look h.text d (length h.lines)
-stop-end given taken failures err_taken err_failures look c d number i j o p q x y status h (inl (end, is, told)) = told-stop given taken failures err_taken err_failures look c d number i j o p q x y status end h is told
-stop-end given taken failures err_taken err_failures look c d number i j o p q x y status h (inr (same, two, told)) = inr (inl (rw same h.written, two, told))
+stop-end given ended taken failures err_taken err_failures look c d number i j o p q x y status h (inl (end, is, told)) = told-stop given ended taken failures err_taken err_failures look c d number i j o p q x y status end h is told
+stop-end given ended taken failures err_taken err_failures look c d number i j o p q x y status h (inr (same, two, told)) = inr (inl (rw same h.written, two, told))
 
-pub stopped : {I O E : Type 0} (given : I → List ℕ) (taken : O → List ℕ) (failures : O → ℕ) (err_taken : E → List ℕ) (err_failures : E → ℕ) (strict : Bool) (look : Look) (c d : Console) (number : ℕ) (i j : I) (o p q : O) (x y : E) (status : ℕ)
-    → ((strict ≡ true) × IsHalted (input_use given i j) (sink_use taken failures o p) look c d number) → IsStopEnd (io (sink_use taken failures p q) (sink_use err_taken err_failures x y) status) look d number → IsConversed (input_use given i j) (io (sink_use taken failures o q) (sink_use err_taken err_failures x y) status) strict look c
-stopped given taken failures err_taken err_failures strict look c d number i j o p q x y status (on, h) e = inr (on, (h.lines, h.text, d, h.given_is, h.stopped, stop-end given taken failures err_taken err_failures look c d number i j o p q x y status h e))
+pub stopped : {I O E : Type 0} (given : I → List ℕ) (ended : I → Bool) (taken : O → List ℕ) (failures : O → ℕ) (err_taken : E → List ℕ) (err_failures : E → ℕ) (strict : Bool) (look : Look) (c d : Console) (number : ℕ) (i j : I) (o p q : O) (x y : E) (status : ℕ)
+    → ((strict ≡ true) × IsHalted (input_use given ended i j) (sink_use taken failures o p) look c d number) → IsStopEnd (io (sink_use taken failures p q) (sink_use err_taken err_failures x y) status) look d number → IsConversed (input_use given ended i j) (io (sink_use taken failures o q) (sink_use err_taken err_failures x y) status) strict look c
+stopped given ended taken failures err_taken err_failures strict look c d number i j o p q x y status (on, h) e = inr (on, (h.lines, h.text, d, h.given_is, h.stopped, stop-end given ended taken failures err_taken err_failures look c d number i j o p q x y status h e))
 
 -- no further line could be read
-pub unread : {I O E : Type 0} (given : I → List ℕ) (taken : O → List ℕ) (failures : O → ℕ) (err_taken : E → List ℕ) (err_failures : E → ℕ) (strict : Bool) (look : Look) (c d : Console) (i j : I) (o p : O) (x y : E) (t : List ℕ)
-    → IsTalked (input_use given i j) (sink_use taken failures o p) strict look c d → IsInputFault t → IsTold (sink_use err_taken err_failures x y) (fault_line t) → IsConversed (input_use given i j) (io (sink_use taken failures o p) (sink_use err_taken err_failures x y) 2) strict look c
-unread given taken failures err_taken err_failures strict look c d i j o p x y t h f told = inl (inr (h.lines, h.text, d, t, h.given_is, h.talk, h.written, f, refl, told))
+pub unread : {I O E : Type 0} (given : I → List ℕ) (ended : I → Bool) (taken : O → List ℕ) (failures : O → ℕ) (err_taken : E → List ℕ) (err_failures : E → ℕ) (strict : Bool) (look : Look) (c d : Console) (i j : I) (o p : O) (x y : E) (t : List ℕ)
+    → IsTalked (input_use given ended i j) (sink_use taken failures o p) strict look c d → IsInputFault t → IsTold (sink_use err_taken err_failures x y) (fault_line t) → IsConversed (input_use given ended i j) (io (sink_use taken failures o p) (sink_use err_taken err_failures x y) 2) strict look c
+unread given ended taken failures err_taken err_failures strict look c d i j o p x y t h f told = inl (inr (h.lines, h.text, d, t, h.given_is, h.talk, h.written, f, refl, told))
 
 -- behind each talk something may stand
 bare : (t : List ℕ) → IsPainted t t
@@ -168,11 +168,11 @@ some-end Tree w = (status_line w.outcome, refl)
 some-end Colours w = (status_line w.outcome, bare (status_line w.outcome))
 
 -- an answer was written in part
-pub broken-off : {I O E : Type 0} (given : I → List ℕ) (taken : O → List ℕ) (failures : O → ℕ) (err_taken : E → List ℕ) (err_failures : E → ℕ) (strict : Bool) (look : Look) (c d : Console) (i j : I) (o p : O) (x : E)
-    → IsTalkedInPart (input_use given i j) (sink_use taken failures o p) strict look c d → IsConversed (input_use given i j) (io (sink_use taken failures o p) (sink_use err_taken err_failures x x) 2) strict look c
-broken-off given taken failures err_taken err_failures strict look c d i j o p x h = by h.talk
+pub broken-off : {I O E : Type 0} (given : I → List ℕ) (ended : I → Bool) (taken : O → List ℕ) (failures : O → ℕ) (err_taken : E → List ℕ) (err_failures : E → ℕ) (strict : Bool) (look : Look) (c d : Console) (i j : I) (o p : O) (x : E)
+    → IsTalkedInPart (input_use given ended i j) (sink_use taken failures o p) strict look c d → IsConversed (input_use given ended i j) (io (sink_use taken failures o p) (sink_use err_taken err_failures x x) 2) strict look c
+broken-off given ended taken failures err_taken err_failures strict look c d i j o p x h = by h.talk
   where
-    by : IsTalk strict look c h.lines h.text d ⊎ ((strict ≡ true) × IsStopped look c h.lines h.text d) → IsConversed (input_use given i j) (io (sink_use taken failures o p) (sink_use err_taken err_failures x x) 2) strict look c
+    by : IsTalk strict look c h.lines h.text d ⊎ ((strict ≡ true) × IsStopped look c h.lines h.text d) → IsConversed (input_use given ended i j) (io (sink_use taken failures o p) (sink_use err_taken err_failures x x) 2) strict look c
     by (inl talk) = let e = some-end look (world_in d.session) in inl (inl (h.lines, h.text, e.0, d, h.given_is, talk, e.1, refl, inr (broken_first taken failures o p h.text e.0 h.broken, refl)))
     by (inr (on, halt)) = inr (on, (h.lines, h.text, d, h.given_is, halt, inr (inr (h.broken, refl, refl))))
 
@@ -184,8 +184,8 @@ reply-broken (Err e) taken failures strict look o p c d l t quits refused a r b 
 
 -- ---- a greeting gives no line
 
-pub greeted : {I O E : Type 0} (given : I → List ℕ) (taken : O → List ℕ) (failures : O → ℕ) (err_taken : E → List ℕ) (err_failures : E → ℕ) (strict : Bool) (look : Look) (c : Console) (i h j : I) (o p : O) (x y : E) (status : ℕ)
-    → given h ≡ given i → IsConversed (input_use given h j) (io (sink_use taken failures o p) (sink_use err_taken err_failures x y) status) strict look c → IsConversed (input_use given i j) (io (sink_use taken failures o p) (sink_use err_taken err_failures x y) status) strict look c
-greeted given taken failures err_taken err_failures strict look c i h j o p x y status e (inl (inl (lines, text, end, d, is, talk, ends, same, printed))) = inl (inl (lines, text, end, d, is ∙ ap (λ (l : List ℕ). l ++ given_lines lines) e, talk, ends, same, printed))
-greeted given taken failures err_taken err_failures strict look c i h j o p x y status e (inl (inr (lines, text, d, t, is, talk, whole, fault, two, told))) = inl (inr (lines, text, d, t, is ∙ ap (λ (l : List ℕ). l ++ given_lines lines) e, talk, whole, fault, two, told))
-greeted given taken failures err_taken err_failures strict look c i h j o p x y status e (inr (on, (lines, text, d, is, halt, stop))) = inr (on, (lines, text, d, is ∙ ap (λ (l : List ℕ). l ++ given_lines lines) e, halt, stop))
+pub greeted : {I O E : Type 0} (given : I → List ℕ) (ended : I → Bool) (taken : O → List ℕ) (failures : O → ℕ) (err_taken : E → List ℕ) (err_failures : E → ℕ) (strict : Bool) (look : Look) (c : Console) (i h j : I) (o p : O) (x y : E) (status : ℕ)
+    → given h ≡ given i → IsConversed (input_use given ended h j) (io (sink_use taken failures o p) (sink_use err_taken err_failures x y) status) strict look c → IsConversed (input_use given ended i j) (io (sink_use taken failures o p) (sink_use err_taken err_failures x y) status) strict look c
+greeted given ended taken failures err_taken err_failures strict look c i h j o p x y status e (inl (inl (lines, text, end, d, is, talk, ends, same, printed))) = inl (inl (lines, text, end, d, is ∙ ap (λ (l : List ℕ). l ++ given_lines lines) e, talk, ends, same, printed))
+greeted given ended taken failures err_taken err_failures strict look c i h j o p x y status e (inl (inr (lines, text, d, t, is, talk, whole, fault, two, told))) = inl (inr (lines, text, d, t, is ∙ ap (λ (l : List ℕ). l ++ given_lines lines) e, talk, whole, fault, two, told))
+greeted given ended taken failures err_taken err_failures strict look c i h j o p x y status e (inr (on, (lines, text, d, is, halt, stop))) = inr (on, (lines, text, d, is ∙ ap (λ (l : List ℕ). l ++ given_lines lines) e, halt, stop))

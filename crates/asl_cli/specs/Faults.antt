@@ -15,6 +15,7 @@ use Rattle.asl_suite_file.specs.Told.{IsAnswer as IsExpectAnswer}
 use Rattle.asl_suite_file.specs.declared.fault.ExpectFault.{ExpectFault}
 use Rattle.asl_suite_file.specs.declared.fault.ExpectFault.TheVariants as expect
 use Rattle.asl_project.specs.Lines.{project_line}
+use Rattle.asl_rules.specs.FaultText.{fault_text as rule_line}
 use Rattle.asl_mock.specs.Chosen.{IsChosen}
 use Rattle.asl_run_input.specs.Emulations.{Texts, run_texts, IsRefused}
 use Rattle.asl_run_input.specs.Texts.{Unless, refusal_line}
@@ -23,7 +24,7 @@ use Rattle.asl_text.specs.Shown.{shown}
 use Rattle.asl_cli.specs.Layouts.{laid_out}
 use Rattle.asl_cli.specs.Streams.{unless_quiet}
 use Rattle.asl_cli.specs.declared.fault.CommandFault.{CommandFault}
-use Rattle.asl_cli.specs.declared.fault.CommandFault.TheVariants.{File, Definition, Emulation, Script, Expectations, Test, Project, Code, Output, OutOfMemory}
+use Rattle.asl_cli.specs.declared.fault.CommandFault.TheVariants.{File, Definition, Emulation, Script, Expectations, Test, Project, Rule, Code, Output, OutOfMemory}
 use Rattle.asl_cli.specs.declared.reading.SetupTexts.{SetupTexts}
 use Rattle.asl_host.specs.Outcomes.{fault_line}
 use Rattle.asl_host.specs.Reading.{Lacks, unreadable_words}
@@ -176,6 +177,7 @@ reason_text (Script fault lines) = script_refusal fault
 reason_text (Expectations fault lines) = codes "expectations: " ++ expect_line fault
 reason_text (Test number lines) = codes "expectations: X4 NoTest " ++ decimal number
 reason_text (Project fault lines) = codes "project: " ++ project_line fault
+reason_text (Rule fault lines) = codes "rule: " ++ rule_line fault
 reason_text (Code word lines) = codes "code " ++ word.now
 reason_text (Output name why) = codes "file " ++ (name.now ++ unwritable_words why)
 reason_text OutOfMemory = codes "OutOfMemory"
@@ -188,6 +190,7 @@ mending (Script fault lines) = string_bytes lines
 mending (Expectations fault lines) = string_bytes lines
 mending (Project fault lines) = string_bytes lines
 mending (Test number lines) = string_bytes lines
+mending (Rule fault lines) = string_bytes lines
 mending (Code word lines) = string_bytes lines
 mending _ = []
 

@@ -1,5 +1,5 @@
 -- What the command `explore` finds, prints and tells where errors are put in.
-use Rattle.std.specs.Prelude.{ℕ, Bool, true, List, ◌∷◌, ◌≡◌, ◌⊎◌, Option, Some, None, option_map, ⊤, codes}
+use Rattle.std.specs.Prelude.{ℕ, Bool, true, ◌&&◌, List, ◌∷◌, ◌++◌, length, ◌≡◌, ◌⊎◌, Option, Some, None, Result, Ok, option_map, ⊤, codes}
 use Rattle.asl_json_data.specs.Data.{Data}
 use Rattle.asl_check.specs.Judged.{IsMachineOf}
 use Rattle.asl_mock_sample.specs.Files.{sample_text}
@@ -9,9 +9,12 @@ use Rattle.asl_explore.specs.declared.found.Found.{Found}
 use Rattle.asl_error_plans.specs.Telling.{plans_text, are_good}
 use Rattle.asl_error_plans.specs.declared.outcomes.PlanOutcomes.{PlanOutcomes}
 use Rattle.asl_explore_errors.specs.Filling.{IsFilled}
-use Rattle.asl_explore_errors.specs.Searches.{AreAllFound, tasks_failing, witness_of}
+use Rattle.asl_explore_errors.specs.Rules.{are_kept, rules_from}
+use Rattle.asl_explore_errors.specs.Searches.{AreAllFound, names_in, tasks_failing, witness_of}
 use Rattle.asl_explore_errors.specs.Under.{case_file, IsUnder}
 use Rattle.asl_explore_errors.specs.declared.tried.ErrorsFound.{ErrorsFound}
+use Rattle.asl_rules.specs.declared.fault.RuleFault.{RuleFault}
+use Rattle.asl_arguments.specs.declared.found.Lists.{Lists}
 use Rattle.asl_words.specs.declared.words.ErrorsBegin.{ErrorsBegin}
 use Rattle.asl_words.specs.declared.words.ErrorsBegin.TheVariants.{Case, Sample}
 use Rattle.asl_words.specs.declared.words.ErrorsFormat.{ErrorsFormat}
@@ -26,7 +29,9 @@ use Rattle.asl_cli.specs.Beginnings.{without_steps, IsBeginning, IsNoBeginning}
 use Rattle.asl_cli.specs.Exploring.{has_colours, orders_for, witness_text}
 use Rattle.asl_cli.specs.Faults.{named, AreUnread, IsDefinitionTextReason, IsTextsReason}
 use Rattle.asl_cli.specs.Formats.{IsShown as IsShownIn}
+use Rattle.asl_cli.specs.Ruling.{IsRuleReason, accepts, rule_texts, rules_of, tasks_of}
 use Rattle.asl_cli.specs.Streams.{FileSystem, Io, Prints}
+use Rattle.asl_cli.specs.declared.ruling.Ruled.{Ruled}
 
 -- ---- what an execution begins with
 
@@ -59,11 +64,20 @@ abbrev pub AreNoErrorsTexts : (List ℕ → List ℕ → Type 0) → Lacks → E
 AreNoErrorsTexts gives lacks (Case b) r = IsNoBeginning gives lacks b r
 AreNoErrorsTexts gives lacks (Sample w) r = IsNoSampleBeginning gives lacks w r
 
--- why nothing begins: a file can't be read, or what was read is refused; or memory ran out
-abbrev pub IsErrorsReason : (List ℕ → List ℕ → Type 0) → Lacks → ErrorsBegin → CommandFault → Type 0
-IsErrorsReason gives lacks b r =
-    AreNoErrorsTexts gives lacks b r
-    ⊎ ((t : Texts) × AreErrorsTexts gives b t × IsTextsReason (without_steps t) r)
+-- the rules that are named for an execution, or the fault of the first that is none
+abbrev pub rules_named : Setup → Lists → Result (List Ruled) RuleFault
+rules_named s l = rules_of (tasks_of s.machine) (names_in l.always.items) (names_in l.undo.items)
+
+-- what was read is refused, or a rule for the execution that it may give; or memory ran out
+abbrev pub IsSetupOrRuleReason : Texts → Lists → CommandFault → Type 0
+IsSetupOrRuleReason t l r =
+    IsTextsReason (without_steps t) r
+    ⊎ ((s : Setup) × Accepts (without_steps t) s None × IsRuleReason (rules_named s l) r)
+
+-- why nothing begins: a file can't be read, or what was read is refused, or a rule; or memory ran out
+abbrev pub IsErrorsReason : (List ℕ → List ℕ → Type 0) → Lacks → ErrorsBegin → Lists → CommandFault → Type 0
+IsErrorsReason gives lacks b l r =
+    AreNoErrorsTexts gives lacks b r ⊎ ((t : Texts) × AreErrorsTexts gives b t × IsSetupOrRuleReason t l r)
 
 -- ---- what is found
 
@@ -80,29 +94,41 @@ IsPlanShown w chosen s (Some v) (Some t) =
     (under : Setup) × IsUnder s v.0.plan.items under × IsPlanIn w.format w.coloured chosen under v.1 t
 IsPlanShown w chosen s v t = ⊥
 
+-- what was found of these rules, and what comes of each plan
+abbrev pub errors_report : List (List ℕ) → ErrorsFound → List ℕ
+errors_report rules x = rules_from x 0 rules ++ plans_text x.plans.items
+
+-- and no order ends against one of them
+abbrev pub all_is_good : List (List ℕ) → ErrorsFound → Bool
+all_is_good rules x = are_good x.plans.items && are_kept (length rules) x
+
 -- this is shown of what was found, and whether all is good
-abbrev pub IsShownOf : ErrorsWords → List ℕ → Setup → ErrorsFound → Option ℕ → Option (List ℕ) → Bool → Type 0
-IsShownOf w chosen s x None t good = (t ≡ Some (plans_text x.plans.items)) × (good ≡ are_good x.plans.items)
-IsShownOf w chosen s x (Some n) t good = IsPlanShown w chosen s (witness_of n x) t × (good ≡ true)
+abbrev pub IsShownOf : ErrorsWords → List ℕ → Setup → ErrorsFound → List (List ℕ) → Option ℕ → Option (List ℕ) → Bool → Type 0
+IsShownOf w chosen s x rules None t good = (t ≡ Some (errors_report rules x)) × (good ≡ all_is_good rules x)
+IsShownOf w chosen s x rules (Some n) t good = IsPlanShown w chosen s (witness_of n x) t × (good ≡ true)
 
 -- what a search may find of an execution of which this is the mock file, with an answer to each Task, where these errors are put in, if
--- any are named, is shown so
-pub record IsTried (w : ErrorsWords) (names : List (List ℕ)) (mocks chosen : List ℕ) (own : Setup) (t : Option (List ℕ))
+-- any are named, and the ends of its orders are judged by the rules that are, is shown so
+pub record IsTried (w : ErrorsWords) (l : Lists) (mocks chosen : List ℕ) (own : Setup) (t : Option (List ℕ))
     (good : Bool) : Type 0 where
   pub setup : Setup
   pub filled : IsFilled mocks own setup
+  pub rules : List Ruled
+  pub are_rules : rules_named own l ≡ Ok rules
   pub found : ErrorsFound
-  pub are_found : AreAllFound w.errors (tasks_failing names setup.machine) (orders_for w.prompt) w.limit setup found
-  pub shown : IsShownOf w chosen setup found w.witness t good
+  pub are_found : AreAllFound accepts rules w.errors (tasks_failing (names_in l.errors.items) setup.machine)
+      (orders_for w.prompt) w.limit setup found
+  pub shown : IsShownOf w chosen setup found (rule_texts (names_in l.always.items) (names_in l.undo.items)) w.witness t
+      good
 
 -- the same of the execution that the files may give
-pub record IsTriedFor (gives : List ℕ → List ℕ → Type 0) (w : ErrorsWords) (names : List (List ℕ)) (t : Option (List ℕ))
+pub record IsTriedFor (gives : List ℕ → List ℕ → Type 0) (w : ErrorsWords) (l : Lists) (t : Option (List ℕ))
     (good : Bool) : Type 0 where
   pub texts : Texts
   pub begins : AreErrorsTexts gives w.begin texts
   pub own : Setup
   pub accepted : Accepts (without_steps texts) own None
-  pub tried : IsTried w names texts.mocks texts.chosen own t good
+  pub tried : IsTried w l texts.mocks texts.chosen own t good
 
 -- ---- what is printed
 
@@ -111,8 +137,8 @@ abbrev pub IsErrorsShown : {O E : Type 0} → Io O E → Option (List ℕ) → B
 IsErrorsShown io (Some t) good = IsUntouched io.err × Prints io t (status_of good)
 IsErrorsShown io None good = (t : List ℕ) × IsUntouched io.out × (io.status ≡ 2) × IsTold io.err t
 
--- the exploration for these words and errors: what was found was printed; or nothing was tried, which was told
-abbrev pub AreErrorsExplored : {O E : Type 0} → FileSystem → Io O E → Bool → ErrorsWords → List (List ℕ) → Type 0
-AreErrorsExplored files io quiet w names =
-    ((t : Option (List ℕ)) × (good : Bool) × IsTriedFor files.gives w names t good × IsErrorsShown io t good)
-    ⊎ IsRefusedFor io quiet (IsErrorsReason files.gives files.lacks w.begin)
+-- the exploration for these words, errors and rules: what was found was printed; or nothing was tried, which was told
+abbrev pub AreErrorsExplored : {O E : Type 0} → FileSystem → Io O E → Bool → ErrorsWords → Lists → Type 0
+AreErrorsExplored files io quiet w l =
+    ((t : Option (List ℕ)) × (good : Bool) × IsTriedFor files.gives w l t good × IsErrorsShown io t good)
+    ⊎ IsRefusedFor io quiet (IsErrorsReason files.gives files.lacks w.begin l)

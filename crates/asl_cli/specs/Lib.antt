@@ -9,6 +9,7 @@ pub mod Cases
 pub mod ExploringAll
 pub mod Choosing
 pub mod Covers
+pub mod Ruling
 pub mod Injecting
 pub mod Inputs
 pub mod Suites
@@ -16,6 +17,7 @@ pub mod Explaining
 pub mod Projects
 pub mod Obeyed
 pub mod Talking
+pub mod Serving
 pub mod Graphing
 pub mod Mocking
 pub mod Linting

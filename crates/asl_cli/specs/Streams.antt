@@ -29,14 +29,15 @@ found u = file_system (u.gives u.before) (u.lacks u.before)
 abbrev pub later : {F : Type 0} → FileUse F → F → FileUse F
 later u f = record u { before = f }
 
--- the use of an input, by what it has given, before and after
+-- the use of an input, by what it has given, and whether it is known to be at its end, before and after
 pub record InputUse (I : Type 0) : Type 0 where
   pub given : I → List ℕ
+  pub ended : I → Bool
   pub before : I
   pub after : I
 
-abbrev pub input_use : {I : Type 0} → (I → List ℕ) → I → I → InputUse I
-input_use given before after = record { given = given; before = before; after = after }
+abbrev pub input_use : {I : Type 0} → (I → List ℕ) → (I → Bool) → I → I → InputUse I
+input_use given ended before after = record { given = given; ended = ended; before = before; after = after }
 
 -- the use of the files that are written by their names, before and after
 pub record OutputUse (K : Type 0) : Type 0 where

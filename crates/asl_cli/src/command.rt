@@ -31,6 +31,7 @@ use crate::noting::{Ran, tell_notes, with_note};
 use crate::printing::print;
 use crate::projects::{check_all, lint_all};
 use crate::reading::read_named;
+use crate::serving::serve;
 use crate::suites::test_all;
 use crate::testing::test;
 use crate::upgrading::upgrade;
@@ -80,7 +81,7 @@ pub fn run_words<
     // What the words ask for was done; or they ask for nothing, or memory ran out: they were answered, and no file was read.
     ensures { ((l : Line) × IsRead (map S.text words.now) screen l
         × IsObeyed (file_use F.gives F.lacks files.old)
-        (input_use I.given input.old input.new)
+        (input_use I.given I.ended input.old input.new)
         (output_use K.written outputs.old outputs.new)
         (io (sink_use O.taken O.failures out.old out.new)
         (sink_use E.taken E.failures err.old err.new) result) l)
@@ -115,7 +116,7 @@ pub fn obey<
     err: &mut E,
 ) -> u8
     ensures { IsObeyed (file_use F.gives F.lacks files.old)
-        (input_use I.given input.old input.new)
+        (input_use I.given I.ended input.old input.new)
         (output_use K.written outputs.old outputs.new)
         (io (sink_use O.taken O.failures out.old out.new)
         (sink_use E.taken E.failures err.old err.new) result) line.now }
@@ -124,7 +125,7 @@ pub fn obey<
     match &line.asked.words {
         Words::Check(words) => check(alloc, words, quiet, files, out, err),
         Words::CheckAll(words) => check_all(alloc, words, quiet, files, out, err),
-        Words::Lint(words) => lint(alloc, words, &line.files, quiet, files, out, err),
+        Words::Lint(words) => lint(alloc, words, &line.lists.files, quiet, files, out, err),
         Words::LintAll(words) => lint_all(alloc, words, quiet, files, out, err),
         Words::Print(words) => print(alloc, words, quiet, files, out, err),
         Words::Upgrade(words) => upgrade(alloc, words, quiet, files, out, err),
@@ -136,8 +137,9 @@ pub fn obey<
         Words::TestAll(words) => test_all(rt, gate, alloc, words, quiet, files, outputs, out, err),
         Words::Explore(words) => explore(gate, alloc, words, quiet, files, out, err),
         Words::ExploreAll(words) => explore_all(gate, alloc, words, quiet, files, out, err),
-        Words::Errors(words) => inject(gate, alloc, words, &line.errors, quiet, files, out, err),
+        Words::Errors(words) => inject(gate, alloc, words, &line.lists, quiet, files, out, err),
         Words::Explain(words) => explain(alloc, words, quiet, out, err),
+        Words::Lsp => serve(alloc, input, out, err),
     }
 }
 

@@ -38,7 +38,7 @@ pub fn debug<F: Files, I: Input, O: Sink, E: Sink>(
     err: &mut E,
 ) -> u8
     ensures { IsDebugged (file_system (F.gives files.old) (F.lacks files.old))
-        (input_use I.given input.old input.new)
+        (input_use I.given I.ended input.old input.new)
         (io (sink_use O.taken O.failures out.old out.new)
         (sink_use E.taken E.failures err.old err.new) result) quiet words.now }
 {
@@ -176,7 +176,7 @@ fn debug_typed<F: Files, I: Input, O: Sink, E: Sink>(
     err: &mut E,
 ) -> u8
     ensures { IsTyped (file_system (F.gives files.old) (F.lacks files.old))
-        (input_use I.given input.old input.new)
+        (input_use I.given I.ended input.old input.new)
         (io (sink_use O.taken O.failures out.old out.new)
         (sink_use E.taken E.failures err.old err.new) result) quiet words.now strict look }
 {

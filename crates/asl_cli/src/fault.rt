@@ -9,6 +9,7 @@ use asl_check::Fault;
 use asl_history::{Sink, SinkFault};
 use asl_host::{Unreadable, Unwritable, tell_fault, write_fault, write_piece};
 use asl_project::ProjectFault;
+use asl_rules::RuleFault;
 use asl_run_input::EmulateFault;
 use asl_session::ScriptFault;
 use asl_suite_file::ExpectFault;
@@ -61,6 +62,8 @@ pub enum CommandFault<'a> {
     Expectations(ExpectFault, String),
     /// What was read is no project.
     Project(ProjectFault, String),
+    /// A rule that orders are to hold isn't read.
+    Rule(RuleFault, String),
     /// Nothing is explained under this word.
     Code(&'a str, String),
     /// A file of expectations has no test of this number.
@@ -102,6 +105,7 @@ impl<'a> CommandFault<'a> {
             | CommandFault::Expectations(_, lines)
             | CommandFault::Project(_, lines)
             | CommandFault::Test(_, lines)
+            | CommandFault::Rule(_, lines)
             | CommandFault::Code(_, lines) => lines.as_str(),
             CommandFault::File(_, _) | CommandFault::Output(_, _) | CommandFault::OutOfMemory => "",
         }
@@ -143,6 +147,7 @@ impl fmt::Display for CommandFault<'_> {
             CommandFault::Expectations(fault, _) => write!(f, "expectations: {fault}"),
             CommandFault::Test(number, _) => write!(f, "expectations: X4 NoTest {number}"),
             CommandFault::Project(fault, _) => write!(f, "project: {fault}"),
+            CommandFault::Rule(fault, _) => write!(f, "rule: {fault}"),
             CommandFault::Code(word, _) => write!(f, "code {word}"),
             CommandFault::Output(name, why) => write!(f, "file {name}{}", why.words()),
             CommandFault::OutOfMemory => f.write_str("OutOfMemory"),

@@ -1,17 +1,17 @@
 // The command `explore` where errors are put in.
-ghost use Rattle.std.specs.Prelude.{◌≡◌, ◌∷◌, List, ℕ, Some, None, IfOk, IfErr, option_map, string_bytes, codes};
+ghost use Rattle.std.specs.Prelude.{◌≡◌, List, ℕ, Some, None, Ok, IfOk, IfErr, map, option_map, string_bytes, codes};
 ghost use Rattle.asl_json_data.specs.Data.{Data};
 ghost use Rattle.asl_check.specs.Judged.{IsMachineOf};
 ghost use Rattle.asl_mock_sample.specs.Files.{sample_text};
 ghost use Rattle.asl_run_input.specs.Emulations.{Accepts};
 ghost use Rattle.asl_host.specs.Outcomes.{sink_use};
 ghost use Rattle.asl_host.specs.declared.files.Unreadable.{Unreadable};
-ghost use Rattle.asl_explore_errors.specs.Searches.{names_in, witness_of};
+ghost use Rattle.asl_explore_errors.specs.Searches.{witness_of};
 ghost use Rattle.asl_explore_errors.specs.Under.{case_file, IsUnder};
-ghost use Rattle.asl_error_plans.specs.Telling.{are_good, plans_text};
 ghost use Rattle.asl_cli.specs.Beginnings.{texts_in, without_steps};
 ghost use Rattle.asl_cli.specs.Faults.{named, AreUnread, IsDefinitionTextReason, IsTextsReason};
-ghost use Rattle.asl_cli.specs.Injecting.{AreErrorsExplored, AreErrorsTexts, AreNoErrorsTexts, IsErrorsReason, IsErrorsShown, IsInputOrEmpty, IsNoSampleBeginning, IsPlanIn, IsPlanShown, IsSampleBeginning, IsShownOf, IsTried, IsTriedFor};
+ghost use Rattle.asl_cli.specs.Injecting.{all_is_good, errors_report, rules_named, AreErrorsExplored, AreErrorsTexts, AreNoErrorsTexts, IsErrorsReason, IsErrorsShown, IsInputOrEmpty, IsNoSampleBeginning, IsPlanIn, IsPlanShown, IsSampleBeginning, IsSetupOrRuleReason, IsShownOf, IsTried, IsTriedFor};
+ghost use Rattle.asl_cli.specs.Ruling.{IsRuleReason};
 ghost use Rattle.asl_cli.specs.Streams.{file_system, io};
 
 use crate::beginning::{Beginning, Names, begin};
@@ -21,11 +21,14 @@ use crate::debugging::setup_of;
 use crate::exploring::{orders_for, print_all, refuse_number, shown_of};
 use crate::fault::CommandFault;
 use crate::reading::{SetupTexts, read_file, read_named};
+use crate::ruling::{Ruled, rule_texts, rules_of};
+use asl_arguments::Lists;
 use asl_def::Machine;
 use asl_error_plans::{PlanOutcomes, are_good, put_plans};
 use asl_explore::{Found, Watch};
 use asl_explore_errors::{
-    ErrorsFound, explore_with_errors, filled_setup, put_case, setup_under, witness_of,
+    ErrorsFound, are_kept, explore_with_errors, filled_setup, put_case, put_rules, setup_under,
+    witness_of,
 };
 use asl_history::Sink;
 use asl_host::Files;
@@ -39,13 +42,13 @@ const MACHINE: &str = "Machine";
 /// Its case in which all goes well.
 const GOOD_CASE: &str = "Machine#good";
 
-/// The command `explore` where errors are put in, those of these names where any are named: tries every order of an execution's branches under every plan of
-/// errors, and prints each outcome with the plans that give it, or a plan of one alone.
+/// The command `explore` where errors are put in, those that are named where any are: tries every order of an execution's branches under every plan of
+/// errors, and prints what was found of the rules that are named, and each outcome with the plans that give it, or a plan of one alone.
 pub fn inject<W: Watch, F: Files, O: Sink, E: Sink>(
     watch: &W,
     alloc: Global,
     words: &ErrorsWords<'_>,
-    names: &[&str],
+    lists: &Lists<'_>,
     quiet: bool,
     files: &mut F,
     out: &mut O,
@@ -53,9 +56,9 @@ pub fn inject<W: Watch, F: Files, O: Sink, E: Sink>(
 ) -> u8
     ensures { AreErrorsExplored (file_system (F.gives files.old) (F.lacks files.old))
         (io (sink_use O.taken O.failures out.old out.new)
-        (sink_use E.taken E.failures err.old err.new) result) quiet words.now (names_in names.now) }
+        (sink_use E.taken E.failures err.old err.new) result) quiet words.now lists.now }
 {
-    match try_files(watch, alloc, words, names, files) {
+    match try_files(watch, alloc, words, lists, files) {
         Ok(tried) => show(alloc, &tried, out, err),
         Err(refusal) => {
             refusal.write(alloc, quiet, err);
@@ -203,15 +206,15 @@ fn try_files<'a, W: Watch, F: Files>(
     watch: &W,
     alloc: Global,
     words: &ErrorsWords<'_>,
-    names: &[&str],
+    lists: &Lists<'_>,
     files: &mut F,
 ) -> Result<Tried, CommandFault<'a>>
-    ensures tried { IfOk result (λ r. IsTriedFor (F.gives files.old) words.now (names_in names.now)
+    ensures tried { IfOk result (λ r. IsTriedFor (F.gives files.old) words.now lists.now
         (option_map string_bytes r.text) r.good) }
-    ensures refused { IfErr result (IsErrorsReason (F.gives files.old) (F.lacks files.old) words.now.begin) }
+    ensures refused { IfErr result (IsErrorsReason (F.gives files.old) (F.lacks files.old) words.now.begin lists.now) }
 {
     match begin_errors(alloc, files, &words.begin) {
-        Ok(beginning) => try_from(watch, alloc, words, names, &beginning),
+        Ok(beginning) => try_from(watch, alloc, words, lists, &beginning),
         Err(refusal) => Err(refusal),
     }
 }
@@ -221,46 +224,64 @@ fn try_from<'a, W: Watch>(
     watch: &W,
     alloc: Global,
     words: &ErrorsWords<'_>,
-    names: &[&str],
+    lists: &Lists<'_>,
     beginning: &Beginning,
 ) -> Result<Tried, CommandFault<'a>>
     ensures tried { IfOk result (λ r. (s : Setup) × Accepts (without_steps (texts_in beginning.now)) s None
-        × IsTried words.now (names_in names.now) (texts_in beginning.now).mocks (texts_in beginning.now).chosen s
+        × IsTried words.now lists.now (texts_in beginning.now).mocks (texts_in beginning.now).chosen s
         (option_map string_bytes r.text) r.good) }
-    ensures refused { IfErr result (IsTextsReason (without_steps (texts_in beginning.now))) }
+    ensures refused { IfErr result (IsSetupOrRuleReason (texts_in beginning.now) lists.now) }
 {
     match setup_of(alloc, beginning) {
-        Ok(setup) => {
-            let texts = &beginning.texts;
-            let (mocks, chosen) = (texts.mocks.as_slice(), texts.chosen.as_str());
-            match try_setup(watch, alloc, words, names, mocks, chosen, &setup) {
-                Ok(tried) => Ok(tried),
-                Err(AllocError) => Err(CommandFault::OutOfMemory),
-            }
-        }
+        Ok(setup) => try_ruled(watch, alloc, words, lists, beginning, &setup),
         Err(refusal) => Err(refusal),
     }
 }
 
-/// Tries the orders of an execution under each plan. It is of this mock file, and of a case that was chosen by these words. The error is that memory ran
-/// out.
+/// Reads the rules, and tries the orders of an execution of what begins so.
+fn try_ruled<'a, W: Watch>(
+    watch: &W,
+    alloc: Global,
+    words: &ErrorsWords<'_>,
+    lists: &Lists<'_>,
+    beginning: &Beginning,
+    setup: &Setup,
+) -> Result<Tried, CommandFault<'a>>
+    ensures tried { IfOk result (λ r. IsTried words.now lists.now (texts_in beginning.now).mocks
+        (texts_in beginning.now).chosen setup.now (option_map string_bytes r.text) r.good) }
+    ensures refused { IfErr result (IsRuleReason (rules_named setup.now lists.now)) }
+{
+    let rules = rules_of(alloc, &setup.machine, lists)?;
+    let texts = &beginning.texts;
+    let (mocks, chosen) = (texts.mocks.as_slice(), texts.chosen.as_str());
+    match try_setup(watch, alloc, words, lists, &rules, mocks, chosen, setup) {
+        Ok(tried) => Ok(tried),
+        Err(AllocError) => Err(CommandFault::OutOfMemory),
+    }
+}
+
+/// Tries the orders of an execution under each plan, and judges them by these rules. It is of this mock file, and of a case that was chosen by these words.
+/// The error is that memory ran out.
 fn try_setup<W: Watch>(
     watch: &W,
     alloc: Global,
     words: &ErrorsWords<'_>,
-    names: &[&str],
+    lists: &Lists<'_>,
+    rules: &[Ruled],
     mocks: &[u8],
     chosen: &str,
     setup: &Setup,
 ) -> Result<Tried, AllocError>
-    ensures { IfOk result (λ r. IsTried words.now (names_in names.now) mocks.now chosen.now setup.now
-        (option_map string_bytes r.text) r.good) }
+    ensures { rules_named setup.now lists.now ≡ Ok rules.now → IfOk result (λ r. IsTried words.now lists.now
+        mocks.now chosen.now setup.now (option_map string_bytes r.text) r.good) }
 {
     let filled = filled_setup(alloc, setup, mocks)?;
     let orders = orders_for(words.prompt);
     let (errors, limit) = (words.errors, words.limit);
-    let found = explore_with_errors(alloc, &filled, errors, names, orders, limit, watch)?;
-    shown_of_all(alloc, words, chosen, &filled, &found)
+    let names = &lists.errors;
+    let found = explore_with_errors(alloc, &filled, errors, names, orders, limit, rules, watch)?;
+    let told = rule_texts(alloc, lists)?;
+    shown_of_all(alloc, words, chosen, &filled, &told, &found)
 }
 
 /// What is shown of what was found. The error is that memory ran out.
@@ -269,13 +290,14 @@ fn shown_of_all(
     words: &ErrorsWords<'_>,
     chosen: &str,
     setup: &Setup,
+    rules: &[String],
     found: &ErrorsFound,
 ) -> Result<Tried, AllocError>
-    ensures { IfOk result (λ r. IsShownOf words.now chosen.now setup.now found.now words.now.witness
-        (option_map string_bytes r.text) r.good) }
+    ensures { IfOk result (λ r. IsShownOf words.now chosen.now setup.now found.now (map string_bytes rules.now)
+        words.now.witness (option_map string_bytes r.text) r.good) }
 {
     match words.witness {
-        None => report_of(alloc, found),
+        None => report_of(alloc, rules, found),
         Some(number) => Ok(Tried {
             text: witness_in(alloc, words, chosen, setup, found, number)?,
             good: true,
@@ -283,16 +305,19 @@ fn shown_of_all(
     }
 }
 
-/// The outcomes with the plans that give them, and whether nothing was left out, and the execution goes well where nothing is put in. The error is that memory ran out.
-fn report_of(alloc: Global, found: &ErrorsFound) -> Result<Tried, AllocError>
-    ensures text { IfOk result (λ r. option_map string_bytes r.text ≡ Some (plans_text found.now.plans.items)) }
-    ensures good { IfOk result (λ r. r.good ≡ are_good found.now.plans.items) }
+/// What was found of the rules, and the outcomes with the plans that give them; and whether nothing was left out, the execution goes well where nothing is put in, and no
+/// order ends against a rule. The error is that memory ran out.
+fn report_of(alloc: Global, rules: &[String], found: &ErrorsFound) -> Result<Tried, AllocError>
+    ensures text { IfOk result (λ r. option_map string_bytes r.text
+        ≡ Some (errors_report (map string_bytes rules.now) found.now)) }
+    ensures good { IfOk result (λ r. r.good ≡ all_is_good (map string_bytes rules.now) found.now) }
 {
     let mut text = String::new(alloc);
+    put_rules(&mut text, rules, found)?;
     put_plans(alloc, &mut text, &found.plans)?;
     Ok(Tried {
         text: Some(text),
-        good: are_good(&found.plans),
+        good: are_good(&found.plans) && are_kept(rules.len(), found),
     })
 }
 

@@ -5,6 +5,7 @@ use asl_json_spans::Position;
 use asl_lint_files::{RunNames, put_file, put_names};
 use asl_lint_messages::{put_name, put_near};
 use asl_project::{ProjectFault, Workflow};
+use asl_rules::{RuleFault, Task};
 use asl_run_input::{EmulateFault, RunTexts};
 use asl_text::put_shown;
 use std::alloc::{AllocError, Global};
@@ -95,6 +96,51 @@ fn add_machine<'a>(names: &mut Vec<&'a str>, workflow: &'a Workflow) -> Result<(
         names.push(machine.as_str())?;
     }
     Ok(())
+}
+
+// ---- rules
+
+/// The lines on a rule that isn't read. The error is that memory ran out.
+pub(crate) fn of_rule(
+    alloc: Global,
+    fault: &RuleFault,
+    tasks: &[Task],
+    rule: &str,
+) -> Result<String, AllocError> {
+    let mut out = String::new(alloc);
+    put_shown(&mut out, rule)?;
+    match fault {
+        RuleFault::Syntax(at) => put_syntax(&mut out, *at)?,
+        RuleFault::NoSuchState(_) => put_tasks(alloc, &mut out, tasks)?,
+        RuleFault::OutOfMemory => {}
+    }
+    out.push('\n')?;
+    Ok(out)
+}
+
+/// Appends how rules are written.
+fn put_syntax(out: &mut String, at: usize) -> Result<(), AllocError> {
+    write!(
+        out,
+        ": error: the rule doesn't go on so at its byte {at}, from 0; "
+    )?;
+    out.push_str(
+        "a rule is made of done(\"Task\"), returned(\"Task\", 2), failed(\"Task\"), invoked(\"Task\"), status(FAILED) and error(\"Name\"), of not, and, or and =>, and of parentheses; a pair is \"Task\"=\"Task\"",
+    )
+}
+
+/// Appends which Tasks there are.
+fn put_tasks(alloc: Global, out: &mut String, tasks: &[Task]) -> Result<(), AllocError> {
+    out.push_str(": error: no Task of the definition has this name")?;
+    let mut names = Vec::new(alloc);
+    for task in tasks {
+        names.push(task.name.as_str())?;
+    }
+    if names.is_empty() {
+        return out.push_str("; it has no Task");
+    }
+    out.push_str("; there are ")?;
+    put_names(out, &names)
 }
 
 /// The line on a word under which nothing is explained. The error is that memory ran out.

@@ -85,9 +85,9 @@ fn talk<I: Input, O: Sink>(
     input: &mut I,
     out: &mut O,
 ) -> Result<Option<u64>, TalkFault>
-    ensures whole { IfOk result (IsTalkedTo (input_use I.given input.old input.new)
+    ensures whole { IfOk result (IsTalkedTo (input_use I.given I.ended input.old input.new)
         (sink_use O.taken O.failures out.old out.new) strict look console.old console.new) }
-    ensures fault { IfErr result (IsTalkedUntil (input_use I.given input.old input.new)
+    ensures fault { IfErr result (IsTalkedUntil (input_use I.given I.ended input.old input.new)
         (sink_use O.taken O.failures out.old out.new) strict look console.old console.new) }
 {
     for number in 0..u64::MAX {
@@ -204,7 +204,7 @@ pub(crate) fn converse<I: Input, O: Sink, E: Sink>(
     out: &mut O,
     err: &mut E,
 ) -> u8
-    ensures { IsConversed (input_use I.given input.old input.new)
+    ensures { IsConversed (input_use I.given I.ended input.old input.new)
         (io (sink_use O.taken O.failures out.old out.new)
         (sink_use E.taken E.failures err.old err.new) result) strict look console }
 {
@@ -222,7 +222,7 @@ fn converse_on<I: Input, O: Sink, E: Sink>(
     out: &mut O,
     err: &mut E,
 ) -> u8
-    ensures { IsConversed (input_use I.given input.old input.new)
+    ensures { IsConversed (input_use I.given I.ended input.old input.new)
         (io (sink_use O.taken O.failures out.old out.new)
         (sink_use E.taken E.failures err.old err.new) result) strict look console }
 {

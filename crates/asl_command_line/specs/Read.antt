@@ -14,15 +14,14 @@ use Rattle.asl_command_line.specs.declared.reading.Line.{Line}
 abbrev pub command_named : List ℕ → Option Command
 command_named name = find (λ c. bytes_eq c.name name) asl_commands
 
--- by its line a command takes the words, of which the first is its name, and what they give asks for this; they name these files
--- and errors
+-- by its line a command takes the words, of which the first is its name, and what they give asks for this; these are named one after
+-- another
 pub record IsReadBy (c : CommandRow) (words : List (List ℕ)) (screen : Screen) (l : Line) : Type 0 where
   pub taken : Taken
   pub takes : fault_of (app_for c) words ≡ []
   pub gives : IsTaken (app_for c) words taken
   pub asks : asked c.verb taken.given screen ≡ Some l.asked
-  pub files : l.files ≡ taken.files
-  pub errors : l.errors ≡ taken.errors
+  pub lists : l.lists ≡ taken.lists
 
 -- what they give doesn't fit together
 pub record IsUnfit (c : CommandRow) (words : List (List ℕ)) (screen : Screen) : Type 0 where

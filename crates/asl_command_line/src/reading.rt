@@ -6,17 +6,16 @@ ghost use Rattle.asl_arguments.specs.Grammar.{app_for, command_seen};
 ghost use Rattle.asl_command_line.specs.Read.{command_named, IsRead, IsReadBehind, IsReadBy, DoesNotRead, IsUnread, IsUnreadBehind};
 
 use crate::answers::{Answer, answer_to, help_of, refusal_of};
-use asl_arguments::{CommandRow, Taken, Ungiven, commands, given_in};
+use asl_arguments::{CommandRow, Lists, Taken, Ungiven, commands, given_in};
 use asl_words::{Asked, Misuse, Screen, asked, misuse_of};
 use std::alloc::Global;
 use std::convert::AsStr;
 
-/// What is read from a command line: what it asks for, and the files and the errors that it names one after another.
+/// What is read from a command line: what it asks for, and what it names one after another.
 #[derive(Drop)]
 pub struct Line<'a> {
     pub asked: Asked<'a>,
-    pub files: Vec<&'a str>,
-    pub errors: Vec<&'a str>,
+    pub lists: Lists<'a>,
 }
 
 /// Reads the words, of which the first is the program's name, where answers are read on this screen. The answer tells of a wrong command
@@ -93,20 +92,12 @@ fn line_by<'a>(
     screen: Screen,
 ) -> Result<Line<'a>, Answer>
     ensures ok { IfOk result (λ l. (asked row.now.verb taken.entry.given screen ≡ Some l.asked)
-        × (l.files ≡ taken.entry.files) × (l.errors ≡ taken.entry.errors)) }
+        × (l.lists ≡ taken.entry.lists)) }
     ensures err { IfErr result (λ _. asked row.now.verb taken.entry.given screen ≡ None) }
 {
-    let Taken {
-        given,
-        files,
-        errors,
-    } = taken;
+    let Taken { given, lists } = taken;
     match asked(row.verb, &given, screen) {
-        Some(asked) => Ok(Line {
-            asked,
-            files,
-            errors,
-        }),
+        Some(asked) => Ok(Line { asked, lists }),
         None => Err(refusal_of(alloc, Some(row), misuse_of(row.verb, &given))),
     }
 }

@@ -19,5 +19,5 @@ pub use injected::InjectedError;
 pub use outcomes::PlanOutcomes;
 pub use printing::put_mock_file;
 pub use putting::with_error;
-pub use telling::{are_good, put_plans};
+pub use telling::{are_cut, are_good, put_plan_if, put_plan_number, put_plans};
 pub use under::case_under;

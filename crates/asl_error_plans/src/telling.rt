@@ -71,8 +71,8 @@ fn put_plan(out: &mut String, plan: &[InjectedError]) -> Result<(), AllocError>
     out.push('\n')
 }
 
-/// Appends the line of a plan, if this is true.
-fn put_if(out: &mut String, is_told: bool, plan: &PlanOutcomes) -> Result<(), AllocError>
+/// Appends the line of a plan, if this is true. The error is that memory ran out.
+pub fn put_plan_if(out: &mut String, is_told: bool, plan: &PlanOutcomes) -> Result<(), AllocError>
     ensures { OnOk result (string_bytes out.new ≡ string_bytes out.old ++ line_if is_told plan.now) }
 {
     if is_told {
@@ -86,7 +86,7 @@ fn put_plans_with(out: &mut String, plans: &[PlanOutcomes], outcome: &str) -> Re
         ++ flat_map (λ p. line_if (gives outcome.now p) p) plans.now) }
 {
     for plan in plans {
-        put_if(out, gives(plan, outcome), plan)?;
+        put_plan_if(out, gives(plan, outcome), plan)?;
     }
     Ok(())
 }
@@ -96,7 +96,7 @@ fn put_endless_plans(out: &mut String, plans: &[PlanOutcomes]) -> Result<(), All
         ++ flat_map (λ p. line_if (is_endless p) p) plans.now) }
 {
     for plan in plans {
-        put_if(out, plan.endless, plan)?;
+        put_plan_if(out, plan.endless, plan)?;
     }
     Ok(())
 }
@@ -106,7 +106,7 @@ fn put_cut_plans(out: &mut String, plans: &[PlanOutcomes]) -> Result<(), AllocEr
         ++ flat_map (λ p. line_if (is_cut p) p) plans.now) }
 {
     for plan in plans {
-        put_if(out, !plan.complete, plan)?;
+        put_plan_if(out, !plan.complete, plan)?;
     }
     Ok(())
 }
@@ -117,7 +117,8 @@ fn are_endless(plans: &[PlanOutcomes]) -> bool
     plans.iter().any(|plan| plan.endless)
 }
 
-fn are_cut(plans: &[PlanOutcomes]) -> bool
+/// Whether the search of some plan was cut.
+pub fn are_cut(plans: &[PlanOutcomes]) -> bool
     ensures { result ≡ list_any is_cut plans.now }
 {
     plans.iter().any(|plan| !plan.complete)
@@ -254,7 +255,8 @@ fn put_outcomes(
 }
 
 #[tactic(auto, unfolding(crate::specs::Telling::head_line))]
-fn put_number(out: &mut String, number: usize) -> Result<(), AllocError>
+/// Appends how many plans there are. The error is that memory ran out.
+pub fn put_plan_number(out: &mut String, number: usize) -> Result<(), AllocError>
     ensures { OnOk result (string_bytes out.new ≡ string_bytes out.old ++ head_line number) }
 {
     out.push_str("plans ")?;
@@ -268,7 +270,7 @@ pub fn put_plans(alloc: Global, out: &mut String, plans: &[PlanOutcomes]) -> Res
     ensures { OnOk result (string_bytes out.new ≡ string_bytes out.old ++ plans_text plans.now) }
 {
     let outcomes = all_outcomes(alloc, plans)?;
-    put_number(out, plans.len())?;
+    put_plan_number(out, plans.len())?;
     put_outcomes(out, plans, &outcomes)?;
     put_endless(out, plans)?;
     put_cut(out, plans)

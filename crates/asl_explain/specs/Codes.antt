@@ -80,6 +80,12 @@ project_codes =
     ∷ numbered (codes "K6") (codes "OutOfMemory")
     ∷ []
 
+unfoldable pub rule_codes : List Code
+rule_codes =
+    numbered (codes "Q1") (codes "Syntax")
+    ∷ numbered (codes "Q2") (codes "NoSuchState")
+    ∷ []
+
 unfoldable pub line_codes : List Code
 line_codes =
     numbered (codes "E1") (codes "StepLine")
@@ -173,7 +179,7 @@ error_codes =
 
 abbrev pub asl_codes : List (List Code)
 asl_codes = definition_codes ∷ mock_codes ∷ json_codes ∷ expectation_codes
-    ∷ project_codes ∷ line_codes ∷ refusal_codes ∷ closing_codes ∷ warning_codes ∷ verdict_codes ∷ error_codes ∷ []
+    ∷ project_codes ∷ line_codes ∷ refusal_codes ∷ rule_codes ∷ closing_codes ∷ warning_codes ∷ verdict_codes ∷ error_codes ∷ []
 
 -- ---- what a word means
 

@@ -5,13 +5,13 @@ ghost use Rattle.asl_explain.specs.Codes.{asl_codes, code_of, codes_of, family_l
 
 use crate::saying::Explanation;
 use crate::{
-    closings, definitions, errors, expectations, json, lines, mocks, projects, refusals, verdicts,
-    warnings,
+    closings, definitions, errors, expectations, json, lines, mocks, projects, refusals, rules,
+    verdicts, warnings,
 };
 use std::alloc::{AllocError, Global};
 
 /// All codes, a family each, in order.
-pub fn families() -> [&'static [Explanation]; 11]
+pub fn families() -> [&'static [Explanation]; 12]
     ensures { codes_of result ≡ asl_codes }
 {
     [
@@ -22,6 +22,7 @@ pub fn families() -> [&'static [Explanation]; 11]
         projects::all(),
         lines::all(),
         refusals::all(),
+        rules::all(),
         closings::all(),
         warnings::all(),
         verdicts::all(),

@@ -139,7 +139,8 @@ Told by debug, in answer to resume.
         name: None,
         sentence: "a breakpoint names no state",
         text: r#"break NAME wants the name of a state of the definition, as a JSON text: break "Charge card". clear
-NAME answers so where there was no breakpoint at this state.
+NAME answers so where there was no breakpoint at this state. Where a rule of explore names no Task,
+its fault has the same name: asl explain Q2 is about that.
 
 Told by debug, in answer to break and clear.
 "#,

@@ -1,5 +1,5 @@
 -- Worlds that are compared by the numbers of their branches.
-use Rattle.std.proofs.Common.{ℕ, suc, zero, ◌≡◌, ◌<◌, ◌≤◌, ◌+◌, ◌∙◌, ◌++◌, ap, sym, refl, subst, arith, List, [], ◌∷◌, length, get_or, Bool, true, false, Option}
+use Rattle.std.proofs.Common.{ℕ, suc, ◌≡◌, ◌<◌, ◌≤◌, ◌+◌, ◌∙◌, ◌++◌, sym, refl, subst, arith, List, [], ◌∷◌, length, get_or, Bool, true, false, Option}
 use Rattle.std.specs.Prelude.{nat_lt, slice_index}
 use Rattle.std.proofs.lemmas.Bool.Decides.{nat_tests}
 use Rattle.std.specs.List.{All}

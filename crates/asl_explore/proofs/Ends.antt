@@ -1,6 +1,9 @@
--- The worlds that end an execution: what holds of those that the tried steps of branches lead to, holds of each.
-use Rattle.std.proofs.Common.{ℕ, ◌≡◌, ◌∙◌, ap, sym, refl, subst, Bool, true, false, List, [], ◌∷◌, max, Option, Some, None}
-use Rattle.std.specs.List.{All}
+-- The worlds that end an execution: what holds of those that the tried steps of branches lead to, holds of each; and what holds of all ends that come of
+-- worlds that were met, holds of the end of each order.
+use Rattle.std.specs.Prelude.{is_some}
+use Rattle.std.proofs.Common.{ℕ, ◌≡◌, ◌≤◌, ◌⊎◌, inl, inr, ◌∙◌, ap, sym, refl, subst, arith, Bool, true, false, List, [], ◌∷◌, length, max, Option, Some, None}
+use Rattle.std.specs.List.{All, AllWithin}
+use Rattle.std.proofs.lemmas.List.Elements.{All-contains}
 use Rattle.asl_step.specs.declared.record.Record.{Record}
 use Rattle.asl_run_branches.specs.Branches.{record_at}
 use Rattle.asl_run_branches.specs.Earliest.{due_from}
@@ -11,18 +14,16 @@ use Rattle.asl_run_state.specs.declared.outcome.Outcome.{Outcome}
 use Rattle.asl_run_state.specs.declared.outcome.Outcome.TheVariants.{TimedOut}
 use Rattle.asl_run_state.proofs.Picks.{late-accepts}
 use Rattle.asl_run_input.specs.declared.setup.Setup.{Setup}
-use Rattle.asl_exec.specs.Steps.{limits_in, step}
+use Rattle.asl_exec.specs.Steps.{limits_in, step, opening}
 use Rattle.asl_exec.proofs.Accepting.{step_late}
 use Rattle.asl_explore.specs.declared.orders.Orders.{Orders}
 use Rattle.asl_explore.specs.declared.orders.Orders.TheVariants.{Every, Prompt}
-use Rattle.asl_explore.specs.Orders.{due_of, due, after_order, IsTried}
-use Rattle.asl_explore.specs.Searches.{IsBound, is_beyond}
-use Rattle.asl_explore.proofs.Bare.{step-over, step-nowhere}
-use Rattle.asl_explore.proofs.Whole.{there, later-late, within-bound, every-unbound, nowhere-prompt}
-
--- where it is over, this holds of its outcome and of how often states were invoked
-abbrev pub EndsIn : (Outcome → List ℕ → Type 0) → World → Type 0
-EndsIn P w = is_over w.outcome ≡ true → P w.outcome w.counts
+use Rattle.asl_explore.specs.Calls.{AllAreExpanded}
+use Rattle.asl_explore.specs.Ends.{EndsIn, AreEndsIn, AllEndIn}
+use Rattle.asl_explore.specs.Orders.{due_of, due, after_order, IsTried, AreTried}
+use Rattle.asl_explore.specs.Searches.{IsBound, IsExpanded, IsMet, is_beyond}
+use Rattle.asl_explore.proofs.Bare.{step-bare, step-over, step-nowhere}
+use Rattle.asl_explore.proofs.Whole.{there, later-late, within-bound, every-unbound, nowhere-prompt, tried-bare, met-step}
 
 late-world : (s : Setup) (w : World) (p : List ℕ) (t : ℕ) → is_over w.outcome ≡ false → is_late (max w.last t) w.deadline ≡ true → step s w p t ≡ timed_out (max w.last t) w
 late-world s w p t r l = step_late s w p t (late-accepts (limits_in s.machine) w p t r l) l
@@ -61,3 +62,45 @@ ends-everywhere o s w bound root P runs there_is b all p tried = by (record_at p
 pub after-over : (s : Setup) (w : World) (ps : List (List ℕ)) → is_over w.outcome ≡ true → after_order s w ps ≡ w
 after-over s w [] o = refl
 after-over s w (p ∷ ps) o = ap (λ (v : World). after_order s v ps) (step-over s w p (due w p) o) ∙ after-over s w ps o
+
+-- ---- the steps of a world that was met
+
+-- so it is of a step, unless it is later than is tried
+abbrev pub IsTurnIn : (Outcome → List ℕ → Type 0) → Setup → World → Option ℕ → Earliest → Type 0
+IsTurnIn P s w bound e = is_beyond bound e.moment ≡ false → EndsIn P (step s w e.place e.moment)
+
+pub ends-in : (P : Outcome → List ℕ → Type 0) (o : Orders) (s : Setup) (w : World) (bound : Option ℕ) (turns : List Earliest) (i : ℕ) → is_over w.outcome ≡ false → is_some (record_at [] w.branches) ≡ true → turns ≡ earliest w.last w.branches → length turns ≤ i → IsBound o s (bare w) bound
+    → AllWithin (IsTurnIn P s (bare w) bound) turns 0 i → AreEndsIn P o s (bare w)
+ends-in P o s w bound turns i runs root et le b h = by (record_at [] w.branches) refl
+  where
+    all : All (IsTurnIn P s (bare w) bound) (earliest w.last w.branches)
+    all = subst (All (IsTurnIn P s (bare w) bound)) et (λ k d l. h k d (omega arith) (omega (arith, l, le)))
+
+    by : (r : Option Record) → record_at [] w.branches ≡ r → AreEndsIn P o s (bare w)
+    by (Some r) e = ends-everywhere o s (bare w) bound r P runs e b all
+    by None e = let x : false ≡ true = ap is_some (sym e) ∙ root in absurd (cc)
+
+-- ---- each order
+
+end-step : (P : Outcome → List ℕ → Type 0) (o : Orders) (s : Setup) (ws : List World) (os : List Outcome) (w : World) (p : List ℕ) → All (AreEndsIn P o s) ws → IsTried o s w p → IsMet ws os w → is_over w.outcome ≡ false → EndsIn P (step s w p (due w p))
+end-step P o s ws os w p ends tried m runs = by (step-bare s w p (due w p))
+  where
+    v : World
+    v = step s w p (due w p)
+
+    by : (v ≡ w) ⊎ (bare v ≡ bare (step s (bare w) p (due w p))) → EndsIn P v
+    by (inl e) over = let x : true ≡ false = sym over ∙ ap (λ (z : World). is_over z.outcome) e ∙ runs in absurd (cc)
+    by (inr e) over = subst (EndsIn P) (sym e) (All-contains (AreEndsIn P o s) ws (bare w) ends (m.runs runs) p (tried-bare o s w p tried)) over
+
+end-on : (P : Outcome → List ℕ → Type 0) (s : Setup) (v : World) (ps : List (List ℕ)) (b : Bool) → is_over v.outcome ≡ b → EndsIn P v → (is_over v.outcome ≡ false → EndsIn P (after_order s v ps)) → EndsIn P (after_order s v ps)
+end-on P s v ps true e here deeper = subst (EndsIn P) (sym (after-over s v ps e)) here
+end-on P s v ps false e here deeper = deeper e
+
+end-after : (P : Outcome → List ℕ → Type 0) (o : Orders) (s : Setup) (ws : List World) (os : List Outcome) (w : World) (ps : List (List ℕ)) → All (IsExpanded o s ws os) ws → All (AreEndsIn P o s) ws → AreTried o s w ps → IsMet ws os w → is_over w.outcome ≡ false → EndsIn P (after_order s w ps)
+end-after P o s ws os w [] all ends tried m runs = λ over. let x : true ≡ false = sym over ∙ runs in absurd (cc)
+end-after P o s ws os w (p ∷ ps) all ends tried m runs =
+    let v = step s w p (due w p) in
+    end-on P s v ps (is_over v.outcome) refl (end-step P o s ws os w p ends tried.0 m runs) (λ e. end-after P o s ws os v ps all ends tried.1 (met-step o s ws os w p all tried.0 m) e)
+
+pub all-end-in : (P : Outcome → List ℕ → Type 0) (o : Orders) (s : Setup) (ws : List World) (os : List Outcome) → AllAreExpanded o s ws os → All (AreEndsIn P o s) ws → AllEndIn P o s
+all-end-in P o s ws os closed ends ps tried = end-after P o s ws os (opening s) ps closed.expanded ends tried closed.begins refl

@@ -1,5 +1,5 @@
 -- Outcomes that are looked up by their texts.
-use Rattle.std.proofs.Common.{ℕ, suc, zero, ◌≡◌, ◌<◌, ◌++◌, ◌∙◌, ap, sym, refl, subst, arith, cond, Bool, true, false, List, [], ◌∷◌, length, get_or, Option, Some, None}
+use Rattle.std.proofs.Common.{ℕ, suc, zero, ◌≡◌, ◌++◌, ◌∙◌, ap, sym, refl, subst, arith, cond, Bool, true, false, List, [], ◌∷◌, get_or, Some, None}
 use Rattle.std.specs.Prelude.{is_some, if◌then◌else◌}
 use Rattle.std.specs.List.{All}
 use Rattle.std.specs.Str.{bytes_eq}

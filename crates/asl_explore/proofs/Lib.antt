@@ -34,6 +34,7 @@ pub mod Clocking
 pub mod Prompting
 pub mod Levels
 pub mod Concluding
+pub mod Verdicts
 pub mod Listing
 pub mod Running
 pub mod Told

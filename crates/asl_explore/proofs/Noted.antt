@@ -21,7 +21,7 @@ use Rattle.asl_explore.specs.declared.orders.Orders.{Orders}
 use Rattle.asl_explore.specs.declared.seeing.Look.{Look}
 use Rattle.asl_explore.specs.declared.sights.Sight.{Sight}
 use Rattle.asl_explore.specs.Orders.{due}
-use Rattle.asl_explore.specs.Remarks.{asked_by, asked_in, askers, asks, count_behind, enters, enters_in, greatest, is_cut_off, is_entered, stops, stops_in}
+use Rattle.asl_explore.specs.Remarks.{asked_by, asked_in, askers, asks, count_behind, enters, enters_in, greatest, stops, stops_in}
 use Rattle.asl_explore.specs.Searches.{worlds_of}
 use Rattle.asl_explore.specs.private.Seeing.{AreLooks, AreSeen, IsBoundOf, IsNoLess, IsSeen, IsSharedFrom, least_with, look_asks, look_behind, look_enters, look_stops, noted, with_most}
 use Rattle.asl_explore.proofs.Listing.{any-like, count-like, greatest-more, greatest-push}

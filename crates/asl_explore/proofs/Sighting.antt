@@ -1,5 +1,5 @@
 -- What is seen of the branches of a world.
-use Rattle.std.proofs.Common.{ℕ, suc, zero, ◌≡◌, ◌<◌, ◌≤◌, ◌+◌, ◌&&◌, ◌||◌, ◌++◌, ◌∙◌, ap, sym, refl, subst, arith, Bool, true, false, not, List, [], ◌∷◌, length, get_or, Option, Some, None, IfSome}
+use Rattle.std.proofs.Common.{ℕ, suc, zero, ◌≡◌, ◌<◌, ◌≤◌, ◌&&◌, ◌||◌, ◌++◌, ◌∙◌, ap, sym, refl, subst, arith, Bool, true, false, not, List, [], ◌∷◌, length, get_or, Option, Some, None, IfSome}
 use Rattle.std.specs.Prelude.{Decides, is_none, is_some, nat_eq, nat_le, nat_lt}
 use Rattle.std.specs.List.{All}
 use Rattle.std.proofs.lemmas.Bool.{or_left, or_right, false_from_ne_true}

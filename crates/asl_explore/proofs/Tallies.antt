@@ -1,32 +1,28 @@
 -- How often states are invoked in the orders that end in an outcome.
-use Rattle.std.specs.Prelude.{is_some, slice_index, nat_eq}
-use Rattle.std.proofs.Common.{ℕ, ◌≡◌, ◌<◌, ◌≤◌, ◌+◌, ◌⊎◌, inl, inr, ◌∙◌, ap, sym, refl, subst, arith, Bool, true, false, List, [], ◌∷◌, length, get_or, set, Option, Some, None}
+use Rattle.std.specs.Prelude.{slice_index, nat_eq}
+use Rattle.std.proofs.Common.{ℕ, ◌≡◌, ◌<◌, ◌≤◌, ◌+◌, ◌∙◌, ap, sym, refl, subst, arith, Bool, true, false, List, length, get_or, set, Option}
 use Rattle.std.specs.List.{All, AllWithin}
 use Rattle.std.proofs.lemmas.Bool.Decides.{nat_tests}
 use Rattle.std.proofs.lemmas.List.{get_or_read, get_or-set_other, length-set}
 use Rattle.std.proofs.lemmas.Grind.{get_or-set_at}
-use Rattle.std.proofs.lemmas.List.Elements.{All-contains, AllWithin-more}
-use Rattle.asl_step.specs.declared.record.Record.{Record}
-use Rattle.asl_run_branches.specs.Branches.{record_at}
+use Rattle.std.proofs.lemmas.List.Elements.{AllWithin-more}
 use Rattle.asl_run_branches.specs.declared.earliest.Earliest.{Earliest}
-use Rattle.asl_run_state.specs.World.{World, is_over}
-use Rattle.asl_run_state.specs.Bare.{bare, earliest}
+use Rattle.asl_run_state.specs.World.{World}
+use Rattle.asl_run_state.specs.Bare.{bare}
 use Rattle.asl_run_state.specs.declared.outcome.Outcome.{Outcome}
 use Rattle.asl_run_input.specs.declared.setup.Setup.{Setup}
 use Rattle.asl_def.specs.Machines.{state_count}
-use Rattle.asl_exec.specs.Steps.{step, opening}
+use Rattle.asl_exec.specs.Steps.{step}
 use Rattle.asl_explore.specs.declared.calls.Bounds.{Bounds}
 use Rattle.asl_explore.specs.declared.calls.Calls.{Calls}
 use Rattle.asl_explore.specs.declared.found.Found.{Found}
 use Rattle.asl_explore.specs.declared.met.Node.{Node}
 use Rattle.asl_explore.specs.declared.orders.Orders.{Orders}
-use Rattle.asl_explore.specs.Orders.{due, IsTried, AreTried, after_order}
-use Rattle.asl_explore.specs.Searches.{IsMet, IsExpanded, IsBound, is_beyond, outcomes_of, worlds_of}
-use Rattle.asl_explore.specs.Calls.{IsIn, AreWider, IsCounted, AreKept, IsEndCounted, AreEndsCounted, AllAreExpanded, AreCounted}
-use Rattle.asl_explore.proofs.Bare.{step-bare}
-use Rattle.asl_explore.proofs.Whole.{tried-bare, met-step}
+use Rattle.asl_explore.specs.Orders.{due}
+use Rattle.asl_explore.specs.Searches.{outcomes_of, worlds_of}
+use Rattle.asl_explore.specs.Calls.{IsIn, AreWider, IsCounted, AreKept, AreEndsCounted, AllAreExpanded, AreCounted}
 use Rattle.asl_explore.proofs.Expanding.{node-at}
-use Rattle.asl_explore.proofs.Ends.{ends-everywhere, after-over}
+use Rattle.asl_explore.proofs.Ends.{IsTurnIn, all-end-in}
 
 -- ---- bounds that are written over others
 
@@ -99,29 +95,12 @@ counted-kept states os cs ds o counts kept h = record {
 
 -- ---- each step of a world
 
-abbrev pub IsTurnCounted : Setup → ℕ → List Outcome → List Calls → World → Option ℕ → Earliest → Type 0
-IsTurnCounted s states os cs w bound e = is_beyond bound e.moment ≡ false → IsEndCounted states os cs (step s w e.place e.moment)
-
-pub turns-more : (s : Setup) (states : ℕ) (os : List Outcome) (cs ds : List Calls) (w : World) (bound : Option ℕ) (turns : List Earliest) (i : ℕ) (turn : Earliest) → AreKept cs ds → AllWithin (IsTurnCounted s states os cs w bound) turns 0 i → i < length turns → turn ≡ get_or turns i turn → IsTurnCounted s states os ds w bound turn
-    → AllWithin (IsTurnCounted s states os ds w bound) turns 0 (i + 1)
+pub turns-more : (s : Setup) (states : ℕ) (os : List Outcome) (cs ds : List Calls) (w : World) (bound : Option ℕ) (turns : List Earliest) (i : ℕ) (turn : Earliest) → AreKept cs ds → AllWithin (IsTurnIn (IsCounted states os cs) s w bound) turns 0 i → i < length turns → turn ≡ get_or turns i turn → IsTurnIn (IsCounted states os ds) s w bound turn
+    → AllWithin (IsTurnIn (IsCounted states os ds) s w bound) turns 0 (i + 1)
 turns-more s states os cs ds w bound turns i turn kept h l at new =
-    AllWithin-more (IsTurnCounted s states os ds w bound) turns 0 i
+    AllWithin-more (IsTurnIn (IsCounted states os ds) s w bound) turns 0 i
     (λ k d z lt inside over. let v = step s w (get_or turns k d).place (get_or turns k d).moment in counted-kept states os cs ds v.outcome v.counts kept (h k d z lt inside over))
-    (λ d. subst (IsTurnCounted s states os ds w bound) (get_or_read turns i turn l at d) new)
-
-pub ends-counted : (o : Orders) (s : Setup) (states : ℕ) (os : List Outcome) (cs : List Calls) (w : World) (bound : Option ℕ) (turns : List Earliest) (i : ℕ) → is_over w.outcome ≡ false → is_some (record_at [] w.branches) ≡ true → turns ≡ earliest w.last w.branches → length turns ≤ i → IsBound o s (bare w) bound
-    → AllWithin (IsTurnCounted s states os cs (bare w) bound) turns 0 i → AreEndsCounted o s states os cs (bare w)
-ends-counted o s states os cs w bound turns i runs root et le b h = by (record_at [] w.branches) refl
-  where
-    P : Outcome → List ℕ → Type 0
-    P x counts = IsCounted states os cs x counts
-
-    all : All (IsTurnCounted s states os cs (bare w) bound) (earliest w.last w.branches)
-    all = subst (All (IsTurnCounted s states os cs (bare w) bound)) et (λ k d l. h k d (omega arith) (omega (arith, l, le)))
-
-    by : (r : Option Record) → record_at [] w.branches ≡ r → AreEndsCounted o s states os cs (bare w)
-    by (Some r) e = ends-everywhere o s (bare w) bound r P runs e b all
-    by None e = let x : false ≡ true = ap is_some (sym e) ∙ root in absurd (cc)
+    (λ d. subst (IsTurnIn (IsCounted states os ds) s w bound) (get_or_read turns i turn l at d) new)
 
 -- ---- each world that was met
 
@@ -134,37 +113,10 @@ worlds-more o s states os cs ds ns i n kept h l at new =
 
 -- ---- each order
 
-end-alike : (states : ℕ) (os : List Outcome) (cs : List Calls) (u v : World) → bare u ≡ bare v → IsEndCounted states os cs u → IsEndCounted states os cs v
-end-alike states os cs u v e h = subst (IsEndCounted states os cs) e h
-
-counted-step : (o : Orders) (s : Setup) (ws : List World) (os : List Outcome) (states : ℕ) (cs : List Calls) (w : World) (p : List ℕ) → All (AreEndsCounted o s states os cs) ws → IsTried o s w p → IsMet ws os w → is_over w.outcome ≡ false → IsEndCounted states os cs (step s w p (due w p))
-counted-step o s ws os states cs w p ends tried m runs = by (step-bare s w p (due w p))
-  where
-    v : World
-    v = step s w p (due w p)
-
-    by : (v ≡ w) ⊎ (bare v ≡ bare (step s (bare w) p (due w p))) → IsEndCounted states os cs v
-    by (inl e) over = let x : true ≡ false = sym over ∙ ap (λ (z : World). is_over z.outcome) e ∙ runs in absurd (cc)
-    by (inr e) over = end-alike states os cs (step s (bare w) p (due w p)) v (sym e) (All-contains (AreEndsCounted o s states os cs) ws (bare w) ends (m.runs runs) p (tried-bare o s w p tried)) over
-
-counted-on : (s : Setup) (os : List Outcome) (states : ℕ) (cs : List Calls) (v : World) (ps : List (List ℕ)) (b : Bool) → is_over v.outcome ≡ b → IsEndCounted states os cs v → (is_over v.outcome ≡ false → IsEndCounted states os cs (after_order s v ps)) → IsEndCounted states os cs (after_order s v ps)
-counted-on s os states cs v ps true e here deeper = subst (IsEndCounted states os cs) (sym (after-over s v ps e)) here
-counted-on s os states cs v ps false e here deeper = deeper e
-
-counted-after : (o : Orders) (s : Setup) (ws : List World) (os : List Outcome) (states : ℕ) (cs : List Calls) (w : World) (ps : List (List ℕ)) → All (IsExpanded o s ws os) ws → All (AreEndsCounted o s states os cs) ws → AreTried o s w ps → IsMet ws os w → is_over w.outcome ≡ false
-    → IsEndCounted states os cs (after_order s w ps)
-counted-after o s ws os states cs w [] all ends tried m runs = λ over. let x : true ≡ false = sym over ∙ runs in absurd (cc)
-counted-after o s ws os states cs w (p ∷ ps) all ends tried m runs =
-    let v = step s w p (due w p) in
-    counted-on s os states cs v ps (is_over v.outcome) refl (counted-step o s ws os states cs w p ends tried.0 m runs) (λ e. counted-after o s ws os states cs v ps all ends tried.1 (met-step o s ws os w p all tried.0 m) e)
-
-pub all-counted : (o : Orders) (s : Setup) (ws : List World) (os : List Outcome) (cs : List Calls) → AllAreExpanded o s ws os → All (AreEndsCounted o s (state_count s.machine) os cs) ws → AreCounted o s os cs
-all-counted o s ws os cs closed ends ps tried = counted-after o s ws os (state_count s.machine) cs (opening s) ps closed.expanded ends tried closed.begins refl
-
 pub counted-all : (o : Orders) (s z : Setup) (ns ms : List Node) (fs gs : List Found) (cs : List Calls) (states : ℕ) → ms ≡ ns → gs ≡ fs → z ≡ s → states ≡ state_count z.machine → AllAreExpanded o s (worlds_of ns) (outcomes_of fs) → All (AreEndsCounted o s states (outcomes_of gs) cs) (worlds_of ms) → AreCounted o s (outcomes_of fs) cs
 counted-all o s z ns ms fs gs cs states en ef ez es closed ends =
     let count : states ≡ state_count s.machine = es ∙ ap (λ (x : Setup). state_count x.machine) ez in
-    all-counted o s (worlds_of ns) (outcomes_of fs) cs closed
+    all-end-in (IsCounted (state_count s.machine) (outcomes_of fs) cs) o s (worlds_of ns) (outcomes_of fs) closed
     (subst (λ (n : ℕ). All (AreEndsCounted o s n (outcomes_of fs) cs) (worlds_of ns)) count
     (subst (λ (xs : List Found). All (AreEndsCounted o s states (outcomes_of xs) cs) (worlds_of ns)) ef
     (subst (λ (xs : List Node). All (AreEndsCounted o s states (outcomes_of gs) cs) (worlds_of xs)) en ends)))

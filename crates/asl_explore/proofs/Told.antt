@@ -14,7 +14,7 @@ use Rattle.asl_explore.specs.declared.remarks.Answers.{Answers}
 use Rattle.asl_explore.specs.declared.remarks.Remarks.{Remarks}
 use Rattle.asl_explore.specs.declared.sights.Sight.{Sight}
 use Rattle.asl_explore.specs.declared.states.Stated.{Stated}
-use Rattle.asl_explore.specs.Remarks.{AreOneBelow, AreRemarks, AreRuns, AreTold, AreUnanswered, IsAnswered, IsCutOff, IsNamed, IsShared, IsUnentered, answers_from, is_entered, most_asked}
+use Rattle.asl_explore.specs.Remarks.{AreOneBelow, AreRemarks, AreRuns, AreTold, AreUnanswered, IsAnswered, IsCutOff, IsNamed, IsShared, IsUnentered, answers_from, most_asked}
 use Rattle.asl_explore.specs.Settled.{last_answer}
 use Rattle.asl_explore.specs.States.{IsStated}
 use Rattle.asl_explore.specs.private.Seeing.{AreSeen, IsSeen, IsSharedFrom}

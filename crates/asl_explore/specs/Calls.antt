@@ -6,8 +6,9 @@ use Rattle.asl_run_state.specs.Bare.{bare}
 use Rattle.asl_run_state.specs.World.{World, is_over}
 use Rattle.asl_run_state.specs.declared.outcome.Outcome.{Outcome}
 use Rattle.asl_run_input.specs.declared.setup.Setup.{Setup}
-use Rattle.asl_exec.specs.Steps.{step, opening}
-use Rattle.asl_explore.specs.Orders.{due, IsTried, AreTried, after_order, after_bare, AreTriedOn}
+use Rattle.asl_exec.specs.Steps.{opening}
+use Rattle.asl_explore.specs.Ends.{EndsIn, AreEndsIn, AllEndIn}
+use Rattle.asl_explore.specs.Orders.{AreTried, after_order, after_bare, AreTriedOn}
 use Rattle.asl_explore.specs.Searches.{IsMet, IsExpanded}
 use Rattle.asl_explore.specs.declared.orders.Orders.{Orders}
 use Rattle.asl_explore.specs.declared.calls.Bounds.{Bounds}
@@ -53,13 +54,11 @@ pub record AreKept (cs ds : List Calls) : Type 0 where
 
 -- if a world is over, it is so there
 abbrev pub IsEndCounted : ℕ → List Outcome → List Calls → World → Type 0
-IsEndCounted states os cs w =
-    is_over w.outcome ≡ true → IsCounted states os cs w.outcome w.counts
+IsEndCounted states os cs w = EndsIn (IsCounted states os cs) w
 
 -- whichever branch steps that is tried, if this ends the execution, it is so
 abbrev pub AreEndsCounted : Orders → Setup → ℕ → List Outcome → List Calls → World → Type 0
-AreEndsCounted o s states os cs w =
-    (p : List ℕ) → IsTried o s w p → IsEndCounted states os cs (step s w p (due w p))
+AreEndsCounted o s states os cs w = AreEndsIn (IsCounted states os cs) o s w
 
 -- the opening world is met, and each world that is met is expanded
 pub record AllAreExpanded (o : Orders) (s : Setup) (ws : List World) (os : List Outcome) : Type 0 where
@@ -69,9 +68,7 @@ pub record AllAreExpanded (o : Orders) (s : Setup) (ws : List World) (os : List 
 -- in whatever order of these the branches step, if the execution ends, its outcome is among these,
 -- and how often each state was invoked is within the bounds of this outcome
 abbrev pub AreCounted : Orders → Setup → List Outcome → List Calls → Type 0
-AreCounted o s os cs =
-    (ps : List (List ℕ)) → AreTried o s (opening s) ps
-    → IsEndCounted (state_count s.machine) os cs (after_order s (opening s) ps)
+AreCounted o s os cs = AllEndIn (IsCounted (state_count s.machine) os cs) o s
 
 -- an order that ends in this outcome, and in which the state of this number is invoked so often, if a
 -- history could be as long as one likes

@@ -4,7 +4,9 @@ pub mod Searches
 pub mod Clock
 pub mod TimeOver
 pub mod Endless
+pub mod Ends
 pub mod Calls
+pub mod Judging
 pub mod States
 pub mod Remarks
 pub mod Telling

@@ -1,11 +1,12 @@
 // A search over the worlds that steps lead to.
-ghost use Rattle.std.specs.Prelude.{◌≡◌, ◌<◌, ◌≤◌, ◌⊎◌, ◌∷◌, [], true, false, is_none, not, length, get_or, slice_index_or, nat_eq, ◌+◌, is_some, None, IfOk, IfSome};
+ghost use Rattle.std.specs.Prelude.{◌≡◌, ◌<◌, ◌≤◌, ◌⊎◌, ◌∷◌, ◌&&◌, [], true, false, is_none, not, length, get_or, slice_index_or, nat_eq, ◌+◌, is_some, None, IfOk, IfSome};
 ghost use Rattle.std.specs.List.{All, Contains, HoldsAt};
 ghost use Rattle.asl_run_state.specs.Bare.{bare, earliest};
 ghost use Rattle.asl_run_state.specs.World.{World, is_over};
 ghost use Rattle.asl_exec.specs.Steps.{deadline_of, opening, refusal_in, step};
 ghost use Rattle.asl_exec.specs.Probes.{setup_of};
 ghost use Rattle.asl_explore.specs.Finding.{IsFound};
+ghost use Rattle.asl_explore.specs.Judging.{AreJudged};
 ghost use Rattle.asl_explore.specs.Endless.{CanEnd, EachEndsOrFills, NoneIsEndless};
 ghost use Rattle.asl_explore.specs.private.Reaching.{IsLeast};
 ghost use Rattle.asl_explore.specs.private.Searching.{IsSearch};
@@ -20,6 +21,8 @@ use crate::clock::clock_in;
 use crate::counting::{Counted, count_calls};
 use crate::endless::endless_in;
 use crate::found::Explored;
+use crate::judge::{Judge, Judged, Unjudged};
+use crate::judging::{judge_all, none_refused};
 use crate::late::{any_waits, late_among};
 use crate::met::Met;
 use crate::order::soonest;
@@ -487,24 +490,26 @@ fn calls_in(
 }
 
 /// Tries the orders of the branches of an execution, each branch at the earliest moments at which it may step: its outcomes, each
-/// once, with steps that end in it, and, if that is wanted, how often each state is invoked in the orders that do. At most so many
-/// worlds are tried; complete says that none was left. The error is that memory ran out.
-pub fn explore<W: Watch>(
+/// once, with steps that end in it, and, if that is wanted, how often each state is invoked in the orders that do. Each judge is asked
+/// of the ends of these orders: of each end, if that is wanted, too. At most so many worlds are tried; complete says that none was left. The error is that memory ran out.
+pub fn explore_judged<W: Watch, J: Judge>(
     alloc: Global,
     setup: Setup,
     orders: Orders,
     calls: bool,
     limit: u32,
     watch: &W,
-) -> Result<Explored, AllocError>
-    ensures { IfOk result (IsFound orders calls limit setup) }
+    judges: &[J],
+) -> Result<Judged, AllocError>
+    ensures found { IfOk result (λ x. IsFound orders calls limit setup x.explored) }
+    ensures judged { IfOk result (λ x. AreJudged J.accepts (calls && x.explored.complete) orders setup judges.now x.refused.items) }
 {
     let limited = deadline_of(&setup).is_some();
     let clock = clock_in(alloc, &setup.machine)?;
     let states = states_in(alloc, &setup.machine)?;
     let mut probe = Probe::open(alloc, setup)?;
     let Some(searched) = search_for(&mut probe, alloc, orders, calls, limit, watch)? else {
-        return Ok(Explored {
+        let explored = Explored {
             found: Vec::new(alloc),
             late: Vec::new(alloc),
             marked: false,
@@ -521,9 +526,12 @@ pub fn explore<W: Watch>(
             remarks: no_remarks(alloc),
             limited,
             clock,
-        });
+        };
+        let refused = none_refused(alloc, judges)?;
+        return Ok(Judged { explored, refused });
     };
     let counted = calls_in(&mut probe, alloc, orders, &searched, calls)?;
+    let refusals = judge_all(&mut probe, alloc, orders, judges, &searched.met.nodes)?;
     let endless = endless_in(
         &mut probe,
         alloc,
@@ -534,7 +542,8 @@ pub fn explore<W: Watch>(
     let mut found = searched.found;
     let is_over = put_time_over(&mut probe, alloc, orders, &mut found)?;
     let sights = sights_in(&mut probe, alloc, orders, &searched.met.nodes)?;
-    let others = are_all(counted.whole, endless.whole, is_over, sights.whole);
+    let judged = are_both(counted.whole, refusals.whole);
+    let others = are_all(judged, endless.whole, is_over, sights.whole);
     let complete = are_both(searched.complete, others);
     let stuck = is_stuck(searched.whole, others);
     let worlds = searched.met.nodes.len();
@@ -546,7 +555,7 @@ pub fn explore<W: Watch>(
         complete,
     )?;
     let late = late_among(&mut probe, alloc, &found.list, limit)?;
-    Ok(Explored {
+    let explored = Explored {
         found: found.list,
         late: late.numbers,
         marked: late.marked,
@@ -563,7 +572,27 @@ pub fn explore<W: Watch>(
         remarks,
         limited,
         clock,
+    };
+    Ok(Judged {
+        explored,
+        refused: refusals.list,
     })
+}
+
+/// The same without judges. The error is that memory ran out.
+pub fn explore<W: Watch>(
+    alloc: Global,
+    setup: Setup,
+    orders: Orders,
+    calls: bool,
+    limit: u32,
+    watch: &W,
+) -> Result<Explored, AllocError>
+    ensures { IfOk result (IsFound orders calls limit setup) }
+{
+    let judges: &[Unjudged] = &[];
+    let judged = explore_judged(alloc, setup, orders, calls, limit, watch, judges)?;
+    Ok(judged.explored)
 }
 
 /// Whether both are so.

@@ -22,7 +22,7 @@ use Rattle.asl_explore_errors.specs.declared.tried.ErrorsFound.{ErrorsFound}
 use Rattle.asl_explore_errors.specs.declared.tried.Witnesses.{Witnesses}
 use Rattle.asl_explore_errors.specs.Plans.{has_plan, is_same_error, is_same_plan}
 use Rattle.asl_explore_errors.specs.Points.{errors_of, longer}
-use Rattle.asl_explore_errors.specs.Searches.{AreAllFound, AreLongerTold, AreMade, AreTried, IsFoundUnder, IsLonger, IsTried, Try, has_room, is_told, try_of}
+use Rattle.asl_explore_errors.specs.Searches.{Accepting, AreAllFound, AreLongerTold, AreMade, AreTried, IsFoundUnder, IsLonger, IsTried, Try, has_room, is_counted, is_told, try_of}
 use Rattle.asl_explore_errors.specs.private.Levels.{AreLongerKnown, IsAdded, IsKnown, IsLevel, IsPending}
 use Rattle.asl_explore_errors.proofs.Lengths.{all_longer}
 
@@ -90,14 +90,14 @@ known_beside ps left next extra q (inr c) = inr (by (Contains-append_cases left 
 
 -- ---- what was tried
 
-tried_more : (most : ℕ) (o : Orders) (limit : ℕ) (s : Setup) (ts : List Try) (ps : List PlanOutcomes) (ws : List Witnesses) (t : Try) (p : PlanOutcomes) (w : Witnesses)
-    → AreTried most o limit s ts ps ws → IsTried most o limit s t p w → AreTried most o limit s (ts ++ t ∷ []) (ps ++ p ∷ []) (ws ++ w ∷ [])
-tried_more most o limit s [] [] [] t p w h g = (g, tt)
-tried_more most o limit s [] [] (w ∷ ws) t p v h g = absurd h
-tried_more most o limit s [] (p ∷ ps) ws t q w h g = absurd h
-tried_more most o limit s (t ∷ ts) [] ws u p w h g = absurd h
-tried_more most o limit s (t ∷ ts) (p ∷ ps) [] u q w h g = absurd h
-tried_more most o limit s (t ∷ ts) (p ∷ ps) (w ∷ ws) u q v h g = (h.0, tried_more most o limit s ts ps ws u q v h.1 g)
+tried_more : {J : Type 0} (accepts : Accepting J) (js : List J) (most : ℕ) (o : Orders) (limit : ℕ) (s : Setup) (ts : List Try) (ps : List PlanOutcomes) (ws : List Witnesses) (t : Try) (p : PlanOutcomes) (w : Witnesses)
+    → AreTried accepts js most o limit s ts ps ws → IsTried accepts js most o limit s t p w → AreTried accepts js most o limit s (ts ++ t ∷ []) (ps ++ p ∷ []) (ws ++ w ∷ [])
+tried_more accepts js most o limit s [] [] [] t p w h g = (g, tt)
+tried_more accepts js most o limit s [] [] (w ∷ ws) t p v h g = absurd h
+tried_more accepts js most o limit s [] (p ∷ ps) ws t q w h g = absurd h
+tried_more accepts js most o limit s (t ∷ ts) [] ws u p w h g = absurd h
+tried_more accepts js most o limit s (t ∷ ts) (p ∷ ps) [] u q w h g = absurd h
+tried_more accepts js most o limit s (t ∷ ts) (p ∷ ps) (w ∷ ws) u q v h g = (h.0, tried_more accepts js most o limit s ts ps ws u q v h.1 g)
 
 longer_more : (most : ℕ) (tasks : List Told) (m : Data) (ts us : List Try) (plan : List Point) → IsLonger most tasks m ts plan → IsLonger most tasks m (ts ++ us) plan
 longer_more most tasks m ts us plan h = (h.0, h.1, omega (arith, h.2, length-append ts us), get_or_append_left ts us h.1 h.0 h.2 ∙ h.3, h.4)
@@ -126,11 +126,11 @@ none_at plan (p ∷ ps) k d h lt = by (has_plan plan p) refl k lt h (λ j g l. n
 
 -- ---- a level
 
-module _ (most : ℕ) (tasks : List Told) (o : Orders) (limit : ℕ) (s : Setup) where
+module _ {J : Type 0} (accepts : Accepting J) (js : List J) (most : ℕ) (tasks : List Told) (o : Orders) (limit : ℕ) (s : Setup) where
   -- a plan that is told is left out
   pub level_told : (number : ℕ) (plan : List Point) (left next : List (List Point)) (x : ErrorsFound)
       → is_told x.plans.items plan ≡ true
-      → IsLevel most tasks o limit s number (plan ∷ left) next x → IsLevel most tasks o limit s number left next x
+      → IsLevel accepts js most tasks o limit s number (plan ∷ left) next x → IsLevel accepts js most tasks o limit s number left next x
   level_told number plan left next x told h = record {
     tries = h.tries;
     each = h.each;
@@ -167,8 +167,8 @@ module _ (most : ℕ) (tasks : List Told) (o : Orders) (limit : ℕ) (s : Setup)
   -- a plan that wasn't told is tried
   pub level_added : (number : ℕ) (plan : List Point) (left next next2 : List (List Point)) (x y : ErrorsFound) (room : Bool) (cs : List Calls)
       → number ≤ most → is_told x.plans.items plan ≡ false → room ≡ has_room most plan
-      → IsAdded o limit s room (errors_of plan) x y cs → next2 ≡ next ++ (if room then longer tasks s.machine cs plan else [])
-      → IsLevel most tasks o limit s number (plan ∷ left) next x → IsLevel most tasks o limit s number left next2 y
+      → IsAdded accepts js o limit s (is_counted js room) (errors_of plan) x y cs → next2 ≡ next ++ (if room then longer tasks s.machine cs plan else [])
+      → IsLevel accepts js most tasks o limit s number (plan ∷ left) next x → IsLevel accepts js most tasks o limit s number left next2 y
   level_added number plan left next next2 x y room cs le new is_room a more h =
       let t = try_of plan cs in
       let ts = h.tries ++ t ∷ [] in
@@ -188,11 +188,11 @@ module _ (most : ℕ) (tasks : List Told) (o : Orders) (limit : ℕ) (s : Setup)
       (longer tasks s.machine cs plan) (extra_holds room cs plan (is_room ∙ r)) in
       record {
         tries = ts;
-        each = subst (λ (ps : List PlanOutcomes). AreTried most o limit s ts ps y.found.items) (sym a.plans) (subst (AreTried most o limit s ts (x.plans.items ++ a.tried ∷ [])) (sym a.found)
-            (tried_more most o limit s h.tries x.plans.items x.found.items t a.tried a.witnesses h.each (record {
+        each = subst (λ (ps : List PlanOutcomes). AreTried accepts js most o limit s ts ps y.found.items) (sym a.plans) (subst (AreTried accepts js most o limit s ts (x.plans.items ++ a.tried ∷ [])) (sym a.found)
+            (tried_more accepts js most o limit s h.tries x.plans.items x.found.items t a.tried a.witnesses h.each (record {
               few = omega (arith, le, first.0);
               plan = a.is_plan;
-              found = subst (λ (b : Bool). IsFoundUnder o limit s b a.tried a.witnesses.list.items cs) is_room a.is_found;
+              found = subst (λ (b : Bool). IsFoundUnder accepts js o limit s (is_counted js b) a.tried a.witnesses cs) is_room a.is_found;
             })));
         none = known [] h.none;
         longer = All-push (AreLongerKnown most tasks s.machine y.plans.items (left ++ next2)) h.tries t old own;
@@ -208,7 +208,7 @@ module _ (most : ℕ) (tasks : List Told) (o : Orders) (limit : ℕ) (s : Setup)
 
   -- what has one error more comes next
   pub level_next : (number : ℕ) (next : List (List Point)) (x : ErrorsFound)
-      → IsLevel most tasks o limit s number [] next x → IsLevel most tasks o limit s (number + 1) next [] x
+      → IsLevel accepts js most tasks o limit s number [] next x → IsLevel accepts js most tasks o limit s (number + 1) next [] x
   level_next number next x h = record {
     tries = h.tries;
     each = h.each;
@@ -222,10 +222,10 @@ module _ (most : ℕ) (tasks : List Told) (o : Orders) (limit : ℕ) (s : Setup)
 
   -- the plan without errors is tried first
   pub level_first : (plans : List (List Point)) (x : ErrorsFound) → x.plans.items ≡ [] → x.found.items ≡ [] → plans ≡ [] ∷ []
-      → IsLevel most tasks o limit s 0 plans [] x
+      → IsLevel accepts js most tasks o limit s 0 plans [] x
   level_first plans x no_plans no_found e = record {
     tries = [];
-    each = subst (λ (ps : List PlanOutcomes). AreTried most o limit s [] ps x.found.items) (sym no_plans) (subst (AreTried most o limit s [] []) (sym no_found) tt);
+    each = subst (λ (ps : List PlanOutcomes). AreTried accepts js most o limit s [] ps x.found.items) (sym no_plans) (subst (AreTried accepts js most o limit s [] []) (sym no_found) tt);
     none = subst (λ ps. IsKnown x.plans.items (ps ++ []) []) (sym e) (inr (0, omega arith, refl));
     longer = All-nil (AreLongerKnown most tasks s.machine x.plans.items (plans ++ []));
     only = tt;
@@ -246,7 +246,7 @@ module _ (most : ℕ) (tasks : List Told) (o : Orders) (limit : ℕ) (s : Setup)
           let one = All-contains (λ (q : List Point). length q ≡ length t.plan + 1) (longer tasks s.machine t.calls t.plan) plan (all_longer tasks s.machine t.calls t.plan) g.4.1 in
           omega (arith, long, one, ltb-true (length t.plan) most g.4.0)
 
-  pub level_last : (plans : List (List Point)) (x : ErrorsFound) → IsLevel most tasks o limit s (most + 1) plans [] x → AreAllFound most tasks o limit s x
+  pub level_last : (plans : List (List Point)) (x : ErrorsFound) → IsLevel accepts js most tasks o limit s (most + 1) plans [] x → AreAllFound accepts js most tasks o limit s x
   level_last plans x h =
       let e = none_beyond h.tries plans h.wanted in
       let told : (q : List Point) → IsKnown x.plans.items (plans ++ []) q → is_told x.plans.items q ≡ true = λ q k. all_told q (subst (λ ps. IsKnown x.plans.items (ps ++ []) q) e k) in

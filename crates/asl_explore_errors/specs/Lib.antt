@@ -2,5 +2,6 @@ pub mod Plans
 pub mod Points
 pub mod Under
 pub mod Searches
+pub mod Rules
 pub mod Filling
 pub mod private

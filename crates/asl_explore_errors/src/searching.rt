@@ -4,7 +4,7 @@ ghost use Rattle.asl_task_errors.specs.View.{all_told};
 ghost use Rattle.asl_explore_errors.specs.declared.points.Point.{Point};
 ghost use Rattle.asl_explore_errors.specs.Plans.{has_plan};
 ghost use Rattle.asl_explore_errors.specs.Points.{longer, plans_in};
-ghost use Rattle.asl_explore_errors.specs.Searches.{AreAllFound, has_room, names_in, tasks_failing};
+ghost use Rattle.asl_explore_errors.specs.Searches.{AreAllFound, has_room, is_counted, names_in, tasks_failing};
 ghost use Rattle.asl_explore_errors.specs.private.Levels.{IsAdded, IsLevel};
 
 use crate::extending::points_of;
@@ -14,7 +14,7 @@ use crate::same::has_plan;
 use crate::tried::{ErrorSearch, ErrorsFound, Witnesses};
 use crate::trying::{Tried, try_plan};
 use asl_error_plans::{InjectedError, PlanOutcomes};
-use asl_explore::{Calls, Orders, Watch};
+use asl_explore::{Calls, Judge, Orders, Watch};
 use asl_run_input::Setup;
 use std::alloc::{AllocError, Global};
 
@@ -37,20 +37,20 @@ fn push(all: ErrorsFound, plan: PlanOutcomes, found: Witnesses) -> Result<Errors
 }
 
 /// Tries one plan more, and says how often each state is invoked under it, if that is counted. The error is that memory ran out.
-fn try_new<W: Watch>(
+fn try_new<W: Watch, J: Judge>(
     alloc: Global,
-    search: &ErrorSearch<'_>,
+    search: &ErrorSearch<'_, J>,
     all: ErrorsFound,
     errors: Vec<InjectedError>,
     counted: bool,
     watch: &W,
 ) -> Result<(ErrorsFound, Vec<Calls>), AllocError>
-    ensures { IfOk result (λ r. IsAdded search.now.orders search.now.limit search.now.setup.now counted
+    ensures { IfOk result (λ r. IsAdded J.accepts search.now.judges.now search.now.orders search.now.limit search.now.setup.now counted
         errors.items all r.0 r.1.items) }
 {
     let tried = try_plan(alloc, search, errors, counted, watch)?;
     let Tried { plan, found, calls } = tried;
-    let all = push(all, plan, Witnesses { list: found })?;
+    let all = push(all, plan, found)?;
     Ok((all, calls))
 }
 
@@ -61,10 +61,20 @@ fn has_room(most: u32, plan: &[Point]) -> bool
     plan.len() < most as usize
 }
 
+/// Whether it is counted how often states are invoked: where there is room for one error more, or someone judges.
+fn is_counted<J>(judges: &[J], room: bool) -> bool
+    ensures { result ≡ is_counted judges.now room }
+{
+    match judges {
+        [] => room,
+        [_, ..] => true,
+    }
+}
+
 /// These plans, and those of one error more than a plan, if there is room for it, at each invocation that was counted. The error is that memory ran out.
-fn and_longer(
+fn and_longer<J>(
     alloc: Global,
-    search: &ErrorSearch<'_>,
+    search: &ErrorSearch<'_, J>,
     plans: Vec<Vec<Point>>,
     plan: &[Point],
     room: bool,
@@ -81,18 +91,18 @@ fn and_longer(
 }
 
 /// Tries a plan, unless it was; those of one error more are added. The error is that memory ran out.
-fn try_one<W: Watch>(
+fn try_one<W: Watch, J: Judge>(
     alloc: Global,
-    search: &ErrorSearch<'_>,
+    search: &ErrorSearch<'_, J>,
     most: u32,
     level: Level,
     plan: &[Point],
     watch: &W,
 ) -> Result<Level, AllocError>
     ensures { IfOk result (λ r. (number : ℕ) (left : List (List Point)) → number ≤ most
-        → IsLevel most (all_told search.now.tasks.now) search.now.orders search.now.limit search.now.setup.now number
+        → IsLevel J.accepts search.now.judges.now most (all_told search.now.tasks.now) search.now.orders search.now.limit search.now.setup.now number
         (plan.now ∷ left) (plans_in level.longer.items) level.all
-        → IsLevel most (all_told search.now.tasks.now) search.now.orders search.now.limit search.now.setup.now number
+        → IsLevel J.accepts search.now.judges.now most (all_told search.now.tasks.now) search.now.orders search.now.limit search.now.setup.now number
         left (plans_in r.longer.items) r.all) }
 {
     let errors = errors_of(alloc, plan)?;
@@ -100,25 +110,26 @@ fn try_one<W: Watch>(
         return Ok(level);
     }
     let room = has_room(most, plan);
+    let counted = is_counted(search.judges, room);
     let Level { all, longer } = level;
-    let (all, calls) = try_new(alloc, search, all, errors, room, watch)?;
+    let (all, calls) = try_new(alloc, search, all, errors, counted, watch)?;
     let longer = and_longer(alloc, search, longer, plan, room, &calls)?;
     Ok(Level { all, longer })
 }
 
 /// Tries each of these plans, unless it was; those of one error more are left. The error is that memory ran out.
-fn try_each<W: Watch>(
+fn try_each<W: Watch, J: Judge>(
     alloc: Global,
-    search: &ErrorSearch<'_>,
+    search: &ErrorSearch<'_, J>,
     most: u32,
     all: ErrorsFound,
     plans: &[Vec<Point>],
     watch: &W,
 ) -> Result<Level, AllocError>
     ensures { IfOk result (λ r. (number : ℕ) → number ≤ most
-        → IsLevel most (all_told search.now.tasks.now) search.now.orders search.now.limit search.now.setup.now number
+        → IsLevel J.accepts search.now.judges.now most (all_told search.now.tasks.now) search.now.orders search.now.limit search.now.setup.now number
         (plans_in plans.now) [] all
-        → IsLevel most (all_told search.now.tasks.now) search.now.orders search.now.limit search.now.setup.now (number + 1)
+        → IsLevel J.accepts search.now.judges.now most (all_told search.now.tasks.now) search.now.orders search.now.limit search.now.setup.now (number + 1)
         (plans_in r.longer.items) [] r.all) }
 {
     let mut level = Level {
@@ -150,13 +161,13 @@ fn begin(alloc: Global) -> Result<Level, AllocError>
 
 /// What is found under each plan of at most so many errors: the plan without errors, and each plan that is tried with one error more, at an invocation
 /// of a Task that some order under it makes which ends, once or for good. No plan is told twice. The error is that memory ran out.
-pub fn explore_errors<W: Watch>(
+pub fn explore_errors<W: Watch, J: Judge>(
     alloc: Global,
-    search: &ErrorSearch<'_>,
+    search: &ErrorSearch<'_, J>,
     errors: u32,
     watch: &W,
 ) -> Result<ErrorsFound, AllocError>
-    ensures { IfOk result (AreAllFound errors (all_told search.now.tasks.now) search.now.orders search.now.limit
+    ensures { IfOk result (AreAllFound J.accepts search.now.judges.now errors (all_told search.now.tasks.now) search.now.orders search.now.limit
         search.now.setup.now) }
 {
     let mut level = begin(alloc)?;
@@ -169,18 +180,19 @@ pub fn explore_errors<W: Watch>(
     Ok(all)
 }
 
-/// The same of an execution, with each error that the retriers and catchers of its Tasks tell apart, or with those of these names. The error is that memory
-/// ran out.
-pub fn explore_with_errors<W: Watch>(
+/// The same of an execution, with each error that the retriers and catchers of its Tasks tell apart, or with those of these names, and judged by these. The
+/// error is that memory ran out.
+pub fn explore_with_errors<W: Watch, J: Judge>(
     alloc: Global,
     setup: &Setup,
     errors: u32,
     names: &[&str],
     orders: Orders,
     limit: u32,
+    judges: &[J],
     watch: &W,
 ) -> Result<ErrorsFound, AllocError>
-    ensures { IfOk result (AreAllFound errors (tasks_failing (names_in names.now) setup.now.machine) orders limit
+    ensures { IfOk result (AreAllFound J.accepts judges.now errors (tasks_failing (names_in names.now) setup.now.machine) orders limit
         setup.now) }
 {
     let tasks = tasks_failing(alloc, &setup.machine, names)?;
@@ -189,6 +201,7 @@ pub fn explore_with_errors<W: Watch>(
         tasks: &tasks,
         orders,
         limit,
+        judges,
     };
     explore_errors(alloc, &search, errors, watch)
 }

@@ -1,8 +1,14 @@
 // What no clause says of searches where errors are put in: their text as a whole, and that each call succeeds with ample memory.
-use crate::{ErrorsFound, explore_with_errors, filled_setup, put_case, setup_under, witness_of};
+ghost use Rattle.std.specs.Prelude.{nat_lt, slice_index};
+
+use crate::{
+    ErrorsFound, are_kept, explore_with_errors, filled_setup, put_case, put_rules, setup_under,
+    witness_of,
+};
 use asl_error_plans::{are_good, put_plans};
-use asl_explore::{Orders, SoFar, Watch};
+use asl_explore::{Judge, Orders, SoFar, Watch};
 use asl_run_input::Setup;
+use asl_run_state::World;
 use std::alloc::Global;
 use std::test::Fail;
 
@@ -19,6 +25,20 @@ impl Watch for Unwatched {
     fn tried(&self, _far: SoFar) {}
 }
 
+/// The first Task of the definition is invoked less often than that.
+#[derive(Clone, Copy)]
+struct FirstBelow {
+    times: u32,
+}
+
+impl Judge for FirstBelow {
+    ghost accepts = { λ j _ _ counts. nat_lt (slice_index counts 0) j.times };
+
+    fn accepts(&self, _setup: &Setup, end: &World) -> bool {
+        end.count(Some(0)) < self.times
+    }
+}
+
 fn setup(alloc: Global) -> Result<Setup, Fail> {
     let setup = Setup::read(alloc, CHARGE.as_bytes(), PAID.as_bytes(), "M#paid", b"{}");
     Ok(setup.map_err(|_| "refused")?)
@@ -30,8 +50,20 @@ fn found_with(
     errors: u32,
     names: &[&str],
 ) -> Result<ErrorsFound, Fail> {
+    found_by(alloc, setup, errors, names, &[])
+}
+
+fn found_by(
+    alloc: Global,
+    setup: &Setup,
+    errors: u32,
+    names: &[&str],
+    judges: &[FirstBelow],
+) -> Result<ErrorsFound, Fail> {
     let orders = Orders::Every;
-    Ok(explore_with_errors(alloc, setup, errors, names, orders, 1_000, &Unwatched)?)
+    Ok(explore_with_errors(
+        alloc, setup, errors, names, orders, 1_000, judges, &Unwatched,
+    )?)
 }
 
 fn found(alloc: Global, setup: &Setup, errors: u32) -> Result<ErrorsFound, Fail> {
@@ -111,6 +143,35 @@ plans 1 new
 plan "Charge" 0 "Busy" always
 "#;
     assert_eq!(rt; text.as_str(), expected);
+    Ok(())
+}
+
+#[test]
+fn a_rule_that_an_order_ends_against_is_told_with_its_plans(rt: HostRuntime) -> Result<(), Fail> {
+    let alloc = rt.alloc();
+    let setup = setup(alloc)?;
+    let judges = [FirstBelow { times: 2 }, FirstBelow { times: 3 }];
+    let found = found_by(alloc, &setup, 1, &["Busy"], &judges)?;
+    let rules = [
+        String::from_str(alloc, "Charge below 2")?,
+        String::from_str(alloc, "Charge below 3")?,
+    ];
+    let mut text = String::new(alloc);
+    put_rules(&mut text, &rules, &found)?;
+    let expected = r#"rule 1 broken Charge below 2
+plans 2
+plan "Charge" 0 "Busy" once
+plan "Charge" 0 "Busy" always
+steps
+/ 1970-01-01T00:00:00.000Z
+/ 1970-01-01T00:00:01.000Z
+
+rule 2 holds Charge below 3
+
+"#;
+    assert_eq!(rt; text.as_str(), expected);
+    assert!(rt; !are_kept(2, &found));
+    assert!(rt; are_kept(0, &found));
     Ok(())
 }
 

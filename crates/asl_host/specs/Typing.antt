@@ -5,3 +5,8 @@ use Rattle.std.specs.Prelude.{ℕ, List, [], ◌∷◌, ◌++◌, Option, Some, 
 abbrev pub line_given : Option (List ℕ) → List ℕ
 line_given None = []
 line_given (Some line) = line ++ 10 ∷ []
+
+-- bytes; none at the end
+abbrev pub bytes_given : Option (List ℕ) → List ℕ
+bytes_given None = []
+bytes_given (Some b) = b

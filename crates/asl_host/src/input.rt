@@ -1,24 +1,34 @@
-// What is typed.
-ghost use Rattle.std.specs.Prelude.{◌≡◌, ◌<◌, ◌≤◌, ◌++◌, [], length, option_map, IfOk, IfSome, OnErr};
+// What is typed, or sent.
+ghost use Rattle.std.specs.Prelude.{◌≡◌, ◌<◌, ◌≤◌, ◌++◌, [], length, is_none, option_map, IfOk, IfSome, OnErr};
 ghost use Rattle.asl_host.specs.Limits.{most_bytes};
-ghost use Rattle.asl_host.specs.Typing.{line_given};
+ghost use Rattle.asl_host.specs.Typing.{bytes_given, line_given};
 
 use crate::files::{MOST_BYTES, ReadFault, Unreadable, add, fault_of};
 use crate::taken::Taken;
 use std::alloc::Global;
 use std::io::{BufRead, ErrorKind, Write};
 
-/// Lines that come one after another, as those that are typed at a terminal.
+/// What comes piece by piece: lines that are typed at a terminal, or bytes that another program sends.
 pub trait Input {
-    ghost use Rattle.std.specs.Prelude.{List, ℕ};
+    ghost use Rattle.std.specs.Prelude.{Bool, List, ℕ};
 
-    // What it has given so far: lines, each with a line feed behind it.
+    // What it has given so far; behind each line stands a line feed.
     ghost given: { Self → List ℕ };
+
+    // Whether it gave no bytes when it was last asked for some, since it is at its end.
+    ghost ended: { Self → Bool };
 
     /// The next line without its line feed, which has at most 16,777,216 bytes; none at the end.
     fn line(&mut self, alloc: Global) -> Result<Option<Vec<u8>>, ReadFault>
         ensures line { IfOk result (λ o. given self.new
             ≡ given self.old ++ line_given (option_map (λ l. l.items) o)) }
+        ensures err { OnErr result (given self.new ≡ given self.old) };
+
+    /// The next bytes, as many as are there; none at the end. It waits for the first of them alone.
+    fn bytes(&mut self, alloc: Global) -> Result<Option<Vec<u8>>, ReadFault>
+        ensures bytes { IfOk result (λ o. given self.new
+            ≡ given self.old ++ bytes_given (option_map (λ b. b.items) o)) }
+        ensures ended { IfOk result (λ o. ended self.new ≡ is_none o) }
         ensures err { OnErr result (given self.new ≡ given self.old) };
 
     /// Shows a text to whoever types, where there is somebody. That it fails keeps no line from being read.
@@ -33,6 +43,7 @@ pub struct Typed<R, W> {
     reader: R,
     prompt: Option<W>,
     given: Taken,
+    ended: bool,
 }
 
 /// What stands before the line that is to be typed.
@@ -47,6 +58,7 @@ impl<R: BufRead, W: Write> Typed<R, W> {
             reader,
             prompt,
             given: Taken::new(),
+            ended: false,
         }
     }
 
@@ -62,6 +74,7 @@ impl<R: BufRead, W: Write> Typed<R, W> {
 
 impl<R: BufRead, W: Write> Input for Typed<R, W> {
     ghost given = { λ t. t.given.bytes };
+    ghost ended = { λ t. t.ended };
 
     fn line(&mut self, alloc: Global) -> Result<Option<Vec<u8>>, ReadFault> {
         self.show(PROMPT);
@@ -72,9 +85,57 @@ impl<R: BufRead, W: Write> Input for Typed<R, W> {
         Ok(line)
     }
 
+    fn bytes(&mut self, alloc: Global) -> Result<Option<Vec<u8>>, ReadFault> {
+        let bytes = read_bytes(alloc, &mut self.reader)?;
+        self.ended = bytes.is_none();
+        if let Some(bytes) = &bytes {
+            self.given = self.given.with(bytes.as_slice());
+        }
+        Ok(bytes)
+    }
+
     fn greet(&mut self, text: &str) {
         self.show(text);
     }
+}
+
+/// The bytes that the next read gives; none at the end. The fault is that a read failed, or that each of so many was interrupted.
+fn read_bytes<R: BufRead>(alloc: Global, reader: &mut R) -> Result<Option<Vec<u8>>, ReadFault> {
+    for _ in 0..MOST_BYTES {
+        if let Some(bytes) = read_once(alloc, reader)? {
+            return Ok(some_of(bytes));
+        }
+    }
+    Err(ReadFault::Unreadable(Unreadable::TooLong))
+}
+
+/// The same, where there are some.
+fn some_of(bytes: Vec<u8>) -> Option<Vec<u8>> {
+    if bytes.is_empty() {
+        return None;
+    }
+    Some(bytes)
+}
+
+/// A copy.
+fn copied(alloc: Global, bytes: &[u8]) -> Result<Vec<u8>, ReadFault>
+    ensures { IfOk result (λ v. v.items ≡ bytes.now) }
+{
+    match Vec::from_slice(alloc, bytes) {
+        Ok(copy) => Ok(copy),
+        Err(_) => Err(ReadFault::OutOfMemory),
+    }
+}
+
+/// The bytes that one read gives, which are none at the end; `None` is that it was interrupted.
+fn read_once<R: BufRead>(alloc: Global, reader: &mut R) -> Result<Option<Vec<u8>>, ReadFault> {
+    let bytes = match reader.fill_buf() {
+        Ok(bytes) => copied(alloc, bytes)?,
+        Err(error) if error.kind() == ErrorKind::Interrupted => return Ok(None),
+        Err(error) => return Err(fault_of(&error)),
+    };
+    reader.consume(bytes.len());
+    Ok(Some(bytes))
 }
 
 /// Reads up to a line feed, or to the end. The fault is that a read failed, that the line has more than 16,777,216 bytes, or that so

@@ -270,3 +270,8 @@ all_faultless b v u small answer f has = of_fault f has
     of_fault faults.Size k = omega (arith, k, small)
     of_fault (faults.Utf8 there) k = not_malformed b there u k
     of_fault faults.OutOfMemory k = k
+
+-- no value is spelled where the machine fails
+pub fails_none : (b : List ℕ) (e : Stop) (f : Fault) (v : Data) → e ≡ stops.Fault f → Fails e (run true value [] b) → Reads b v → ⊥
+fails_none b stops.Memory f v is h r = absurd (cc)
+fails_none b (stops.Fault g) f v is h r = let read : run true value [] b ≡ Ok v = text_read true v b r.0 r.1 in absurd (cc)

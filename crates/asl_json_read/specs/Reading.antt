@@ -2,8 +2,10 @@
 -- spells the value in the limits.)
 use Rattle.std.specs.Prelude.{◌≡◌, ℕ, List, [], length, nat_lt, true, Option, Some, None, Result, Ok, Err, if◌then◌else◌}
 use Rattle.std.specs.Result.{result_ok}
+use Rattle.std.specs.Str.{IsUtf8}
 use Rattle.asl_json_data.specs.Data.{Data}
 use Rattle.asl_json_data.specs.Limits.{max_len}
+use Rattle.asl_json_data.specs.Reads.{Reads}
 use Rattle.asl_json_scan.specs.private.Machine.{value, run}
 use Rattle.asl_json_read.specs.declared.fault.JsonFault.{JsonFault}
 use Rattle.asl_json_read.specs.declared.fault.JsonFault.TheVariants.{OutOfMemory}
@@ -16,3 +18,7 @@ abbrev pub IsReading : {X : Type 0} → (X → Data) → Option Data → Result 
 IsReading view o (Ok x) = o ≡ Some (view x)
 IsReading view o (Err OutOfMemory) = Unit {0}
 IsReading view o _ = o ≡ None
+
+-- the bytes are a text of the value in the limits of values, however many they are
+abbrev pub ReadsAtAnySize : List ℕ → Data → Type 0
+ReadsAtAnySize b v = IsUtf8 b × Reads b v

@@ -1,5 +1,5 @@
 // Reading bytes as a JSON value.
-ghost use Rattle.std.specs.Prelude.{◌≡◌, ◌<◌, ◌≤◌, ◌↔◌, Some, ℕ, List, length, take, IfOk, IfErr};
+ghost use Rattle.std.specs.Prelude.{◌≡◌, ◌<◌, ◌≤◌, ◌↔◌, Some, ℕ, List, Option, option_map, length, take, IfOk, IfErr, IfSome};
 ghost use Rattle.std.specs.Str.{IsUtf8};
 ghost use Rattle.std.specs.Str.Lossy.{utf8_valid_len};
 ghost use Rattle.asl_json_data.specs.Data.{Data};
@@ -8,13 +8,13 @@ ghost use Rattle.asl_json_data.specs.Limits.{max_len};
 ghost use Rattle.asl_json_data.specs.Reads.{ReadsAs};
 ghost use Rattle.asl_json_read.specs.Wrong.{HasFault, IsFaultOf, IsFirstOf, IsRead, placed, FitsIn, at_end};
 ghost use Rattle.asl_json_read.specs.declared.fault.JsonFault.{JsonFault};
-ghost use Rattle.asl_json_read.specs.Reading.{value_read, IsReading};
+ghost use Rattle.asl_json_read.specs.Reading.{value_read, IsReading, ReadsAtAnySize};
 
 use crate::fault::JsonFault;
 use crate::reading::whole;
 use asl_json::Json;
 use asl_json_scan::{Kind, Stop};
-use std::alloc::Global;
+use std::alloc::{AllocError, Global};
 use std::str;
 
 const MAX_LEN: usize = 1048576;
@@ -95,6 +95,24 @@ pub fn read(alloc: Global, bytes: &[u8]) -> Result<Json, JsonFault>
     match whole(alloc, bytes) {
         Ok(value) => Ok(value),
         Err(stop) => Err(placed(bytes.len(), stop)),
+    }
+}
+
+/// The value that bytes spell in the limits that `read` has for values, however many bytes these are; whoever hands them in
+/// limits them. The error is that memory ran out.
+pub fn read_any_size(alloc: Global, bytes: &[u8]) -> Result<Option<Json>, AllocError>
+    // What is read is a text of the value.
+    ensures found { IfOk result (λ o. IfSome o (λ v. ReadsAtAnySize bytes.now (data_of v))) }
+    // Each such text is read so.
+    ensures only { IfOk result (λ o. (v : Data) → ReadsAtAnySize bytes.now v → option_map data_of o ≡ Some v) }
+{
+    if let Err(_) = str::from_utf8(bytes) {
+        return Ok(None);
+    }
+    match whole(alloc, bytes) {
+        Ok(value) => Ok(Some(value)),
+        Err(Stop::Memory) => Err(AllocError),
+        Err(Stop::Fault(_)) => Ok(None),
     }
 }
 

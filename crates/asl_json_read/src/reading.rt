@@ -1,5 +1,5 @@
 // Reading from left to right.
-ghost use Rattle.std.specs.Prelude.{◌≡◌, ◌<◌, ◌+◌, ◌∷◌, ◌++◌, [], true, false, List, length, IfOk, IfErr, OnOk, Ok, string_bytes};
+ghost use Rattle.std.specs.Prelude.{◌≡◌, ◌<◌, ◌+◌, ◌∷◌, ◌++◌, [], true, false, List, length, IfOk, IfErr, Ok};
 ghost use Rattle.std.specs.Str.{IsUtf8};
 ghost use Rattle.asl_json_data.specs.Grammar.{open_bracket, open_brace};
 ghost use Rattle.asl_json_data.specs.Text.{quote};
@@ -9,72 +9,17 @@ ghost use Rattle.asl_json_data.specs.Distinct.{has_key};
 ghost use Rattle.asl_json_data.specs.Limits.{max_depth};
 ghost use Rattle.asl_json_scan.specs.Open.{Frame, in_list, in_dict};
 ghost use Rattle.asl_json_scan.specs.private.Machine.{fault, value, key, first, after, word, run};
-ghost use Rattle.asl_json_scan.specs.private.Leads.{NoSpaceFirst, begins, FirstIsNot, NotClosed, WantsValue, Breaks, Leads};
-ghost use Rattle.asl_json_scan.specs.private.Chars.{bare, closed, text_run};
+ghost use Rattle.asl_json_scan.specs.private.Leads.{NoSpaceFirst, begins, FirstIsNot, NotClosed, WantsValue, Leads};
 ghost use Rattle.asl_json.specs.Keys.{Knows};
 
 use crate::number::number;
+use crate::quoted::quoted_text;
 use asl_json::{Items, Json, Keys, Member, Members, Txt};
-use asl_json_scan::{
-    Fault, Kind, Stop, after_byte, append, as_text, begins_number, escaped, skip_spaces,
-    split_plain, syntax,
-};
-use std::alloc::{AllocError, Global};
+use asl_json_scan::{Fault, Kind, Stop, after_byte, begins_number, skip_spaces, syntax};
+use std::alloc::Global;
 
 /// How many lists and objects may stand open at once.
 const MAX_DEPTH: usize = 64;
-
-/// How much room there is at first for a text with escapes, beside what stands before the first of them.
-const ROOM: usize = 64;
-
-/// A text of these bytes, which are copied once.
-fn txt(alloc: Global, bytes: &[u8]) -> Result<Txt, AllocError>
-    requires { IsUtf8 bytes.now }
-    ensures { IfOk result (λ t. t ≡ bytes.now) }
-{
-    Txt::of(alloc, as_text(bytes))
-}
-
-/// What the bytes up to the closing quote mean where escapes are among them, and what follows it. So many of them stand
-/// before the first escape.
-fn escaped_text(alloc: Global, bytes: &[u8], plain: usize) -> Result<(Txt, &[u8]), Stop>
-    requires { IsUtf8 bytes.now }
-    ensures found { IfOk result (λ x. text_run bare [] bytes.now ≡ closed x.0 x.1.now) }
-    ensures shorter { IfOk result (λ x. length x.1.now < length bytes.now) }
-    ensures utf8 { IfOk result (λ x. IsUtf8 x.1.now) }
-    ensures broken { IfErr result (λ e. Breaks e (text_run bare [] bytes.now)) }
-{
-    let mut content = String::with_capacity(alloc, plain.saturating_add(ROOM))?;
-    let mut rest = bytes;
-    loop {
-        let (plain, behind) = split_plain(rest);
-        append(&mut content, plain)?;
-        if let Some(closed) = after_byte(behind, b'"') {
-            return Ok((Txt::new(content), closed));
-        }
-        let Some(escape) = after_byte(behind, b'\\') else {
-            return Err(syntax(behind));
-        };
-        let (character, next) = escaped(escape)?;
-        content.push(character)?;
-        rest = next;
-    }
-}
-
-/// What the bytes up to the closing quote mean, and what follows it. Without escapes they are copied once.
-fn text(alloc: Global, bytes: &[u8]) -> Result<(Txt, &[u8]), Stop>
-    requires { IsUtf8 bytes.now }
-    ensures found { IfOk result (λ x. text_run bare [] bytes.now ≡ closed x.0 x.1.now) }
-    ensures shorter { IfOk result (λ x. length x.1.now < length bytes.now) }
-    ensures utf8 { IfOk result (λ x. IsUtf8 x.1.now) }
-    ensures broken { IfErr result (λ e. Breaks e (text_run bare [] bytes.now)) }
-{
-    let (plain, behind) = split_plain(bytes);
-    if let Some(closed) = after_byte(behind, b'"') {
-        return Ok((txt(alloc, plain)?, closed));
-    }
-    escaped_text(alloc, bytes, plain.len())
-}
 
 /// A key that these members lack, and what follows its colon.
 fn key<'a>(
@@ -96,7 +41,7 @@ fn key<'a>(
     let Some(inside) = after_byte(rest, b'"') else {
         return Err(syntax(rest));
     };
-    let (name, behind) = text(alloc, inside)?;
+    let (name, behind) = quoted_text(alloc, inside)?;
     if keys.has(members, name.as_str()) {
         return Err(Stop::Fault(Fault {
             kind: Kind::Duplicate,
@@ -179,7 +124,7 @@ fn value(alloc: Global, bytes: &[u8], levels: usize) -> Result<(Json, &[u8]), St
 {
     let rest = skip_spaces(bytes);
     if let Some(inside) = after_byte(rest, b'"') {
-        let (content, behind) = text(alloc, inside)?;
+        let (content, behind) = quoted_text(alloc, inside)?;
         return Ok((Json::Text(content), behind));
     }
     if let Some(inside) = after_byte(rest, b'[') {

@@ -2,7 +2,6 @@
 use Rattle.std.proofs.Common.{◌≡◌, ℕ, Bool, true, false, cond, List, sym, ap, ◌∙◌}
 use Rattle.std.specs.Prelude.{Option, Some, None, Result, Ok, Err, codes}
 use Rattle.asl_json_data.specs.Data.{Data, null, boolean, number, text, list, dict}
-use Rattle.asl_json_data.specs.Reads.{ReadsAs}
 use Rattle.asl_json.specs.declared.value.Json.{Json}
 use Rattle.asl_json.specs.declared.value.Json.TheVariants.{Dict, List as JsonList}
 use Rattle.asl_json.specs.View.{data_of, json_of-data_of}
@@ -14,8 +13,8 @@ use Rattle.asl_json_rpc.specs.declared.id.Given.TheVariants as given
 use Rattle.asl_json_rpc.specs.declared.incoming.Incoming.{Incoming}
 use Rattle.asl_json_rpc.specs.declared.incoming.Incoming.TheVariants.{Request, Notification, Response}
 use Rattle.asl_json_rpc.specs.declared.incoming.CallFault.{CallFault}
-use Rattle.asl_json_rpc.specs.declared.incoming.CallFault.TheVariants.{ParseError, InvalidRequest, OutOfMemory}
-use Rattle.asl_json_rpc.specs.Calls.{is_whole, given_id, known, is_version, is_answer, params_of, params_in, refused, called, call_by, call_of, Gives, IsCallOf}
+use Rattle.asl_json_rpc.specs.declared.incoming.CallFault.TheVariants.{InvalidRequest}
+use Rattle.asl_json_rpc.specs.Calls.{is_whole, given_id, known, is_version, is_answer, params_of, params_in, refused, called, call_by, call_of}
 use Rattle.asl_json_rpc.specs.Printing.{id_data}
 
 -- a message of this id
@@ -88,13 +87,6 @@ pub request_id : (d : Data) (i : Id) (m : List ℕ) (p : Option Json) → call_o
 request_id d i m p e =
     let g = version_id (is_version (value_in (codes "jsonrpc") d)) (value_in (codes "method") d) (is_answer d) (given_id (value_in (codes "id") d)) (params_in (value_in (codes "params") d)) i (m, p, e) in
     given_data (value_in (codes "id") d) i g
-
--- what is found in the value of a text
-pub call_found : (t : List ℕ) (d : Data) (r : Result Incoming CallFault) → ReadsAs t d → Gives (call_of d) r → IsCallOf t r
-call_found t d (Ok c) h g = (d, h, g)
-call_found t d (Err ParseError) h g = absurd g
-call_found t d (Err (InvalidRequest i)) h g = (d, h, g)
-call_found t d (Err OutOfMemory) h g = tt
 
 -- ---- the parameters
 

@@ -4,11 +4,11 @@ use Rattle.std.specs.Prelude.{◌≡◌, ℕ, Bool, true, false, ◌||◌, cond,
 use Rattle.std.specs.Borrow.{Bor}
 use Rattle.std.specs.Str.{bytes_eq}
 use Rattle.asl_json_data.specs.Data.{Data, null, boolean, number, text, list, dict}
-use Rattle.asl_json_data.specs.Reads.{ReadsAs}
 use Rattle.asl_json.specs.declared.value.Json.{Json}
 use Rattle.asl_json.specs.View.{data_of, json_of}
 use Rattle.asl_json.specs.Meaning.{value_in}
 use Rattle.asl_json.specs.Whole.{whole_of}
+use Rattle.asl_json_read.specs.Reading.{ReadsAtAnySize}
 use Rattle.asl_json_rpc.specs.declared.id.Id.{Id}
 use Rattle.asl_json_rpc.specs.declared.id.Id.TheVariants as ids
 use Rattle.asl_json_rpc.specs.declared.id.Given.{Given}
@@ -100,7 +100,7 @@ Gives r (Err OutOfMemory) = Unit {0}
 
 -- ... of the value that a text spells; where it spells none in the limits, that is answered
 abbrev pub IsCallOf : List ℕ → Result Incoming CallFault → Type 0
-IsCallOf t (Ok c) = (d : Data) × ReadsAs t d × (call_of d ≡ Ok c)
-IsCallOf t (Err ParseError) = (d : Data) → ReadsAs t d → ⊥
-IsCallOf t (Err (InvalidRequest i)) = (d : Data) × ReadsAs t d × (call_of d ≡ Err (InvalidRequest i))
+IsCallOf t (Ok c) = (d : Data) × ReadsAtAnySize t d × (call_of d ≡ Ok c)
+IsCallOf t (Err ParseError) = (d : Data) → ReadsAtAnySize t d → ⊥
+IsCallOf t (Err (InvalidRequest i)) = (d : Data) × ReadsAtAnySize t d × (call_of d ≡ Err (InvalidRequest i))
 IsCallOf t (Err OutOfMemory) = Unit {0}

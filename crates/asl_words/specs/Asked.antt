@@ -487,11 +487,15 @@ all_cases_asked g = option_map (λ limit. words.ExploreAll (record {
 abbrev pub without_errors_asked : Given → Screen → Option Words
 without_errors_asked g s = if names_project_alone g then all_cases_asked g else all_orders_asked g s
 
--- which errors are put in is named only where some are
+-- something is named of plans of errors
+abbrev pub names_plans : Given → Bool
+names_plans g = is_some g.error || is_some g.always || is_some g.undo
+
+-- which errors are put in, and which rules are to hold then, is named only where some are
 abbrev pub explore_asked : Given → Screen → Option Words
 explore_asked g s =
     if is_some g.errors then errors_asked g s
-    else if is_some g.error then None
+    else if names_plans g then None
     else without_errors_asked g s
 
 -- what a command is to do, where answers are read on this screen; nothing where what is given doesn't
@@ -508,6 +512,7 @@ words_asked verb.Debug g s = debug_asked g s
 words_asked verb.Test g s = test_asked g
 words_asked verb.Explore g s = explore_asked g s
 words_asked verb.Explain g s = Some (words.Explain (record { code = g.code }))
+words_asked verb.Lsp g s = Some words.Lsp
 
 -- the same, and how much is told beside that
 abbrev pub asked : Verb → Given → Screen → Option Asked

@@ -1,6 +1,6 @@
 // What `explore` asks for.
 ghost use Rattle.std.specs.Prelude.{◌≡◌};
-ghost use Rattle.asl_words.specs.Asked.{all_cases_asked, all_orders_asked, errors_asked, errors_begin, errors_format, explore_asked, is_mocks, names_definition_alone, names_project_alone, witness_format};
+ghost use Rattle.asl_words.specs.Asked.{all_cases_asked, all_orders_asked, errors_asked, errors_begin, errors_format, explore_asked, is_mocks, names_definition_alone, names_plans, names_project_alone, witness_format};
 
 use crate::given::Given;
 use crate::meaning::{begin_of, names_chosen, names_run, number_if, number_of};
@@ -10,16 +10,27 @@ use crate::words::{
     SampleWords, WitnessFormat, Words,
 };
 
-/// Which errors are put in is named only where some are.
+/// Whether something is named of plans of errors.
+fn names_plans(given: &Given<'_>) -> bool
+    ensures { result ≡ names_plans given.now }
+{
+    given.error.is_some() || given.always.is_some() || given.undo.is_some()
+}
+
+/// Which errors are put in, and which rules are to hold then, is named only where some are.
 pub(crate) fn explore_of<'a>(given: &Given<'a>, screen: Screen) -> Option<Words<'a>>
     ensures { result ≡ explore_asked given.now screen }
 {
-    match (given.errors, given.error) {
-        (Some(_), _) => errors_of(given, screen),
-        (None, Some(_)) => None,
-        (None, None) if names_project_alone(given) => all_cases_of(given),
-        (None, None) => all_orders_of(given, screen),
+    if given.errors.is_some() {
+        return errors_of(given, screen);
     }
+    if names_plans(given) {
+        return None;
+    }
+    if names_project_alone(given) {
+        return all_cases_of(given);
+    }
+    all_orders_of(given, screen)
 }
 
 /// Whether nothing that an execution begins with is named, and no outcome; a project may be.

@@ -31,6 +31,10 @@ pub struct Given<'a> {
     pub errors: Option<&'a str>,
     /// The first of the errors that are named one after another.
     pub error: Option<&'a str>,
+    /// The first of the rules that are named one after another.
+    pub always: Option<&'a str>,
+    /// The first of the pairs of Tasks that are named one after another.
+    pub undo: Option<&'a str>,
     pub most_steps: Option<&'a str>,
     pub junit: Option<&'a str>,
     pub json: Option<&'a str>,

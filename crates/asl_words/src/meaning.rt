@@ -47,6 +47,7 @@ fn words_of<'a>(verb: Verb, given: &Given<'a>, screen: Screen) -> Option<Words<'
         Verb::Test => test_of(given),
         Verb::Explore => explore_of(given, screen),
         Verb::Explain => Some(Words::Explain(ExplainWords { code: given.code })),
+        Verb::Lsp => Some(Words::Lsp),
     }
 }
 

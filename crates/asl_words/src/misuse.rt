@@ -60,6 +60,12 @@ pub fn misuse_of(verb: Verb, given: &Given<'_>) -> Misuse {
         Verb::Explore if given.errors.is_none() && given.error.is_some() => {
             Misuse::Planless("argument '--error <NAME>'")
         }
+        Verb::Explore if given.errors.is_none() && given.always.is_some() => {
+            Misuse::Planless("argument '--always <RULE>'")
+        }
+        Verb::Explore if given.errors.is_none() && given.undo.is_some() => {
+            Misuse::Planless("argument '--undo <PAIR>'")
+        }
         Verb::Explore if given.errors.is_none() && is_mocks(given.format) => {
             Misuse::Planless("value 'mocks' of '--format'")
         }

@@ -14,6 +14,7 @@ pub enum Verb {
     Test,
     Explore,
     Explain,
+    Lsp,
 }
 
 impl Verb {
@@ -38,6 +39,8 @@ impl Verb {
                 "Tries every order of an execution's branches and prints each outcome with an order that ends in it",
             Verb::Explain =>
                 "Explains a code that a command told, with an example, or lists all codes",
+            Verb::Lsp =>
+                "Serves an editor by the Language Server Protocol, over standard input and output",
         }
     }
 }

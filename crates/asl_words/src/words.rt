@@ -43,6 +43,7 @@ pub enum Words<'a> {
     Errors(ErrorsWords<'a>),
     /// A code is to be explained, or all are to be listed.
     Explain(ExplainWords<'a>),
+    Lsp,
 }
 
 /// The word of `check`: the name of a file.

@@ -13,7 +13,7 @@ use Rattle.asl_explore_errors.specs.declared.tried.ErrorsFound.{ErrorsFound}
 use Rattle.asl_explore_errors.specs.declared.tried.Witnesses.{Witnesses}
 use Rattle.asl_explore_errors.specs.Plans.{is_same_plan}
 use Rattle.asl_explore_errors.specs.Points.{longer}
-use Rattle.asl_explore_errors.specs.Searches.{AreMade, AreTried, IsFoundUnder, IsLonger, Try, has_room, is_told}
+use Rattle.asl_explore_errors.specs.Searches.{Accepting, AreMade, AreTried, IsFoundUnder, IsLonger, Try, has_room, is_told}
 
 -- a plan is told, or among those that are still to be tried
 abbrev pub IsKnown : List PlanOutcomes → List (List Point) → List Point → Type 0
@@ -28,10 +28,10 @@ abbrev pub IsPending : ℕ → List Told → Data → List Try → ℕ → List 
 IsPending most tasks m ts number plan = (length plan ≡ number) × ((plan ≡ []) ⊎ IsLonger most tasks m ts plan)
 
 -- so much is known when plans of so many errors are tried: these are left of them, and these have one error more
-pub record IsLevel (most : ℕ) (tasks : List Told) (o : Orders) (limit : ℕ) (s : Setup) (number : ℕ)
-    (left next : List (List Point)) (x : ErrorsFound) : Type 0 where
+pub record IsLevel {J : Type 0} (accepts : Accepting J) (js : List J) (most : ℕ) (tasks : List Told) (o : Orders)
+    (limit : ℕ) (s : Setup) (number : ℕ) (left next : List (List Point)) (x : ErrorsFound) : Type 0 where
   pub tries : List Try
-  pub each : AreTried most o limit s tries x.plans.items x.found.items
+  pub each : AreTried accepts js most o limit s tries x.plans.items x.found.items
   pub none : IsKnown x.plans.items (left ++ next) []
   pub longer : All (AreLongerKnown most tasks s.machine x.plans.items (left ++ next)) tries
   pub only : AreMade most tasks s.machine [] tries
@@ -40,11 +40,11 @@ pub record IsLevel (most : ℕ) (tasks : List Told) (o : Orders) (limit : ℕ) (
   pub beyond : All (IsPending most tasks s.machine tries (number + 1)) next
 
 -- one plan more was tried, with these errors
-pub record IsAdded (o : Orders) (limit : ℕ) (s : Setup) (counted : Bool) (plan : List InjectedError)
-    (x y : ErrorsFound) (cs : List Calls) : Type 0 where
+pub record IsAdded {J : Type 0} (accepts : Accepting J) (js : List J) (o : Orders) (limit : ℕ) (s : Setup)
+    (counted : Bool) (plan : List InjectedError) (x y : ErrorsFound) (cs : List Calls) : Type 0 where
   pub tried : PlanOutcomes
   pub witnesses : Witnesses
   pub plans : y.plans.items ≡ x.plans.items ++ tried ∷ []
   pub found : y.found.items ≡ x.found.items ++ witnesses ∷ []
   pub is_plan : tried.plan.items ≡ plan
-  pub is_found : IsFoundUnder o limit s counted tried witnesses.list.items cs
+  pub is_found : IsFoundUnder accepts js o limit s counted tried witnesses cs

@@ -8,4 +8,4 @@ pub returns-in-Lint : goal.returns-in-Lint
 returns-in-Lint g c = rw c.in-Lint.is (refl, rw c.deref.ensures.value at c.lint.ensures)
 
 pub returns-in-Errors : goal.returns-in-Errors
-returns-in-Errors g c = rw c.in-Errors.is (refl, rw c.deref-in-Errors.ensures.value at c.inject.ensures)
+returns-in-Errors g c = rw c.in-Errors.is (refl, c.inject.ensures)

@@ -5,22 +5,22 @@ pub loop-number-preserved : goal.loop-number-preserved
 loop-number-preserved g c =
     let asked = rw (c.in-Ok-Some.field-0-is, ← c.as_slice.ensures.value) at c.in-Ok-Some.ensures.line in
     let told = c.in-Ok-More.ensures.more c.in-Ok-More.field-0-is in
-    answered-more g.I.Input.given g.O.Sink.taken g.O.Sink.failures c.args.strict c.args.look c.args.console.now c.loop-number.console c.reply.new.console c.loop-number.number c.args.input.now c.loop-number.input c.line.new.self c.args.out.now c.loop-number.out c.reply.new.out c.as_slice.result.now told.0 c.loop-number.invariant asked told.1 told.2
+    answered-more g.I.Input.given g.I.Input.ended g.O.Sink.taken g.O.Sink.failures c.args.strict c.args.look c.args.console.now c.loop-number.console c.reply.new.console c.loop-number.number c.args.input.now c.loop-number.input c.line.new.self c.args.out.now c.loop-number.out c.reply.new.out c.as_slice.result.now told.0 c.loop-number.invariant asked told.1 told.2
 
 pub returns-in-Ok-Last-clause-whole : goal.returns-in-Ok-Last-clause-whole
 returns-in-Ok-Last-clause-whole g c =
     let asked = rw (c.in-Ok-Some.field-0-is, ← c.as_slice.ensures.value) at c.in-Ok-Some.ensures.line in
     let told = c.in-Ok-Last.ensures.last c.in-Ok-Last.field-0-is in
-    talked-last g.I.Input.given g.O.Sink.taken g.O.Sink.failures c.args.strict c.args.look c.args.console.now c.loop-number.console c.reply.new.console c.loop-number.number c.args.input.now c.loop-number.input c.line.new.self c.args.out.now c.loop-number.out c.reply.new.out c.as_slice.result.now told.0 c.loop-number.invariant asked told.1 told.2
+    talked-last g.I.Input.given g.I.Input.ended g.O.Sink.taken g.O.Sink.failures c.args.strict c.args.look c.args.console.now c.loop-number.console c.reply.new.console c.loop-number.number c.args.input.now c.loop-number.input c.line.new.self c.args.out.now c.loop-number.out c.reply.new.out c.as_slice.result.now told.0 c.loop-number.invariant asked told.1 told.2
 
 pub returns-in-Ok-Stop-clause-whole : goal.returns-in-Ok-Stop-clause-whole
 returns-in-Ok-Stop-clause-whole g c =
     let asked = rw (c.in-Ok-Some.field-0-is, ← c.as_slice.ensures.value) at c.in-Ok-Some.ensures.line in
     let told = c.in-Ok-Stop.ensures.stop c.in-Ok-Stop.field-0-is in
-    halted g.I.Input.given g.O.Sink.taken g.O.Sink.failures c.args.strict c.args.look c.args.console.now c.loop-number.console c.reply.new.console c.loop-number.number c.args.input.now c.loop-number.input c.line.new.self c.args.out.now c.loop-number.out c.reply.new.out c.as_slice.result.now told.0 c.loop-number.invariant asked told.1 told.2
+    halted g.I.Input.given g.I.Input.ended g.O.Sink.taken g.O.Sink.failures c.args.strict c.args.look c.args.console.now c.loop-number.console c.reply.new.console c.loop-number.number c.args.input.now c.loop-number.input c.line.new.self c.args.out.now c.loop-number.out c.reply.new.out c.as_slice.result.now told.0 c.loop-number.invariant asked told.1 told.2
 
 pub returns-in-Err-reply-clause-fault : goal.returns-in-Err-reply-clause-fault
 returns-in-Err-reply-clause-fault g c =
     let asked = rw (c.in-Ok-Some.field-0-is, ← c.as_slice.ensures.value) at c.in-Ok-Some.ensures.line in
     let told = c.in-Err-reply.ensures.err in
-    talked-in-part g.I.Input.given g.O.Sink.taken g.O.Sink.failures c.args.strict c.args.look c.args.console.now c.loop-number.console c.reply.new.console c.loop-number.number c.args.input.now c.loop-number.input c.line.new.self c.args.out.now c.loop-number.out c.reply.new.out c.as_slice.result.now told.0 c.loop-number.invariant asked told.1 told.2
+    talked-in-part g.I.Input.given g.I.Input.ended g.O.Sink.taken g.O.Sink.failures c.args.strict c.args.look c.args.console.now c.loop-number.console c.reply.new.console c.loop-number.number c.args.input.now c.loop-number.input c.line.new.self c.args.out.now c.loop-number.out c.reply.new.out c.as_slice.result.now told.0 c.loop-number.invariant asked told.1 told.2

@@ -8,8 +8,7 @@ returns-in-Ok-clause-ok g c = IfOk-weaker c.line_by.result _ _ (λ l h. record {
   takes = c.in-Ok.ensures.ok.0;
   gives = c.in-Ok.ensures.ok.1;
   asks = h.0;
-  files = h.1;
-  errors = h.2;
+  lists = h.1;
 }) c.line_by.ensures.ok
 
 pub returns-in-Ok-clause-err : goal.returns-in-Ok-clause-err

@@ -1,4 +1,4 @@
-use Rattle.std.proofs.Common.{◌≡◌, ◌∙◌, sym, ap, Some}
+use Rattle.std.proofs.Common.{◌∙◌, sym, ap, Some}
 use Rattle.asl_mock.specs.private.EqualLaws.{answer_decides}
 use Rattle.asl_explore.proofs.answers.are_equal.Goals as goal
 

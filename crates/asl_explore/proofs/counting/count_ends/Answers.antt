@@ -6,9 +6,10 @@ use Rattle.asl_exec.specs.Probes.{setup_of}
 use Rattle.asl_run_state.specs.World.{World}
 use Rattle.asl_run_branches.specs.declared.earliest.Earliest.{Earliest}
 use Rattle.asl_explore.specs.Searches.{is_beyond, outcomes_of}
-use Rattle.asl_explore.specs.Calls.{AreMetSoFar, ComesInOrders, IsEndCounted}
+use Rattle.asl_explore.specs.Calls.{AreMetSoFar, ComesInOrders, IsCounted, IsEndCounted}
 use Rattle.asl_explore.proofs.Bounding.{end-comes}
-use Rattle.asl_explore.proofs.Tallies.{kept-then, turns-more, ends-counted}
+use Rattle.asl_explore.proofs.Ends.{ends-in}
+use Rattle.asl_explore.proofs.Tallies.{kept-then, turns-more}
 use Rattle.asl_explore.proofs.counting.count_ends.Goals as goal
 use Rattle.asl_explore.proofs.counting.count_ends.Goals.{then-whole, else-whole}
 
@@ -45,7 +46,7 @@ loop-turn-preserved c =
 pub returns-clause-counted : goal.returns-clause-counted
 returns-clause-counted c t =
     let turns = c.deref-turn-items.result.now in
-    ends-counted c.args.orders (setup_of c.args.probe.now) c.args.states (outcomes_of c.args.found.now) c.loop-turn.calls.items c.args.world.now c.in_ok-bound.bound turns c.loop-turn.turn-index
+    ends-in (IsCounted c.args.states (outcomes_of c.args.found.now) c.loop-turn.calls.items) c.args.orders (setup_of c.args.probe.now) c.args.world.now c.in_ok-bound.bound turns c.loop-turn.turn-index
     (rw c.in-Some.is at c.in_ok-turns.ensures.runs) (rw c.in-Some.is at c.in_ok-turns.ensures.root) (c.deref-turn-items.ensures.value ∙ (rw c.in-Some.is at c.in_ok-turns.ensures.turns)) (omega (arith, c.loop-turn-test.false)) c.in_ok-bound.ensures.bound (c.loop-turn.invariant.counted t)
 
 pub returns-clause-met : goal.returns-clause-met

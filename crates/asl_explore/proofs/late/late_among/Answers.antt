@@ -1,10 +1,7 @@
-use Rattle.std.proofs.Common.{List, true, sym, subst}
-use Rattle.std.specs.List.{All}
+use Rattle.std.proofs.Common.{true, subst}
 use Rattle.asl_exec.specs.Probes.{setup_of}
 use Rattle.asl_run_input.specs.declared.setup.Setup.{Setup}
-use Rattle.asl_explore.specs.declared.found.Found.{Found}
 use Rattle.asl_explore.specs.declared.orders.Orders.TheVariants.{Prompt}
-use Rattle.asl_explore.specs.Searches.{Shows, outcomes_of}
 use Rattle.asl_explore.specs.private.Searching.{IsSearch}
 use Rattle.asl_explore.proofs.Lateness.{all-late, all-listed, none-late}
 use Rattle.asl_explore.proofs.late.late_among.Goals as goal

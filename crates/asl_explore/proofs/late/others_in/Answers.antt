@@ -1,4 +1,4 @@
-use Rattle.std.proofs.Common.{refl, sym, subst, arith}
+use Rattle.std.proofs.Common.{sym, subst, arith}
 use Rattle.asl_explore.specs.declared.found.Found.{Found}
 use Rattle.std.specs.List.{Contains}
 use Rattle.asl_explore.specs.Searches.{IsMissing, outcomes_of}

@@ -1,4 +1,4 @@
-use Rattle.std.proofs.Common.{◌≡◌, ◌∙◌, sym, arith}
+use Rattle.std.proofs.Common.{◌≡◌, arith}
 use Rattle.std.specs.Prelude.{slice_index}
 use Rattle.asl_explore.proofs.Comparing.{counted-more}
 use Rattle.asl_explore.proofs.met.are_counted_alike.Goals as goal

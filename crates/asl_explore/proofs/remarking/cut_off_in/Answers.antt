@@ -1,6 +1,5 @@
-use Rattle.std.proofs.Common.{◌≡◌, arith}
+use Rattle.std.proofs.Common.{arith}
 use Rattle.asl_explore.specs.Remarks.{IsCutOff, IsNamed}
-use Rattle.asl_explore.specs.States.{IsStated}
 use Rattle.asl_explore.proofs.Listing.{told-all}
 use Rattle.asl_explore.proofs.Told.{cut-off-not, cut-off-so, named-more, sight-seen, stated-at}
 use Rattle.asl_explore.proofs.remarking.cut_off_in.Goals as goal

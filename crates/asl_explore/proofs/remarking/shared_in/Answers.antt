@@ -1,8 +1,7 @@
-use Rattle.std.proofs.Common.{◌≡◌, subst, sym, IfSome}
+use Rattle.std.proofs.Common.{subst, IfSome}
 use Rattle.asl_mock.specs.Answers.{Case}
 use Rattle.asl_explore.specs.private.Remarking.{IsUnlike}
 use Rattle.asl_explore.specs.Remarks.{AreOneBelow, IsShared}
-use Rattle.asl_explore.specs.States.{IsStated}
 use Rattle.asl_explore.proofs.Told.{named-more, shared-not, shared-so, sight-seen, stated-at}
 use Rattle.asl_explore.proofs.remarking.shared_in.Goals as goal
 

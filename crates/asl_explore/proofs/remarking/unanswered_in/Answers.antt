@@ -1,8 +1,7 @@
-use Rattle.std.proofs.Common.{◌≡◌, subst}
+use Rattle.std.proofs.Common.{subst}
 use Rattle.asl_mock.specs.Answers.{Case}
 use Rattle.asl_explore.specs.private.Remarking.{ArePut}
 use Rattle.asl_explore.specs.Remarks.{AreUnanswered}
-use Rattle.asl_explore.specs.States.{IsStated}
 use Rattle.asl_explore.proofs.Told.{sight-seen, stated-at, told-then, unanswered-is}
 use Rattle.asl_explore.proofs.remarking.unanswered_in.Goals as goal
 

@@ -1,6 +1,4 @@
-use Rattle.std.proofs.Common.{◌≡◌}
 use Rattle.asl_explore.specs.Remarks.{IsUnentered}
-use Rattle.asl_explore.specs.States.{IsStated}
 use Rattle.asl_explore.proofs.Told.{named-more, sight-seen, stated-at, unentered-not, unentered-so}
 use Rattle.asl_explore.proofs.remarking.unentered_in.Goals as goal
 

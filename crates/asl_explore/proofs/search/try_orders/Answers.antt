@@ -1,4 +1,4 @@
-use Rattle.std.proofs.Common.{inr, ◌≡◌, subst, sym, true, false, List}
+use Rattle.std.proofs.Common.{inr, ◌≡◌, subst, sym, true, List}
 use Rattle.std.specs.Prelude.{IfOk, IfSome}
 use Rattle.asl_run_input.specs.declared.setup.Setup.{Setup}
 use Rattle.asl_exec.specs.Probes.{setup_of}

@@ -3,7 +3,6 @@ use Rattle.asl_def.specs.Machines.{states_of}
 use Rattle.asl_run_input.specs.declared.setup.Setup.{Setup}
 use Rattle.asl_exec.specs.Probes.{setup_of, world_of}
 use Rattle.asl_exec.specs.Steps.{invokes_by, number_in, object_in}
-use Rattle.asl_explore.specs.Remarks.{goes_next}
 use Rattle.asl_explore.proofs.Sighting.{look-is}
 use Rattle.asl_explore.proofs.seeing.look_at.Goals as goal
 

@@ -1,4 +1,4 @@
-use Rattle.std.proofs.Common.{◌≤◌, ap, arith, get_or}
+use Rattle.std.proofs.Common.{ap, arith}
 use Rattle.std.proofs.lemmas.List.{get_or_read}
 use Rattle.asl_run_state.specs.Bare.{bare}
 use Rattle.asl_exec.specs.Probes.{setup_of}

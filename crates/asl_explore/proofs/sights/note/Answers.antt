@@ -1,4 +1,4 @@
-use Rattle.std.proofs.Common.{ℕ, ◌<◌, ◌∙◌, Some, arith, length, sym, ap}
+use Rattle.std.proofs.Common.{ℕ, ◌<◌, ◌∙◌, Some, arith, length, ap}
 use Rattle.std.proofs.lemmas.List.{length-set}
 use Rattle.asl_run_state.specs.World.{count_of}
 use Rattle.asl_explore.specs.declared.sights.Sight.{Sight}

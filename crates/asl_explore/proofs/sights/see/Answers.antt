@@ -1,4 +1,3 @@
-use Rattle.std.proofs.Common.{◌∙◌}
 use Rattle.asl_run_state.specs.Bare.{bare}
 use Rattle.asl_exec.specs.Probes.{setup_of, world_of}
 use Rattle.asl_explore.proofs.Noted.{seen-by-parts}

@@ -1,10 +1,9 @@
-use Rattle.std.proofs.Common.{List, subst, sym, refl}
-use Rattle.std.specs.List.{All}
+use Rattle.std.proofs.Common.{List, subst, sym}
 use Rattle.asl_run_state.specs.declared.outcome.Outcome.TheVariants.{TimedOut}
 use Rattle.asl_explore.specs.declared.found.Found.{Found}
 use Rattle.asl_explore.specs.Searches.{outcomes_of, IsLater}
 use Rattle.asl_explore.proofs.Growing.{later-same}
-use Rattle.asl_explore.proofs.Finding.{Other, later-found, once-more}
+use Rattle.asl_explore.proofs.Finding.{later-found, once-more}
 use Rattle.asl_explore.proofs.time_over.put_time_over.Goals as goal
 
 pub returns-in_default-clause-later : goal.returns-in_default-clause-later

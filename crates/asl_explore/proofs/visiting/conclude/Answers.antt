@@ -1,9 +1,5 @@
-use Rattle.std.proofs.Common.{List, refl, subst}
-use Rattle.std.specs.List.{All}
-use Rattle.asl_explore.specs.declared.found.Found.{Found}
 use Rattle.asl_explore.specs.Searches.{outcomes_of}
 use Rattle.asl_explore.proofs.Growing.{later-same}
-use Rattle.asl_explore.proofs.Finding.{Other}
 use Rattle.asl_explore.proofs.visiting.conclude.Goals as goal
 
 pub returns-then-branch-clause-later : goal.returns-then-branch-clause-later

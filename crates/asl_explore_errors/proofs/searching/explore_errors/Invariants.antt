@@ -6,4 +6,4 @@ use Rattle.asl_explore_errors.proofs.searching.explore_errors.Given as goal
 
 -- the plans of so many errors come next
 abbrev pub invariant-loop : goal.invariant-loop
-invariant-loop g l = IsLevel l.errors (all_told l.search.tasks.now) l.search.orders l.search.limit l.search.setup.now l.counter (plans_in l.level.longer.items) [] l.level.all
+invariant-loop g l = IsLevel g.J.Judge.accepts l.search.judges.now l.errors (all_told l.search.tasks.now) l.search.orders l.search.limit l.search.setup.now l.counter (plans_in l.level.longer.items) [] l.level.all

@@ -11,5 +11,5 @@ pub returns : goal.returns
 returns g c number le h =
     let s = c.args.search.now in
     let none = ap plans_in (drop_all c.loop-plan.plan-index c.args.plans.now c.loop-plan-test.false) in
-    level_next c.args.most (all_told s.tasks.now) s.orders s.limit s.setup.now number (plans_in c.loop-plan.level.longer.items) c.loop-plan.level.all
-    (subst (λ (ps : List (List Point)). IsLevel c.args.most (all_told s.tasks.now) s.orders s.limit s.setup.now number ps (plans_in c.loop-plan.level.longer.items) c.loop-plan.level.all) none (c.loop-plan.invariant number le h))
+    level_next g.J.Judge.accepts s.judges.now c.args.most (all_told s.tasks.now) s.orders s.limit s.setup.now number (plans_in c.loop-plan.level.longer.items) c.loop-plan.level.all
+    (subst (λ (ps : List (List Point)). IsLevel g.J.Judge.accepts s.judges.now c.args.most (all_told s.tasks.now) s.orders s.limit s.setup.now number ps (plans_in c.loop-plan.level.longer.items) c.loop-plan.level.all) none (c.loop-plan.invariant number le h))

@@ -8,15 +8,16 @@ use Rattle.asl_explore_errors.proofs.trying.try_plan.Goals as goal
 pub returns-clause-found : goal.returns-clause-found
 returns-clause-found g c =
     let s = c.args.search.now in
-    let all : c.replace-found.result.items ≡ c.in_ok-explored.explored.found.items = ap (λ v. v.items) c.replace-found.ensures.value in
+    let all : c.replace-list.result.items ≡ c.in_ok-judged.judged.explored.found.items = ap (λ v. v.items) c.replace-list.ensures.value in
     record {
       under = c.in_ok-setup.setup;
       is_under = subst (λ (p : List InjectedError). IsUnder s.setup.now p c.in_ok-setup.setup) c.deref.ensures.value c.in_ok-setup.ensures;
       calls = ap (λ v. v.items) c.replace-calls.ensures.value;
-      explored = c.in_ok-explored.explored;
-      found = c.in_ok-explored.ensures;
+      explored = c.in_ok-judged.judged.explored;
+      found = c.in_ok-judged.ensures.found;
       all = all;
       outcomes = c.in_ok-outcomes.ensures ∙ ap (map text_of) (c.deref-2.ensures.value ∙ sym all);
       complete = refl;
       endless = c.is_some.ensures;
+      judged = c.in_ok-judged.ensures.judged;
     }

@@ -1,0 +1,11 @@
+pub mod Members
+pub mod Documents
+pub mod Methods
+pub mod Params
+pub mod Capabilities
+pub mod Diagnostics
+pub mod Refusals
+pub mod Replies
+pub mod Sessions
+pub mod Server
+pub mod Runs

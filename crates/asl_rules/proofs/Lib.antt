@@ -1,0 +1,4 @@
+pub mod Below
+pub mod Stretches
+pub mod Hearing
+pub mod Spelled
