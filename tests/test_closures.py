@@ -1,4 +1,4 @@
-"""What a contract leads to by name, as docs/LANGUAGE.md and the table of README.md count it: on a small tree, and on contracts of this one that were
+"""What a contract leads to by name, as docs/LANGUAGE.md and the table of docs/PROMISES.md count it: on a small tree, and on contracts of this one that were
 followed by hand."""
 import os
 import sys

@@ -65,6 +65,54 @@ def write(value):
     return re.sub(rf'"{MARK}([^{MARK}]*){MARK}"', r"\1", json.dumps(value, ensure_ascii=False))
 
 
+# ---- the text of what is told as lines of JSON
+
+
+def outcome_of(end):
+    """An outcome as the text has it."""
+    if end["status"] == "SUCCEEDED":
+        assert list(end) == ["status", "output"], end
+        return "SUCCEEDED " + write_compact(end["output"])
+    names = {"error": "Error", "cause": "Cause"}
+    assert end["status"] in ("FAILED", "TIMED_OUT") and [it for it in end if it not in names] == ["status"], end
+    return f"{end['status']} {write_compact({names[it]: end[it] for it in end if it in names})}"
+
+
+def write_compact(value):
+    return re.sub(rf'"{MARK}([^{MARK}]*){MARK}"', r"\1", json.dumps(value, ensure_ascii=False, separators=(",", ":")))
+
+
+def line_of(errors_):
+    """The line of a plan."""
+    words = [f"{write(it['state'])} {it['invocation']} {write(it['error'])} {'always' if it['always'] else 'once'}" for it in errors_]
+    return " ".join(["plan", *(words or ["no errors"])]) + "\n"
+
+
+def text_of(lines):
+    """The text of a search by its lines of JSON: those of rules, then those of plans."""
+    rows = [read(line) for line in lines.splitlines()]
+    rules, plans = [it for it in rows if "rule" in it], [it for it in rows if "plan" in it]
+    assert rows == [*rules, *plans]
+    text = ""
+    for rule in rules:
+        broken = [it["plan"] for it in plans if rule["rule"] in it["broken"]]
+        text += f"rule {rule['rule']} {rule['verdict']} {rule['text']}\n"
+        if broken:
+            text += f"plans {len(broken)}\n" + "".join(map(line_of, broken)) + "steps\n" + rule["steps"]
+        text += "\n"
+    text += f"plans {len(plans)}\n"
+    found = {}
+    for one in plans:
+        for end in one["outcomes"]:
+            found.setdefault(outcome_of(end), []).append(one["plan"])
+    for number, (outcome, its) in enumerate(found.items(), 1):
+        text += f"\noutcome {number} {outcome}\nplans {len(its)}{'' if [] in its else ' new'}\n" + "".join(map(line_of, its))
+    for title, its in [("endless", [it["plan"] for it in plans if it["endless"]]), ("search cut", [it["plan"] for it in plans if not it["complete"]])]:
+        if its:
+            text += f"\n{title}\n" + "".join(map(line_of, its))
+    return text
+
+
 # ---- a mock file with errors, by definition
 
 
@@ -217,6 +265,24 @@ class Errors(ProgramTest):
             beyond = run_program("explore", *words, "--errors", "1", "--witness", str(len(found) + 1), seconds=300)
             self.assertEqual((beyond.returncode, beyond.stdout), (2, ""))
 
+    # ---- lines of JSON
+
+    def test_lines_of_json_tell_what_the_text_tells(self):
+        for folder, chosen, given, _ in example_cases():
+            words = ["explore", f"{folder}/definition.json", f"{folder}/mocks.json", chosen, given, "--errors", "1", "--always", "not status(TIMED_OUT)", "--always", "status(SUCCEEDED)"]
+            text, lines = run_program(*words, seconds=300), run_program(*words, "--format", "json", seconds=300)
+            self.assertEqual((text_of(lines.stdout), lines.returncode, lines.stderr), (text.stdout, text.returncode, text.stderr), chosen)
+
+    def test_they_tell_of_endless_orders_and_of_searches_that_are_cut(self):
+        task = {"Type": "Task", "Resource": FUNCTION, "Catch": [{"ErrorEquals": ["States.ALL"], "Next": "R"}], "End": True}
+        rounds = {"StartAt": "T", "States": {"T": task, "R": {"Type": "Pass", "Next": "R"}}}
+        late = {"StartAt": "W", "TimeoutSeconds": 5, "States": {"W": {"Type": "Wait", "Seconds": 9, "End": True}}}
+        bare = {"StartAt": "F", "States": {"F": {"Type": "Fail"}}}
+        for definition, more in [(rounds, []), (rounds, ["--limit", "1"]), (late, []), (bare, []), (parallel([ONE_TASK, ONE_TASK.replace('"T"', '"U"')]), ["--limit", "1"])]:
+            words = ["explore", "@definition", "--errors", "1", *more]
+            text, lines = (self.in_room({"definition": definition}, *words, *it) for it in ([], ["--format", "json"]))
+            self.assertEqual((text_of(lines.stdout), lines.returncode), (text.stdout, text.returncode), definition)
+
     # ---- two errors
 
     def test_no_plan_of_two_errors_is_missing(self):
@@ -342,6 +408,7 @@ class Errors(ProgramTest):
             (["--errors", "1", "--case", "M#c"], "<MOCKS>"),
             (["--error", "Busy"], "the argument '--error <NAME>' is for --errors"),
             (["--errors", "1", "--error"], "--error <NAME>"),
+            (["--errors", "1", "--witness", "1", "--format", "json"], "'--format json' cannot be used with '--witness <I>'"),
         ]:
             ran = self.in_room(texts, "explore", "@definition", *words)
             self.assertEqual((ran.returncode, ran.stdout), (2, ""), words)
@@ -349,6 +416,9 @@ class Errors(ProgramTest):
         ran = self.in_room({**texts, "mocks": "{}", "input": "{}"}, "explore", "@definition", "@mocks", "M", "@input", "--witness", "1", "--format", "mocks")
         self.assertEqual((ran.returncode, ran.stdout), (2, ""))
         self.assertIn("the value 'mocks' of '--format' is for --errors", ran.stderr)
+        ran = self.in_room({**texts, "mocks": "{}", "input": "{}"}, "explore", "@definition", "@mocks", "M", "@input", "--format", "json")
+        self.assertEqual((ran.returncode, ran.stdout), (2, ""))
+        self.assertIn("the value 'json' of '--format' is for --errors", ran.stderr)
 
     def test_a_definition_alone_is_needed(self):
         ran = run_program("explore", "--errors", "1")

@@ -392,7 +392,7 @@ const EXPLORE: &[Argument] = &[
     },
     Argument {
         name: "format",
-        kind: Choice(&["steps", "tree", "data", "test", "mocks"]),
+        kind: Choice(&["steps", "tree", "data", "test", "mocks", "json"]),
         presence: Optional,
         help: Help::ExploreFormat,
     },

@@ -130,7 +130,7 @@ impl Help {
             Help::ExploreWitness =>
                 "Prints the steps of the outcome of this number alone, as a steps file",
             Help::ExploreFormat =>
-                "How the steps of --witness are printed: as a steps file, which is the default, by what happened at each state, or as a file of one test; with --errors also the mock file of its plan",
+                "How the steps of --witness are printed: as a steps file, which is the default, by what happened at each state, or as a file of one test; with --errors also the mock file of its plan, and json where there is no --witness: what comes of each plan, as a line of JSON",
             Help::ExploreErrors =>
                 "Tries every order where invocations of Tasks fail, too: under each plan of at most so many errors, from 0 to 2; Tasks that the case doesn't name are answered by the other cases of the machine, else as by asl mocks, so no mock file need be named",
             Help::ExploreError =>

@@ -9,6 +9,7 @@ use Rattle.asl_explore.specs.declared.found.Found.{Found}
 use Rattle.asl_error_plans.specs.Telling.{plans_text, are_good}
 use Rattle.asl_error_plans.specs.declared.outcomes.PlanOutcomes.{PlanOutcomes}
 use Rattle.asl_explore_errors.specs.Filling.{IsFilled}
+use Rattle.asl_explore_errors.specs.JsonLines.{json_lines}
 use Rattle.asl_explore_errors.specs.Rules.{are_kept, rules_from}
 use Rattle.asl_explore_errors.specs.Searches.{AreAllFound, names_in, tasks_failing, witness_of}
 use Rattle.asl_explore_errors.specs.Under.{case_file, IsUnder}
@@ -19,6 +20,10 @@ use Rattle.asl_words.specs.declared.words.ErrorsBegin.{ErrorsBegin}
 use Rattle.asl_words.specs.declared.words.ErrorsBegin.TheVariants.{Case, Sample}
 use Rattle.asl_words.specs.declared.words.ErrorsFormat.{ErrorsFormat}
 use Rattle.asl_words.specs.declared.words.ErrorsFormat.TheVariants.{Mocks, Steps}
+use Rattle.asl_words.specs.declared.words.ErrorsShown.{ErrorsShown}
+use Rattle.asl_words.specs.declared.words.ErrorsShown.TheVariants.{Plans, Outcome}
+use Rattle.asl_words.specs.declared.words.PlansFormat.{PlansFormat}
+use Rattle.asl_words.specs.declared.words.PlansFormat.TheVariants.{Text, Json}
 use Rattle.asl_words.specs.declared.words.ErrorsWords.{ErrorsWords}
 use Rattle.asl_words.specs.declared.words.SampleWords.{SampleWords}
 use Rattle.asl_host.specs.Outcomes.{status_of, IsUntouched, IsTold}
@@ -88,24 +93,27 @@ IsPlanIn (Steps format) coloured chosen under f t =
     IsShownIn (has_colours format coloured) (witness_text format chosen under f) t
 
 -- this is shown of an outcome and the plan that gives it, where there is one
-abbrev pub IsPlanShown : ErrorsWords → List ℕ → Setup → Option (PlanOutcomes × Found) → Option (List ℕ) → Type 0
-IsPlanShown w chosen s None None = ⊤
-IsPlanShown w chosen s (Some v) (Some t) =
-    (under : Setup) × IsUnder s v.0.plan.items under × IsPlanIn w.format w.coloured chosen under v.1 t
-IsPlanShown w chosen s v t = ⊥
+abbrev pub IsPlanShown : ErrorsFormat → Bool → List ℕ → Setup → Option (PlanOutcomes × Found) → Option (List ℕ) → Type 0
+IsPlanShown format coloured chosen s None None = ⊤
+IsPlanShown format coloured chosen s (Some v) (Some t) =
+    (under : Setup) × IsUnder s v.0.plan.items under × IsPlanIn format coloured chosen under v.1 t
+IsPlanShown format coloured chosen s v t = ⊥
 
 -- what was found of these rules, and what comes of each plan
-abbrev pub errors_report : List (List ℕ) → ErrorsFound → List ℕ
-errors_report rules x = rules_from x 0 rules ++ plans_text x.plans.items
+abbrev pub errors_report : PlansFormat → List (List ℕ) → ErrorsFound → List ℕ
+errors_report Text rules x = rules_from x 0 rules ++ plans_text x.plans.items
+errors_report Json rules x = json_lines rules x
 
 -- and no order ends against one of them
 abbrev pub all_is_good : List (List ℕ) → ErrorsFound → Bool
 all_is_good rules x = are_good x.plans.items && are_kept (length rules) x
 
 -- this is shown of what was found, and whether all is good
-abbrev pub IsShownOf : ErrorsWords → List ℕ → Setup → ErrorsFound → List (List ℕ) → Option ℕ → Option (List ℕ) → Bool → Type 0
-IsShownOf w chosen s x rules None t good = (t ≡ Some (errors_report rules x)) × (good ≡ all_is_good rules x)
-IsShownOf w chosen s x rules (Some n) t good = IsPlanShown w chosen s (witness_of n x) t × (good ≡ true)
+abbrev pub IsShownOf : ErrorsShown → Bool → List ℕ → Setup → ErrorsFound → List (List ℕ) → Option (List ℕ) → Bool → Type 0
+IsShownOf (Plans format) coloured chosen s x rules t good =
+    (t ≡ Some (errors_report format rules x)) × (good ≡ all_is_good rules x)
+IsShownOf (Outcome n format) coloured chosen s x rules t good =
+    IsPlanShown format coloured chosen s (witness_of n x) t × (good ≡ true)
 
 -- what a search may find of an execution of which this is the mock file, with an answer to each Task, where these errors are put in, if
 -- any are named, and the ends of its orders are judged by the rules that are, is shown so
@@ -118,7 +126,7 @@ pub record IsTried (w : ErrorsWords) (l : Lists) (mocks chosen : List ℕ) (own 
   pub found : ErrorsFound
   pub are_found : AreAllFound accepts rules w.errors (tasks_failing (names_in l.errors.items) setup.machine)
       (orders_for w.prompt) w.limit setup found
-  pub shown : IsShownOf w chosen setup found (rule_texts (names_in l.always.items) (names_in l.undo.items)) w.witness t
+  pub shown : IsShownOf w.shown w.coloured chosen setup found (rule_texts (names_in l.always.items) (names_in l.undo.items)) t
       good
 
 -- the same of the execution that the files may give

@@ -27,14 +27,14 @@ use asl_def::Machine;
 use asl_error_plans::{PlanOutcomes, are_good, put_plans};
 use asl_explore::{Found, Watch};
 use asl_explore_errors::{
-    ErrorsFound, are_kept, explore_with_errors, filled_setup, put_case, put_rules, setup_under,
-    witness_of,
+    ErrorsFound, are_kept, explore_with_errors, filled_setup, put_case, put_json_lines,
+    put_rules, setup_under, witness_of,
 };
 use asl_history::Sink;
 use asl_host::Files;
 use asl_mock_sample::sample;
 use asl_run_input::Setup;
-use asl_words::{ErrorsBegin, ErrorsFormat, ErrorsWords, SampleWords};
+use asl_words::{ErrorsBegin, ErrorsFormat, ErrorsShown, ErrorsWords, PlansFormat, SampleWords};
 use std::alloc::{AllocError, Global};
 
 /// The machine's name in a mock file to begin with.
@@ -65,6 +65,16 @@ pub fn inject<W: Watch, F: Files, O: Sink, E: Sink>(
             REFUSED
         }
     }
+}
+
+/// How an outcome is shown.
+#[derive(Clone, Copy)]
+struct Shown<'a> {
+    format: ErrorsFormat,
+    /// Whether what happened at each state is told in colours.
+    coloured: bool,
+    /// What was chosen of the mock file.
+    chosen: &'a str,
 }
 
 /// What is shown, and whether all is good.
@@ -293,28 +303,57 @@ fn shown_of_all(
     rules: &[String],
     found: &ErrorsFound,
 ) -> Result<Tried, AllocError>
-    ensures { IfOk result (λ r. IsShownOf words.now chosen.now setup.now found.now (map string_bytes rules.now)
-        words.now.witness (option_map string_bytes r.text) r.good) }
+    ensures { IfOk result (λ r. IsShownOf words.now.shown words.now.coloured chosen.now setup.now found.now
+        (map string_bytes rules.now) (option_map string_bytes r.text) r.good) }
 {
-    match words.witness {
-        None => report_of(alloc, rules, found),
-        Some(number) => Ok(Tried {
-            text: witness_in(alloc, words, chosen, setup, found, number)?,
-            good: true,
-        }),
+    match words.shown {
+        ErrorsShown::Plans(format) => report_of(alloc, format, rules, found),
+        ErrorsShown::Outcome(number, format) => {
+            let how = Shown {
+                format,
+                coloured: words.coloured,
+                chosen,
+            };
+            Ok(Tried {
+                text: witness_in(alloc, how, setup, found, number)?,
+                good: true,
+            })
+        }
     }
 }
 
-/// What was found of the rules, and the outcomes with the plans that give them; and whether nothing was left out, the execution goes well where nothing is put in, and no
-/// order ends against a rule. The error is that memory ran out.
-fn report_of(alloc: Global, rules: &[String], found: &ErrorsFound) -> Result<Tried, AllocError>
-    ensures text { IfOk result (λ r. option_map string_bytes r.text
-        ≡ Some (errors_report (map string_bytes rules.now) found.now)) }
-    ensures good { IfOk result (λ r. r.good ≡ all_is_good (map string_bytes rules.now) found.now) }
+/// What was found of the rules, and the outcomes with the plans that give them; or what comes of each plan. The error is that memory ran out.
+fn report_text(
+    alloc: Global,
+    format: PlansFormat,
+    rules: &[String],
+    found: &ErrorsFound,
+) -> Result<String, AllocError>
+    ensures { IfOk result (λ t. string_bytes t ≡ errors_report format (map string_bytes rules.now) found.now) }
 {
     let mut text = String::new(alloc);
-    put_rules(&mut text, rules, found)?;
-    put_plans(alloc, &mut text, &found.plans)?;
+    match format {
+        PlansFormat::Text => {
+            put_rules(&mut text, rules, found)?;
+            put_plans(alloc, &mut text, &found.plans)?;
+        }
+        PlansFormat::Json => put_json_lines(alloc, &mut text, rules, found)?,
+    }
+    Ok(text)
+}
+
+/// The same; and whether nothing was left out, the execution goes well where nothing is put in, and no order ends against a rule. The error is that memory ran out.
+fn report_of(
+    alloc: Global,
+    format: PlansFormat,
+    rules: &[String],
+    found: &ErrorsFound,
+) -> Result<Tried, AllocError>
+    ensures text { IfOk result (λ r. option_map string_bytes r.text
+        ≡ Some (errors_report format (map string_bytes rules.now) found.now)) }
+    ensures good { IfOk result (λ r. r.good ≡ all_is_good (map string_bytes rules.now) found.now) }
+{
+    let text = report_text(alloc, format, rules, found)?;
     Ok(Tried {
         text: Some(text),
         good: are_good(&found.plans) && are_kept(rules.len(), found),
@@ -324,17 +363,16 @@ fn report_of(alloc: Global, rules: &[String], found: &ErrorsFound) -> Result<Tri
 /// What is shown of the outcome of a number and a plan that gives it; none where there is none. The error is that memory ran out.
 fn witness_in(
     alloc: Global,
-    words: &ErrorsWords<'_>,
-    chosen: &str,
+    how: Shown<'_>,
     setup: &Setup,
     found: &ErrorsFound,
     number: u32,
 ) -> Result<Option<String>, AllocError>
-    ensures { IfOk result (λ o. IsPlanShown words.now chosen.now setup.now (witness_of number found.now)
+    ensures { IfOk result (λ o. IsPlanShown how.format how.coloured how.chosen.now setup.now (witness_of number found.now)
         (option_map string_bytes o)) }
 {
     match witness_of(alloc, found, number)? {
-        Some((plan, found)) => Ok(Some(plan_text(alloc, words, chosen, setup, plan, found)?)),
+        Some((plan, found)) => Ok(Some(plan_text(alloc, how, setup, plan, found)?)),
         None => Ok(None),
     }
 }
@@ -342,33 +380,31 @@ fn witness_in(
 /// What is shown of an outcome and the plan that gives it. The error is that memory ran out.
 fn plan_text(
     alloc: Global,
-    words: &ErrorsWords<'_>,
-    chosen: &str,
+    how: Shown<'_>,
     setup: &Setup,
     plan: &PlanOutcomes,
     found: &Found,
 ) -> Result<String, AllocError>
     ensures { IfOk result (λ t. (u : Setup) × IsUnder setup.now plan.now.plan.items u
-        × IsPlanIn words.now.format words.now.coloured chosen.now u found.now (string_bytes t)) }
+        × IsPlanIn how.format how.coloured how.chosen.now u found.now (string_bytes t)) }
 {
     let under = setup_under(alloc, setup, &plan.plan)?;
-    text_under(alloc, words, chosen, under, found)
+    text_under(alloc, how, under, found)
 }
 
 /// The mock file of an execution under a plan, or the steps of an outcome. The error is that memory ran out.
 fn text_under(
     alloc: Global,
-    words: &ErrorsWords<'_>,
-    chosen: &str,
+    how: Shown<'_>,
     under: Setup,
     found: &Found,
 ) -> Result<String, AllocError>
-    ensures { IfOk result (λ t. IsPlanIn words.now.format words.now.coloured chosen.now under found.now (string_bytes t)) }
+    ensures { IfOk result (λ t. IsPlanIn how.format how.coloured how.chosen.now under found.now (string_bytes t)) }
 {
-    match words.format {
+    match how.format {
         ErrorsFormat::Mocks => mock_file_of(alloc, &under),
         ErrorsFormat::Steps(format) => {
-            shown_of(alloc, format, words.coloured, chosen, under, found)
+            shown_of(alloc, format, how.coloured, how.chosen, under, found)
         }
     }
 }

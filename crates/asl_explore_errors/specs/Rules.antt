@@ -44,13 +44,13 @@ verdict_of n x =
 -- ---- as it is told
 
 abbrev pub verdict_word : Verdict → List ℕ
-verdict_word Broken = codes " broken "
-verdict_word Holds = codes " holds "
-verdict_word Unknown = codes " unknown "
+verdict_word Broken = codes "broken"
+verdict_word Holds = codes "holds"
+verdict_word Unknown = codes "unknown"
 
 -- the number, from 1, what is known, and the rule
 unfoldable pub rule_head : ℕ → Verdict → List ℕ → List ℕ
-rule_head n v rule = codes "rule " ++ (decimal (n + 1) ++ (verdict_word v ++ (rule ++ 10 ∷ [])))
+rule_head n v rule = codes "rule " ++ (decimal (n + 1) ++ (32 ∷ (verdict_word v ++ (32 ∷ (rule ++ 10 ∷ [])))))
 
 -- each of these plans, the first of which has this number, under which one was met
 abbrev pub broken_from : ℕ → List Witnesses → ℕ → List PlanOutcomes → List ℕ

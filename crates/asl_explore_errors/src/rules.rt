@@ -12,7 +12,7 @@ use std::alloc::AllocError;
 
 /// What is known of a rule.
 #[derive(Clone, Copy)]
-enum Verdict {
+pub(crate) enum Verdict {
     /// Under some plan an order ends against it.
     Broken,
     /// No order ends against it, and all were tried.
@@ -48,7 +48,7 @@ fn breaks_at(number: usize, found: &[Witnesses], plan: usize) -> bool
 }
 
 /// The first such end of all plans.
-fn first_refusal(number: usize, found: &[Witnesses]) -> Option<&Found>
+pub(crate) fn first_refusal(number: usize, found: &[Witnesses]) -> Option<&Found>
     ensures { option_copied result ≡ first_refusal number found.now }
 {
     for under in found {
@@ -73,7 +73,7 @@ fn count_of(number: usize, found: &[Witnesses]) -> usize
 }
 
 /// What is known of the rule of a number, from 0.
-fn verdict_of(number: usize, found: &ErrorsFound) -> Verdict
+pub(crate) fn verdict_of(number: usize, found: &ErrorsFound) -> Verdict
     ensures { result ≡ verdict_of number found.now }
 {
     if are_broken(number, &found.found) {
@@ -86,13 +86,13 @@ fn verdict_of(number: usize, found: &ErrorsFound) -> Verdict
 }
 
 impl Verdict {
-    fn word(self) -> &'static str
+    pub(crate) fn word(self) -> &'static str
         ensures { result.now ≡ verdict_word self }
     {
         match self {
-            Verdict::Broken => " broken ",
-            Verdict::Holds => " holds ",
-            Verdict::Unknown => " unknown ",
+            Verdict::Broken => "broken",
+            Verdict::Holds => "holds",
+            Verdict::Unknown => "unknown",
         }
     }
 }
@@ -105,7 +105,9 @@ fn put_head(out: &mut String, number: usize, verdict: Verdict, rule: &str) -> Re
 {
     out.push_str("rule ")?;
     put_decimal(out, number as u64 + 1)?;
+    out.push(' ')?;
     out.push_str(verdict.word())?;
+    out.push(' ')?;
     out.push_str(rule)?;
     out.push('\n')
 }

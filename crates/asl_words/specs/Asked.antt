@@ -25,7 +25,11 @@ use Rattle.asl_words.specs.declared.words.Begin.TheVariants as begin
 use Rattle.asl_words.specs.declared.words.ErrorsBegin.{ErrorsBegin}
 use Rattle.asl_words.specs.declared.words.ErrorsBegin.TheVariants as errors
 use Rattle.asl_words.specs.declared.words.ErrorsFormat.{ErrorsFormat}
-use Rattle.asl_words.specs.declared.words.ErrorsFormat.TheVariants as shown
+use Rattle.asl_words.specs.declared.words.ErrorsFormat.TheVariants as outcome
+use Rattle.asl_words.specs.declared.words.PlansFormat.{PlansFormat}
+use Rattle.asl_words.specs.declared.words.PlansFormat.TheVariants as plans
+use Rattle.asl_words.specs.declared.words.ErrorsShown.{ErrorsShown}
+use Rattle.asl_words.specs.declared.words.ErrorsShown.TheVariants as shown
 use Rattle.asl_words.specs.declared.words.ChosenWords.{ChosenWords}
 use Rattle.asl_words.specs.declared.words.TestedWords.{TestedWords}
 use Rattle.asl_words.specs.declared.words.OrderWords.{OrderWords}
@@ -451,24 +455,38 @@ abbrev pub is_mocks : Word → Bool
 is_mocks None = false
 is_mocks (Some w) = bytes_eq w.now (codes "mocks")
 
--- what is printed of one outcome there: the mock file of a plan, or its steps
+abbrev pub is_json : Word → Bool
+is_json None = false
+is_json (Some w) = bytes_eq w.now (codes "json")
+
+-- how what comes of all plans is printed there
+abbrev pub plans_format : Word → Option PlansFormat
+plans_format w =
+    if not (is_some w) then Some plans.Text
+    else if is_json w then Some plans.Json
+    else None
+
+-- how an outcome is: the mock file of a plan, or its steps
 abbrev pub errors_format : Word → Word → Option ErrorsFormat
-errors_format number w =
-    if is_some number && is_mocks w then Some shown.Mocks else option_map shown.Steps (witness_format number w)
+errors_format number w = if is_mocks w then Some outcome.Mocks else option_map outcome.Steps (witness_format number w)
+
+-- what is printed: the outcome that is named, or what comes of all plans
+abbrev pub errors_shown : Word → Word → Option ErrorsShown
+errors_shown number w =
+    if not (is_some number) then option_map shown.Plans (plans_format w)
+    else option_and_then (λ n. option_map (λ f. shown.Outcome n f) (errors_format number w)) (number_asked 1 1000000 number)
 
 -- there it isn't told how often Tasks are invoked
 abbrev pub errors_asked : Given → Screen → Option Words
 errors_asked g s = if g.calls then None else option_and_then (λ begin. option_and_then (λ most. option_and_then (λ limit.
-    option_and_then (λ number. option_map (λ format. words.Errors (record {
+    option_map (λ told. words.Errors (record {
       begin = begin;
       errors = most;
       limit = limit;
       prompt = g.prompt;
-      witness = number;
-      format = format;
+      shown = told;
       coloured = s.coloured;
-    })) (errors_format g.witness g.format)) (number_if_asked 1 1000000 g.witness))
-    (number_asked 1 1000000 g.limit)) (number_asked 0 2 g.errors)) (errors_begin g)
+    })) (errors_shown g.witness g.format)) (number_asked 1 1000000 g.limit)) (number_asked 0 2 g.errors)) (errors_begin g)
 
 -- nothing that an execution begins with is named, and no outcome; a project may be
 abbrev pub names_project_alone : Given → Bool

@@ -1,13 +1,13 @@
 // What `explore` asks for.
 ghost use Rattle.std.specs.Prelude.{◌≡◌};
-ghost use Rattle.asl_words.specs.Asked.{all_cases_asked, all_orders_asked, errors_asked, errors_begin, errors_format, explore_asked, is_mocks, names_definition_alone, names_plans, names_project_alone, witness_format};
+ghost use Rattle.asl_words.specs.Asked.{all_cases_asked, all_orders_asked, errors_asked, errors_begin, errors_format, errors_shown, explore_asked, is_json, is_mocks, names_definition_alone, names_plans, names_project_alone, plans_format, witness_format};
 
 use crate::given::Given;
 use crate::meaning::{begin_of, names_chosen, names_run, number_if, number_of};
 use crate::screen::Screen;
 use crate::words::{
-    ErrorsBegin, ErrorsFormat, ErrorsWords, ExploreAllWords, ExploreWords, ProjectWords,
-    SampleWords, WitnessFormat, Words,
+    ErrorsBegin, ErrorsFormat, ErrorsShown, ErrorsWords, ExploreAllWords, ExploreWords,
+    PlansFormat, ProjectWords, SampleWords, WitnessFormat, Words,
 };
 
 /// Whether something is named of plans of errors.
@@ -97,14 +97,48 @@ fn errors_begin_of<'a>(given: &Given<'a>) -> Option<ErrorsBegin<'a>>
     Some(ErrorsBegin::Case(begin_of(given)?))
 }
 
-/// What is printed of one outcome where errors are put in.
+/// How what comes of all plans is printed.
+fn plans_format_of(word: Option<&str>) -> Option<PlansFormat>
+    ensures { result ≡ plans_format word.entry }
+{
+    if word.is_none() {
+        return Some(PlansFormat::Text);
+    }
+    if is_json(word) {
+        return Some(PlansFormat::Json);
+    }
+    None
+}
+
+/// How an outcome is printed where errors are put in.
 fn errors_format_of(witness: Option<&str>, word: Option<&str>) -> Option<ErrorsFormat>
     ensures { result ≡ errors_format witness.entry word.entry }
 {
-    if witness.is_some() && is_mocks(word) {
+    if is_mocks(word) {
         return Some(ErrorsFormat::Mocks);
     }
     Some(ErrorsFormat::Steps(witness_format_of(witness, word)?))
+}
+
+/// What is printed where errors are put in: the outcome that is named, or what comes of all plans.
+fn errors_shown_of(witness: Option<&str>, word: Option<&str>) -> Option<ErrorsShown>
+    ensures { result ≡ errors_shown witness.entry word.entry }
+{
+    if witness.is_none() {
+        return Some(ErrorsShown::Plans(plans_format_of(word)?));
+    }
+    let number = number_of(witness, 1, 1_000_000)?;
+    Some(ErrorsShown::Outcome(number, errors_format_of(witness, word)?))
+}
+
+/// Whether a word names the format of lines of JSON.
+pub(crate) fn is_json(word: Option<&str>) -> bool
+    ensures { result ≡ is_json word.entry }
+{
+    match word {
+        Some(word) => word == "json",
+        None => false,
+    }
 }
 
 /// Whether a word names the format of mock files.
@@ -125,15 +159,12 @@ fn errors_of<'a>(given: &Given<'a>, screen: Screen) -> Option<Words<'a>>
         return None;
     }
     let limit = number_of(given.limit, 1, 1_000_000)?;
-    let witness = number_if(given.witness, 1, 1_000_000)?;
-    let format = errors_format_of(given.witness, given.format)?;
     Some(Words::Errors(ErrorsWords {
         begin: errors_begin_of(given)?,
         errors: number_of(given.errors, 0, 2)?,
         limit,
         prompt: given.prompt,
-        witness,
-        format,
+        shown: errors_shown_of(given.witness, given.format)?,
         coloured: screen.coloured,
     }))
 }

@@ -19,8 +19,8 @@ pub use screen::Screen;
 pub use verbs::Verb;
 pub use words::{
     Asked, Begin, ChosenWords, CoverageFormat, DebugFormat, DebugWords, DefinitionWords,
-    ErrorsBegin, ErrorsFormat, ErrorsWords, ExplainWords, ExploreAllWords, ExploreWords,
-    GraphFormat, GraphWords, LintAllWords, LintFormat, LintWords, MocksWords, OrderWords,
-    PrintWords, ProjectWords, ReportFormat, RunFormat, RunWords, SampleWords, SetupWords, Shard,
+    ErrorsBegin, ErrorsFormat, ErrorsShown, ErrorsWords, ExplainWords, ExploreAllWords,
+    ExploreWords, GraphFormat, GraphWords, LintAllWords, LintFormat, LintWords, MocksWords,
+    OrderWords, PlansFormat, PrintWords, ProjectWords, ReportFormat, RunFormat, RunWords, SampleWords, SetupWords, Shard,
     Subject, TestAllWords, TestWords, TestedWords, WitnessFormat, Words,
 };

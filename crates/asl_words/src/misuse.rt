@@ -1,5 +1,5 @@
 // What is wrong with words that clap takes.
-use crate::exploring::{is_mocks, names_definition_alone};
+use crate::exploring::{is_json, is_mocks, names_definition_alone};
 use crate::given::Given;
 use crate::meaning::{
     covers, debugs_by_script, lists_reports, names_beside_test, names_chosen, names_files,
@@ -43,6 +43,11 @@ pub enum Misuse {
     Outcome,
 }
 
+/// Whether it is said how an outcome is printed, and none is named.
+fn lacks_witness(given: &Given<'_>) -> bool {
+    given.witness.is_none() && given.format.is_some() && !is_json(given.format)
+}
+
 /// Why a command asks for nothing.
 pub fn misuse_of(verb: Verb, given: &Given<'_>) -> Misuse {
     match verb {
@@ -53,7 +58,13 @@ pub fn misuse_of(verb: Verb, given: &Given<'_>) -> Misuse {
         }
         Verb::Test if given.definition.is_some() => misuse_of_suite(given),
         Verb::Test => misuse_of_rest(given),
-        Verb::Explore if given.witness.is_none() && given.format.is_some() => Misuse::Witnessless,
+        Verb::Explore if given.errors.is_none() && is_json(given.format) => {
+            Misuse::Planless("value 'json' of '--format'")
+        }
+        Verb::Explore if given.witness.is_some() && is_json(given.format) => {
+            Misuse::Twice("--format json", "--witness <I>")
+        }
+        Verb::Explore if lacks_witness(given) => Misuse::Witnessless,
         Verb::Explore if given.errors.is_some() && given.calls => {
             Misuse::Twice("--calls", "--errors <K>")
         }

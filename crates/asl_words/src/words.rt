@@ -375,6 +375,24 @@ pub enum ErrorsFormat {
     Steps(WitnessFormat),
 }
 
+/// How what comes of all plans is printed.
+#[derive(Clone, Copy)]
+pub enum PlansFormat {
+    /// As text.
+    Text,
+    /// As lines of JSON.
+    Json,
+}
+
+/// What is printed where errors are put in.
+#[derive(Clone, Copy)]
+pub enum ErrorsShown {
+    /// What comes of all plans.
+    Plans(PlansFormat),
+    /// The outcome of this number, from 1, under a plan that gives it.
+    Outcome(u32, ErrorsFormat),
+}
+
 /// The words of `explore` on a project.
 #[derive(Clone, Copy)]
 pub struct ExploreAllWords<'a> {
@@ -397,10 +415,7 @@ pub struct ErrorsWords<'a> {
     pub limit: u32,
     /// Whether only orders are tried in which no branch is late.
     pub prompt: bool,
-    /// The number, from 1, of the outcome of which a plan is to be shown; none where all outcomes are.
-    pub witness: Option<u32>,
-    /// How this is shown.
-    pub format: ErrorsFormat,
+    pub shown: ErrorsShown,
     /// Whether what happened at each state is told in colours.
     pub coloured: bool,
 }

@@ -22,5 +22,5 @@ returns g c named =
       found = found;
       are_found = subst (λ (o : Orders). AreAllFound accepts c.args.rules.now w.errors (tasks_failing (names_in c.args.lists.now.errors.items) filled.machine) o w.limit filled found) c.orders_for-orders.ensures
           (subst (λ (ns : List (Bor (List ℕ))). AreAllFound accepts c.args.rules.now w.errors (tasks_failing (names_in ns) filled.machine) c.orders_for-orders.result w.limit filled found) c.deref.ensures.value c.in_ok-found.ensures);
-      shown = subst (λ (ts : List (List ℕ)). IsShownOf w c.args.chosen.now filled found ts w.witness (option_map string_bytes r.text) r.good) (ap (map string_bytes) c.deref-2.ensures.value ∙ c.in_ok-told.ensures) e;
+      shown = subst (λ (ts : List (List ℕ)). IsShownOf w.shown w.coloured c.args.chosen.now filled found ts (option_map string_bytes r.text) r.good) (ap (map string_bytes) c.deref-2.ensures.value ∙ c.in_ok-told.ensures) e;
     }) c.shown_of_all.ensures
