@@ -2,18 +2,13 @@
 use Rattle.std.proofs.Common.{ℕ, ◌+◌, Bool, false, Result, Ok, Err, OnErr, ◌≡◌, ◌⊎◌, ◌&&◌, inl, inr, List, [], ◌∷◌, ◌++◌, length, true, refl, sym, subst, arith, ◌∙◌, ap, append_assoc, append-nil, length-append}
 use Rattle.std.proofs.lemmas.Grind.{flat_map-append}
 use Rattle.asl_host.specs.Outcomes.{fault_line, sink_use, IsWhole, IsBroken, IsPrinted, IsTold}
-use Rattle.asl_host.proofs.Breaking.{broken_first, broken_rest}
-use Rattle.asl_run_state.specs.World.{World}
-use Rattle.asl_run_state.specs.Lines.{end_text, status_line}
-use Rattle.asl_text.specs.declared.paint.Paint.TheVariants.{Same}
-use Rattle.asl_text.specs.Painted.{control, IsPainted}
+use Rattle.asl_host.proofs.Breaking.{broken_rest}
 use Rattle.asl_session_repl.specs.declared.telling.Look.{Look}
-use Rattle.asl_session_repl.specs.declared.telling.Look.TheVariants.{Transcript, Tree, Colours}
 use Rattle.asl_session_repl.specs.Answers.{Console, IsRefusedLine}
 use Rattle.asl_session_repl.specs.Telling.{Answers, IsEndText}
-use Rattle.asl_session_repl.specs.Talks.{given_lines, IsReplied, AreReplied, IsTalk, IsStopped}
+use Rattle.asl_session_repl.specs.Talks.{given_lines, IsReplied, AreReplied, IsQuit, IsTalk, IsStopped}
 use Rattle.asl_cli.specs.Streams.{input_use, io}
-use Rattle.asl_cli.specs.Talking.{AreAnswered, IsTalked, IsHalted, IsTalkedInPart, IsStop, IsHeard, IsEnd, IsStopTold, IsStopEnd, IsStopOf, IsInputFault, IsConversed, stop_line}
+use Rattle.asl_cli.specs.Talking.{AreAnswered, IsOver, IsTalked, IsHalted, IsTalkedInPart, IsStop, IsHeard, IsEnd, IsStopTold, IsStopEnd, IsStopOf, IsInputFault, IsConversed, stop_line}
 use Rattle.asl_session.specs.Sessions.{world_in}
 use Rattle.std.specs.Prelude.{codes}
 
@@ -69,8 +64,8 @@ halted given ended taken failures strict look c d e number i j k o p q l t h g (
   },
 )
 
-quit-is : (strict : Bool) (look : Look) (c d e : Console) (ls : List (List ℕ)) (l text t : List ℕ) → AreReplied strict look c ls text d → Answers look d l t true e → IsTalk strict look c (ls ++ l ∷ []) (text ++ t) e
-quit-is strict look c d e ls l text t h a = inr (record { before = ls; told = text; here = d; line = l; answer = t; replied = h; quits = a; lines_are = refl; text_is = refl })
+quit-is : (strict : Bool) (look : Look) (c d e : Console) (ls : List (List ℕ)) (l text t : List ℕ) → AreReplied strict look c ls text d → Answers look d l t true e → IsQuit strict look c (ls ++ l ∷ []) (text ++ t) e
+quit-is strict look c d e ls l text t h a = record { before = ls; told = text; here = d; line = l; answer = t; replied = h; quits = a; lines_are = refl; text_is = refl }
 
 -- the line was the last one
 pub talked-last : {I O : Type 0} (given : I → List ℕ) (ended : I → Bool) (taken : O → List ℕ) (failures : O → ℕ) (strict : Bool) (look : Look) (c d e : Console) (number : ℕ) (i j k : I) (o p q : O) (l t : List ℕ)
@@ -79,14 +74,37 @@ talked-last given ended taken failures strict look c d e number i j k o p q l t 
   lines = h.lines ++ l ∷ [];
   text = h.text ++ t;
   given_is = given-more h.lines l (given i) (given j) (given k) h.given_is g;
-  talk = quit-is strict look c d e h.lines l h.text t h.replied a;
+  over = inl (quit-is strict look c d e h.lines l h.text t h.replied a);
   written = written-more taken failures o p q h.text t h.written w;
+}
+
+-- no more lines came
+pub talked-out : {I O : Type 0} (given : I → List ℕ) (ended : I → Bool) (taken : O → List ℕ) (failures : O → ℕ) (strict : Bool) (look : Look) (c d : Console) (number : ℕ) (i j k : I) (o p : O)
+    → AreAnswered (input_use given ended i j) (sink_use taken failures o p) strict look c d number → given k ≡ given j ++ [] → ended k ≡ true → IsTalked (input_use given ended i k) (sink_use taken failures o p) strict look c d
+talked-out given ended taken failures strict look c d number i j k o p h g e = record {
+  lines = h.lines;
+  text = h.text;
+  given_is = g ∙ append-nil (given j) ∙ h.given_is;
+  over = inr (h.replied, e);
+  written = h.written;
+}
+
+-- no further line could be read
+pub talked-on : {I O : Type 0} (given : I → List ℕ) (ended : I → Bool) (taken : O → List ℕ) (failures : O → ℕ) (strict : Bool) (look : Look) (c d : Console) (number : ℕ) (i j k : I) (o p : O)
+    → AreAnswered (input_use given ended i j) (sink_use taken failures o p) strict look c d number → given k ≡ given j → AreAnswered (input_use given ended i k) (sink_use taken failures o p) strict look c d number
+talked-on given ended taken failures strict look c d number i j k o p h g = record {
+  lines = h.lines;
+  text = h.text;
+  given_is = g ∙ h.given_is;
+  replied = h.replied;
+  written = h.written;
+  number_is = h.number_is;
 }
 
 last-talk : (strict : Bool) (look : Look) (c d e : Console) (ls : List (List ℕ)) (l text t : List ℕ) → AreReplied strict look c ls text d → IsHeard strict look d l t e
     → IsTalk strict look c (ls ++ l ∷ []) (text ++ t) e ⊎ ((strict ≡ true) × IsStopped look c (ls ++ l ∷ []) (text ++ t) e)
 last-talk strict look c d e ls l text t h (inl r) = inl (inl (replied-more strict look c d e ls l text t h r))
-last-talk strict look c d e ls l text t h (inr (inl a)) = inl (quit-is strict look c d e ls l text t h a)
+last-talk strict look c d e ls l text t h (inr (inl a)) = inl (inr (quit-is strict look c d e ls l text t h a))
 last-talk strict look c d e ls l text t h (inr (inr (on, a, r))) = inr (on, last-stop look c d e ls l text t (subst (λ (b : Bool). AreReplied b look c ls text d) on h) a r)
 
 -- the answer was written in part
@@ -128,10 +146,15 @@ stops false look c d l t false refused e f a r = (cc)
 
 -- ---- a whole conversation
 
+-- what is over is a talk
+over-is : {I : Type 0} (given : I → List ℕ) (ended : I → Bool) (i j : I) (strict : Bool) (look : Look) (c d : Console) (ls : List (List ℕ)) (t : List ℕ) → IsOver (input_use given ended i j) strict look c ls t d → IsTalk strict look c ls t d
+over-is given ended i j strict look c d ls t (inl q) = inr q
+over-is given ended i j strict look c d ls t (inr (r, e)) = inl r
+
 pub conversed : {I O E : Type 0} (given : I → List ℕ) (ended : I → Bool) (taken : O → List ℕ) (failures : O → ℕ) (err_taken : E → List ℕ) (err_failures : E → ℕ) (strict : Bool) (look : Look) (c d : Console) (i j : I) (o p q : O) (x y : E) (status : ℕ)
     → IsTalked (input_use given ended i j) (sink_use taken failures o p) strict look c d → IsEnd (io (sink_use taken failures p q) (sink_use err_taken err_failures x y) status) look d → IsConversed (input_use given ended i j) (io (sink_use taken failures o q) (sink_use err_taken err_failures x y) status) strict look c
-conversed given ended taken failures err_taken err_failures strict look c d i j o p q x y status h (inl (end, is, same, printed)) = inl (inl (h.lines, h.text, end, d, h.given_is, h.talk, is, same, printed-behind taken failures o p q h.text end 0 status h.written printed))
-conversed given ended taken failures err_taken err_failures strict look c d i j o p q x y status h (inr e) = inl (inr (h.lines, h.text, d, codes "OutOfMemory", h.given_is, h.talk, rw e.0 h.written, inr refl, e.1, e.2))
+conversed given ended taken failures err_taken err_failures strict look c d i j o p q x y status h (inl (end, is, same, printed)) = inl (inl (h.lines, h.text, end, d, h.given_is, h.over, is, same, printed-behind taken failures o p q h.text end 0 status h.written printed))
+conversed given ended taken failures err_taken err_failures strict look c d i j o p q x y status h (inr e) = inl (inr (inl (h.lines, h.text, d, codes "OutOfMemory", h.given_is, over-is given ended i j strict look c d h.lines h.text h.over, rw e.0 h.written, inr refl, e.1, e.2)))
 
 -- a line ended a strict talk
 told-stop : {I O E : Type 0} (given : I → List ℕ) (ended : I → Bool) (taken : O → List ℕ) (failures : O → ℕ) (err_taken : E → List ℕ) (err_failures : E → ℕ) (look : Look) (c d : Console) (number : ℕ) (i j : I) (o p q : O) (x y : E) (status : ℕ) (end : List ℕ)
@@ -154,18 +177,8 @@ stopped given ended taken failures err_taken err_failures strict look c d number
 
 -- no further line could be read
 pub unread : {I O E : Type 0} (given : I → List ℕ) (ended : I → Bool) (taken : O → List ℕ) (failures : O → ℕ) (err_taken : E → List ℕ) (err_failures : E → ℕ) (strict : Bool) (look : Look) (c d : Console) (i j : I) (o p : O) (x y : E) (t : List ℕ)
-    → IsTalked (input_use given ended i j) (sink_use taken failures o p) strict look c d → IsInputFault t → IsTold (sink_use err_taken err_failures x y) (fault_line t) → IsConversed (input_use given ended i j) (io (sink_use taken failures o p) (sink_use err_taken err_failures x y) 2) strict look c
-unread given ended taken failures err_taken err_failures strict look c d i j o p x y t h f told = inl (inr (h.lines, h.text, d, t, h.given_is, h.talk, h.written, f, refl, told))
-
--- behind each talk something may stand
-bare : (t : List ℕ) → IsPainted t t
-unfolding control
-bare t = ((Same, t) ∷ [], sym (append-nil t), sym (append-nil t))
-
-some-end : (look : Look) (w : World) → (e : List ℕ) × IsEndText look w e
-some-end Transcript w = (end_text w, refl)
-some-end Tree w = (status_line w.outcome, refl)
-some-end Colours w = (status_line w.outcome, bare (status_line w.outcome))
+    → (number : ℕ) × AreAnswered (input_use given ended i j) (sink_use taken failures o p) strict look c d number → IsInputFault t → IsTold (sink_use err_taken err_failures x y) (fault_line t) → IsConversed (input_use given ended i j) (io (sink_use taken failures o p) (sink_use err_taken err_failures x y) 2) strict look c
+unread given ended taken failures err_taken err_failures strict look c d i j o p x y t (number, h) f told = inl (inr (inl (h.lines, h.text, d, t, h.given_is, inl h.replied, h.written, f, refl, told)))
 
 -- an answer was written in part
 pub broken-off : {I O E : Type 0} (given : I → List ℕ) (ended : I → Bool) (taken : O → List ℕ) (failures : O → ℕ) (err_taken : E → List ℕ) (err_failures : E → ℕ) (strict : Bool) (look : Look) (c d : Console) (i j : I) (o p : O) (x : E)
@@ -173,7 +186,7 @@ pub broken-off : {I O E : Type 0} (given : I → List ℕ) (ended : I → Bool) 
 broken-off given ended taken failures err_taken err_failures strict look c d i j o p x h = by h.talk
   where
     by : IsTalk strict look c h.lines h.text d ⊎ ((strict ≡ true) × IsStopped look c h.lines h.text d) → IsConversed (input_use given ended i j) (io (sink_use taken failures o p) (sink_use err_taken err_failures x x) 2) strict look c
-    by (inl talk) = let e = some-end look (world_in d.session) in inl (inl (h.lines, h.text, e.0, d, h.given_is, talk, e.1, refl, inr (broken_first taken failures o p h.text e.0 h.broken, refl)))
+    by (inl talk) = inl (inr (inr (h.lines, h.text, d, h.given_is, talk, h.broken, refl, refl)))
     by (inr (on, halt)) = inr (on, (h.lines, h.text, d, h.given_is, halt, inr (inr (h.broken, refl, refl))))
 
 -- the answer was written in part
@@ -187,5 +200,6 @@ reply-broken (Err e) taken failures strict look o p c d l t quits refused a r b 
 pub greeted : {I O E : Type 0} (given : I → List ℕ) (ended : I → Bool) (taken : O → List ℕ) (failures : O → ℕ) (err_taken : E → List ℕ) (err_failures : E → ℕ) (strict : Bool) (look : Look) (c : Console) (i h j : I) (o p : O) (x y : E) (status : ℕ)
     → given h ≡ given i → IsConversed (input_use given ended h j) (io (sink_use taken failures o p) (sink_use err_taken err_failures x y) status) strict look c → IsConversed (input_use given ended i j) (io (sink_use taken failures o p) (sink_use err_taken err_failures x y) status) strict look c
 greeted given ended taken failures err_taken err_failures strict look c i h j o p x y status e (inl (inl (lines, text, end, d, is, talk, ends, same, printed))) = inl (inl (lines, text, end, d, is ∙ ap (λ (l : List ℕ). l ++ given_lines lines) e, talk, ends, same, printed))
-greeted given ended taken failures err_taken err_failures strict look c i h j o p x y status e (inl (inr (lines, text, d, t, is, talk, whole, fault, two, told))) = inl (inr (lines, text, d, t, is ∙ ap (λ (l : List ℕ). l ++ given_lines lines) e, talk, whole, fault, two, told))
+greeted given ended taken failures err_taken err_failures strict look c i h j o p x y status e (inl (inr (inl (lines, text, d, t, is, talk, whole, fault, two, told)))) = inl (inr (inl (lines, text, d, t, is ∙ ap (λ (l : List ℕ). l ++ given_lines lines) e, talk, whole, fault, two, told)))
+greeted given ended taken failures err_taken err_failures strict look c i h j o p x y status e (inl (inr (inr (lines, text, d, is, talk, off, two, same)))) = inl (inr (inr (lines, text, d, is ∙ ap (λ (l : List ℕ). l ++ given_lines lines) e, talk, off, two, same)))
 greeted given ended taken failures err_taken err_failures strict look c i h j o p x y status e (inr (on, (lines, text, d, is, halt, stop))) = inr (on, (lines, text, d, is ∙ ap (λ (l : List ℕ). l ++ given_lines lines) e, halt, stop))

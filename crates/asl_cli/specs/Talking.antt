@@ -5,7 +5,7 @@ use Rattle.asl_session.specs.Sessions.{world_in}
 use Rattle.asl_session_repl.specs.declared.telling.Look.{Look}
 use Rattle.asl_session_repl.specs.Answers.{Console, IsRefusedLine}
 use Rattle.asl_session_repl.specs.Telling.{Answers, IsEndText}
-use Rattle.asl_session_repl.specs.Talks.{given_lines, IsReplied, AreReplied, IsTalk, IsStopped}
+use Rattle.asl_session_repl.specs.Talks.{given_lines, IsReplied, AreReplied, IsQuit, IsTalk, IsStopped}
 use Rattle.asl_host.specs.Outcomes.{fault_line, SinkUse, IsUntouched, IsWhole, IsBroken, IsTold}
 use Rattle.asl_cli.specs.Streams.{InputUse, Io, Prints}
 use Rattle.asl_cli.specs.declared.talking.TalkFault.{TalkFault}
@@ -36,13 +36,19 @@ pub record AreAnswered {I O : Type 0} (typed : InputUse I) (out : SinkUse O) (st
   pub written : IsWhole out text
   pub number_is : number ≡ length lines
 
+-- a talk is over: its last line ended it, or no more lines come
+abbrev pub IsOver : {I : Type 0} → InputUse I → Bool → Look → Console → List (List ℕ) → List ℕ → Console → Type 0
+IsOver typed strict look c lines text d =
+    IsQuit strict look c lines text d
+    ⊎ (AreReplied strict look c lines text d × (typed.ended typed.after ≡ true))
+
 -- a whole talk was written
 pub record IsTalked {I O : Type 0} (typed : InputUse I) (out : SinkUse O) (strict : Bool) (look : Look)
     (c d : Console) : Type 0 where
   pub lines : List (List ℕ)
   pub text : List ℕ
   pub given_is : HasGiven typed lines
-  pub talk : IsTalk strict look c lines text d
+  pub over : IsOver typed strict look c lines text d
   pub written : IsWhole out text
 
 -- a strict talk was written up to the line of this number, which ended it
@@ -75,7 +81,7 @@ pub record IsTalkedInPart {I O : Type 0} (typed : InputUse I) (out : SinkUse O) 
 abbrev pub IsTalkedUntil : {I O : Type 0} → InputUse I → SinkUse O → Bool → Look → Console → Console
     → TalkFault → Type 0
 IsTalkedUntil typed out strict look c d Sink = IsTalkedInPart typed out strict look c d
-IsTalkedUntil typed out strict look c d (Input f) = IsTalked typed out strict look c d
+IsTalkedUntil typed out strict look c d (Input f) = (number : ℕ) × AreAnswered typed out strict look c d number
 
 -- what stands behind all answers was printed; or there was no memory for it, which was told
 abbrev pub IsEnd : {O E : Type 0} → Io O E → Look → Console → Type 0
@@ -105,16 +111,19 @@ IsStopEnd io look d number =
 abbrev pub IsInputFault : List ℕ → Type 0
 IsInputFault text = (text ≡ codes "file standard input") ⊎ (text ≡ codes "OutOfMemory")
 
--- lines were answered, and then what stands behind all answers was printed; or they were answered until
--- none could be read, or there was no memory, which was told
+-- lines were answered until the talk was over, and then what stands behind all answers was printed; or they were
+-- answered until none could be read, or there was no memory, which was told; or the sink failed before
 abbrev pub IsTalkedOut : {I O E : Type 0} → InputUse I → Io O E → Bool → Look → Console → Type 0
 IsTalkedOut typed io strict look c =
     ((lines : List (List ℕ)) × (text : List ℕ) × (end : List ℕ) × (d : Console)
-    × HasGiven typed lines × IsTalk strict look c lines text d
+    × HasGiven typed lines × IsOver typed strict look c lines text d
     × IsEndText look (world_in d.session) end × IsUntouched io.err × Prints io (text ++ end) 0)
-    ⊎ ((lines : List (List ℕ)) × (text : List ℕ) × (d : Console) × (t : List ℕ)
+    ⊎ (((lines : List (List ℕ)) × (text : List ℕ) × (d : Console) × (t : List ℕ)
     × HasGiven typed lines × IsTalk strict look c lines text d
     × IsWhole io.out text × IsInputFault t × (io.status ≡ 2) × IsTold io.err (fault_line t))
+    ⊎ ((lines : List (List ℕ)) × (text : List ℕ) × (d : Console)
+    × HasGiven typed lines × IsTalk strict look c lines text d
+    × IsBroken io.out text × (io.status ≡ 2) × IsUntouched io.err))
 
 -- what a strict talk came to that its last line ended: that was told, and what stands behind all answers was
 -- printed, with status 1; or there was no memory for it, which was told; or the sink failed before

@@ -8,7 +8,7 @@ ghost use Rattle.asl_cli.specs.Talking.{IsStop, IsHeard, IsTalkedTo, IsTalkedUnt
 
 use crate::command::{FAILED, REFUSED, print_good, tell_text};
 use asl_history::{Sink, SinkFault};
-use asl_host::{Input, ReadFault, tell_fault, write_piece};
+use asl_host::{Input, ReadFault, Unreadable, tell_fault, write_piece};
 use asl_session_repl::{Look, Teller};
 use asl_text::put_decimal;
 use std::alloc::{AllocError, Global};
@@ -103,7 +103,7 @@ fn talk<I: Input, O: Sink>(
             Err(SinkFault) => return Err(TalkFault::Sink),
         }
     }
-    Ok(None)
+    Err(TalkFault::Input(ReadFault::Unreadable(Unreadable::TooLong)))
 }
 
 /// Prints what stands behind all answers.

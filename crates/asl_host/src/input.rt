@@ -15,13 +15,14 @@ pub trait Input {
     // What it has given so far; behind each line stands a line feed.
     ghost given: { Self → List ℕ };
 
-    // Whether it gave no bytes when it was last asked for some, since it is at its end.
+    // Whether it gave nothing when it was last asked, since it is at its end.
     ghost ended: { Self → Bool };
 
     /// The next line without its line feed, which has at most 16,777,216 bytes; none at the end.
     fn line(&mut self, alloc: Global) -> Result<Option<Vec<u8>>, ReadFault>
         ensures line { IfOk result (λ o. given self.new
             ≡ given self.old ++ line_given (option_map (λ l. l.items) o)) }
+        ensures ended { IfOk result (λ o. ended self.new ≡ is_none o) }
         ensures err { OnErr result (given self.new ≡ given self.old) };
 
     /// The next bytes, as many as are there; none at the end. It waits for the first of them alone.
@@ -79,6 +80,7 @@ impl<R: BufRead, W: Write> Input for Typed<R, W> {
     fn line(&mut self, alloc: Global) -> Result<Option<Vec<u8>>, ReadFault> {
         self.show(PROMPT);
         let line = read_line(alloc, &mut self.reader)?;
+        self.ended = line.is_none();
         if let Some(line) = &line {
             self.given = self.given.with(line.as_slice()).with(b"\n");
         }

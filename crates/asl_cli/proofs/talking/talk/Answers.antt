@@ -1,4 +1,4 @@
-use Rattle.asl_cli.proofs.Talks.{answered-more, halted, talked-last, talked-in-part}
+use Rattle.asl_cli.proofs.Talks.{answered-more, halted, talked-last, talked-in-part, talked-on, talked-out}
 use Rattle.asl_cli.proofs.talking.talk.Goals as goal
 
 pub loop-number-preserved : goal.loop-number-preserved
@@ -24,3 +24,14 @@ returns-in-Err-reply-clause-fault g c =
     let asked = rw (c.in-Ok-Some.field-0-is, ← c.as_slice.ensures.value) at c.in-Ok-Some.ensures.line in
     let told = c.in-Err-reply.ensures.err in
     talked-in-part g.I.Input.given g.I.Input.ended g.O.Sink.taken g.O.Sink.failures c.args.strict c.args.look c.args.console.now c.loop-number.console c.reply.new.console c.loop-number.number c.args.input.now c.loop-number.input c.line.new.self c.args.out.now c.loop-number.out c.reply.new.out c.as_slice.result.now told.0 c.loop-number.invariant asked told.1 told.2
+
+pub returns-in-Ok-None-clause-whole : goal.returns-in-Ok-None-clause-whole
+returns-in-Ok-None-clause-whole g c =
+    let none = rw (c.in-Ok-None.field-0-is) at c.in-Ok-None.ensures.line in
+    talked-out g.I.Input.given g.I.Input.ended g.O.Sink.taken g.O.Sink.failures c.args.strict c.args.look c.args.console.now c.loop-number.console c.loop-number.number c.args.input.now c.loop-number.input c.line.new.self c.args.out.now c.loop-number.out c.loop-number.invariant none (rw (c.in-Ok-None.field-0-is) at c.in-Ok-None.ensures.ended)
+
+pub returns-in-Err-clause-fault : goal.returns-in-Err-clause-fault
+returns-in-Err-clause-fault g c = (c.loop-number.number, talked-on g.I.Input.given g.I.Input.ended g.O.Sink.taken g.O.Sink.failures c.args.strict c.args.look c.args.console.now c.loop-number.console c.loop-number.number c.args.input.now c.loop-number.input c.line.new.self c.args.out.now c.loop-number.out c.loop-number.invariant c.in-Err.ensures.err)
+
+pub returns-clause-fault : goal.returns-clause-fault
+returns-clause-fault g c = (c.loop-number.number, c.loop-number.invariant)
