@@ -230,6 +230,30 @@ class LintTest(ProgramTest):
         self.assertEqual(self.lint(suspicious, "--strict").returncode, 1)
         self.assertEqual(self.lint(suspicious).stdout.splitlines()[-1], "0 errors, 1 warning")
 
+    def test_ignored_rules(self):
+        suspicious = GOOD.replace("States.Timeout", "States.Timout").replace('"MaxAttempts": 2', '"MaxAttempts": 0, "BackoffRate": 2')
+        self.assertEqual([it["name"] for it in self.findings(suspicious)], ["unknown-error", "unused-delay"])
+        self.assertEqual([it["name"] for it in self.findings(suspicious, words=["--ignore", "unknown-error"])], ["unused-delay"])
+        both = ["--ignore", "unused-delay", "--ignore=unknown-error"]
+        ran = self.lint(suspicious, "--strict", *both)
+        self.assertEqual((ran.returncode, ran.stdout, ran.stderr), (0, "no findings\n", ""))
+        # those of a mock file and of the Tasks beside it, too
+        self.assertEqual([it["name"] for it in self.findings(GOOD, "{}", ["--ignore", "unanswered-task"])], [])
+        # a name that no warning has ignores nothing, nor does a part of one, or one in other letters
+        for name in ["unknown", "unknown-error ", "Unknown-Error", "F10"]:
+            self.assertEqual(self.findings(suspicious, words=["--ignore", name]), self.findings(suspicious))
+
+    def test_errors_are_told_though_their_rules_are_ignored(self):
+        faulty = GOOD.replace('"Next": "Ship"', '"Next": "Shipp"').replace("States.Timeout", "States.Timout")
+        found = self.findings(faulty, words=["--ignore", "F10", "--ignore", "unknown-error"])
+        self.assertEqual([it["name"] for it in found], ["F10"])
+        self.assertEqual(self.lint(faulty, "--ignore", "unknown-error").stdout.splitlines()[-1], "1 error, 0 warnings")
+
+    def test_an_ignored_rule_wants_a_name(self):
+        ran = self.lint(GOOD, "--ignore")
+        self.assertEqual((ran.returncode, ran.stdout), (2, ""))
+        self.assertIn("--ignore <RULE>", ran.stderr)
+
     def test_all_faults_in_the_order_of_their_places(self):
         states = {f"S{i}": {"Type": "Pass", "Next": "?" if i % 2 else f"S{i + 1}"} for i in range(0, 40)}
         text = json.dumps({"States": states, "StartAt": "S0"}, indent=1)

@@ -182,6 +182,18 @@ class ProjectTest(unittest.TestCase):
         self.write("asl.toml", '[[workflow]]\ndefinition = "faulty.json"\nignore = ["F10"]\n')
         self.assertEqual(self.ran("lint"), self.ran("lint", "faulty.json"))
 
+    def test_rules_that_the_command_line_ignores(self):
+        """They are added to those of each workflow."""
+        first = '[[workflow]]\ndefinition = "choice.json"\n'
+        self.write("asl.toml", first)
+        self.assertEqual(self.ran("lint", "--strict", "--ignore", "no-default"), (0, "no findings\n", ""))
+        self.assertEqual(self.ran("lint", "--strict", "--ignore", "own-default"), self.ran("lint", "--strict"))
+        for own, named in (("own-default", "no-default"), ("no-default", "own-default")):
+            self.write("asl.toml", f'{first}ignore = ["{own}"]\n')
+            self.assertEqual(self.ran("lint", "--strict", "--ignore", named), (0, "no findings\n", ""))
+        self.write("asl.toml", first + first + 'ignore = ["no-default"]\n')
+        self.assertEqual(self.ran("lint", "--strict", "--ignore", "no-default"), (0, "no findings\nno findings\n", ""))
+
     def test_one_workflow(self):
         """run, debug and explore find the files of the workflow that is of a machine."""
         self.write("asl.toml", TWO + '\n[[workflow]]\ndefinition = "task.json"\nmocks = "mocks.json"\nmachine = "N"\ninput = "passes.json"\n')

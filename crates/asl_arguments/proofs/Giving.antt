@@ -80,6 +80,7 @@ found_taken app words m t plain has h =
         errors = h.lists.errors ∙ all (codes "error");
         always = h.lists.always ∙ all (codes "always");
         undo = h.lists.undo ∙ all (codes "undo");
+        ignored = h.lists.ignored ∙ all (codes "ignore");
       };
     }
 

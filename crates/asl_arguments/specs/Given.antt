@@ -81,6 +81,7 @@ pub record AreListed (values : List ℕ → List (List ℕ)) (l : Lists) : Type 
   pub errors : said_all l.errors.items ≡ values (codes "error")
   pub always : said_all l.always.items ≡ values (codes "always")
   pub undo : said_all l.undo.items ≡ values (codes "undo")
+  pub ignored : said_all l.ignored.items ≡ values (codes "ignore")
 
 -- what clap found
 abbrev pub all_found : Found → List ℕ → List (List ℕ)

@@ -72,7 +72,7 @@ lint_arguments =
     ∷ free (codes "input") text ∷ free (codes "steps") text ∷ free (codes "script") text
     ∷ free (codes "machine") text
     ∷ preset (codes "format") (choice (codes "text" ∷ codes "json" ∷ codes "sarif" ∷ [])) (codes "text")
-    ∷ free (codes "strict") flag ∷ project_argument
+    ∷ free (codes "strict") flag ∷ free (codes "ignore") texts ∷ project_argument
 
 abbrev pub graph_arguments : List Argument
 graph_arguments = run_arguments (needed (codes "DEF") word) (free (codes "run") flag

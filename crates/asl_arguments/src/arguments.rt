@@ -143,6 +143,12 @@ const LINT: &[Argument] = &[
         presence: Optional,
         help: Help::LintStrict,
     },
+    Argument {
+        name: "ignore",
+        kind: Texts("RULE"),
+        presence: Optional,
+        help: Help::LintIgnore,
+    },
     PROJECT_OF_FILES,
     QUIET,
 ];

@@ -21,6 +21,8 @@ pub struct Lists<'a> {
     pub always: Vec<&'a str>,
     /// Pairs of Tasks, of which the second undoes the first.
     pub undo: Vec<&'a str>,
+    /// The rules whose warnings aren't told.
+    pub ignored: Vec<&'a str>,
 }
 
 /// What is given for each argument, and all that is for those that may be given more than once.
@@ -96,6 +98,7 @@ fn lists_by<'a>(alloc: Global, matches: &ArgMatches<'a>) -> Result<Lists<'a>, Al
         errors: named_by(alloc, matches, "error")?,
         always: named_by(alloc, matches, "always")?,
         undo: named_by(alloc, matches, "undo")?,
+        ignored: named_by(alloc, matches, "ignore")?,
     })
 }
 

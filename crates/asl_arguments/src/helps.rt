@@ -14,6 +14,7 @@ pub enum Help {
     LintMachine,
     LintFormat,
     LintStrict,
+    LintIgnore,
     GraphRun,
     GraphFormat,
     MocksMachine,
@@ -83,6 +84,8 @@ impl Help {
                 "The machine's name in the mock file, where that has more than one",
             Help::LintFormat => "How the findings are printed",
             Help::LintStrict => "Counts warnings as errors",
+            Help::LintIgnore =>
+                "The rule whose warnings aren't told and don't count, besides those that the project ignores; it may be named more than once",
             Help::GraphRun => "Marks the states that a run of MOCKS, CHOSEN and INPUT enters",
             Help::GraphFormat => "The language of the graph",
             Help::MocksMachine => "The machine's name in the mock file",

@@ -16,8 +16,11 @@ use Rattle.asl_lint_files.specs.Linted.{AreAllLinted, Each}
 use Rattle.asl_words.specs.declared.words.LintFormat.{LintFormat}
 use Rattle.asl_words.specs.declared.words.LintFormat.TheVariants.{Text, Json, Sarif}
 use Rattle.asl_words.specs.declared.words.LintWords.{LintWords}
+use Rattle.asl_arguments.specs.declared.found.Lists.{Lists}
+use Rattle.asl_arguments.specs.Given.{said_all}
 use Rattle.asl_host.specs.Outcomes.{status_of}
 use Rattle.asl_cli.specs.declared.fault.CommandFault.TheVariants.{OutOfMemory}
+use Rattle.asl_cli.specs.declared.linting.Ignored.{Ignored}
 use Rattle.asl_cli.specs.declared.linting.Linted.{Linted}
 use Rattle.asl_cli.specs.declared.linting.Manner.{Manner}
 use Rattle.asl_cli.specs.declared.linting.Wanted.{Wanted as WantedFile}
@@ -106,6 +109,10 @@ text_in Text has_others rs = lines_of rs
 text_in Json has_others rs = json_lines rs
 text_in Sarif has_others rs = sarif_text has_others rs
 
+-- the rules that a workflow ignores, and those that are named
+abbrev pub rules_in : Ignored → List (List ℕ)
+rules_in i = i.of_workflow.now ++ said_all i.named.now
+
 -- a warning of one of these rules
 abbrev pub is_ignored : List (List ℕ) → Finding → Bool
 is_ignored rules f = not (is_error f.rule) && list_any (λ r. bytes_eq r (rule_name f.rule)) rules
@@ -150,8 +157,14 @@ IsLintedBut rules files io quiet m ws =
     × (status ≡ status_of x.good))
     (AreUnread files.gives files.lacks (map (λ (w : Wanted). w.0) ws))
 
--- the lint of these words and of these names, which ignores no rule; or memory ran out
-abbrev pub IsLinted : {O E : Type 0} → FileSystem → Io O E → Bool → LintWords → List (List ℕ) → Type 0
-IsLinted files io quiet w ns =
-    ((m : Manner) × IsMannerOf w ns m × IsLintedBut [] files io quiet m (wanted_in w ns))
+-- the lint of the files of these names, which ignores these rules
+abbrev pub IsLintedOf : {O E : Type 0} → FileSystem → Io O E → Bool → LintWords → List (List ℕ)
+    → List (List ℕ) → Type 0
+IsLintedOf files io quiet w ns rules =
+    (m : Manner) × IsMannerOf w ns m × IsLintedBut rules files io quiet m (wanted_in w ns)
+
+-- the lint of these words and of the names and the rules that are named one after another; or memory ran out
+abbrev pub IsLinted : {O E : Type 0} → FileSystem → Io O E → Bool → LintWords → Lists → Type 0
+IsLinted files io quiet w l =
+    IsLintedOf files io quiet w (said_all l.files.items) (said_all l.ignored.items)
     ⊎ IsRefusedFor io quiet (λ r. r ≡ OutOfMemory)

@@ -4,7 +4,6 @@ use Rattle.asl_arguments.specs.declared.found.Lists.{Lists}
 use Rattle.asl_command_line.specs.declared.reading.Line.{Line}
 use Rattle.asl_words.specs.declared.words.Words.{Words}
 use Rattle.asl_words.specs.declared.words.Words.TheVariants.{Check, CheckAll, Lint, LintAll, Print, Upgrade, Graph, Mocks, Run, Debug, Test, TestAll, Explore, ExploreAll, Errors, Explain, Lsp}
-use Rattle.asl_explore_errors.specs.Searches.{names_in}
 use Rattle.asl_cli.specs.Streams.{FileUse, found, InputUse, OutputUse, IsUnused, Io}
 use Rattle.asl_cli.specs.Answers.{IsRan, IsDebugged, IsChecked, IsFormPrinted, IsUpgraded}
 use Rattle.asl_cli.specs.Suites.{IsTested}
@@ -26,8 +25,8 @@ abbrev pub AreObeyed : {F I K O E : Type 0} → FileUse F → InputUse I → Out
     → Lists → Type 0
 AreObeyed files typed outputs io quiet (Check w) l = IsUnused outputs × IsChecked (found files) io quiet w
 AreObeyed files typed outputs io quiet (CheckAll w) l = IsUnused outputs × AreAllChecked files io quiet w
-AreObeyed files typed outputs io quiet (Lint w) l = IsUnused outputs × IsLinted (found files) io quiet w (names_in l.files.items)
-AreObeyed files typed outputs io quiet (LintAll w) l = IsUnused outputs × AreAllLinted files io quiet w
+AreObeyed files typed outputs io quiet (Lint w) l = IsUnused outputs × IsLinted (found files) io quiet w l
+AreObeyed files typed outputs io quiet (LintAll w) l = IsUnused outputs × AreAllLinted files io quiet w l
 AreObeyed files typed outputs io quiet (Print w) l = IsUnused outputs × IsFormPrinted (found files) io quiet w
 AreObeyed files typed outputs io quiet (Upgrade w) l = IsUnused outputs × IsUpgraded (found files) io quiet w
 AreObeyed files typed outputs io quiet (Graph w) l = IsUnused outputs × IsDrawn (found files) io quiet w

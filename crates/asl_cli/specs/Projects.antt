@@ -6,6 +6,8 @@ use Rattle.asl_project.specs.declared.workflow.Workflow.{Workflow}
 use Rattle.asl_words.specs.declared.words.DefinitionWords.{DefinitionWords}
 use Rattle.asl_words.specs.declared.words.ProjectWords.{ProjectWords}
 use Rattle.asl_words.specs.declared.words.LintAllWords.{LintAllWords}
+use Rattle.asl_arguments.specs.declared.found.Lists.{Lists}
+use Rattle.asl_arguments.specs.Given.{said_all}
 use Rattle.asl_words.specs.declared.words.TestWords.{TestWords}
 use Rattle.asl_words.specs.declared.words.TestAllWords.{TestAllWords}
 use Rattle.asl_words.specs.declared.words.ReportFormat.{ReportFormat}
@@ -84,13 +86,15 @@ pub record IsMannerFor (a : LintAllWords) (w : Workflow) (m : Manner) : Type 0 w
 abbrev pub workflow_files : Workflow → List Wanted
 workflow_files w = (w.definition, Some role.Definition, None) ∷ role_file role.Mocks w.mocks
 
--- these were linted, without the warnings of the rules that it ignores
-abbrev pub IsWorkflowLinted : {F O E : Type 0} → Bool → LintAllWords → FileUse F → Io O E → Workflow → Type 0
-IsWorkflowLinted quiet a files io w =
-    (m : Manner) × IsMannerFor a w m × IsLintedBut w.ignore (found files) io quiet m (workflow_files w)
+-- these were linted, without the warnings of the rules that it ignores, and of those that are named
+abbrev pub IsWorkflowLinted : {F O E : Type 0} → Bool → LintAllWords → Lists → FileUse F → Io O E → Workflow
+    → Type 0
+IsWorkflowLinted quiet a l files io w =
+    (m : Manner) × IsMannerFor a w m
+    × IsLintedBut (w.ignore ++ said_all l.ignored.items) (found files) io quiet m (workflow_files w)
 
-abbrev pub AreAllLinted : {F O E : Type 0} → FileUse F → Io O E → Bool → LintAllWords → Type 0
-AreAllLinted files io quiet a = IsDoneForAll quiet (IsWorkflowLinted quiet a) files io a.project
+abbrev pub AreAllLinted : {F O E : Type 0} → FileUse F → Io O E → Bool → LintAllWords → Lists → Type 0
+AreAllLinted files io quiet a l = IsDoneForAll quiet (IsWorkflowLinted quiet a l) files io a.project
 
 -- ---- tests
 

@@ -125,8 +125,8 @@ pub fn obey<
     match &line.asked.words {
         Words::Check(words) => check(alloc, words, quiet, files, out, err),
         Words::CheckAll(words) => check_all(alloc, words, quiet, files, out, err),
-        Words::Lint(words) => lint(alloc, words, &line.lists.files, quiet, files, out, err),
-        Words::LintAll(words) => lint_all(alloc, words, quiet, files, out, err),
+        Words::Lint(words) => lint(alloc, words, &line.lists, quiet, files, out, err),
+        Words::LintAll(words) => lint_all(alloc, words, &line.lists, quiet, files, out, err),
         Words::Print(words) => print(alloc, words, quiet, files, out, err),
         Words::Upgrade(words) => upgrade(alloc, words, quiet, files, out, err),
         Words::Graph(words) => graph(alloc, words, quiet, files, out, err),

@@ -5,13 +5,15 @@ ghost use Rattle.std.specs.Str.{bytes_eq};
 ghost use Rattle.asl_host.specs.Outcomes.{sink_use, status_of, IsPrinted};
 ghost use Rattle.asl_host.specs.declared.files.Unreadable.{Unreadable};
 ghost use Rattle.asl_lint_files.specs.Linted.{Each};
+ghost use Rattle.asl_arguments.specs.Given.{said_all};
 ghost use Rattle.asl_cli.specs.Streams.{file_system, io};
-ghost use Rattle.asl_cli.specs.Linting.{by_place, heeded, is_file_mark, is_file_name, is_ignored, machine_in, names_machine, plain_names, role_file, seen, text_in, wanted_in, words_from, IsHeeded, IsJudged, IsLintOf, IsLinted, IsLintedBut, IsMannerOf, IsReadAs, IsTold};
+ghost use Rattle.asl_cli.specs.Linting.{by_place, heeded, is_file_mark, is_file_name, is_ignored, machine_in, names_machine, plain_names, role_file, rules_in, seen, text_in, wanted_in, words_from, IsHeeded, IsJudged, IsLintOf, IsLinted, IsLintedBut, IsMannerOf, IsReadAs, IsTold};
 ghost use Rattle.asl_cli.specs.Faults.{AreUnread};
 
 use crate::command::{FAILED, GOOD, REFUSED};
 use crate::fault::CommandFault;
 use crate::reading::read_file;
+use asl_arguments::Lists;
 use asl_history::Sink;
 use asl_host::{Files, write_piece};
 use asl_json::Txt;
@@ -47,11 +49,18 @@ pub(crate) struct Manner<'a> {
     pub(crate) strict: bool,
 }
 
-/// The command `lint`: prints everything that is wrong or suspicious in files.
+/// The rules whose warnings aren't told: those that a workflow of a project ignores, and those that the command line names.
+#[derive(Clone, Copy)]
+pub(crate) struct Ignored<'a> {
+    pub(crate) of_workflow: &'a [Txt],
+    pub(crate) named: &'a [&'a str],
+}
+
+/// The command `lint`: prints everything that is wrong or suspicious in files, without the warnings of rules that are ignored.
 pub fn lint<F: Files, O: Sink, E: Sink>(
     alloc: Global,
     words: &LintWords<'_>,
-    names: &[&str],
+    lists: &Lists<'_>,
     quiet: bool,
     files: &mut F,
     out: &mut O,
@@ -59,12 +68,17 @@ pub fn lint<F: Files, O: Sink, E: Sink>(
 ) -> u8
     ensures { IsLinted (file_system (F.gives files.old) (F.lacks files.old))
         (io (sink_use O.taken O.failures out.old out.new)
-        (sink_use E.taken E.failures err.old err.new) result) quiet words.now (map (λ n. n.now) names.now) }
+        (sink_use E.taken E.failures err.old err.new) result) quiet words.now lists.now }
 {
+    let names = lists.files.as_slice();
     match wanted_of(alloc, words, names) {
         Ok(wanted) => {
             let manner = manner_of(words, names);
-            lint_but(alloc, &wanted, &manner, &[], quiet, files, out, err)
+            let ignored = Ignored {
+                of_workflow: &[],
+                named: lists.ignored.as_slice(),
+            };
+            lint_but(alloc, &wanted, &manner, &ignored, quiet, files, out, err)
         }
         Err(AllocError) => {
             CommandFault::OutOfMemory.write(alloc, quiet, err);
@@ -78,17 +92,17 @@ pub(crate) fn lint_but<F: Files, O: Sink, E: Sink>(
     alloc: Global,
     wanted: &[Wanted<'_>],
     manner: &Manner<'_>,
-    rules: &[Txt],
+    ignored: &Ignored<'_>,
     quiet: bool,
     files: &mut F,
     out: &mut O,
     err: &mut E,
 ) -> u8
-    ensures { IsLintedBut rules.now (file_system (F.gives files.old) (F.lacks files.old))
+    ensures { IsLintedBut (rules_in ignored.now) (file_system (F.gives files.old) (F.lacks files.old))
         (io (sink_use O.taken O.failures out.old out.new)
         (sink_use E.taken E.failures err.old err.new) result) quiet manner.now (map seen wanted.now) }
 {
-    match lint_wanted(alloc, wanted, manner, rules, files) {
+    match lint_wanted(alloc, wanted, manner, ignored, files) {
         Ok(linted) => print_linted(&linted, out),
         Err(refusal) => {
             refusal.write(alloc, quiet, err);
@@ -259,15 +273,15 @@ fn lint_wanted<'a, F: Files>(
     alloc: Global,
     wanted: &[Wanted<'a>],
     manner: &Manner<'_>,
-    rules: &[Txt],
+    ignored: &Ignored<'_>,
     files: &mut F,
 ) -> Result<Linted, CommandFault<'a>>
-    ensures linted { IfOk result (IsLintOf (F.gives files.old) manner.now rules.now (map seen wanted.now)) }
+    ensures linted { IfOk result (IsLintOf (F.gives files.old) manner.now (rules_in ignored.now) (map seen wanted.now)) }
     ensures unread { IfErr result (AreUnread (F.gives files.old) (F.lacks files.old)
         (map (λ w. w.0) (map seen wanted.now))) }
 {
     let read = read_wanted(alloc, wanted, files)?;
-    match lint_read(alloc, manner, rules, &read) {
+    match lint_read(alloc, manner, ignored, &read) {
         Ok(linted) => Ok(linted),
         Err(AllocError) => Err(CommandFault::OutOfMemory),
     }
@@ -277,17 +291,17 @@ fn lint_wanted<'a, F: Files>(
 fn lint_read(
     alloc: Global,
     manner: &Manner<'_>,
-    rules: &[Txt],
+    ignored: &Ignored<'_>,
     read: &[LintFile<'_>],
 ) -> Result<Linted, AllocError>
-    ensures { IfOk result (IsJudged manner.now rules.now read.now) }
+    ensures { IfOk result (IsJudged manner.now (rules_in ignored.now) read.now) }
 {
     let LintedFiles { files, has_others } = asl_lint_files::lint_files(
         alloc,
         manner.machine,
         read,
     )?;
-    let left = heeded_all(alloc, rules, files)?;
+    let left = heeded_all(alloc, ignored, files)?;
     told(alloc, manner, has_others, &left)
 }
 
@@ -308,42 +322,42 @@ fn told(
 /// What is found, without the warnings of rules that are ignored. The error is that memory ran out.
 fn heeded_all<'a>(
     alloc: Global,
-    rules: &[Txt],
+    ignored: &Ignored<'_>,
     files: Vec<FileReport<'a>>,
 ) -> Result<Vec<FileReport<'a>>, AllocError>
-    ensures { IfOk result (λ left. Each (IsHeeded rules.now) files.entry.items left.items) }
+    ensures { IfOk result (λ left. Each (IsHeeded (rules_in ignored.now)) files.entry.items left.items) }
 {
     let mut all = Vec::with_capacity(alloc, files.len())?;
     for file in files {
-        all.push(heeded_file(alloc, rules, file)?)?;
+        all.push(heeded_file(alloc, ignored, file)?)?;
     }
     Ok(all)
 }
 
 fn heeded_file<'a>(
     alloc: Global,
-    rules: &[Txt],
+    ignored: &Ignored<'_>,
     file: FileReport<'a>,
 ) -> Result<FileReport<'a>, AllocError>
-    ensures { IfOk result (IsHeeded rules.now file.entry) }
+    ensures { IfOk result (IsHeeded (rules_in ignored.now) file.entry) }
 {
     let FileReport { name, findings } = file;
     Ok(FileReport {
         name,
-        findings: heeded_of(alloc, rules, findings)?,
+        findings: heeded_of(alloc, ignored, findings)?,
     })
 }
 
 fn heeded_of(
     alloc: Global,
-    rules: &[Txt],
+    ignored: &Ignored<'_>,
     findings: Vec<Finding>,
 ) -> Result<Vec<Finding>, AllocError>
-    ensures { IfOk result (λ v. v.items ≡ heeded rules.now findings.items) }
+    ensures { IfOk result (λ v. v.items ≡ heeded (rules_in ignored.now) findings.items) }
 {
     let mut kept = Vec::new(alloc);
     for finding in findings {
-        if !is_ignored(rules, &finding) {
+        if !is_ignored(ignored, &finding) {
             kept.push(finding)?;
         }
     }
@@ -351,10 +365,17 @@ fn heeded_of(
 }
 
 /// Whether a finding is a warning of one of these rules.
-fn is_ignored(rules: &[Txt], finding: &Finding) -> bool
-    ensures { result ≡ is_ignored rules.now finding.now }
+fn is_ignored(ignored: &Ignored<'_>, finding: &Finding) -> bool
+    ensures { result ≡ is_ignored (rules_in ignored.now) finding.now }
 {
-    !finding.rule.is_error() && is_among(rules, finding.rule.name())
+    !finding.rule.is_error() && is_any(ignored, finding.rule.name())
+}
+
+/// Whether a rule of this name is one of them.
+fn is_any(ignored: &Ignored<'_>, name: &str) -> bool
+    ensures { result ≡ list_any (λ r. bytes_eq r name.now) (rules_in ignored.now) }
+{
+    is_among(ignored.of_workflow, name) || is_named(ignored.named, name)
 }
 
 fn is_among(rules: &[Txt], name: &str) -> bool
@@ -362,6 +383,17 @@ fn is_among(rules: &[Txt], name: &str) -> bool
 {
     for rule in rules {
         if rule.as_str() == name {
+            return true;
+        }
+    }
+    false
+}
+
+fn is_named(rules: &[&str], name: &str) -> bool
+    ensures { result ≡ list_any (λ r. bytes_eq r name.now) (said_all rules.now) }
+{
+    for rule in rules {
+        if *rule == name {
             return true;
         }
     }

@@ -10,9 +10,10 @@ ghost use Rattle.asl_cli.specs.Linting.{seen};
 use crate::checking::check;
 use crate::command::{GOOD, REFUSED};
 use crate::fault::CommandFault;
-use crate::linting::{Manner, Wanted, lint_but};
+use crate::linting::{Ignored, Manner, Wanted, lint_but};
 use crate::mending::of_project;
 use crate::reading::read_file;
+use asl_arguments::Lists;
 use asl_history::Sink;
 use asl_host::Files;
 use asl_json::Txt;
@@ -123,10 +124,11 @@ fn check_one<F: Files, O: Sink, E: Sink>(
 }
 
 /// The command `lint` on a project: it is done for the definition and the mock file of each workflow, without the warnings of the rules that
-/// it ignores.
+/// it ignores, and of those that are named.
 pub fn lint_all<F: Files, O: Sink, E: Sink>(
     alloc: Global,
     words: &LintAllWords<'_>,
+    lists: &Lists<'_>,
     quiet: bool,
     files: &mut F,
     out: &mut O,
@@ -134,12 +136,13 @@ pub fn lint_all<F: Files, O: Sink, E: Sink>(
 ) -> u8
     ensures { AreAllLinted (file_use F.gives F.lacks files.old)
         (io (sink_use O.taken O.failures out.old out.new)
-        (sink_use E.taken E.failures err.old err.new) result) quiet words.now }
+        (sink_use E.taken E.failures err.old err.new) result) quiet words.now lists.now }
 {
     match project_in(alloc, &words.project, files) {
         Ok(project) => lint_each(
             alloc,
             words,
+            lists,
             project.workflows.as_slice(),
             quiet,
             files,
@@ -156,13 +159,14 @@ pub fn lint_all<F: Files, O: Sink, E: Sink>(
 fn lint_each<F: Files, O: Sink, E: Sink>(
     alloc: Global,
     words: &LintAllWords<'_>,
+    lists: &Lists<'_>,
     workflows: &[Workflow],
     quiet: bool,
     files: &mut F,
     out: &mut O,
     err: &mut E,
 ) -> u8
-    ensures { AreDone (IsWorkflowLinted quiet words.now) (file_use F.gives F.lacks files.old)
+    ensures { AreDone (IsWorkflowLinted quiet words.now lists.now) (file_use F.gives F.lacks files.old)
         (io (sink_use O.taken O.failures out.old out.new)
         (sink_use E.taken E.failures err.old err.new) result) workflows.now }
 {
@@ -170,7 +174,7 @@ fn lint_each<F: Files, O: Sink, E: Sink>(
     for workflow in workflows {
         status = highest(
             status,
-            lint_one(alloc, &*words, workflow, quiet, files, out, err),
+            lint_one(alloc, &*words, lists, workflow, quiet, files, out, err),
         );
     }
     status
@@ -179,13 +183,14 @@ fn lint_each<F: Files, O: Sink, E: Sink>(
 fn lint_one<'a, F: Files, O: Sink, E: Sink>(
     alloc: Global,
     words: &LintAllWords<'a>,
+    lists: &Lists<'_>,
     workflow: &'a Workflow,
     quiet: bool,
     files: &mut F,
     out: &mut O,
     err: &mut E,
 ) -> u8
-    ensures { IsWorkflowLinted quiet words.now (file_use F.gives F.lacks files.old)
+    ensures { IsWorkflowLinted quiet words.now lists.now (file_use F.gives F.lacks files.old)
         (io (sink_use O.taken O.failures out.old out.new)
         (sink_use E.taken E.failures err.old err.new) result) workflow.now }
 {
@@ -194,16 +199,19 @@ fn lint_one<'a, F: Files, O: Sink, E: Sink>(
         format: words.format,
         strict: words.strict,
     };
-    let rules = workflow.ignore.names();
+    let ignored = Ignored {
+        of_workflow: workflow.ignore.names(),
+        named: lists.ignored.as_slice(),
+    };
     let definition = wanted_as(workflow.definition.as_str(), Role::Definition);
     match text_of(&workflow.mocks) {
         Some(mocks) => {
             let both = [definition, wanted_as(mocks, Role::Mocks)];
-            lint_but(alloc, &both, &manner, rules, quiet, files, out, err)
+            lint_but(alloc, &both, &manner, &ignored, quiet, files, out, err)
         }
         None => {
             let one = [definition];
-            lint_but(alloc, &one, &manner, rules, quiet, files, out, err)
+            lint_but(alloc, &one, &manner, &ignored, quiet, files, out, err)
         }
     }
 }

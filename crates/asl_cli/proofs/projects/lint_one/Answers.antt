@@ -10,7 +10,7 @@ returns-in-Some g c = (
   record { machine = c.text_of.ensures; format = refl; strict = refl },
   linted_as (file_system (g.F.Files.gives c.args.files.now) (g.F.Files.lacks c.args.files.now))
       (io (sink_use g.O.Sink.taken g.O.Sink.failures c.args.out.now c.lint_but.new.out) (sink_use g.E.Sink.taken g.E.Sink.failures c.args.err.now c.lint_but.new.err) c.lint_but.result)
-      c.args.quiet _ c.names-rules.result.now c.args.workflow.now.ignore _ _ c.names-rules.ensures
+      c.args.quiet _ (rules_in c.ignored) (c.args.workflow.now.ignore ++ said_all c.args.lists.now.ignored.items) _ _ (rw (c.names.ensures, c.as_slice.ensures.value))
       (both_named c.args.workflow.now c.wanted_as-definition.result c.wanted_as.result c.as_str.result.now c.in-Some.mocks.now c.wanted_as-definition.ensures c.as_str.ensures c.wanted_as.ensures c.in-Some.ensures)
       c.lint_but.ensures,
 )
@@ -21,7 +21,7 @@ returns-in-None g c = (
   record { machine = c.text_of.ensures; format = refl; strict = refl },
   linted_as (file_system (g.F.Files.gives c.args.files.now) (g.F.Files.lacks c.args.files.now))
       (io (sink_use g.O.Sink.taken g.O.Sink.failures c.args.out.now c.lint_but-in-None.new.out) (sink_use g.E.Sink.taken g.E.Sink.failures c.args.err.now c.lint_but-in-None.new.err) c.lint_but-in-None.result)
-      c.args.quiet _ c.names-rules.result.now c.args.workflow.now.ignore _ _ c.names-rules.ensures
+      c.args.quiet _ (rules_in c.ignored) (c.args.workflow.now.ignore ++ said_all c.args.lists.now.ignored.items) _ _ (rw (c.names.ensures, c.as_slice.ensures.value))
       (one_named c.args.workflow.now c.wanted_as-definition.result c.as_str.result.now c.wanted_as-definition.ensures c.as_str.ensures c.in-None.ensures)
       c.lint_but-in-None.ensures,
 )
