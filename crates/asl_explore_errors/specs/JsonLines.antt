@@ -1,7 +1,8 @@
 -- What was found under plans as lines of JSON: one for each rule, then one for each plan.
-use Rattle.std.specs.Prelude.{ℕ, zero, suc, ◌+◌, List, [], ◌∷◌, ◌++◌, Bool, true, false, not, Option, Some, None, slice_get, codes}
+use Rattle.std.specs.Prelude.{ℕ, zero, suc, ◌+◌, List, [], ◌∷◌, ◌++◌, Bool, true, false, Option, Some, None, slice_get, codes}
 use Rattle.std.specs.Fmt.{decimal}
 use Rattle.asl_json_data.specs.Compact.{compact, quoted}
+use Rattle.asl_json_data.specs.Data.{Data}
 use Rattle.asl_json.specs.View.{data_of}
 use Rattle.asl_error_plans.specs.declared.injected.InjectedError.{InjectedError}
 use Rattle.asl_error_plans.specs.declared.outcomes.PlanOutcomes.{PlanOutcomes}
@@ -34,19 +35,45 @@ abbrev pub text_member : List ℕ → Option (List ℕ) → List ℕ
 text_member name None = []
 text_member name (Some t) = 44 ∷ (quoted name ++ (58 ∷ quoted t))
 
+-- the same of a value, and of whether something is so
+unfoldable pub value_member : List ℕ → Data → List ℕ
+value_member name d = 44 ∷ (quoted name ++ (58 ∷ compact d))
+
+unfoldable pub flag_member : List ℕ → Bool → List ℕ
+flag_member name b = 44 ∷ (quoted name ++ (58 ∷ bool_word b))
+
+-- the name of a list, and its beginning
+unfoldable pub list_head : List ℕ → List ℕ
+list_head name = 44 ∷ (quoted name ++ codes ":[")
+
 -- ---- a plan
 
+-- the state and the number of the invocation
+unfoldable pub invocation_members : InjectedError → List ℕ
+invocation_members e = codes "\"state\":" ++ (quoted e.state ++ (codes ",\"invocation\":" ++ (decimal e.number ++ 44 ∷ [])))
+
+-- the error, and whether later invocations end in it, too
+unfoldable pub error_members : InjectedError → List ℕ
+error_members e = codes "\"error\":" ++ (quoted e.error ++ flag_member (codes "always") e.for_good)
+
 unfoldable pub error_object : InjectedError → List ℕ
-error_object e =
-    codes "{\"state\":" ++ (quoted e.state ++ (codes ",\"invocation\":" ++ (decimal e.number
-    ++ (codes ",\"error\":" ++ (quoted e.error ++ (codes ",\"always\":" ++ (bool_word e.for_good ++ 125 ∷ [])))))))
+error_object e = 123 ∷ (invocation_members e ++ (error_members e ++ 125 ∷ []))
+
+unfoldable pub status_head : List ℕ → List ℕ
+status_head status = codes "{\"status\":" ++ quoted status
+
+unfoldable pub success_object : Data → List ℕ
+success_object d = status_head (codes "SUCCEEDED") ++ (value_member (codes "output") d ++ 125 ∷ [])
+
+unfoldable pub failure_object : Option (List ℕ) → Option (List ℕ) → List ℕ
+failure_object error cause =
+    status_head (codes "FAILED") ++ (text_member (codes "error") error ++ (text_member (codes "cause") cause ++ 125 ∷ []))
 
 -- how an execution ended
 abbrev pub outcome_object : Outcome → List ℕ
 outcome_object Running = codes "{\"status\":\"RUNNING\"}"
-outcome_object (Succeeded x) = codes "{\"status\":\"SUCCEEDED\",\"output\":" ++ (compact (data_of x) ++ 125 ∷ [])
-outcome_object (Failed e) =
-    codes "{\"status\":\"FAILED\"" ++ (text_member (codes "error") e.error ++ (text_member (codes "cause") e.cause ++ 125 ∷ []))
+outcome_object (Succeeded x) = success_object (data_of x)
+outcome_object (Failed e) = failure_object e.error e.cause
 outcome_object TimedOut = codes "{\"status\":\"TIMED_OUT\",\"error\":\"States.Timeout\"}"
 
 abbrev pub found_object : Found → List ℕ
@@ -66,12 +93,25 @@ abbrev pub broken_in : Option Witnesses → List ℕ
 broken_in None = []
 broken_in (Some w) = numbers_from 0 w.refused.items
 
--- its errors, its outcomes, whether an order never ends, whether all orders were tried, and the rules against which one ends
+-- its errors
+unfoldable pub plan_member : List InjectedError → List ℕ
+plan_member es = codes "\"plan\":[" ++ (items_from error_object 0 es ++ 93 ∷ [])
+
+-- its outcomes
+unfoldable pub outcomes_member : List Found → List ℕ
+outcomes_member fs = list_head (codes "outcomes") ++ (items_from found_object 0 fs ++ 93 ∷ [])
+
+-- whether an order never ends, and whether all orders were tried
+unfoldable pub search_members : PlanOutcomes → List ℕ
+search_members p = flag_member (codes "endless") p.endless ++ flag_member (codes "complete") p.complete
+
+-- the rules against which an order ends
+unfoldable pub broken_member : List ℕ → List ℕ
+broken_member ns = list_head (codes "broken") ++ (items_from decimal 0 ns ++ 93 ∷ [])
+
 unfoldable pub plan_object : PlanOutcomes → Option Witnesses → List ℕ
 plan_object p w =
-    codes "{\"plan\":[" ++ (items_from error_object 0 p.plan.items ++ (codes "],\"outcomes\":[" ++ (items_from found_object 0 (ends_of w)
-    ++ (codes "],\"endless\":" ++ (bool_word p.endless ++ (codes ",\"complete\":" ++ (bool_word p.complete
-    ++ (codes ",\"broken\":[" ++ (items_from decimal 0 (broken_in w) ++ codes "]}\n")))))))))
+    123 ∷ (plan_member p.plan.items ++ (outcomes_member (ends_of w) ++ (search_members p ++ (broken_member (broken_in w) ++ codes "}\n"))))
 
 -- plans, of which the first has this number
 abbrev pub plan_lines : List Witnesses → ℕ → List PlanOutcomes → List ℕ

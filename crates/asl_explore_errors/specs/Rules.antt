@@ -48,9 +48,13 @@ verdict_word Broken = codes "broken"
 verdict_word Holds = codes "holds"
 verdict_word Unknown = codes "unknown"
 
+-- between spaces
+unfoldable pub verdict_between : Verdict → List ℕ
+verdict_between v = 32 ∷ (verdict_word v ++ 32 ∷ [])
+
 -- the number, from 1, what is known, and the rule
 unfoldable pub rule_head : ℕ → Verdict → List ℕ → List ℕ
-rule_head n v rule = codes "rule " ++ (decimal (n + 1) ++ (32 ∷ (verdict_word v ++ (32 ∷ (rule ++ 10 ∷ [])))))
+rule_head n v rule = codes "rule " ++ (decimal (n + 1) ++ (verdict_between v ++ (rule ++ 10 ∷ [])))
 
 -- each of these plans, the first of which has this number, under which one was met
 abbrev pub broken_from : ℕ → List Witnesses → ℕ → List PlanOutcomes → List ℕ

@@ -1,9 +1,8 @@
 // What was found under plans as lines of JSON.
-ghost use Rattle.std.specs.Prelude.{◌≡◌, ◌<◌, ◌++◌, ◌∷◌, [], Some, codes, map, option_copied, IfOk, OnOk, string_bytes};
+ghost use Rattle.std.specs.Prelude.{◌≡◌, ◌<◌, ◌++◌, Some, map, option_copied, slice_get, IfOk, OnOk, string_bytes};
 ghost use Rattle.std.specs.Fmt.{decimal};
 ghost use Rattle.asl_json.specs.View.{data_of};
-ghost use Rattle.asl_json_data.specs.Compact.{compact};
-ghost use Rattle.asl_explore_errors.specs.JsonLines.{bool_word, broken_in, comma_at, ends_of, error_object, found_object, items_from, json_lines, numbers_from, outcome_object, plan_lines, plan_object, rule_lines, rule_object, steps_member, text_member};
+ghost use Rattle.asl_explore_errors.specs.JsonLines.{bool_word, broken_in, broken_member, comma_at, ends_of, error_members, error_object, failure_object, flag_member, found_object, invocation_members, items_from, json_lines, list_head, numbers_from, outcome_object, outcomes_member, plan_lines, plan_member, plan_object, rule_lines, rule_object, search_members, status_head, steps_member, success_object, text_member, value_member};
 
 use crate::rules::{first_refusal, verdict_of};
 use crate::tried::{ErrorsFound, Witnesses};
@@ -56,6 +55,37 @@ fn put_text_if(out: &mut String, name: &str, text: &Option<Txt>) -> Result<(), A
     }
 }
 
+#[tactic(auto, unfolding(crate::specs::JsonLines::value_member))]
+fn put_json(out: &mut String, name: &str, value: &Json) -> Result<(), AllocError>
+    ensures { OnOk result (string_bytes out.new
+        ≡ string_bytes out.old ++ value_member name.now (data_of value.now)) }
+{
+    out.push(',')?;
+    put_quoted(out, name)?;
+    out.push(':')?;
+    put(out, value)
+}
+
+#[tactic(auto, unfolding(crate::specs::JsonLines::flag_member))]
+fn put_flag(out: &mut String, name: &str, value: bool) -> Result<(), AllocError>
+    ensures { OnOk result (string_bytes out.new ≡ string_bytes out.old ++ flag_member name.now value) }
+{
+    out.push(',')?;
+    put_quoted(out, name)?;
+    out.push(':')?;
+    put_bool(out, value)
+}
+
+/// Appends the name of a list, and its beginning.
+#[tactic(auto, unfolding(crate::specs::JsonLines::list_head))]
+fn put_list_head(out: &mut String, name: &str) -> Result<(), AllocError>
+    ensures { OnOk result (string_bytes out.new ≡ string_bytes out.old ++ list_head name.now) }
+{
+    out.push(',')?;
+    put_quoted(out, name)?;
+    out.push_str(":[")
+}
+
 fn put_numbers(out: &mut String, numbers: &[u64]) -> Result<(), AllocError>
     ensures { OnOk result (string_bytes out.new ≡ string_bytes out.old ++ items_from decimal 0 numbers.now) }
 {
@@ -68,18 +98,35 @@ fn put_numbers(out: &mut String, numbers: &[u64]) -> Result<(), AllocError>
 
 // ---- a plan
 
+/// Appends the invocation that ends in an error.
+#[tactic(auto, unfolding(crate::specs::JsonLines::invocation_members))]
+fn put_invocation(out: &mut String, error: &InjectedError) -> Result<(), AllocError>
+    ensures { OnOk result (string_bytes out.new ≡ string_bytes out.old ++ invocation_members error.now) }
+{
+    out.push_str("\"state\":")?;
+    put_quoted(out, error.state.as_str())?;
+    out.push_str(",\"invocation\":")?;
+    put_decimal(out, u64::from(error.number))?;
+    out.push(',')
+}
+
+/// Appends the error, and whether later invocations end in it, too.
+#[tactic(auto, unfolding(crate::specs::JsonLines::error_members))]
+fn put_name(out: &mut String, error: &InjectedError) -> Result<(), AllocError>
+    ensures { OnOk result (string_bytes out.new ≡ string_bytes out.old ++ error_members error.now) }
+{
+    out.push_str("\"error\":")?;
+    put_quoted(out, error.error.as_str())?;
+    put_flag(out, "always", error.for_good)
+}
+
 #[tactic(auto, unfolding(crate::specs::JsonLines::error_object))]
 fn put_error(out: &mut String, error: &InjectedError) -> Result<(), AllocError>
     ensures { OnOk result (string_bytes out.new ≡ string_bytes out.old ++ error_object error.now) }
 {
-    out.push_str("{\"state\":")?;
-    put_quoted(out, error.state.as_str())?;
-    out.push_str(",\"invocation\":")?;
-    put_decimal(out, u64::from(error.number))?;
-    out.push_str(",\"error\":")?;
-    put_quoted(out, error.error.as_str())?;
-    out.push_str(",\"always\":")?;
-    put_bool(out, error.for_good)?;
+    out.push('{')?;
+    put_invocation(out, error)?;
+    put_name(out, error)?;
     out.push('}')
 }
 
@@ -93,20 +140,31 @@ fn put_errors(out: &mut String, plan: &[InjectedError]) -> Result<(), AllocError
     Ok(())
 }
 
-fn put_success(out: &mut String, output: &Json) -> Result<(), AllocError>
-    ensures { OnOk result (string_bytes out.new ≡ string_bytes out.old
-        ++ (codes "{\"status\":\"SUCCEEDED\",\"output\":" ++ (compact (data_of output.now) ++ 125 ∷ []))) }
+/// Appends the beginning of an outcome.
+#[tactic(auto, unfolding(crate::specs::JsonLines::status_head))]
+fn put_status(out: &mut String, status: &str) -> Result<(), AllocError>
+    ensures { OnOk result (string_bytes out.new ≡ string_bytes out.old ++ status_head status.now) }
 {
-    out.push_str("{\"status\":\"SUCCEEDED\",\"output\":")?;
-    put(out, output)?;
+    out.push_str("{\"status\":")?;
+    put_quoted(out, status)
+}
+
+#[tactic(auto, unfolding(crate::specs::JsonLines::success_object))]
+fn put_success(out: &mut String, output: &Json) -> Result<(), AllocError>
+    ensures { OnOk result (string_bytes out.new
+        ≡ string_bytes out.old ++ success_object (data_of output.now)) }
+{
+    put_status(out, "SUCCEEDED")?;
+    put_json(out, "output", output)?;
     out.push('}')
 }
 
+#[tactic(auto, unfolding(crate::specs::JsonLines::failure_object))]
 fn put_failure(out: &mut String, error: &Option<Txt>, cause: &Option<Txt>) -> Result<(), AllocError>
-    ensures { OnOk result (string_bytes out.new ≡ string_bytes out.old
-        ++ (codes "{\"status\":\"FAILED\"" ++ (text_member (codes "error") error.now ++ (text_member (codes "cause") cause.now ++ 125 ∷ [])))) }
+    ensures { OnOk result (string_bytes out.new
+        ≡ string_bytes out.old ++ failure_object error.now cause.now) }
 {
-    out.push_str("{\"status\":\"FAILED\"")?;
+    put_status(out, "FAILED")?;
     put_text_if(out, "error", error)?;
     put_text_if(out, "cause", cause)?;
     out.push('}')
@@ -169,6 +227,42 @@ fn broken_in(alloc: Global, under: Option<&Witnesses>) -> Result<Vec<u64>, Alloc
     }
 }
 
+#[tactic(auto, unfolding(crate::specs::JsonLines::plan_member))]
+fn put_plan_member(out: &mut String, plan: &[InjectedError]) -> Result<(), AllocError>
+    ensures { OnOk result (string_bytes out.new ≡ string_bytes out.old ++ plan_member plan.now) }
+{
+    out.push_str("\"plan\":[")?;
+    put_errors(out, plan)?;
+    out.push(']')
+}
+
+#[tactic(auto, unfolding(crate::specs::JsonLines::outcomes_member))]
+fn put_outcomes(out: &mut String, found: &[Found]) -> Result<(), AllocError>
+    ensures { OnOk result (string_bytes out.new ≡ string_bytes out.old ++ outcomes_member found.now) }
+{
+    put_list_head(out, "outcomes")?;
+    put_ends(out, found)?;
+    out.push(']')
+}
+
+/// Appends whether an order never ends, and whether all orders were tried.
+#[tactic(auto, unfolding(crate::specs::JsonLines::search_members))]
+fn put_search(out: &mut String, plan: &PlanOutcomes) -> Result<(), AllocError>
+    ensures { OnOk result (string_bytes out.new ≡ string_bytes out.old ++ search_members plan.now) }
+{
+    put_flag(out, "endless", plan.endless)?;
+    put_flag(out, "complete", plan.complete)
+}
+
+#[tactic(auto, unfolding(crate::specs::JsonLines::broken_member))]
+fn put_broken_rules(out: &mut String, numbers: &[u64]) -> Result<(), AllocError>
+    ensures { OnOk result (string_bytes out.new ≡ string_bytes out.old ++ broken_member numbers.now) }
+{
+    put_list_head(out, "broken")?;
+    put_numbers(out, numbers)?;
+    out.push(']')
+}
+
 /// Appends what comes of a plan.
 #[tactic(auto, unfolding(crate::specs::JsonLines::plan_object))]
 fn put_plan(
@@ -181,17 +275,19 @@ fn put_plan(
         ≡ string_bytes out.old ++ plan_object plan.now (option_copied under.entry)) }
 {
     let broken = broken_in(alloc, under)?;
-    out.push_str("{\"plan\":[")?;
-    put_errors(out, &plan.plan)?;
-    out.push_str("],\"outcomes\":[")?;
-    put_ends(out, ends_of(under))?;
-    out.push_str("],\"endless\":")?;
-    put_bool(out, plan.endless)?;
-    out.push_str(",\"complete\":")?;
-    put_bool(out, plan.complete)?;
-    out.push_str(",\"broken\":[")?;
-    put_numbers(out, &broken)?;
-    out.push_str("]}\n")
+    out.push('{')?;
+    put_plan_member(out, &plan.plan)?;
+    put_outcomes(out, ends_of(under))?;
+    put_search(out, plan)?;
+    put_broken_rules(out, &broken)?;
+    out.push_str("}\n")
+}
+
+/// What was found under the plan of a number, from 0.
+fn under_at(found: &[Witnesses], plan: usize) -> Option<&Witnesses>
+    ensures { option_copied result ≡ slice_get found.now plan }
+{
+    found.get(plan)
 }
 
 fn put_plan_lines(alloc: Global, out: &mut String, found: &ErrorsFound) -> Result<(), AllocError>
@@ -199,7 +295,7 @@ fn put_plan_lines(alloc: Global, out: &mut String, found: &ErrorsFound) -> Resul
         ≡ string_bytes out.old ++ plan_lines found.now.found.items 0 found.now.plans.items) }
 {
     for (number, plan) in found.plans.iter().enumerate() {
-        put_plan(alloc, out, plan, found.found.get(number))?;
+        put_plan(alloc, out, plan, under_at(&found.found, number))?;
     }
     Ok(())
 }

@@ -1,7 +1,7 @@
 // What is told of rules that are judged under each plan.
 ghost use Rattle.std.specs.Prelude.{◌≡◌, ◌<◌, ◌++◌, map, option_copied, slice_get, OnOk, string_bytes};
 ghost use Rattle.std.specs.List.{count_by, list_any};
-ghost use Rattle.asl_explore_errors.specs.Rules.{are_kept, breaks, breaks_at, broken_from, broken_section, first_refusal, order_of, refusal_in, rule_head, rule_section, rules_from, section_by, verdict_of, verdict_word};
+ghost use Rattle.asl_explore_errors.specs.Rules.{are_kept, breaks, breaks_at, broken_from, broken_section, first_refusal, order_of, refusal_in, rule_head, rule_section, rules_from, section_by, verdict_between, verdict_of, verdict_word};
 
 use crate::tried::{ErrorsFound, Witnesses};
 use asl_error_plans::{PlanOutcomes, are_cut, put_plan_if, put_plan_number};
@@ -97,6 +97,16 @@ impl Verdict {
     }
 }
 
+/// Appends what is known of a rule, between spaces.
+#[tactic(auto, unfolding(crate::specs::Rules::verdict_between))]
+fn put_verdict(out: &mut String, verdict: Verdict) -> Result<(), AllocError>
+    ensures { OnOk result (string_bytes out.new ≡ string_bytes out.old ++ verdict_between verdict) }
+{
+    out.push(' ')?;
+    out.push_str(verdict.word())?;
+    out.push(' ')
+}
+
 /// Appends the number of a rule, from 1, what is known of it, and the rule.
 #[tactic(auto, unfolding(crate::specs::Rules::rule_head))]
 fn put_head(out: &mut String, number: usize, verdict: Verdict, rule: &str) -> Result<(), AllocError>
@@ -105,9 +115,7 @@ fn put_head(out: &mut String, number: usize, verdict: Verdict, rule: &str) -> Re
 {
     out.push_str("rule ")?;
     put_decimal(out, number as u64 + 1)?;
-    out.push(' ')?;
-    out.push_str(verdict.word())?;
-    out.push(' ')?;
+    put_verdict(out, verdict)?;
     out.push_str(rule)?;
     out.push('\n')
 }
