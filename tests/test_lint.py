@@ -1,9 +1,11 @@
 """The command lint: what it finds, where, in which words and formats, and its status."""
+import hashlib
 import json
 import os
+import subprocess
 import tempfile
 
-from program import TOP, ProgramTest, run_program, without_mending
+from program import PROGRAM, TOP, ProgramTest, run_program, without_mending
 
 # A definition without faults, and mocks for it.
 GOOD = """\
@@ -307,6 +309,15 @@ class LintTest(ProgramTest):
         for result, it in zip(results, found):
             (location,) = result["locations"]
             self.assertEqual(location["physicalLocation"]["region"], {"startLine": it["line"], "startColumn": it["column"]})
+        commands = [
+            f"::{it['severity']} file={it['file']},line={it['line']},col={it['column']},title={it['name']}::{it['message'].replace('%', '%25')}" for it in found
+        ]
+        self.assertEqual(self.lint(definition, "--format", "github", mocks=mocks).stdout.splitlines(), commands)
+        issues = json.loads(self.lint(definition, "--format", "gitlab", mocks=mocks).stdout)
+        self.assertEqual(
+            [(it["check_name"], it["description"], it["location"]["lines"], it["severity"]) for it in issues],
+            [(it["name"], it["message"], {"begin": it["line"]}, "major" if it["severity"] == "error" else "minor") for it in found],
+        )
 
     def test_a_file_name_as_a_uri(self):
         with tempfile.TemporaryDirectory(prefix="asl-test-") as room:
@@ -365,6 +376,57 @@ class LintTest(ProgramTest):
         places = [it["locations"][0]["physicalLocation"] for it in results]
         self.assertEqual([place["region"] for place in places], [{"startLine": 13, "startColumn": 74}, {"startLine": 10, "startColumn": 5}])
         self.assertTrue(places[0]["artifactLocation"]["uri"].endswith("d.json"))
+
+    def test_github(self):
+        ran = self.lint(GOOD.replace('"Next": "Ship"', '"Next": "Ship, 9:5 at 100%"'), "--format", "github")
+        told = 'Next names "Ship, 9:5 at 100%25", and no state of this machine has that name'
+        self.assertEqual((ran.returncode, ran.stdout), (1, f"::error file=d.json,line=13,col=74,title=F10::{told}\n"))
+        ran = self.lint(GOOD, "--format", "github")
+        self.assertEqual((ran.returncode, ran.stdout, ran.stderr), (0, "", ""))
+        ran = self.lint(GOOD.replace("States.Timeout", "States.Timout"), "--format", "github")
+        self.assertRegex(ran.stdout, r"\A::warning file=d\.json,line=8,col=35,title=unknown-error::no error is named [^\n]+\n\Z")
+
+    def test_a_file_name_in_a_workflow_command(self):
+        with tempfile.TemporaryDirectory(prefix="asl-test-") as room:
+            name = os.path.join(room, "a,b:c%d\r\n\u00e9 e.json")
+            with open(name, "w", encoding="utf-8") as file:
+                file.write('{"States":{}}')
+            ran = subprocess.run([PROGRAM, "lint", name, "--format", "github"], stdin=subprocess.DEVNULL, capture_output=True, check=False, timeout=60)
+        line = f"::error file={room}/a%2Cb%3Ac%25d%0D%0A\u00e9 e.json,line=1,col=13,title=F3::StartAt is missing: the definition needs it\n"
+        self.assertEqual(ran.stdout, line.encode())
+
+    def test_gitlab(self):
+        faulty = GOOD.replace('"Next": "Ship"', '"Next": "Shipp"').replace("States.Timeout", "States.Timout")
+        ran = self.lint(faulty, "--format", "gitlab")
+        self.assertEqual((ran.returncode, ran.stderr, ran.stdout.count("\n")), (1, "", 1))
+        warning, error = json.loads(ran.stdout)
+        self.assertEqual(list(error), ["description", "check_name", "fingerprint", "severity", "location"])
+        self.assertEqual((warning["check_name"], warning["severity"]), ("unknown-error", "minor"))
+        self.assertEqual((error["check_name"], error["severity"], error["location"]), ("F10", "major", {"path": "d.json", "lines": {"begin": 13}}))
+        self.assertEqual(self.lint(GOOD, "--format", "gitlab").stdout, "[]\n")
+
+    def test_fingerprints(self):
+        def fingerprints(names, texts):
+            """The fingerprints for files, and what they are to be."""
+            with tempfile.TemporaryDirectory(prefix="asl-test-") as room:
+                for name, text in texts.items():
+                    with open(os.path.join(room, name), "w", encoding="utf-8") as file:
+                        file.write(text)
+                ran = subprocess.run([PROGRAM, "lint", *names, "--format", "gitlab"], cwd=room, stdin=subprocess.DEVNULL, capture_output=True, check=False, timeout=60)
+            issues, seen, wanted = json.loads(ran.stdout), [], []
+            for it in issues:
+                kept = f"{it['check_name']}\n{it['location']['path']}\n{it['description']}"
+                wanted.append(hashlib.sha1(f"{seen.count(kept)}\n{kept}".encode()).hexdigest())
+                seen.append(kept)
+            return [it["fingerprint"] for it in issues], wanted
+
+        same = '{"StartAt":"A","States":{%s}}' % ",".join(f'"{name}":{{"Type":"Pass","Next":"?"}}' for name in "ABC")
+        for names in [["d.json"], ["d.json", "e.json"], ["d.json", "d.json"]]:
+            told, wanted = fingerprints(names, {"d.json": same, "e.json": same})
+            self.assertEqual(told, wanted)
+            self.assertEqual(len(set(told)), 3 * len(names))
+        # lines that are put in change none
+        self.assertEqual(fingerprints(["d.json"], {"d.json": same.replace(",", ",\n\n")}), fingerprints(["d.json"], {"d.json": same}))
 
     def test_the_first_fault_of_check_is_among_them(self):
         ran = run_program("check", f"{TOP}/examples/refused.json")

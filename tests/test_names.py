@@ -53,7 +53,7 @@ class Names(unittest.TestCase):
         script = self.file("script", f'break "{spelled}"\nstep / 1970-01-01T00:00:00Z\nshow /\n')
         lines = [[command, given[0]] for command in ("check", "print", "upgrade", "graph")]
         lines += [["graph", given[0], "--format", "dot"], ["mocks", given[0], name]]
-        lines += [["lint", *given[:2], "--format", kind] for kind in ("text", "json", "sarif")]
+        lines += [["lint", *given[:2], "--format", kind] for kind in ("text", "json", "sarif", "github", "gitlab")]
         lines += [["run", *given, "--format", kind] for kind in ("text", "json", "aws", "steps", "tree", "data")]
         lines += [["debug", *given, script], ["explore", *given], ["explore", *given, "--calls"]]
         lines += [suite, [*suite, "--coverage"], [*suite, "--format", "junit"], [*suite, "--format", "json"]]
@@ -93,7 +93,7 @@ class Names(unittest.TestCase):
                 ran = run_program(*words)
                 self.assertEqual((ran.returncode, ran.stdout, without_mending(ran.stderr).count("\n")), (2, "", 1), (name, words[0], ran.stderr))
                 self.assertEqual(UNSHOWN.findall(ran.stderr), [], (name, ran.stderr))
-            for kind in ("text", "json", "sarif"):
+            for kind in ("text", "json", "sarif", "github", "gitlab"):
                 found = run_program("lint", self.file("wrong", wrong), self.file("gap", mocks(name, {"0": {name: 1}})), "--format", kind)
                 self.assertEqual((found.returncode, found.stderr), (1, ""), (name, kind))
                 self.assertEqual(UNSHOWN.findall(found.stdout), [], (name, kind))

@@ -15,7 +15,7 @@ COMMANDS = [
     ["check", DEFINITION],
     ["print", DEFINITION],
     ["upgrade", DEFINITION],
-    *(["lint", f"{TOP}/examples/refused.json", MOCKS, "--format", kind] for kind in ["text", "json", "sarif"]),
+    *(["lint", f"{TOP}/examples/refused.json", MOCKS, "--format", kind] for kind in ["text", "json", "sarif", "github", "gitlab"]),
     *(["graph", DEFINITION, "--format", kind] for kind in ["mermaid", "markdown", "dot"]),
     ["mocks", DEFINITION],
     ["run", *SETUP],

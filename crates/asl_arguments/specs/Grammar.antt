@@ -66,12 +66,16 @@ project_argument = free (codes "project") text ∷ []
 abbrev pub check_arguments : List Argument
 check_arguments = subject_arguments project_argument
 
+abbrev pub lint_formats : List Text
+lint_formats =
+    codes "text" ∷ codes "json" ∷ codes "sarif" ∷ codes "github" ∷ codes "gitlab" ∷ []
+
 abbrev pub lint_arguments : List Argument
 lint_arguments =
     free (codes "FILE") words ∷ free (codes "mocks") text ∷ free (codes "expect") text
     ∷ free (codes "input") text ∷ free (codes "steps") text ∷ free (codes "script") text
     ∷ free (codes "machine") text
-    ∷ preset (codes "format") (choice (codes "text" ∷ codes "json" ∷ codes "sarif" ∷ [])) (codes "text")
+    ∷ preset (codes "format") (choice lint_formats) (codes "text")
     ∷ free (codes "strict") flag ∷ free (codes "ignore") texts ∷ project_argument
 
 abbrev pub graph_arguments : List Argument

@@ -133,7 +133,7 @@ const LINT: &[Argument] = &[
     },
     Argument {
         name: "format",
-        kind: Choice(&["text", "json", "sarif"]),
+        kind: Choice(&["text", "json", "sarif", "github", "gitlab"]),
         presence: Default(&["text"]),
         help: Help::LintFormat,
     },

@@ -9,12 +9,14 @@ use Rattle.asl_lint.specs.Rules.{rule_name}
 use Rattle.asl_lint.specs.Lines.{lines_of}
 use Rattle.asl_lint.specs.JsonLines.{json_lines}
 use Rattle.asl_lint.specs.Sarif.{sarif_text}
+use Rattle.asl_lint.specs.Github.{github_text}
+use Rattle.asl_lint.specs.Gitlab.{gitlab_text}
 use Rattle.asl_lint_files.specs.declared.kinds.Role.{Role}
 use Rattle.asl_lint_files.specs.declared.kinds.Role.TheVariants as role
 use Rattle.asl_lint_files.specs.declared.linting.LintFile.{LintFile}
 use Rattle.asl_lint_files.specs.Linted.{AreAllLinted, Each}
 use Rattle.asl_words.specs.declared.words.LintFormat.{LintFormat}
-use Rattle.asl_words.specs.declared.words.LintFormat.TheVariants.{Text, Json, Sarif}
+use Rattle.asl_words.specs.declared.words.LintFormat.TheVariants.{Text, Json, Sarif, Github, Gitlab}
 use Rattle.asl_words.specs.declared.words.LintWords.{LintWords}
 use Rattle.asl_arguments.specs.declared.found.Lists.{Lists}
 use Rattle.asl_arguments.specs.Given.{said_all}
@@ -108,6 +110,8 @@ abbrev pub text_in : LintFormat → Bool → List FileReport → List ℕ
 text_in Text has_others rs = lines_of rs
 text_in Json has_others rs = json_lines rs
 text_in Sarif has_others rs = sarif_text has_others rs
+text_in Github has_others rs = github_text rs
+text_in Gitlab has_others rs = gitlab_text rs
 
 -- the rules that a workflow ignores, and those that are named
 abbrev pub rules_in : Ignored → List (List ℕ)

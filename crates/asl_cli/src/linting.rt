@@ -17,7 +17,7 @@ use asl_arguments::Lists;
 use asl_history::Sink;
 use asl_host::{Files, write_piece};
 use asl_json::Txt;
-use asl_lint::{FileReport, Finding, is_good, json, sarif, text};
+use asl_lint::{FileReport, Finding, github, gitlab, is_good, json, sarif, text};
 use asl_lint_files::{LintFile, LintedFiles, Role};
 use asl_words::{LintFormat, LintWords};
 use std::alloc::{AllocError, Global};
@@ -413,6 +413,8 @@ fn text_of(
         LintFormat::Text => text(alloc, files),
         LintFormat::Json => json(alloc, files),
         LintFormat::Sarif => sarif(alloc, has_others, files),
+        LintFormat::Github => github(alloc, files),
+        LintFormat::Gitlab => gitlab(alloc, files),
     }
 }
 

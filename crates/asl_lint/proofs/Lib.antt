@@ -3,3 +3,4 @@ pub mod Mocking
 pub mod Writing
 pub mod Sorting
 pub mod Sentences
+pub mod Issuing

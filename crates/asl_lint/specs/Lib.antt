@@ -8,4 +8,6 @@ pub mod Rules
 pub mod Lines
 pub mod JsonLines
 pub mod Sarif
+pub mod Github
+pub mod Gitlab
 pub mod private

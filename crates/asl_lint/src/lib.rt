@@ -2,12 +2,14 @@
 //!
 //! Modules in reading order: `rule`, `finding` and `report` are what is told, and `part` at what it points, and `noting` tells something at a place; `json_faults` says what is wrong with a text that is no JSON; `placing` finds
 //! lines and columns; `definition` has the findings of a definition, `mocks` those of a mock file, by itself and beside a definition, `mock_words` and `gaps` what
-//! is said of them, and `linting` all; `lines`, `json_lines` and `sarif_log` are the formats, and `pieces` what they share.
+//! is said of them, and `linting` all; `lines`, `json_lines`, `sarif_log`, `github_commands` and `gitlab_issues` are the formats, and `pieces` what they share.
 #![tactic(auto)]
 
 mod definition;
 mod finding;
 mod gaps;
+mod github_commands;
+mod gitlab_issues;
 mod json_faults;
 mod json_lines;
 mod lines;
@@ -23,6 +25,8 @@ mod rule;
 mod sarif_log;
 
 pub use finding::{Finding, Found};
+pub use github_commands::github;
+pub use gitlab_issues::gitlab;
 pub use json_faults::unread;
 pub use json_lines::json;
 pub use lines::{errors, text};

@@ -6,6 +6,7 @@ ghost use Rattle.asl_json_data.specs.Grammar.{colon};
 ghost use Rattle.asl_writing.specs.Appends.{Appends};
 ghost use Rattle.asl_lint.specs.Lines.{column_of, line_of};
 ghost use Rattle.asl_lint.specs.Rules.{rule_name, severity_of, word_of};
+ghost use Rattle.asl_lint.specs.private.Writing.{comma_if};
 
 use crate::finding::Finding;
 use crate::rule::Rule;
@@ -32,6 +33,23 @@ pub(crate) fn put_char(out: &mut String, c: char) -> Result<(), AllocError>
     ensures { OnOk result (Appends (string_bytes out.old) (c ∷ []) (string_bytes out.new)) }
 {
     out.push(c)
+}
+
+/// Appends a text as it is.
+pub(crate) fn put_plain(out: &mut String, text: &str) -> Result<(), AllocError>
+    ensures { OnOk result (Appends (string_bytes out.old) text.now (string_bytes out.new)) }
+{
+    out.push_str(text)
+}
+
+/// Appends a comma where something stands before.
+pub(crate) fn separate(out: &mut String, is_begun: bool) -> Result<(), AllocError>
+    ensures { OnOk result (Appends (string_bytes out.old) (comma_if is_begun) (string_bytes out.new)) }
+{
+    if is_begun {
+        put_char(out, ',')?;
+    }
+    Ok(())
 }
 
 /// Appends the name of a member.

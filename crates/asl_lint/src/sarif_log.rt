@@ -6,10 +6,12 @@ ghost use Rattle.asl_writing.specs.Appends.{Appends};
 ghost use Rattle.asl_lint.specs.Rules.{sentence};
 ghost use Rattle.asl_lint.specs.Sarif.{artifact, configuration, driver, file_rules, is_unreserved, location, locations, log, message, more_rules, region, result_object, results, rule_object, rules, rules_told, run, runs, sarif_text, stretch, tool, upper_digit, uri, uri_byte};
 ghost use Rattle.asl_lint.specs.Told.{has_some};
-ghost use Rattle.asl_lint.specs.private.Writing.{comma_if, more_items, more_results};
+ghost use Rattle.asl_lint.specs.private.Writing.{more_items, more_results};
 
 use crate::finding::Finding;
-use crate::pieces::{put_char, put_column, put_key, put_level, put_line, put_name, put_text};
+use crate::pieces::{
+    put_char, put_column, put_key, put_level, put_line, put_name, put_text, separate,
+};
 use crate::report::FileReport;
 use crate::rule::{FileRule, MockRule, Rule};
 use asl_def_schema::FaultKind;
@@ -93,16 +95,6 @@ fn more_rules(has_others: bool) -> &'static [Rule]
     ensures { result.now ≡ more_rules has_others }
 {
     if has_others { FILE_RULES } else { &[] }
-}
-
-/// Appends a comma where something stands before.
-fn separate(out: &mut String, is_begun: bool) -> Result<(), AllocError>
-    ensures { OnOk result (Appends (string_bytes out.old) (comma_if is_begun) (string_bytes out.new)) }
-{
-    if is_begun {
-        put_char(out, ',')?;
-    }
-    Ok(())
 }
 
 /// Appends a text as an object.

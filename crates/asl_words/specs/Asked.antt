@@ -63,7 +63,9 @@ abbrev pub format_asked : {T : Type 0} → List (List ℕ × T) → Word → Opt
 format_asked rows = option_and_then (λ w. named rows w.now)
 
 abbrev pub lint_formats : List (List ℕ × LintFormat)
-lint_formats = (codes "text", lint.Text) ∷ (codes "json", lint.Json) ∷ (codes "sarif", lint.Sarif) ∷ []
+lint_formats =
+    (codes "text", lint.Text) ∷ (codes "json", lint.Json) ∷ (codes "sarif", lint.Sarif)
+    ∷ (codes "github", lint.Github) ∷ (codes "gitlab", lint.Gitlab) ∷ []
 
 abbrev pub graph_formats : List (List ℕ × GraphFormat)
 graph_formats =

@@ -280,6 +280,8 @@ fn lint_format_of(word: Option<&str>) -> Option<LintFormat>
         "text" => Some(LintFormat::Text),
         "json" => Some(LintFormat::Json),
         "sarif" => Some(LintFormat::Sarif),
+        "github" => Some(LintFormat::Github),
+        "gitlab" => Some(LintFormat::Gitlab),
         _ => None,
     }
 }

@@ -85,6 +85,10 @@ pub enum LintFormat {
     Json,
     /// One JSON text in SARIF 2.1.0.
     Sarif,
+    /// Workflow commands of GitHub Actions, each on a line.
+    Github,
+    /// One JSON text, a Code Quality report of GitLab.
+    Gitlab,
 }
 
 /// The words of `lint`, beside the names of files that stand one after another.
