@@ -1,6 +1,6 @@
 -- What the position of an offset in a document is (Language Server Protocol 3.17, "Text Documents" and "Position"), by the bytes of
 -- the document before it.
-use Rattle.std.specs.Prelude.{ℕ, ◌+◌, List, [], ◌∷◌, ◌==◌, ◌||◌, ◌&&◌, not, Bool, false, nat_lt, if◌then◌else◌}
+use Rattle.std.specs.Prelude.{ℕ, zero, suc, ◌+◌, List, [], ◌∷◌, ◌==◌, ◌||◌, ◌&&◌, not, Bool, false, nat_lt, nat_le, length, take, if◌then◌else◌}
 use Rattle.std.specs.List.{after_last, sum_by}
 use Rattle.asl_lsp_positions.specs.declared.position.Encoding.{Encoding}
 use Rattle.asl_lsp_positions.specs.declared.position.Encoding.TheVariants as encoding
@@ -50,3 +50,20 @@ width e t = sum_by (units e) t
 -- behind these bytes: the lines that end in them, and the width of what stands behind the last line end
 abbrev pub position : Encoding → List ℕ → Position
 position e t = record { line = line_ends t; character = width e (after_last is_line_end t) }
+
+-- ---- offsets of positions
+
+-- whether a position isn't behind another one
+abbrev pub is_up_to : Position → Position → Bool
+is_up_to p q = nat_lt p.line q.line || (p.line == q.line && nat_le p.character q.character)
+
+-- the last of the offsets in a text, from this one back, whose position isn't behind p
+abbrev pub last_up_to : Encoding → List ℕ → Position → ℕ → ℕ
+last_up_to e t p zero = 0
+last_up_to e t p (suc n) =
+    if is_up_to (position e (take (suc n) t)) p then suc n else last_up_to e t p n
+
+-- the offset of a position in a text: the last one whose position isn't behind it. So a character behind the end of its
+-- line is that end, a line behind the last one the end of the text, and the inside of a character its beginning
+abbrev pub offset : Encoding → List ℕ → Position → ℕ
+offset e t p = last_up_to e t p (length t)

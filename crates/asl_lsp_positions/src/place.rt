@@ -94,7 +94,7 @@ impl Place {
     }
 
     /// The next offset of a text.
-    fn next(self, encoding: Encoding, text: &[u8]) -> Place
+    pub(crate) fn next(self, encoding: Encoding, text: &[u8]) -> Place
         requires is { IsPlace encoding text.now self }
         requires inside { self.at < length text.now }
         ensures is { IsPlace encoding text.now result }

@@ -1,7 +1,7 @@
 // The positions of the offsets of a document.
 ghost use Rattle.std.specs.Prelude.{◌≡◌, ◌≤◌, IfOk, take};
 ghost use Rattle.std.specs.List.{All};
-ghost use Rattle.asl_lsp_positions.specs.Positions.{position};
+ghost use Rattle.asl_lsp_positions.specs.Positions.{position, is_up_to, offset};
 ghost use Rattle.asl_lsp_positions.specs.private.Places.{IsPlace};
 
 use crate::place::Place;
@@ -59,6 +59,29 @@ fn before(encoding: Encoding, text: &[u8], marks: &[Place], offset: usize) -> Pl
     }
 }
 
+/// Whether a position isn't behind another one.
+fn is_up_to(position: Position, other: Position) -> bool
+    ensures { result ≡ is_up_to position other }
+{
+    position.line < other.line
+        || (position.line == other.line && position.character <= other.character)
+}
+
+/// The last offset of a text whose position isn't behind this one.
+fn offset(encoding: Encoding, text: &[u8], position: Position) -> usize
+    ensures { result ≡ offset encoding text.now position }
+{
+    let mut last = 0;
+    let mut here = Place::start();
+    while here.at < text.len() {
+        here = here.next(encoding, text);
+        if is_up_to(here.position, position) {
+            last = here.at;
+        }
+    }
+    last
+}
+
 impl<'a> Positions<'a> {
     /// Reads a text once. The error is that memory ran out.
     pub fn of(alloc: Global, encoding: Encoding, text: &'a str) -> Result<Self, AllocError>
@@ -79,5 +102,13 @@ impl<'a> Positions<'a> {
     {
         let here = before(self.encoding, self.text, &self.marks, offset);
         here.forward(self.encoding, self.text, offset).position
+    }
+
+    /// The offset of a position in bytes: the last one whose position isn't behind it. It is the end of its line where the position is behind that, and the
+    /// end of the text where there is no such line. Its cost is the length of the text.
+    pub fn offset(&self, position: Position) -> usize
+        ensures { result ≡ offset self.now.0 self.now.1 position }
+    {
+        offset(self.encoding, self.text, position)
     }
 }
