@@ -13,6 +13,7 @@ code_text errors.InvalidRequest = codes "-32600"
 code_text errors.MethodNotFound = codes "-32601"
 code_text errors.InvalidParams = codes "-32602"
 code_text errors.ServerNotInitialized = codes "-32002"
+code_text errors.RequestFailed = codes "-32803"
 
 -- ---- the texts
 

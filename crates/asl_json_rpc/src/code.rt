@@ -15,6 +15,8 @@ pub enum ErrorCode {
     InvalidParams,
     /// The server has received no `initialize` so far.
     ServerNotInitialized,
+    /// The request fits, and can't be met.
+    RequestFailed,
 }
 
 impl ErrorCode {
@@ -28,6 +30,7 @@ impl ErrorCode {
             ErrorCode::MethodNotFound => "-32601",
             ErrorCode::InvalidParams => "-32602",
             ErrorCode::ServerNotInitialized => "-32002",
+            ErrorCode::RequestFailed => "-32803",
         }
     }
 }
