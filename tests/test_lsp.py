@@ -100,6 +100,85 @@ def diagnostics(text, encoding="utf-16"):
     ]
 
 
+def value_and_spans(text):
+    """The value of a JSON text, and by place (members and items by their numbers) the stretch of each key and each value, in characters."""
+    keys, values = {}, {}
+    blank = re.compile(r"[ \t\r\n]*")
+    plain = json.JSONDecoder(object_pairs_hook=list)
+
+    def read(at, place):
+        at = blank.match(text, at).end()
+        begin, kind, parts = at, text[at], []
+        if kind not in "{[":
+            value, at = plain.raw_decode(text, at)
+            values[place] = (begin, at)
+            return value, at
+        at = blank.match(text, at + 1).end()
+        while text[at] not in "}]":
+            inner = (*place, len(parts))
+            if kind == "{":
+                key, end = plain.raw_decode(text, at)
+                keys[inner] = (at, end)
+                at = blank.match(text, end).end() + 1
+            value, at = read(at, inner)
+            parts.append((key, value) if kind == "{" else value)
+            at = blank.match(text, at).end()
+            if text[at] == ",":
+                at = blank.match(text, at + 1).end()
+        values[place] = (begin, at + 1)
+        return (dict(parts), [key for key, _ in parts]) if kind == "{" else parts, at + 1
+
+    value, _ = read(0, ())
+    return value, keys, values
+
+
+def names(text):
+    """The names of states: the place of the machine, the name, whether it is a key, and its stretch."""
+    whole, keys, values = value_and_spans(text)
+    found = []
+
+    def members(value, place):
+        if isinstance(value, tuple):
+            for number, key in enumerate(value[1]):
+                yield key, value[0][key], (*place, number)
+
+    def items(value, place):
+        if isinstance(value, list):
+            for number, it in enumerate(value):
+                yield it, (*place, number)
+
+    def refer(machine, value, place):
+        if isinstance(value, str):
+            found.append((machine, value, False, values[place]))
+
+    def of_machine(value, machine):
+        for key, it, place in members(value, machine):
+            if key == "StartAt":
+                refer(machine, it, place)
+            if key == "States":
+                for name, state, inner in members(it, place):
+                    found.append((machine, name, True, keys[inner]))
+                    of_state(machine, state, inner)
+
+    def of_state(machine, value, at):
+        for key, it, place in members(value, at):
+            if key in ("Next", "Default"):
+                refer(machine, it, place)
+            if key in ("Choices", "Catch"):
+                for rule, inner in items(it, place):
+                    for name, value_of, deep in members(rule, inner):
+                        if name == "Next":
+                            refer(machine, value_of, deep)
+            if key == "Branches":
+                for branch, inner in items(it, place):
+                    of_machine(branch, inner)
+            if key in ("Iterator", "ItemProcessor"):
+                of_machine(it, place)
+
+    of_machine(whole, ())
+    return found
+
+
 def without_links(published):
     return [{key: value for key, value in it.items() if key != "codeDescription"} for it in published["params"]["diagnostics"]]
 
@@ -200,6 +279,85 @@ class Lsp(ProgramTest):
         (one,) = found
         self.assertEqual(without_links(one), diagnostics(text))
         self.assertEqual([it["code"] for it in one["params"]["diagnostics"]][:1], ["F10"])
+
+    # ---- questions about a document
+
+    def asked(self, text, *questions, encoding="utf-16"):
+        """What is answered to these methods with these parameters, about a document with this text."""
+        document = {"textDocument": {"uri": URI}}
+        sent = [request(number, f"textDocument/{method}", {**document, **more}) for number, (method, more) in enumerate(questions)]
+        _, found = self.told(opened(text), *sent, first=initialize(encoding, "utf-16"))
+        answers = found[1:]
+        self.assertEqual([it["id"] for it in answers], list(range(len(questions))))
+        return [it["result"] if "result" in it else it["error"] for it in answers]
+
+    def named_texts(self):
+        texts = [text for text in self.texts() if text.startswith("{") and text.endswith(("}", "}\n")) and text.count("{") == text.count("}")]
+        inner = '{"StartAt":"A","States":{"A":{"Type":"Task","Resource":"r","Catch":[{"ErrorEquals":["States.ALL"],"Next":"é😀"}],"Next":"é😀"},"é😀":{"Type":"Succeed"}}}'
+        texts.append('{"StartAt":"A",\r\n"States":{"A":{"Type":"Parallel","Branches":[%s,\r%s],"Next":"B"},\n"B":{"Type":"Map","Iterator":%s,"Next":"C"},"C":{"Type":"Choice","Choices":[{"Variable":"$.x","IsNull":true,"Next":"A"},5],"Default":"D","Next":7}}}' % (inner, inner, inner))
+        return texts
+
+    def test_a_name_leads_to_its_state_and_back(self):
+        for text in self.named_texts():
+            for encoding in ("utf-16", "utf-8"):
+                all_names = names(text)
+
+                def where(span):
+                    begin, end = (len(text[:at].encode()) for at in span)
+                    return {"start": position(text, begin, encoding), "end": position(text, end, encoding)}
+
+                questions, wanted = [], []
+                for number, (machine, name, is_key, span) in enumerate(all_names):
+                    same = [it for it in all_names if it[:2] == (machine, name)]
+                    spot = where(span)
+                    at = {"position": [spot["start"], spot["end"], {**spot["start"], "character": spot["start"]["character"] + 1}][number % 3]}
+                    located = lambda those: [{"uri": URI, "range": where(it[3])} for it in those]
+                    questions += [
+                        ("definition", at),
+                        ("references", {**at, "context": {"includeDeclaration": True}}),
+                        ("references", {**at, "context": {"includeDeclaration": False}}),
+                        ("prepareRename", at),
+                        ("rename", {**at, "newName": "Néw \"1\""}),
+                    ]
+                    wanted += [
+                        located([it for it in same if it[2]]),
+                        located(same),
+                        located([it for it in same if not it[2]]),
+                        {"range": spot, "placeholder": name},
+                        {"changes": {URI: [{"range": where(it[3]), "newText": '"Néw \\"1\\""'} for it in same]}},
+                    ]
+                self.assertEqual(self.asked(text, *questions, encoding=encoding), wanted, text)
+
+    def test_edits_give_the_state_its_new_name_and_no_other(self):
+        for text in self.named_texts():
+            offsets = {tuple(position(text, len(text[:at].encode()), "utf-16").values()): at for at in range(len(text), -1, -1)}
+            before = names(text)
+            for machine, name, _, span in before[:3]:
+                (answer,) = self.asked(text, ("rename", {"position": position(text, len(text[: span[0]].encode()), "utf-16"), "newName": "Another"}))
+                renamed = text
+                for edit in reversed(answer["changes"][URI]):
+                    begin, end = (offsets[tuple(edit["range"][side].values())] for side in ("start", "end"))
+                    renamed = renamed[:begin] + edit["newText"] + renamed[end:]
+                wanted = [(it[0], "Another" if it[:2] == (machine, name) else it[1], it[2]) for it in before]
+                self.assertEqual([it[:3] for it in names(renamed)], wanted)
+
+    def test_what_cannot_be_renamed_is_refused(self):
+        text = '{"StartAt":"A","States":{"A":{"Type":"Pass","Next":"B"},"B":{"Type":"Succeed"}}}'
+        at, nowhere = {"position": {"line": 0, "character": 12}}, {"position": {"line": 3, "character": 0}}
+        questions = [("rename", {**at, "newName": name}) for name in ("", "B", "A", "é" * 81, "é" * 80)]
+        answers = self.asked(text, *questions, ("rename", {**nowhere, "newName": "C"}), ("rename", at), ("prepareRename", nowhere), ("definition", nowhere))
+        self.assertEqual([it and it.get("code") for it in answers], [-32803, -32803, -32803, -32803, None, -32803, -32602, None, None])
+
+    def test_a_document_is_laid_out(self):
+        options = {"options": {"tabSize": 8, "insertSpaces": False}}
+        for text in self.named_texts():
+            for encoding in ("utf-16", "utf-8"):
+                layout = json.dumps(json.loads(text), indent=2, ensure_ascii=False) + "\n"
+                edit = {"range": {"start": {"line": 0, "character": 0}, "end": position(text, len(text.encode()), encoding)}, "newText": layout}
+                self.assertEqual(self.asked(text, ("formatting", options), encoding=encoding), [[edit] if layout != text else []])
+                self.assertEqual(self.asked(layout, ("formatting", options), encoding=encoding), [[]])
+        for text in ("", "{", '{"a":1,"a":2}'):
+            self.assertEqual(self.asked(text, ("formatting", options), ("definition", {"position": {"line": 0, "character": 0}})), [None, None])
 
     # ---- a real client
 

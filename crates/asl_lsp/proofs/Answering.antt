@@ -6,7 +6,12 @@ use Rattle.asl_json_rpc.specs.declared.id.Id.{Id}
 use Rattle.asl_json_rpc.specs.declared.incoming.Incoming.TheVariants as incoming
 use Rattle.asl_json_rpc.specs.declared.incoming.CallFault.TheVariants.{ParseError, InvalidRequest, OutOfMemory}
 use Rattle.asl_lsp_positions.specs.declared.position.Encoding.{Encoding}
+use Rattle.asl_lsp_positions.specs.declared.position.Position.{Position}
+use Rattle.asl_lsp_features.specs.declared.spot.Sought.{Sought}
+use Rattle.asl_lsp_features.specs.declared.spot.Sought.TheVariants.{Declaration}
 use Rattle.asl_lsp.specs.declared.document.Document.{Document}
+use Rattle.asl_lsp.specs.declared.method.Query.{Query}
+use Rattle.asl_lsp.specs.declared.method.Query.TheVariants as query
 use Rattle.asl_lsp.specs.declared.method.Request.{Request}
 use Rattle.asl_lsp.specs.declared.method.Request.TheVariants as request
 use Rattle.asl_lsp.specs.declared.method.Notification.{Notification}
@@ -16,7 +21,8 @@ use Rattle.asl_lsp.specs.declared.phase.Phase.TheVariants.{Uninitialized, Runnin
 use Rattle.asl_lsp.specs.declared.session.Session.{Session}
 use Rattle.asl_lsp.specs.Documents.{found, is_open, without}
 use Rattle.asl_lsp.specs.Methods.{request_of, notification_of}
-use Rattle.asl_lsp.specs.Params.{uri_of, offered, opened_document, changed_document}
+use Rattle.asl_lsp.specs.Params.{uri_of, offered, opened_document, changed_document, position_of, sought_of, new_name_of}
+use Rattle.asl_lsp.specs.Requests.{places, preparing, renaming, asked_of, unopened, asked_where, asked_about}
 use Rattle.asl_lsp.specs.Sessions.{ignored, accepted, opened, changed_where, told_again, saved_at, closed_at, noted}
 use Rattle.asl_lsp.specs.Replies.{cleared}
 use Rattle.asl_lsp.specs.Server.{initialized_as, answered, notified, step, data_in}
@@ -28,12 +34,50 @@ initialized_id : (i : Id) (o : Option Encoding) → answered_id (Some (initializ
 initialized_id i None = refl
 initialized_id i (Some e) = refl
 
+places_id : (i : Id) (e : Encoding) (d : Document) (w : Option Sought) (p : Option Position) → answered_id (Some (places i e d w p)) ≡ Some i
+places_id i e d (Some w) (Some p) = refl
+places_id i e d (Some w) None = refl
+places_id i e d None p = refl
+
+preparing_id : (i : Id) (e : Encoding) (d : Document) (p : Option Position) → answered_id (Some (preparing i e d p)) ≡ Some i
+preparing_id i e d (Some p) = refl
+preparing_id i e d None = refl
+
+renaming_id : (i : Id) (e : Encoding) (d : Document) (n : Option (List ℕ)) (p : Option Position) → answered_id (Some (renaming i e d n p)) ≡ Some i
+renaming_id i e d (Some n) (Some p) = refl
+renaming_id i e d (Some n) None = refl
+renaming_id i e d None p = refl
+
+open_id : (i : Id) (e : Encoding) (d : Document) (q : Query) (ps : Option Data) → answered_id (Some (asked_of i e d q ps)) ≡ Some i
+open_id i e d query.Formatting ps = refl
+open_id i e d query.Definition ps = places_id i e d (Some Declaration) (position_of ps)
+open_id i e d query.References ps = places_id i e d (sought_of ps) (position_of ps)
+open_id i e d query.PrepareRename ps = preparing_id i e d (position_of ps)
+open_id i e d query.Rename ps = renaming_id i e d (new_name_of ps) (position_of ps)
+
+unopened_id : (i : Id) (q : Query) → answered_id (Some (unopened i q)) ≡ Some i
+unopened_id i query.Formatting = refl
+unopened_id i query.Definition = refl
+unopened_id i query.References = refl
+unopened_id i query.PrepareRename = refl
+unopened_id i query.Rename = refl
+
+where_id : (i : Id) (e : Encoding) (q : Query) (ps : Option Data) (o : Option Document) → answered_id (Some (asked_where i e q ps o)) ≡ Some i
+where_id i e q ps None = unopened_id i q
+where_id i e q ps (Some d) = open_id i e d q ps
+
+asked_id_of : (s : Session) (i : Id) (q : Query) (ps : Option Data) (o : Option (List ℕ)) → answered_id (Some (asked_about s i q ps o)) ≡ Some i
+asked_id_of s i q ps None = refl
+asked_id_of s i q ps (Some u) = where_id i s.encoding q ps (found u s.documents)
+
 request_id : (p : Phase) (i : Id) (r : Request) (ps : Option Data) → answered_id (Some (answered p i r ps).1) ≡ Some i
 request_id Uninitialized i request.Initialize ps = initialized_id i (offered ps)
 request_id Uninitialized i request.Shutdown ps = refl
+request_id Uninitialized i (request.About q) ps = refl
 request_id Uninitialized i request.Unknown ps = refl
 request_id (Running s) i request.Initialize ps = refl
 request_id (Running s) i request.Shutdown ps = refl
+request_id (Running s) i (request.About q) ps = asked_id_of s i q ps (uri_of ps)
 request_id (Running s) i request.Unknown ps = refl
 request_id ShutDown i r ps = refl
 request_id Exited i r ps = refl

@@ -11,6 +11,7 @@ use Rattle.asl_json_rpc.specs.declared.incoming.Incoming.TheVariants as incoming
 use Rattle.asl_json_rpc.specs.declared.incoming.CallFault.TheVariants.{ParseError, InvalidRequest, OutOfMemory}
 use Rattle.asl_lsp_positions.specs.declared.position.Encoding.{Encoding}
 use Rattle.asl_lsp.specs.declared.document.Document.{Document}
+use Rattle.asl_lsp.specs.declared.method.Query.{Query}
 use Rattle.asl_lsp.specs.declared.method.Request.{Request}
 use Rattle.asl_lsp.specs.declared.method.Request.TheVariants as request
 use Rattle.asl_lsp.specs.declared.method.Notification.{Notification}
@@ -23,8 +24,9 @@ use Rattle.asl_lsp.specs.Methods.{request_of, notification_of}
 use Rattle.asl_lsp.specs.Params.{uri_of, document_by}
 use Rattle.asl_lsp.specs.Replies.{Reply, diagnosed, cleared}
 use Rattle.asl_lsp.specs.Sessions.{Done, ignored, accepted, opened, changed, changed_where, told_again, saved_at, closed_at, noted}
+use Rattle.asl_lsp.specs.Requests.{asked_where, asked_about}
 use Rattle.asl_lsp.specs.Server.{answered, notified, step, data_in}
-use Rattle.asl_lsp.specs.Runs.{Call, sent_for, is_about, named_by, concerns, sent_about}
+use Rattle.asl_lsp.specs.Runs.{Call, sent_for, is_about, named_by, asked_for, concerns, sent_about}
 
 -- ---- documents
 
@@ -229,14 +231,32 @@ through u ShutDown ShutDown r h k = absurd k
 through u Exited Exited r h k = absurd k
 through u p q r h k = absurd h
 
-answered_same : (u : List ℕ) (p q : Phase) (i : Id) (r : Request) (ps : Option Data) → AlikeAt u p q → AlikeAt u (answered p i r ps).0 (answered q i r ps).0 × (Some (answered p i r ps).1 ≡ Some (answered q i r ps).1)
-answered_same u Uninitialized Uninitialized i r ps h = (itself_at u (answered Uninitialized i r ps).0, refl)
-answered_same u (Running s) (Running t) i request.Initialize ps h = (h, refl)
-answered_same u (Running s) (Running t) i request.Shutdown ps h = (tt, refl)
-answered_same u (Running s) (Running t) i request.Unknown ps h = (h, refl)
-answered_same u ShutDown ShutDown i r ps h = (tt, refl)
-answered_same u Exited Exited i r ps h = (tt, refl)
-answered_same u p q i r ps h = absurd h
+-- a question about the document, or about none
+about_same : (u : List ℕ) (s t : Session) (i : Id) (k : Query) (ps : Option Data) (o : Option (List ℕ)) → is_about u o ≡ true → Alike u s t → asked_about s i k ps o ≡ asked_about t i k ps o
+about_same u s t i k ps None e h = refl
+about_same u s t i k ps (Some w) e h =
+    let f = subst (λ (v : List ℕ). found v s.documents ≡ found v t.documents) (same_text u w (sym e)) h.1 in
+    ap (λ (x : Encoding). asked_where i x k ps (found w s.documents)) h.0 ∙ ap (λ (d : Option Document). asked_where i t.encoding k ps d) f
+
+answered_same : (u : List ℕ) (p q : Phase) (i : Id) (r : Request) (ps : Option Data) → is_about u (asked_for r ps) ≡ true → AlikeAt u p q → AlikeAt u (answered p i r ps).0 (answered q i r ps).0 × (Some (answered p i r ps).1 ≡ Some (answered q i r ps).1)
+answered_same u Uninitialized Uninitialized i r ps e h = (itself_at u (answered Uninitialized i r ps).0, refl)
+answered_same u (Running s) (Running t) i request.Initialize ps e h = (h, refl)
+answered_same u (Running s) (Running t) i request.Shutdown ps e h = (tt, refl)
+answered_same u (Running s) (Running t) i (request.About k) ps e h = (h, ap (λ (a : Reply). Some a) (about_same u s t i k ps (uri_of ps) e h))
+answered_same u (Running s) (Running t) i request.Unknown ps e h = (h, refl)
+answered_same u ShutDown ShutDown i r ps e h = (tt, refl)
+answered_same u Exited Exited i r ps e h = (tt, refl)
+answered_same u p q i r ps e h = absurd h
+
+-- a question changes nothing
+answered_kept : (u : List ℕ) (p : Phase) (i : Id) (r : Request) (ps : Option Data) → is_about u (asked_for r ps) ≡ false → AlikeAt u (answered p i r ps).0 p
+answered_kept u p i request.Initialize ps e = absurd (none_about u e)
+answered_kept u p i request.Shutdown ps e = absurd (none_about u e)
+answered_kept u p i request.Unknown ps e = absurd (none_about u e)
+answered_kept u Uninitialized i (request.About k) ps e = tt
+answered_kept u (Running s) i (request.About k) ps e = itself_alike u s
+answered_kept u ShutDown i (request.About k) ps e = tt
+answered_kept u Exited i (request.About k) ps e = tt
 
 notified_same : (u : List ℕ) (p q : Phase) (n : Notification) (ps : Option Data) → is_about u (named_by n ps) ≡ true → AlikeAt u p q → AlikeAt u (notified p n ps).0 (notified q n ps).0 × ((notified p n ps).1 ≡ (notified q n ps).1)
 notified_same u p q notification.Exit ps e h = (tt, refl)
@@ -264,7 +284,7 @@ notified_kept u Exited n ps e = tt
 -- ---- all messages
 
 step_same : (u : List ℕ) (p q : Phase) (c : Call) → concerns u c ≡ true → AlikeAt u p q → AlikeAt u (step p c).0 (step q c).0 × ((step p c).1 ≡ (step q c).1)
-step_same u p q (Ok (incoming.Request i m ps)) e h = answered_same u p q i (request_of m) (data_in ps) h
+step_same u p q (Ok (incoming.Request i m ps)) e h = answered_same u p q i (request_of m) (data_in ps) e h
 step_same u p q (Ok (incoming.Notification m ps)) e h = notified_same u p q (notification_of m) (data_in ps) e h
 step_same u p q (Ok incoming.Response) e h = (h, refl)
 step_same u p q (Err ParseError) e h = (h, refl)
@@ -272,7 +292,7 @@ step_same u p q (Err (InvalidRequest i)) e h = (h, refl)
 step_same u p q (Err OutOfMemory) e h = (h, refl)
 
 step_kept : (u : List ℕ) (p : Phase) (c : Call) → concerns u c ≡ false → AlikeAt u (step p c).0 p
-step_kept u p (Ok (incoming.Request i m ps)) e = absurd (none_about u e)
+step_kept u p (Ok (incoming.Request i m ps)) e = answered_kept u p i (request_of m) (data_in ps) e
 step_kept u p (Ok (incoming.Notification m ps)) e = notified_kept u p (notification_of m) (data_in ps) e
 step_kept u p (Ok incoming.Response) e = absurd (none_about u e)
 step_kept u p (Err ParseError) e = absurd (none_about u e)

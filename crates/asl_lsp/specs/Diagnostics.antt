@@ -1,35 +1,13 @@
--- What is told of what is found in a document (Language Server Protocol 3.17, "Diagnostic", "Range" and "PublishDiagnosticsParams").
-use Rattle.std.specs.Prelude.{ℕ, List, [], ◌∷◌, take, min, map, codes, string_bytes}
+-- What is told of what is found in a document (Language Server Protocol 3.17, "Diagnostic" and "PublishDiagnosticsParams").
+use Rattle.std.specs.Prelude.{ℕ, List, [], ◌∷◌, map, codes, string_bytes}
 use Rattle.asl_json_data.specs.Data.{Data, number, text, list, chain}
-use Rattle.asl_json_spans.specs.declared.span.Span.{Span}
 use Rattle.asl_lint.specs.declared.finding.Finding.{Finding}
 use Rattle.asl_lint.specs.declared.rule.Severity.{Severity}
 use Rattle.asl_lint.specs.declared.rule.Severity.TheVariants as severity
-use Rattle.asl_lint.specs.JsonLines.{object, counting}
 use Rattle.asl_lint.specs.Rules.{severity_of, rule_name}
 use Rattle.asl_lsp_positions.specs.declared.position.Encoding.{Encoding}
-use Rattle.asl_lsp_positions.specs.declared.position.Position.{Position}
-use Rattle.asl_lsp_positions.specs.Positions.{position}
+use Rattle.asl_lsp_features.specs.Structures.{object, counting, range}
 use Rattle.asl_lsp.specs.declared.document.Document.{Document}
-
--- ---- ranges
-
--- a number of the protocol, which has none above 2 ^ 31 - 1 ("Base Types"); no position in a text of
--- at most so many bytes comes to more
-abbrev pub uinteger : ℕ → Data
-uinteger n = counting (min n 2147483647)
-
-abbrev pub point : Position → Data
-point p =
-    object ((codes "line", uinteger p.line) ∷ (codes "character", uinteger p.character) ∷ [])
-
--- the positions of both ends of a stretch of this text
-abbrev pub range : Encoding → List ℕ → Span → Data
-range e t s =
-    object
-    ((codes "start", point (position e (take s.begin t)))
-    ∷ (codes "end", point (position e (take s.end t)))
-    ∷ [])
 
 -- ---- diagnostics
 

@@ -7,5 +7,6 @@ pub mod Diagnostics
 pub mod Refusals
 pub mod Replies
 pub mod Sessions
+pub mod Requests
 pub mod Server
 pub mod Runs

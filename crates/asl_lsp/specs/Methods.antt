@@ -1,6 +1,7 @@
--- The methods that the server has, by their names (Language Server Protocol 3.17, "Lifecycle Messages" and "Text Document Synchronization").
+-- The methods that the server has, by their names (Language Server Protocol 3.17, "Lifecycle Messages", "Text Document Synchronization" and "Language Features").
 use Rattle.std.specs.Prelude.{ℕ, List, codes, if◌then◌else◌}
 use Rattle.asl_json.specs.Same.{bytes_eq}
+use Rattle.asl_lsp.specs.declared.method.Query.TheVariants as query
 use Rattle.asl_lsp.specs.declared.method.Request.{Request}
 use Rattle.asl_lsp.specs.declared.method.Request.TheVariants as request
 use Rattle.asl_lsp.specs.declared.method.Notification.{Notification}
@@ -10,6 +11,11 @@ abbrev pub request_of : List ℕ → Request
 request_of m =
     if bytes_eq m (codes "initialize") then request.Initialize
     else if bytes_eq m (codes "shutdown") then request.Shutdown
+    else if bytes_eq m (codes "textDocument/formatting") then request.About query.Formatting
+    else if bytes_eq m (codes "textDocument/definition") then request.About query.Definition
+    else if bytes_eq m (codes "textDocument/references") then request.About query.References
+    else if bytes_eq m (codes "textDocument/prepareRename") then request.About query.PrepareRename
+    else if bytes_eq m (codes "textDocument/rename") then request.About query.Rename
     else request.Unknown
 
 abbrev pub notification_of : List ℕ → Notification

@@ -5,8 +5,11 @@ use Rattle.asl_json_data.specs.Data as values
 use Rattle.asl_json.specs.Same.{bytes_eq}
 use Rattle.asl_lsp_positions.specs.declared.position.Encoding.{Encoding}
 use Rattle.asl_lsp_positions.specs.declared.position.Encoding.TheVariants as encoding
+use Rattle.asl_lsp_positions.specs.declared.position.Position.{Position}
+use Rattle.asl_lsp_features.specs.declared.spot.Sought.{Sought}
+use Rattle.asl_lsp_features.specs.declared.spot.Sought.TheVariants.{References, Every}
 use Rattle.asl_lsp.specs.declared.document.Document.{Document}
-use Rattle.asl_lsp.specs.Members.{member_of, text_of, integer_of, items_of_any, last_item}
+use Rattle.asl_lsp.specs.Members.{member_of, text_of, integer_of, uinteger_of, boolean_of, items_of_any, last_item}
 
 -- ---- of `initialize` (Language Server Protocol 3.17, "Initialize Request")
 
@@ -64,3 +67,29 @@ abbrev pub changed_document : Option Data → Option Document
 changed_document ps =
     document_of ps
     (member_of (codes "text") (last_item None (items_of_any (member_of (codes "contentChanges") ps))))
+
+-- ---- of what is asked about a document ("Language Features")
+
+-- none where something of it is lacking
+abbrev pub position_by : Option ℕ → Option ℕ → Option Position
+position_by (Some l) (Some c) = Some (record { line = l; character = c })
+position_by l c = None
+
+abbrev pub position_of : Option Data → Option Position
+position_of ps =
+    position_by (uinteger_of (member_of (codes "line") (member_of (codes "position") ps)))
+    (uinteger_of (member_of (codes "character") (member_of (codes "position") ps)))
+
+-- the references, with the declaration or without it ("ReferenceContext")
+abbrev pub sought_by : Option Bool → Option Sought
+sought_by None = None
+sought_by (Some true) = Some Every
+sought_by (Some false) = Some References
+
+abbrev pub sought_of : Option Data → Option Sought
+sought_of ps =
+    sought_by (boolean_of (member_of (codes "includeDeclaration") (member_of (codes "context") ps)))
+
+-- ("RenameParams")
+abbrev pub new_name_of : Option Data → Option (List ℕ)
+new_name_of ps = text_of (member_of (codes "newName") ps)

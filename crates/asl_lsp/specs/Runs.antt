@@ -10,10 +10,12 @@ use Rattle.asl_json_rpc.specs.declared.incoming.CallFault.{CallFault}
 use Rattle.asl_json_rpc.specs.declared.incoming.CallFault.TheVariants.{ParseError, InvalidRequest, OutOfMemory}
 use Rattle.asl_lsp.specs.declared.method.Notification.{Notification}
 use Rattle.asl_lsp.specs.declared.method.Notification.TheVariants as notification
+use Rattle.asl_lsp.specs.declared.method.Request.{Request}
+use Rattle.asl_lsp.specs.declared.method.Request.TheVariants as request
 use Rattle.asl_lsp.specs.declared.phase.Phase.{Phase}
-use Rattle.asl_lsp.specs.Methods.{notification_of}
+use Rattle.asl_lsp.specs.Methods.{request_of, notification_of}
 use Rattle.asl_lsp.specs.Params.{uri_of}
-use Rattle.asl_lsp.specs.Replies.{Reply, result, refused, diagnosed, cleared}
+use Rattle.asl_lsp.specs.Replies.{Reply, result, refused, located, prepared, renamed, diagnosed, cleared}
 use Rattle.asl_lsp.specs.Server.{step, data_in}
 
 -- what a message asks for
@@ -31,6 +33,9 @@ sent_for p (c ∷ cs) = (step p c).1 ∷ sent_for (step p c).0 cs
 abbrev pub answered_id : Option Reply → Option Id
 answered_id (Some (result i d)) = Some i
 answered_id (Some (refused i r)) = Some i
+answered_id (Some (located i e d w p)) = Some i
+answered_id (Some (prepared i e d p)) = Some i
+answered_id (Some (renamed i e d n p)) = Some i
 answered_id (Some (diagnosed e d)) = None
 answered_id (Some (cleared u)) = None
 answered_id None = None
@@ -56,7 +61,13 @@ named_by notification.DidClose ps = uri_of ps
 named_by notification.Exit ps = None
 named_by notification.Unknown ps = None
 
+-- ... and that a request is about
+abbrev pub asked_for : Request → Option Data → Option (List ℕ)
+asked_for (request.About q) ps = uri_of ps
+asked_for r ps = None
+
 abbrev pub named : Call → Option (List ℕ)
+named (Ok (incoming.Request i m ps)) = asked_for (request_of m) (data_in ps)
 named (Ok (incoming.Notification m ps)) = named_by (notification_of m) (data_in ps)
 named c = None
 

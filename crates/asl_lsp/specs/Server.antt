@@ -22,6 +22,7 @@ use Rattle.asl_lsp.specs.Capabilities.{initialize_result}
 use Rattle.asl_lsp.specs.Methods.{request_of, notification_of}
 use Rattle.asl_lsp.specs.Params.{offered}
 use Rattle.asl_lsp.specs.Replies.{Reply, result, refused, IsSent}
+use Rattle.asl_lsp.specs.Requests.{asked}
 use Rattle.asl_lsp.specs.Sessions.{Done, begun, noted}
 
 abbrev pub has_ended : Phase → Bool
@@ -48,6 +49,7 @@ answered Uninitialized i request.Initialize ps = initialized i ps
 answered Uninitialized i r ps = (Uninitialized, refused i refusal.NotInitialized)
 answered (Running s) i request.Initialize ps = (Running s, refused i refusal.InitializedBefore)
 answered (Running s) i request.Shutdown ps = shut_down i
+answered (Running s) i (request.About q) ps = (Running s, asked s i q ps)
 answered (Running s) i request.Unknown ps = (Running s, refused i refusal.UnknownMethod)
 answered ShutDown i r ps = (ShutDown, refused i refusal.ShutDown)
 answered Exited i r ps = (Exited, refused i refusal.ShutDown)

@@ -1,10 +1,10 @@
 // What the server can do.
 ghost use Rattle.std.specs.Prelude.{◌≡◌, IfOk};
 ghost use Rattle.asl_json.specs.View.{data_of};
-ghost use Rattle.asl_lsp.specs.Capabilities.{encoding_name, sync, capabilities, server_info, initialize_result};
+ghost use Rattle.asl_lsp.specs.Capabilities.{encoding_name, sync, rename_options, capabilities, server_info, initialize_result};
 
-use crate::object::{told, with};
 use asl_json::{Dec, Json, Members};
+use asl_lsp_features::{told, with};
 use asl_lsp_positions::Encoding;
 use std::alloc::{AllocError, Global};
 
@@ -27,12 +27,34 @@ fn sync(alloc: Global) -> Result<Json, AllocError>
     Ok(Json::Dict(members))
 }
 
+/// A name can be asked for before it is changed.
+fn rename_options(alloc: Global) -> Result<Json, AllocError>
+    ensures { IfOk result (λ v. data_of v ≡ rename_options) }
+{
+    let members = with(
+        alloc,
+        Members::new(alloc),
+        "prepareProvider",
+        Json::Bool(true),
+    )?;
+    Ok(Json::Dict(members))
+}
+
 fn capabilities(alloc: Global, encoding: Encoding) -> Result<Json, AllocError>
     ensures { IfOk result (λ v. data_of v ≡ capabilities encoding) }
 {
     let name = told(alloc, encoding_name(encoding))?;
     let members = with(alloc, Members::new(alloc), "positionEncoding", name)?;
     let members = with(alloc, members, "textDocumentSync", sync(alloc)?)?;
+    let members = with(alloc, members, "definitionProvider", Json::Bool(true))?;
+    let members = with(alloc, members, "referencesProvider", Json::Bool(true))?;
+    let members = with(
+        alloc,
+        members,
+        "documentFormattingProvider",
+        Json::Bool(true),
+    )?;
+    let members = with(alloc, members, "renameProvider", rename_options(alloc)?)?;
     Ok(Json::Dict(members))
 }
 

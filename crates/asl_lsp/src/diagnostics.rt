@@ -2,44 +2,16 @@
 ghost use Rattle.std.specs.Prelude.{◌≡◌, [], None, IfOk, string_bytes};
 ghost use Rattle.asl_json.specs.View.{data_of};
 ghost use Rattle.asl_lint.specs.Linted.{AreLinted};
-ghost use Rattle.asl_lsp.specs.Diagnostics.{uinteger, point, range, severity_number, diagnostic, diagnostics, published, cleared};
+ghost use Rattle.asl_lsp.specs.Diagnostics.{severity_number, diagnostic, diagnostics, published, cleared};
 ghost use Rattle.asl_lsp.specs.Replies.{AreDiagnosed, published_text};
 
 use crate::document::Document;
-use crate::object::{told, with};
 use crate::reply::publish;
-use asl_json::{Dec, Items, Json, Members};
-use asl_json_spans::Span;
+use asl_json::{Items, Json, Members};
 use asl_lint::{Finding, Severity, Source, lint};
-use asl_lsp_positions::{Encoding, Position, Positions};
+use asl_lsp_features::{range, told, uinteger, with};
+use asl_lsp_positions::{Encoding, Positions};
 use std::alloc::{AllocError, Global};
-
-/// The largest number of the protocol (Language Server Protocol 3.17, "Base Types").
-const LARGEST: usize = 2147483647;
-
-fn uinteger(number: usize) -> Json
-    ensures { data_of result ≡ uinteger number }
-{
-    Json::Num(Dec::of_whole(number.min(LARGEST) as i128))
-}
-
-fn point(alloc: Global, position: Position) -> Result<Json, AllocError>
-    ensures { IfOk result (λ v. data_of v ≡ point position) }
-{
-    let members = with(alloc, Members::new(alloc), "line", uinteger(position.line))?;
-    let members = with(alloc, members, "character", uinteger(position.character))?;
-    Ok(Json::Dict(members))
-}
-
-fn range(alloc: Global, positions: &Positions<'_>, span: Span) -> Result<Json, AllocError>
-    ensures { IfOk result (λ v. data_of v ≡ range positions.now.0 positions.now.1 span) }
-{
-    let start = point(alloc, positions.at(span.begin))?;
-    let end = point(alloc, positions.at(span.end))?;
-    let members = with(alloc, Members::new(alloc), "start", start)?;
-    let members = with(alloc, members, "end", end)?;
-    Ok(Json::Dict(members))
-}
 
 /// (Language Server Protocol 3.17, "DiagnosticSeverity".)
 fn severity_number(severity: Severity) -> usize

@@ -3,7 +3,7 @@ ghost use Rattle.std.specs.Prelude.{◌≡◌, None, option_map};
 ghost use Rattle.asl_json.specs.View.{items_of};
 ghost use Rattle.asl_json_data.specs.Data.{chain};
 ghost use Rattle.asl_json_rpc.specs.Calls.{seen};
-ghost use Rattle.asl_lsp.specs.Members.{member_of, text_of, integer_of, items_of_any, last_item};
+ghost use Rattle.asl_lsp.specs.Members.{member_of, text_of, integer_of, uinteger_of, boolean_of, items_of_any, last_item};
 
 use asl_json::{Dec, Json, Txt};
 
@@ -33,6 +33,29 @@ pub(crate) fn integer_of(value: Option<&Json>) -> Option<&Dec>
 {
     match value {
         Some(Json::Num(number)) if number.whole().is_some() => Some(number),
+        _ => None,
+    }
+}
+
+/// The number of the protocol that a value is: a whole number from 0 to 2147483647 (Language Server Protocol 3.17, "Base Types").
+pub(crate) fn uinteger_of(value: Option<&Json>) -> Option<usize>
+    ensures { result ≡ uinteger_of (seen value.entry) }
+{
+    let Some(Json::Num(number)) = value else {
+        return None;
+    };
+    match number.whole() {
+        Some(amount) if 0 <= amount && amount <= 2147483647 => Some(amount as usize),
+        _ => None,
+    }
+}
+
+/// The truth value that a value is.
+pub(crate) fn boolean_of(value: Option<&Json>) -> Option<bool>
+    ensures { result ≡ boolean_of (seen value.entry) }
+{
+    match value {
+        Some(Json::Bool(b)) => Some(*b),
         _ => None,
     }
 }

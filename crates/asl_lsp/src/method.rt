@@ -2,13 +2,30 @@
 ghost use Rattle.std.specs.Prelude.{◌≡◌};
 ghost use Rattle.asl_lsp.specs.Methods.{request_of, notification_of};
 
-/// The methods of requests (Language Server Protocol 3.17, "Lifecycle Messages").
+/// The methods that ask for something about a document (Language Server Protocol 3.17, "Language Features").
+#[derive(Clone, Copy, Debug, PartialEq, Eq)]
+pub(crate) enum Query {
+    /// `textDocument/formatting`.
+    Formatting,
+    /// `textDocument/definition`.
+    Definition,
+    /// `textDocument/references`.
+    References,
+    /// `textDocument/prepareRename`.
+    PrepareRename,
+    /// `textDocument/rename`.
+    Rename,
+}
+
+/// The methods of requests (Language Server Protocol 3.17, "Lifecycle Messages" and "Language Features").
 #[derive(Clone, Copy, Debug, PartialEq, Eq)]
 pub(crate) enum Request {
     /// `initialize`: the client begins.
     Initialize,
     /// `shutdown`: it is about to end.
     Shutdown,
+    /// What asks for something about a document.
+    About(Query),
     /// A method that the server doesn't have.
     Unknown,
 }
@@ -36,6 +53,11 @@ pub(crate) fn request_of(method: &str) -> Request
     match method {
         "initialize" => Request::Initialize,
         "shutdown" => Request::Shutdown,
+        "textDocument/formatting" => Request::About(Query::Formatting),
+        "textDocument/definition" => Request::About(Query::Definition),
+        "textDocument/references" => Request::About(Query::References),
+        "textDocument/prepareRename" => Request::About(Query::PrepareRename),
+        "textDocument/rename" => Request::About(Query::Rename),
         _ => Request::Unknown,
     }
 }

@@ -3,12 +3,15 @@ ghost use Rattle.std.specs.Prelude.{◌≡◌, IfOk, option_map};
 ghost use Rattle.asl_json.specs.View.{items_of};
 ghost use Rattle.asl_json_data.specs.Data.{chain};
 ghost use Rattle.asl_json_rpc.specs.Calls.{seen};
-ghost use Rattle.asl_lsp.specs.Params.{is_object, has_utf8, encoding_of, offered, item, uri_of, document_of, opened_document, changed_document};
+ghost use Rattle.asl_lsp.specs.Params.{is_object, has_utf8, encoding_of, offered, item, uri_of, document_of, opened_document, changed_document, position_of, sought_of, new_name_of};
 
 use crate::document::Document;
-use crate::members::{integer_of, items_of_any, last_item, member_of, text_of};
+use crate::members::{
+    boolean_of, integer_of, items_of_any, last_item, member_of, text_of, uinteger_of,
+};
 use asl_json::Json;
-use asl_lsp_positions::Encoding;
+use asl_lsp_features::Sought;
+use asl_lsp_positions::{Encoding, Position};
 use std::alloc::{AllocError, Global};
 
 fn is_object(value: Option<&Json>) -> bool
@@ -121,4 +124,35 @@ pub(crate) fn changed_document(
 {
     let changes = items_of_any(member_of(params, "contentChanges"));
     document_of(alloc, params, member_of(last_item(changes), "text"))
+}
+
+/// The position that is meant (Language Server Protocol 3.17, "TextDocumentPositionParams"); none where the parameters don't fit.
+pub(crate) fn position_of(params: Option<&Json>) -> Option<Position>
+    ensures { result ≡ position_of (seen params.entry) }
+{
+    let place = member_of(params, "position");
+    let line = uinteger_of(member_of(place, "line"))?;
+    let character = uinteger_of(member_of(place, "character"))?;
+    Some(Position { line, character })
+}
+
+/// Whether the declaration is one of the references (Language Server Protocol 3.17, "ReferenceContext"); none where the parameters don't fit.
+pub(crate) fn sought_of(params: Option<&Json>) -> Option<Sought>
+    ensures { result ≡ sought_of (seen params.entry) }
+{
+    match boolean_of(member_of(member_of(params, "context"), "includeDeclaration")) {
+        Some(true) => Some(Sought::Every),
+        Some(false) => Some(Sought::References),
+        None => None,
+    }
+}
+
+/// The new name (Language Server Protocol 3.17, "RenameParams"); none where the parameters don't fit.
+pub(crate) fn new_name_of(params: Option<&Json>) -> Option<&str>
+    ensures { option_map (λ n. n.now) result ≡ new_name_of (seen params.entry) }
+{
+    match text_of(member_of(params, "newName")) {
+        Some(name) => Some(name.as_str()),
+        None => None,
+    }
 }

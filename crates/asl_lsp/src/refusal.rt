@@ -1,8 +1,9 @@
 // Why a request is refused.
 ghost use Rattle.std.specs.Prelude.{◌≡◌};
-ghost use Rattle.asl_lsp.specs.Refusals.{code_of, words_of};
+ghost use Rattle.asl_lsp.specs.Refusals.{code_of, words_of, refusal_of};
 
 use asl_json_rpc::ErrorCode;
+use asl_lsp_features::RenameFault;
 
 /// Why a message has an error for its answer.
 #[derive(Clone, Copy, Debug, PartialEq, Eq)]
@@ -21,6 +22,23 @@ pub(crate) enum Refusal {
     UnknownMethod,
     /// The method takes no such parameters.
     BadParams,
+    /// No name of a state stands where one is to be changed.
+    NoState,
+    /// The new name of a state can't be one.
+    NoName,
+    /// Another state has it.
+    TakenName,
+}
+
+/// Why a state isn't renamed, as it is answered.
+pub(crate) fn refusal_of(fault: RenameFault) -> Refusal
+    ensures { result ≡ refusal_of fault }
+{
+    match fault {
+        RenameFault::NoState => Refusal::NoState,
+        RenameFault::NoName => Refusal::NoName,
+        RenameFault::TakenName => Refusal::TakenName,
+    }
 }
 
 impl Refusal {
@@ -36,6 +54,7 @@ impl Refusal {
             Refusal::NotInitialized => ErrorCode::ServerNotInitialized,
             Refusal::UnknownMethod => ErrorCode::MethodNotFound,
             Refusal::BadParams => ErrorCode::InvalidParams,
+            Refusal::NoState | Refusal::NoName | Refusal::TakenName => ErrorCode::RequestFailed,
         }
     }
 
@@ -52,6 +71,9 @@ impl Refusal {
             Refusal::ShutDown => "The server is shut down.",
             Refusal::UnknownMethod => "The server has no such method.",
             Refusal::BadParams => "The method takes no such parameters.",
+            Refusal::NoState => "No name of a state stands there.",
+            Refusal::NoName => "The name of a state has from 1 to 80 characters.",
+            Refusal::TakenName => "A state of the definition has this name already.",
         }
     }
 }

@@ -99,6 +99,9 @@ impl Server {
                 refuse(alloc, id, Refusal::InitializedBefore)
             }
             (Phase::Running(_), Request::Shutdown) => self.shut_down(alloc, id),
+            (Phase::Running(session), Request::About(query)) => {
+                session.ask(alloc, id, query, params)
+            }
             (Phase::Running(_), Request::Unknown) => refuse(alloc, id, Refusal::UnknownMethod),
             (Phase::ShutDown | Phase::Exited, _) => refuse(alloc, id, Refusal::ShutDown),
         }
