@@ -1,10 +1,9 @@
-use Rattle.std.proofs.Common.{◌∙◌, ◌++◌, ◌∷◌, [], ℕ, List, ap, string_bytes, sym}
+use Rattle.std.proofs.Common.{◌∙◌, ◌∷◌, [], ℕ, List, ap, string_bytes}
 use Rattle.std.specs.Prelude.{map, unwrap_or}
 use Rattle.std.specs.HashMap.{get_by_text}
 use Rattle.std.proofs.lemmas.List.{map-append}
 use Rattle.asl_lint.proofs.Issuing.{more_alike, more_issues}
 use Rattle.asl_lint.specs.Gitlab.{issues_behind}
-use Rattle.asl_lint.specs.declared.gitlab_issues.Issue.{Issue}
 use Rattle.asl_lint.specs.private.Issues.{issue_seen, placed}
 use Rattle.asl_lint.proofs.gitlab_issues.issues_of.Goals as goal
 
