@@ -20,7 +20,8 @@ const MESSAGES: &[(&str, &str)] = &[
     (
         r#"{"jsonrpc":"2.0","id":3,"method":"initialize","params":{"capabilities":{}}}"#,
         "{\"jsonrpc\":\"2.0\",\"id\":3,\"result\":{\"capabilities\":{\"positionEncoding\":\"utf-16\",\"textDocumentSync\":{\"openClose\":tr\
-         ue,\"change\":1,\"save\":true}},\"serverInfo\":{\"name\":\"asl\",\"version\":\"0.1.0\"}}}",
+         ue,\"change\":1,\"save\":true},\"definitionProvider\":true,\"referencesProvider\":true,\"documentFormattingProvider\":true,\"re\
+         nameProvider\":{\"prepareProvider\":true}},\"serverInfo\":{\"name\":\"asl\",\"version\":\"0.1.0\"}}}",
     ),
     (
         r#"{"jsonrpc":"2.0","id":4,"method":"initialize","params":{"capabilities":{}}}"#,

@@ -20,7 +20,8 @@ const SESSION: &[(&str, &str)] = &[
     (
         r#"{"jsonrpc":"2.0","id":1,"method":"initialize","params":{"processId":null,"rootUri":null,"capabilities":{}}}"#,
         "{\"jsonrpc\":\"2.0\",\"id\":1,\"result\":{\"capabilities\":{\"positionEncoding\":\"utf-16\",\"textDocumentSync\":{\"openClose\":tr\
-         ue,\"change\":1,\"save\":true}},\"serverInfo\":{\"name\":\"asl\",\"version\":\"0.1.0\"}}}",
+         ue,\"change\":1,\"save\":true},\"definitionProvider\":true,\"referencesProvider\":true,\"documentFormattingProvider\":true,\"re\
+         nameProvider\":{\"prepareProvider\":true}},\"serverInfo\":{\"name\":\"asl\",\"version\":\"0.1.0\"}}}",
     ),
     (
         r#"{"jsonrpc":"2.0","method":"initialized","params":{}}"#,
