@@ -1,4 +1,5 @@
-//! The Language Server Protocol 3.17 for definitions: what is wrong or suspicious in a document is told whenever it is opened, changed or saved.
+//! The Language Server Protocol 3.17 for definitions: what is wrong or suspicious in a document is told whenever it is opened, changed or saved,
+//! and what an editor asks about it is answered.
 //!
 //! A server is a machine: it takes a message, and gives the one that it sends for it, if any. Whoever runs it frames the messages, and reads and writes them.
 //!
@@ -7,8 +8,8 @@
 //! finds in a document, `capabilities` what the server can do, and `reply` writes the messages that are sent; `session` is what happens to documents,
 //! `asking` what is answered about them, `phase` where the server is in its life, and `server` the machine. `laws` holds what is true of all runs.
 //!
-//! `specs/Server.antt` says what the machine does at a message, `specs/Sessions.antt` what happens to documents, `specs/Requests.antt` what is answered about them, `specs/Replies.antt` and
-//! `specs/Diagnostics.antt` what is sent, and `specs/Runs.antt` what is sent for many messages.
+//! `specs/Server.antt` says what the machine does at a message, `specs/Sessions.antt` what happens to documents, `specs/Requests.antt` what is answered
+//! about them, `specs/Replies.antt` and `specs/Diagnostics.antt` what is sent, and `specs/Runs.antt` what is sent for many messages.
 #![tactic(auto)]
 
 mod asking;

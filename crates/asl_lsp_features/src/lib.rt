@@ -1,4 +1,9 @@
 //! What a language server answers about one document (Language Server Protocol 3.17, "Language Features"), and the structures that its messages have.
+//!
+//! Modules in reading order: `object` makes objects, and `structure` what many messages have of them; `reading` is the value of a document; `formatting` lays
+//! a document out; `spot` finds the names of states in it, `locating` tells where those of one state stand, and `renaming` puts another name there.
+//!
+//! `specs/Structures.antt`, `specs/Formatting.antt`, `specs/Spots.antt`, `specs/Locating.antt` and `specs/Renaming.antt` say what is answered.
 #![tactic(auto)]
 
 mod formatting;
