@@ -122,7 +122,7 @@ explore_arguments = begin_arguments (preset (codes "limit") (number 1 1000000) (
     ∷ free (codes "prompt") flag ∷ free (codes "calls") flag
     ∷ free (codes "witness") (number 1 1000000)
     ∷ free (codes "format") (choice
-      (codes "steps" ∷ codes "tree" ∷ codes "data" ∷ codes "test" ∷ codes "mocks" ∷ codes "json" ∷ []))
+    (codes "steps" ∷ codes "tree" ∷ codes "data" ∷ codes "test" ∷ codes "mocks" ∷ codes "json" ∷ []))
     ∷ free (codes "errors") (number 0 2) ∷ free (codes "error") texts
     ∷ free (codes "always") texts ∷ free (codes "undo") texts ∷ project_argument)
 

@@ -27,8 +27,8 @@ use asl_def::Machine;
 use asl_error_plans::{PlanOutcomes, are_good, put_plans};
 use asl_explore::{Found, Watch};
 use asl_explore_errors::{
-    ErrorsFound, are_kept, explore_with_errors, filled_setup, put_case, put_json_lines,
-    put_rules, setup_under, witness_of,
+    ErrorsFound, are_kept, explore_with_errors, filled_setup, put_case, put_json_lines, put_rules,
+    setup_under, witness_of,
 };
 use asl_history::Sink;
 use asl_host::Files;
@@ -368,7 +368,7 @@ fn witness_in(
     found: &ErrorsFound,
     number: u32,
 ) -> Result<Option<String>, AllocError>
-    ensures { IfOk result (λ o. IsPlanShown how.format how.coloured how.chosen.now setup.now (witness_of number found.now)
+    ensures { IfOk result (λ o. IsPlanShown how.entry.format how.entry.coloured how.entry.chosen.now setup.now (witness_of number found.now)
         (option_map string_bytes o)) }
 {
     match witness_of(alloc, found, number)? {
@@ -386,7 +386,7 @@ fn plan_text(
     found: &Found,
 ) -> Result<String, AllocError>
     ensures { IfOk result (λ t. (u : Setup) × IsUnder setup.now plan.now.plan.items u
-        × IsPlanIn how.format how.coloured how.chosen.now u found.now (string_bytes t)) }
+        × IsPlanIn how.entry.format how.entry.coloured how.entry.chosen.now u found.now (string_bytes t)) }
 {
     let under = setup_under(alloc, setup, &plan.plan)?;
     text_under(alloc, how, under, found)
@@ -399,7 +399,7 @@ fn text_under(
     under: Setup,
     found: &Found,
 ) -> Result<String, AllocError>
-    ensures { IfOk result (λ t. IsPlanIn how.format how.coloured how.chosen.now under found.now (string_bytes t)) }
+    ensures { IfOk result (λ t. IsPlanIn how.entry.format how.entry.coloured how.entry.chosen.now under found.now (string_bytes t)) }
 {
     match how.format {
         ErrorsFormat::Mocks => mock_file_of(alloc, &under),

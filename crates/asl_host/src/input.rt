@@ -75,6 +75,7 @@ impl<R: BufRead, W: Write> Typed<R, W> {
 
 impl<R: BufRead, W: Write> Input for Typed<R, W> {
     ghost given = { λ t. t.given.bytes };
+
     ghost ended = { λ t. t.ended };
 
     fn line(&mut self, alloc: Global) -> Result<Option<Vec<u8>>, ReadFault> {

@@ -21,6 +21,7 @@ pub use words::{
     Asked, Begin, ChosenWords, CoverageFormat, DebugFormat, DebugWords, DefinitionWords,
     ErrorsBegin, ErrorsFormat, ErrorsShown, ErrorsWords, ExplainWords, ExploreAllWords,
     ExploreWords, GraphFormat, GraphWords, LintAllWords, LintFormat, LintWords, MocksWords,
-    OrderWords, PlansFormat, PrintWords, ProjectWords, ReportFormat, RunFormat, RunWords, SampleWords, SetupWords, Shard,
-    Subject, TestAllWords, TestWords, TestedWords, WitnessFormat, Words,
+    OrderWords, PlansFormat, PrintWords, ProjectWords, ReportFormat, RunFormat, RunWords,
+    SampleWords, SetupWords, Shard, Subject, TestAllWords, TestWords, TestedWords, WitnessFormat,
+    Words,
 };
