@@ -11,8 +11,8 @@ PAGES = ("README.md", "docs/COMMANDS.md", "docs/FORMATS.md")
 def blocks(page):
     """The indented blocks of a page, without their indentation."""
     with open(f"{TOP}/{page}", encoding="utf-8") as file:
-        found = re.findall(r"(?:^    .*\n)+", file.read(), re.M)
-    return ["".join(line[4:] for line in block.splitlines(keepends=True)) for block in found]
+        found = re.findall(r"^    .*\n(?:\n*    .*\n)*", file.read(), re.M)
+    return ["".join(line[4:] or "\n" for line in block.splitlines(keepends=True)) for block in found]
 
 
 def shown(lines):
